@@ -1,0 +1,2 @@
+-- Lemmas on the machine.
+pub mod Pushed

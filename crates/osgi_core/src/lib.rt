@@ -1,0 +1,4 @@
+//! The machine: it applies operations one at a time and keeps the history of what it answered.
+#![tactic(auto)]
+
+pub mod machine;

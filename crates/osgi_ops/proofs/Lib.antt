@@ -1,0 +1,7 @@
+-- Lemmas on the definitions of this crate.
+pub mod Histories
+pub mod Parts
+pub mod Refusals
+pub mod Sessions
+pub mod Texts
+pub mod Verdicts

@@ -1,0 +1,49 @@
+-- What a command asks of the framework, step by step, and which calls are a run of it.
+use Rattle.std.specs.Prelude.{◌≢◌, List, [], ◌∷◌, ◌++◌}
+use Rattle.osgi_base.specs.declared.ids.BundleId.{BundleId}
+use Rattle.osgi_ops.specs.Bundles.{system}
+use Rattle.osgi_ops.specs.declared.command.Command.{Command}
+use Rattle.osgi_ops.specs.declared.command.Command.TheVariants as command
+use Rattle.osgi_ops.specs.declared.op.Op.{Op}
+use Rattle.osgi_ops.specs.declared.op.Op.TheVariants as op
+use Rattle.osgi_ops.specs.declared.reply.Reply.{Reply}
+use Rattle.osgi_ops.specs.declared.reply.Reply.TheVariants.{Refused}
+
+-- how a plan ended
+pub data End : Type 0 where
+  done : End
+  refused : End
+
+-- what is left to do: an operation, and what comes after its reply; or nothing
+pub data Plan : Type 0 where
+  ask : Op → (Reply → Plan) → Plan
+  stop : End → Plan
+
+-- a step that is refused ends its plan as refused
+abbrev pub after_one : Reply → Plan
+after_one (Refused refusal) = stop refused
+after_one _ = stop done
+
+-- the plan of a command that the owner runs
+abbrev pub plan : BundleId → Command → Plan
+plan owner (command.Register classes object) = ask (op.Register owner classes object) after_one
+
+-- an operation with its reply
+pub record Call : Type 0 where
+  pub op : Op
+  pub reply : Reply
+
+-- how a plan reads a beginning of the calls, up to those that are left. Replies are free here: which one comes, the legal
+-- history says
+pub data Reads : Plan → End → List Call → List Call → Type 0 where
+  stopped : {end : End} {left : List Call} → Reads (stop end) end left left
+  asked : {asks : Op} {next : Reply → Plan} {reply : Reply} {end : End} {calls left : List Call} →
+      Reads (next reply) end calls left → Reads (ask asks next) end (record { op = asks; reply = reply } ∷ calls) left
+
+-- the calls are a whole run of the console's command
+abbrev pub Follows : Command → List Call → Type 0
+Follows command calls = (end : End) × Reads (plan system command) end calls []
+
+-- they are the beginning of one, and something of it is missing
+abbrev pub IsCutRun : Command → List Call → Type 0
+IsCutRun command calls = (missing : List Call) × (missing ≢ []) × Follows command (calls ++ missing)

@@ -1,0 +1,65 @@
+-- The text of a session: what each line and each entry writes.
+use Rattle.std.specs.Prelude.{ℕ, ◌≡◌, ◌↔◌, ◌&&◌, not, if◌then◌else◌, Bool, true, false, List, [], ◌∷◌, ◌++◌, codes, map}
+use Rattle.std.specs.List.{concat, list_any}
+use Rattle.std.specs.Fmt.{decimal}
+use Rattle.osgi_ops.specs.Along.{along}
+use Rattle.osgi_ops.specs.Lines.{entries_of, has_command, is_of}
+use Rattle.osgi_ops.specs.Names.{many_name, refusal_name, refusal_number}
+use Rattle.osgi_ops.specs.Sessions.{IsRunOf}
+use Rattle.osgi_ops.specs.declared.op.Op.{Op}
+use Rattle.osgi_ops.specs.declared.op.Op.TheVariants.{Register}
+use Rattle.osgi_ops.specs.declared.refusal.Refusal.{Refusal}
+use Rattle.osgi_ops.specs.declared.refusal.Refusal.TheVariants.{NoSuchBundle, TooMany, HistoryFull}
+use Rattle.osgi_ops.specs.declared.reply.Reply.{Reply}
+use Rattle.osgi_ops.specs.declared.reply.Reply.TheVariants.{Service, Refused}
+use Rattle.osgi_ops.specs.declared.entry.Entry.{Entry}
+use Rattle.osgi_ops.specs.declared.line.Content.{Content}
+use Rattle.osgi_ops.specs.declared.line.Content.TheVariants.{Empty, Join, Bad, Run}
+use Rattle.osgi_ops.specs.declared.line.Line.{Line}
+
+-- what a refusal tells besides its number and name
+abbrev pub details : Refusal → List ℕ
+details NoSuchBundle = []
+details (TooMany kind) = codes " " ++ many_name kind
+details HistoryFull = []
+
+abbrev pub refusal_text : Refusal → List ℕ
+refusal_text refusal = codes "refused " ++ decimal (refusal_number refusal) ++ codes " " ++ refusal_name refusal ++ details refusal
+
+-- the lines that an operation and its reply write, after the entries before them
+abbrev pub entry_lines : List Entry → Op → Reply → List (List ℕ)
+entry_lines before (Register owner classes object) (Service service) = (codes "service " ++ decimal service.0) ∷ []
+entry_lines before op (Refused refusal) = refusal_text refusal ∷ []
+
+abbrev pub with_line_end : List ℕ → List ℕ
+with_line_end line = line ++ 10 ∷ []
+
+abbrev pub entry_text : List Entry → Entry → List ℕ
+entry_text before e = concat (map with_line_end (entry_lines before e.op e.reply))
+
+-- the entries of a line write their texts, in order of the history
+abbrev pub entries_text : ℕ → List Entry → List ℕ
+entries_text number history = along (λ before e. if is_of number e then entry_text before e else []) [] history
+
+-- the line has a command and no entry
+abbrev pub is_full : List Entry → Line → Bool
+is_full history line = has_command line.content && not (list_any (is_of line.number) history)
+
+-- a line with a command is not full exactly where its entries are a whole run of its plan
+abbrev pub TellsFull : List Entry → Line → Type 0
+TellsFull history line =
+    has_command line.content ≡ true → (is_full history line ≡ false) ↔ IsRunOf 0 line (entries_of line history)
+
+abbrev pub content_text : List Entry → ℕ → Content → List ℕ
+content_text history number Empty = []
+content_text history number Join = []
+content_text history number Bad = with_line_end (codes "syntax")
+content_text history number (Run command) = entries_text number history
+
+-- a line writes its text, and `full` where it is so
+abbrev pub line_text : List Entry → Line → List ℕ
+line_text history line = content_text history line.number line.content ++ (if is_full history line then with_line_end (codes "full") else [])
+
+-- the lines write their texts in input order
+abbrev pub render : List Line → List Entry → List ℕ
+render lines history = concat (map (line_text history) lines)

@@ -1,0 +1,59 @@
+//! The lines of a session.
+
+ghost use Rattle.std.specs.Prelude.{◌≡◌, IfOk};
+
+use crate::command::Command;
+use osgi_base::copied::Copied;
+use std::alloc::{AllocError, Global};
+
+/// What a line says.
+#[derive(Debug, Drop, PartialEq, Eq)]
+pub enum Content {
+    /// Nothing, or a comment.
+    Empty,
+    /// That the lanes before it are to end before the lines after it begin. No line says so yet.
+    Join,
+    /// Something outside the grammar.
+    Bad,
+    Run(Command),
+}
+
+impl Content {
+    pub fn copy(&self, alloc: Global) -> Result<Content, AllocError>
+        ensures same { IfOk result (λ copy. copy ≡ self.now) }
+    {
+        match self {
+            Content::Empty => Ok(Content::Empty),
+            Content::Join => Ok(Content::Join),
+            Content::Bad => Ok(Content::Bad),
+            Content::Run(command) => Ok(Content::Run(command.copy(alloc)?)),
+        }
+    }
+}
+
+/// A line of the input. Lines are numbered from 1. A lane is one of the callers that run beside one another;
+/// it is 0 so far.
+#[derive(Debug, Drop, PartialEq, Eq)]
+pub struct Line {
+    pub number: u32,
+    pub lane: u32,
+    pub content: Content,
+}
+
+impl Line {
+    pub fn copy(&self, alloc: Global) -> Result<Line, AllocError>
+        ensures same { IfOk result (λ copy. copy ≡ self.now) }
+    {
+        Ok(Line {
+            number: self.number,
+            lane: self.lane,
+            content: self.content.copy(alloc)?,
+        })
+    }
+}
+
+impl Copied for Line {
+    fn copied(&self, alloc: Global) -> Result<Line, AllocError> {
+        self.copy(alloc)
+    }
+}
