@@ -1,0 +1,181 @@
+//! The top call: words and an input in, a text and a session out.
+
+ghost use Rattle.std.specs.Prelude.{◌≡◌, ◌≤◌, ◌<◌, ◌↔◌, ◌⊎◌, ◌∷◌, [], codes, length, None, Some, IfSome, OnSome, IsSomeAnd, IfOk, IsTrue};
+ghost use Rattle.std.specs.List.{list_any};
+ghost use Rattle.osgi_ops.specs.Replies.{is_refusal};
+ghost use Rattle.osgi_ops.specs.Settings.{setting_of, standard_bounds, standard_setting};
+ghost use Rattle.osgi_outside.specs.Causes.{Rose};
+ghost use Rattle.osgi_program.specs.Outcome.{most_input, is_bad, is_troubled, status_of, IsSession, IsWritten, IsPartlyWritten, IsWrittenStatus, IsBareStatus};
+ghost use Rattle.osgi_program.specs.Ended.{IsRun, status_by};
+
+use crate::console::parse;
+use crate::rendering::render;
+use crate::runner::{Ran, run_lines};
+use crate::session::{
+    DONE, FAULTY_WORDS, Finished, HISTORY_FULL, INPUT_TOO_LONG, NO_MEMORY, READ_FAILED, Session,
+    TROUBLED, WRITE_FAILED,
+};
+use osgi_base::text::Text;
+use osgi_core::machine::Core;
+use osgi_ops::entry::Entry;
+use osgi_ops::limits::Limits;
+use osgi_ops::line::{Content, Line};
+use osgi_outside::gate::Gate;
+use osgi_outside::reading::{Input, read_all};
+use osgi_outside::shelf::Shelf;
+use osgi_outside::sink::Sink;
+use osgi_outside::source::Source;
+use osgi_outside::writing::write_all;
+use std::alloc::{AllocError, Global};
+
+/// How many bytes an input may have.
+const MOST_INPUT: usize = 1_048_576;
+
+/// Whether the words of the command line are the one word `run`.
+fn is_run(words: &[Text]) -> bool
+    ensures run { IsTrue result ↔ (words.now ≡ codes "run" ∷ []) }
+{
+    match words {
+        [word] => word.bytes() == b"run".as_slice(),
+        _ => false,
+    }
+}
+
+/// Runs the lines of an input on a new machine.
+fn run_input(alloc: Global, limits: Limits, input: &[u8]) -> Result<(Ran, Session), AllocError>
+    requires few { length input.now < 4294967295 }
+    ensures run { IfOk result (λ r. IsRun (setting_of limits) input.now r.0 r.1) }
+{
+    let lines = parse(alloc, input)?;
+    let mut core = Core::new(alloc, limits)?;
+    let ran = run_lines(alloc, &mut core, lines.items());
+    let session = Session {
+        lines,
+        entries: core.into_entries(),
+        handings: 0,
+    };
+    Ok((ran, session))
+}
+
+fn has_bad(lines: &[Line]) -> bool
+    ensures bad { result ≡ list_any (λ line. is_bad line.content) lines.now }
+{
+    lines
+        .iter()
+        .any(|line| matches!(line.content, Content::Bad))
+}
+
+fn has_refusal(entries: &[Entry]) -> bool
+    ensures refused { result ≡ list_any (λ e. is_refusal e.reply) entries.now }
+{
+    entries.iter().any(|entry| entry.reply.is_refusal())
+}
+
+/// The status of a session whose text was written.
+fn status_by(ran: Ran, session: &Session) -> u8
+    ensures status { result ≡ status_by ran session.now }
+{
+    if ran == Ran::Full {
+        HISTORY_FULL
+    } else if has_bad(session.lines.items()) || has_refusal(session.entries.items()) {
+        TROUBLED
+    } else {
+        DONE
+    }
+}
+
+/// Writes the text of a session, where memory was found for all of its run, and says with which status the run ends.
+fn write_session<K: Sink>(alloc: Global, ran: Ran, session: &Session, sink: &mut K) -> u8
+    ensures sink_faults { K.faults sink.old ≤ K.faults sink.new }
+    ensures which { IsWrittenStatus result ⊎ (result ≡ 4) ⊎ (result ≡ 5) }
+    ensures starved { ran ≡ Ran.Starved → result ≡ 5 }
+    ensures unwritten { result ≡ 5 → sink.new ≡ sink.old }
+    ensures failed { result ≡ 4 → Rose (K.faults sink.old) (K.faults sink.new) }
+    ensures part { result ≡ 4 → IsPartlyWritten (K.written sink.old) (K.written sink.new) session.now }
+    ensures status { IsWrittenStatus result → result ≡ status_by ran session.now }
+    ensures whole { IsWrittenStatus result →
+        IsWritten (K.written sink.old) (K.written sink.new) (K.flushed sink.new) session.now }
+{
+    if ran == Ran::Starved {
+        return NO_MEMORY;
+    }
+    let Ok(text) = render(alloc, session.lines.items(), session.entries.items()) else {
+        return NO_MEMORY;
+    };
+    match write_all(sink, text.bytes()) {
+        Ok(()) => status_by(ran, session),
+        Err(_) => WRITE_FAILED,
+    }
+}
+
+/// The whole of the program: reads the words and the input, runs its lines, and writes what they answer.
+///
+/// The words are the command line without the program's name; they have to be `run` alone. The status and
+/// the session that are answered are explained at `Finished`. Runtime, shelf and gate are not used yet.
+pub fn framework_main<R, S: Source, K: Sink, F: Shelf, G: Gate>(
+    rt: &R,
+    alloc: Global,
+    words: &[Text],
+    source: &mut S,
+    sink: &mut K,
+    shelf: &mut F,
+    gate: &G,
+) -> Finished
+    ensures range { result.status ≤ 7 }
+    ensures faulty_words { (result.status ≡ 2) ↔ ¬ (words.now ≡ codes "run" ∷ []) }
+    ensures good_words { (result.status ≡ 2) ⊎ (words.now ≡ codes "run" ∷ []) }
+    ensures untouched { result.status ≡ 2 → (source.new ≡ source.old) × (sink.new ≡ sink.old) }
+    ensures shelf { shelf.new ≡ shelf.old }
+
+    // What was read, run and recorded, whatever came of the writing.
+    ensures session { IfSome result.session (IsSession standard_setting result.status (S.left source.old)) }
+    ensures all_read { OnSome result.session (OnSome (S.left source.old) (S.left source.new ≡ Some [])) }
+    ensures no_session { result.session ≡ None → IsBareStatus result.status ⊎ (result.status ≡ 5) }
+    ensures bare { IsBareStatus result.status → result.session ≡ None }
+
+    // Why nothing, or not all, was written.
+    ensures source_faults { S.faults source.old ≤ S.faults source.new }
+    ensures read_failed { result.status ≡ 3 → Rose (S.faults source.old) (S.faults source.new) }
+    ensures too_much { result.status ≡ 6 → IfSome (S.left source.old) (λ bytes. most_input < length bytes) }
+    ensures above_limit { IsSomeAnd (S.left source.old) (λ bytes. most_input < length bytes) →
+        IsBareStatus result.status ⊎ (result.status ≡ 5) }
+    ensures sink_faults { K.faults sink.old ≤ K.faults sink.new }
+    ensures write_failed { result.status ≡ 4 → Rose (K.faults sink.old) (K.faults sink.new) }
+    ensures part_written { result.status ≡ 4 →
+        IsSomeAnd result.session (IsPartlyWritten (K.written sink.old) (K.written sink.new)) }
+    ensures unwritten { IsBareStatus result.status ⊎ (result.status ≡ 5) → sink.new ≡ sink.old }
+
+    // The text, and the status that tells what is in it.
+    ensures written { IsWrittenStatus result.status →
+        IsSomeAnd result.session (IsWritten (K.written sink.old) (K.written sink.new) (K.flushed sink.new)) }
+    ensures status_by_session { IsWrittenStatus result.status →
+        IsSomeAnd result.session (λ session. result.status ≡ status_of session) }
+    ensures history_full { result.status ≡ 7 →
+        IsSomeAnd result.session (λ session. length session.entries ≡ standard_bounds.entries) }
+    ensures complete { words.now ≡ codes "run" ∷ [] →
+        ¬ Rose (S.faults source.old) (S.faults source.new) →
+        ¬ Rose (K.faults sink.old) (K.faults sink.new) →
+        IsSomeAnd (S.left source.old) (λ bytes. length bytes ≤ most_input) →
+        IfSome result.session (λ session. length session.entries < standard_bounds.entries) →
+        (result.status ≡ 0) ⊎ (result.status ≡ 1) ⊎ (result.status ≡ 5) }
+{
+    if !is_run(words) {
+        return Finished::bare(FAULTY_WORDS);
+    }
+    let input = match read_all(alloc, source, MOST_INPUT) {
+        Ok(Input::All(input)) => input,
+        Ok(Input::TooMuch) => return Finished::bare(INPUT_TOO_LONG),
+        Ok(Input::Failed) => return Finished::bare(READ_FAILED),
+        Err(_) => return Finished::bare(NO_MEMORY),
+    };
+    match run_input(alloc, Limits::standard(), input.bytes()) {
+        Ok((ran, session)) => {
+            let status = write_session(alloc, ran, &session, sink);
+            Finished {
+                status,
+                session: Some(session),
+            }
+        }
+        Err(_) => Finished::bare(NO_MEMORY),
+    }
+}

@@ -1,0 +1,85 @@
+//! Lines run on the machine.
+
+ghost use Rattle.std.specs.Prelude.{◌≡◌, IfOk};
+ghost use Rattle.osgi_program.specs.Running.{IsAsked, RunsLine, RunsLines, op_of, tag_of};
+
+use osgi_base::ids::{BundleId, Tag};
+use osgi_core::machine::Core;
+use osgi_ops::command::Command;
+use osgi_ops::line::{Content, Line};
+use osgi_ops::op::Op;
+use osgi_ops::refusal::Refusal;
+use osgi_ops::reply::Reply;
+use std::alloc::{AllocError, Global};
+
+/// How far the running of lines came.
+#[derive(Clone, Copy, Debug, PartialEq, Eq)]
+pub enum Ran {
+    /// To the end.
+    All,
+    /// To a line whose operation found the history full.
+    Full,
+    /// To a line for which memory was wanting.
+    Starved,
+}
+
+/// The operation that a command of the console asks for, which the system bundle owns.
+fn operation(alloc: Global, command: &Command) -> Result<Op, AllocError>
+    ensures operation { IfOk result (λ op. op ≡ op_of command.now) }
+{
+    match command {
+        Command::Register { classes, object } => Ok(Op::Register {
+            owner: BundleId(0),
+            classes: classes.copy(alloc)?,
+            object: object.copy(alloc)?,
+        }),
+    }
+}
+
+/// Runs the command of a line.
+fn run_command(alloc: Global, core: &mut Core, number: u32, command: &Command) -> Ran
+    ensures setting { core.new.setting ≡ core.old.setting }
+    ensures asked { IsAsked result core.old.setting.bounds.entries (tag_of number) (op_of command.now) core.old.entries core.new.entries }
+{
+    let Ok(op) = operation(alloc, command) else {
+        return Ran::Starved;
+    };
+    let tag = Tag {
+        caller: 0,
+        command: number,
+    };
+    match core.apply(tag, op) {
+        Ok(
+            Reply::Refused {
+                refusal: Refusal::HistoryFull,
+            },
+        ) => Ran::Full,
+        Ok(_) => Ran::All,
+        Err(_) => Ran::Starved,
+    }
+}
+
+/// Runs a line, which does nothing where it has no command.
+fn run_line(alloc: Global, core: &mut Core, line: &Line) -> Ran
+    ensures setting { core.new.setting ≡ core.old.setting }
+    ensures line { RunsLine result core.old.setting.bounds.entries line.now core.old.entries core.new.entries }
+{
+    match &line.content {
+        Content::Run(command) => run_command(alloc, core, line.number, command),
+        Content::Empty | Content::Join | Content::Bad => Ran::All,
+    }
+}
+
+/// Runs the lines in order, up to one that could not run.
+pub fn run_lines(alloc: Global, core: &mut Core, lines: &[Line]) -> Ran
+    ensures setting { core.new.setting ≡ core.old.setting }
+    ensures lines { RunsLines result core.old.setting.bounds.entries lines.now core.old.entries core.new.entries }
+{
+    for line in lines {
+        match run_line(alloc, core, line) {
+            Ran::All => {}
+            cut => return cut,
+        }
+    }
+    Ran::All
+}

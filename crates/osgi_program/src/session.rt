@@ -1,0 +1,62 @@
+//! What the top call answers.
+
+use osgi_base::list::List;
+use osgi_ops::entry::Entry;
+use osgi_ops::line::Line;
+
+/// The lines of an input and the history that they made.
+#[derive(Debug, Drop, PartialEq, Eq)]
+pub struct Session {
+    /// All lines of the input, in order.
+    pub lines: List<Line>,
+    /// The history, which replays from the empty framework.
+    pub entries: List<Entry>,
+    /// How many entries handed an event to a listener.
+    pub handings: u64,
+}
+
+/// The words of the command line are faulty.
+pub(crate) const FAULTY_WORDS: u8 = 2;
+
+pub(crate) const READ_FAILED: u8 = 3;
+
+pub(crate) const WRITE_FAILED: u8 = 4;
+
+pub(crate) const NO_MEMORY: u8 = 5;
+
+pub(crate) const INPUT_TOO_LONG: u8 = 6;
+
+/// A line found the history full.
+pub(crate) const HISTORY_FULL: u8 = 7;
+
+/// A line is outside the grammar, or a reply is a refusal.
+pub(crate) const TROUBLED: u8 = 1;
+
+pub(crate) const DONE: u8 = 0;
+
+/// How a run of the program ended.
+#[derive(Debug, Drop, PartialEq, Eq)]
+pub struct Finished {
+    /// The first of these that holds. 2: the words are not `run` alone; nothing was read. 3: a read
+    /// failed. 6: the input has more than 1,048,576 bytes. 4: a write or a flush failed. 7: a line with a
+    /// command found the history full. 1: a line is outside the grammar, or a reply is a refusal. 0:
+    /// otherwise. And 5 in place of any but 2: memory was wanting, and nothing was written.
+    pub status: u8,
+    /// None on 2, 3 and 6, and where memory was wanting before the framework was made.
+    pub session: Option<Session>,
+}
+
+impl Finished {
+    ghost use Rattle.std.specs.Prelude.{◌≡◌, None};
+
+    /// An end without a session.
+    pub(crate) fn bare(status: u8) -> Finished
+        ensures status { result.status ≡ status }
+        ensures session { result.session ≡ None }
+    {
+        Finished {
+            status,
+            session: None,
+        }
+    }
+}

@@ -1,0 +1,19 @@
+//! Tests of whole runs of the program, and of the calls below them.
+#![tactic(auto)]
+
+#[cfg(test)]
+mod bounds;
+#[cfg(test)]
+mod copies;
+#[cfg(test)]
+mod failures;
+#[cfg(test)]
+mod fixtures;
+#[cfg(test)]
+mod grammar;
+#[cfg(test)]
+mod machine;
+#[cfg(test)]
+mod names;
+#[cfg(test)]
+mod runs;
