@@ -6,6 +6,7 @@ pub mod Lines
 pub mod Names
 pub mod Operations
 pub mod Plans
+pub mod Properties
 pub mod Rendering
 pub mod Replies
 pub mod Services

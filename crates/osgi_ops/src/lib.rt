@@ -8,3 +8,4 @@ pub mod line;
 pub mod op;
 pub mod refusal;
 pub mod reply;
+pub mod value;
