@@ -9,7 +9,7 @@ use Rattle.osgi_ops.specs.Sessions.{IsRunOf}
 use Rattle.osgi_ops.specs.declared.op.Op.{Op}
 use Rattle.osgi_ops.specs.declared.op.Op.TheVariants.{Register}
 use Rattle.osgi_ops.specs.declared.refusal.Refusal.{Refusal}
-use Rattle.osgi_ops.specs.declared.refusal.Refusal.TheVariants.{NoSuchBundle, TooMany, HistoryFull}
+use Rattle.osgi_ops.specs.declared.refusal.Refusal.TheVariants.{NoSuchBundle, NoSuchService, BadProperties, NotOwner, TooMany, HistoryFull}
 use Rattle.osgi_ops.specs.declared.reply.Reply.{Reply}
 use Rattle.osgi_ops.specs.declared.reply.Reply.TheVariants.{Service, Refused}
 use Rattle.osgi_ops.specs.declared.entry.Entry.{Entry}
@@ -20,6 +20,9 @@ use Rattle.osgi_ops.specs.declared.line.Line.{Line}
 -- what a refusal tells besides its number and name
 abbrev pub details : Refusal → List ℕ
 details NoSuchBundle = []
+details NoSuchService = []
+details BadProperties = []
+details (NotOwner owner) = codes " " ++ decimal owner.0
 details (TooMany kind) = codes " " ++ many_name kind
 details HistoryFull = []
 

@@ -1,6 +1,7 @@
 //! Why the framework refuses an operation. Each refusal has a number and a name for good.
 
 use osgi_base::copied::Copied;
+use osgi_base::ids::BundleId;
 use std::alloc::{AllocError, Global};
 
 /// What there can be too many of.
@@ -34,6 +35,12 @@ impl Many {
 pub enum Refusal {
     /// 1: no bundle that is live has the id.
     NoSuchBundle,
+    /// 13: no service that is live has the id.
+    NoSuchService,
+    /// 14: two of the given properties have one name.
+    BadProperties,
+    /// 15: the service is another bundle's, this one's.
+    NotOwner { owner: BundleId },
     /// 17: there are as many of this kind as there may be.
     TooMany { kind: Many },
     /// 18: the history has as many entries as it may have. Alone of all refusals it leaves no entry.
@@ -49,6 +56,9 @@ impl Refusal {
     {
         match self {
             Refusal::NoSuchBundle => 1,
+            Refusal::NoSuchService => 13,
+            Refusal::BadProperties => 14,
+            Refusal::NotOwner { .. } => 15,
             Refusal::TooMany { .. } => 17,
             Refusal::HistoryFull => 18,
         }
@@ -59,6 +69,9 @@ impl Refusal {
     {
         match self {
             Refusal::NoSuchBundle => "NoSuchBundle",
+            Refusal::NoSuchService => "NoSuchService",
+            Refusal::BadProperties => "BadProperties",
+            Refusal::NotOwner { .. } => "NotOwner",
             Refusal::TooMany { .. } => "TooMany",
             Refusal::HistoryFull => "HistoryFull",
         }
@@ -69,6 +82,9 @@ impl Refusal {
     {
         match self {
             Refusal::NoSuchBundle => Ok(Refusal::NoSuchBundle),
+            Refusal::NoSuchService => Ok(Refusal::NoSuchService),
+            Refusal::BadProperties => Ok(Refusal::BadProperties),
+            Refusal::NotOwner { owner } => Ok(Refusal::NotOwner { owner: *owner }),
             Refusal::TooMany { kind } => Ok(Refusal::TooMany { kind: *kind }),
             Refusal::HistoryFull => Ok(Refusal::HistoryFull),
         }

@@ -23,7 +23,15 @@ fn add_details(out: &mut Vec<u8>, refusal: &Refusal) -> Result<(), AllocError>
             out.push(b' ')?;
             out.extend_from_slice(kind.name().as_bytes())
         }
-        Refusal::NoSuchBundle | Refusal::HistoryFull => Ok(()),
+        Refusal::NotOwner { owner } => {
+            let mut buffer = Buffer::new();
+            out.push(b' ')?;
+            out.extend_from_slice(buffer.format(owner.0).as_bytes())
+        }
+        Refusal::NoSuchBundle
+        | Refusal::NoSuchService
+        | Refusal::BadProperties
+        | Refusal::HistoryFull => Ok(()),
     }
 }
 
