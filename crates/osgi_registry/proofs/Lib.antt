@@ -1,0 +1,2 @@
+-- Lemmas on the registry.
+pub mod Pushes

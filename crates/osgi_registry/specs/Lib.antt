@@ -1,0 +1,1 @@
+-- The registry as contracts see it.
