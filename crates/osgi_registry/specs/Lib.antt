@@ -1,1 +1,3 @@
 -- The registry as contracts see it.
+pub mod Kept
+pub mod Rows

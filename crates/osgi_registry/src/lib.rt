@@ -1,5 +1,7 @@
 //! The registry of services: which are live, who registered them, and who uses them.
 #![tactic(auto)]
 
+pub mod held;
 pub mod properties;
+pub mod registry;
 pub mod service;

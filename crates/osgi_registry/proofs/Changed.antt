@@ -1,0 +1,153 @@
+-- The registry's entries after a change at a key, and after a removal.
+use Rattle.std.proofs.Common.{◌≡◌, ℕ, suc, ◌≤◌, List, [], ◌∷◌, length, ap, sym, ◌∙◌, refl, arith, nat_eq}
+use Rattle.std.specs.Prelude.{Bool, true, false, cond, Some, All, AllPairs}
+use Rattle.std.specs.Map.{lookup, remove_entry, set_value, values_of}
+use Rattle.std.proofs.lemmas.Bool.{eqb-true, ne_eqb}
+use Rattle.std.proofs.lemmas.List.Elements.{All-cons, All-head, All-map, All-tail}
+use Rattle.std.proofs.lemmas.List.Folds.{map_fixed}
+use Rattle.std.proofs.lemmas.List.Kept.{AllPairs-cons}
+use Rattle.std.proofs.lemmas.Map.Steps.{set_value_same}
+use Rattle.osgi_base.specs.declared.ids.ServiceId.{ServiceId}
+use Rattle.osgi_registry.specs.Kept.{IsBefore, IsKept, IsUnder}
+use Rattle.osgi_registry.specs.Rows.{change, id_of, is_service, Row, without}
+use Rattle.osgi_registry.proofs.Entries.{pairs_head, pairs_tail}
+
+-- ---- what stays true
+
+All-set_by : (P : ℕ × Row → Type 0) (key : ℕ) (row : Row) (e : ℕ × Row) (rest : List (ℕ × Row)) (here : Bool) → nat_eq key e.0 ≡ here → (key ≡ e.0 → P (e.0, row)) → P e → All P rest → All P (set_value (nat_eq key) rest row) →
+    All P (cond here ((e.0, row) ∷ rest) (e ∷ set_value (nat_eq key) rest row))
+All-set_by P key row e rest true same new old others more = All-cons P (e.0, row) rest (new (eqb-true key e.0 same)) others
+All-set_by P key row e rest false same new old others more = All-cons P e (set_value (nat_eq key) rest row) old more
+
+All-set_value : (P : ℕ × Row → Type 0) (key : ℕ) (row : Row) (entries : List (ℕ × Row)) → All P entries → ((e : ℕ × Row) → P e → key ≡ e.0 → P (e.0, row)) → All P (set_value (nat_eq key) entries row)
+All-set_value P key row [] all new = all
+All-set_value P key row (e ∷ rest) all new =
+    let others = All-tail P e rest all in
+    let here = All-head P e rest all in
+    All-set_by P key row e rest (nat_eq key e.0) refl (new e here) here others (All-set_value P key row rest others new)
+
+pairs_set_by : (key : ℕ) (row : Row) (e : ℕ × Row) (rest : List (ℕ × Row)) (here : Bool) → All (IsBefore e) rest → AllPairs IsBefore rest → AllPairs IsBefore (set_value (nat_eq key) rest row) →
+    AllPairs IsBefore (cond here ((e.0, row) ∷ rest) (e ∷ set_value (nat_eq key) rest row))
+pairs_set_by key row e rest true after pairs more = AllPairs-cons IsBefore (e.0, row) rest after pairs
+pairs_set_by key row e rest false after pairs more =
+    AllPairs-cons IsBefore e (set_value (nat_eq key) rest row) (All-set_value (IsBefore e) key row rest after (λ d before same. before)) more
+
+pairs_set : (key : ℕ) (row : Row) (entries : List (ℕ × Row)) → AllPairs IsBefore entries → AllPairs IsBefore (set_value (nat_eq key) entries row)
+pairs_set key row [] pairs = pairs
+pairs_set key row (e ∷ rest) pairs =
+    let others = pairs_tail IsBefore e rest pairs in
+    pairs_set_by key row e rest (nat_eq key e.0) (pairs_head IsBefore e rest pairs) others (pairs_set key row rest others)
+
+length_set_by : (row : Row) (e : ℕ × Row) (rest more : List (ℕ × Row)) (here : Bool) → length more ≡ length rest → length (cond here ((e.0, row) ∷ rest) (e ∷ more)) ≡ length (e ∷ rest)
+length_set_by row e rest more true same = refl
+length_set_by row e rest more false same = ap suc same
+
+length_set : (key : ℕ) (row : Row) (entries : List (ℕ × Row)) → length (set_value (nat_eq key) entries row) ≡ length entries
+length_set key row [] = refl
+length_set key row (e ∷ rest) = length_set_by row e rest (set_value (nat_eq key) rest row) (nat_eq key e.0) (length_set key row rest)
+
+pub kept_set : (given key : ℕ) (row : Row) (entries : List (ℕ × Row)) → IsKept given entries → id_of row ≡ key → IsKept given (set_value (nat_eq key) entries row)
+kept_set given key row entries kept is = record {
+  under = All-set_value (IsUnder given) key row entries kept.under (λ e u same. record { key = sym (is ∙ same); some = u.some; below = u.below });
+  rising = pairs_set key row entries kept.rising;
+  few = rw (length_set key row entries) kept.few;
+  fits = kept.fits;
+}
+
+All-remove_by : (P : ℕ × Row → Type 0) (e : ℕ × Row) (rest more : List (ℕ × Row)) (here : Bool) → P e → All P rest → All P more → All P (cond here rest (e ∷ more))
+All-remove_by P e rest more true old others all = others
+All-remove_by P e rest more false old others all = All-cons P e more old all
+
+All-remove : (P : ℕ × Row → Type 0) (key : ℕ) (entries : List (ℕ × Row)) → All P entries → All P (remove_entry (nat_eq key) entries)
+All-remove P key [] all = all
+All-remove P key (e ∷ rest) all =
+    let others = All-tail P e rest all in
+    All-remove_by P e rest (remove_entry (nat_eq key) rest) (nat_eq key e.0) (All-head P e rest all) others (All-remove P key rest others)
+
+pairs_remove_by : (e : ℕ × Row) (rest more : List (ℕ × Row)) (here : Bool) → All (IsBefore e) more → AllPairs IsBefore rest → AllPairs IsBefore more → AllPairs IsBefore (cond here rest (e ∷ more))
+pairs_remove_by e rest more true after pairs all = pairs
+pairs_remove_by e rest more false after pairs all = AllPairs-cons IsBefore e more after all
+
+pairs_remove : (key : ℕ) (entries : List (ℕ × Row)) → AllPairs IsBefore entries → AllPairs IsBefore (remove_entry (nat_eq key) entries)
+pairs_remove key [] pairs = pairs
+pairs_remove key (e ∷ rest) pairs =
+    let others = pairs_tail IsBefore e rest pairs in
+    pairs_remove_by e rest (remove_entry (nat_eq key) rest) (nat_eq key e.0) (All-remove (IsBefore e) key rest (pairs_head IsBefore e rest pairs)) others (pairs_remove key rest others)
+
+length_remove_by : (e : ℕ × Row) (rest more : List (ℕ × Row)) (here : Bool) → length more ≤ length rest → length (cond here rest (e ∷ more)) ≤ length (e ∷ rest)
+length_remove_by e rest more true less = omega arith
+length_remove_by e rest more false less = omega arith
+
+length_remove : (key : ℕ) (entries : List (ℕ × Row)) → length (remove_entry (nat_eq key) entries) ≤ length entries
+length_remove key [] = omega arith
+length_remove key (e ∷ rest) = length_remove_by e rest (remove_entry (nat_eq key) rest) (nat_eq key e.0) (length_remove key rest)
+
+pub kept_remove : (given key : ℕ) (entries : List (ℕ × Row)) → IsKept given entries → IsKept given (remove_entry (nat_eq key) entries)
+kept_remove given key entries kept = record {
+  under = All-remove (IsUnder given) key entries kept.under;
+  rising = pairs_remove key entries kept.rising;
+  few = omega (arith, length_remove key entries, kept.few);
+  fits = kept.fits;
+}
+
+-- a row put back as it was changes nothing
+pub set_same : (key : ℕ) (old new : Row) (entries : List (ℕ × Row)) → new ≡ old → lookup (nat_eq key) entries ≡ Some old → set_value (nat_eq key) entries new ≡ entries
+set_same key old new entries is found = rw is (set_value_same (nat_eq key) entries old found)
+
+-- ---- the rows
+
+-- no row after this one is the service's
+others_differ : (given : ℕ) (service : ServiceId) (e : ℕ × Row) (rest : List (ℕ × Row)) → service.0 ≡ e.0 → All (IsUnder given) rest → All (IsBefore e) rest → All (λ row. is_service service row ≡ false) (values_of rest)
+others_differ given service e rest is under after =
+    All-map (λ row. is_service service row ≡ false) (λ (x : ℕ × Row). x.1) rest
+    (λ k d within. let u = under k d within in let b = after k d within in ne_eqb service.0 _ (λ same. absurd (omega (arith, is, same, u.key, b))))
+
+fixed_by : (service : ServiceId) (f : Row → Row) (row : Row) (here : Bool) → is_service service row ≡ here → here ≡ false → cond (is_service service row) (f row) row ≡ row
+fixed_by service f row here is none = rw (is ∙ none) refl
+
+change_none : (service : ServiceId) (f : Row → Row) (rows : List Row) → All (λ row. is_service service row ≡ false) rows → change service f rows ≡ rows
+change_none service f rows none = map_fixed (λ row. cond (is_service service row) (f row) row) rows (λ k d within. fixed_by service f _ false (none k d within) refl)
+
+without_none : (service : ServiceId) (rows : List Row) → All (λ row. is_service service row ≡ false) rows → without service rows ≡ rows
+without_none service [] none = refl
+without_none service (row ∷ rest) none =
+    rw (All-head (λ r. is_service service r ≡ false) row rest none) (ap (λ l. row ∷ l) (without_none service rest (All-tail (λ r. is_service service r ≡ false) row rest none)))
+
+rows_set_by : (given : ℕ) (service : ServiceId) (old new : Row) (f : Row → Row) (e : ℕ × Row) (rest : List (ℕ × Row)) (here : Bool) → nat_eq service.0 e.0 ≡ here → e.0 ≡ id_of e.1 → All (IsUnder given) rest → All (IsBefore e) rest → f old ≡ new →
+    (lookup (nat_eq service.0) rest ≡ Some old → values_of (set_value (nat_eq service.0) rest new) ≡ change service f (values_of rest)) →
+    cond here (Some e.1) (lookup (nat_eq service.0) rest) ≡ Some old →
+    values_of (cond here ((e.0, new) ∷ rest) (e ∷ set_value (nat_eq service.0) rest new)) ≡ change service f (e.1 ∷ values_of rest)
+rows_set_by given service old new f e rest true same key under after is more found =
+    let row_is : e.1 ≡ old = cc found in
+    let others : change service f (values_of rest) ≡ values_of rest = change_none service f (values_of rest) (others_differ given service e rest (eqb-true service.0 e.0 same) under after) in
+    let at : is_service service e.1 ≡ true = rw (← key) same in
+    rw (at, others, row_is, is) refl
+rows_set_by given service old new f e rest false same key under after is more found =
+    let at : is_service service e.1 ≡ false = rw (← key) same in
+    rw at (ap (λ l. e.1 ∷ l) (more found))
+
+-- a change at the key changes the service's row
+pub rows_set : (given : ℕ) (service : ServiceId) (old new : Row) (f : Row → Row) (entries : List (ℕ × Row)) → All (IsUnder given) entries → AllPairs IsBefore entries → f old ≡ new → lookup (nat_eq service.0) entries ≡ Some old →
+    values_of (set_value (nat_eq service.0) entries new) ≡ change service f (values_of entries)
+rows_set given service old new f [] under pairs is found = absurd (cc found)
+rows_set given service old new f (e ∷ rest) under pairs is found =
+    let others = All-tail (IsUnder given) e rest under in
+    rows_set_by given service old new f e rest (nat_eq service.0 e.0) refl (All-head (IsUnder given) e rest under).key others (pairs_head IsBefore e rest pairs) is
+    (rows_set given service old new f rest others (pairs_tail IsBefore e rest pairs) is) found
+
+rows_remove_by : (given : ℕ) (service : ServiceId) (e : ℕ × Row) (rest : List (ℕ × Row)) (here : Bool) → nat_eq service.0 e.0 ≡ here → e.0 ≡ id_of e.1 → All (IsUnder given) rest → All (IsBefore e) rest →
+    values_of (remove_entry (nat_eq service.0) rest) ≡ without service (values_of rest) → values_of (cond here rest (e ∷ remove_entry (nat_eq service.0) rest)) ≡ without service (e.1 ∷ values_of rest)
+rows_remove_by given service e rest true same key under after more =
+    let at : is_service service e.1 ≡ true = rw (← key) same in
+    rw at (sym (without_none service (values_of rest) (others_differ given service e rest (eqb-true service.0 e.0 same) under after)))
+rows_remove_by given service e rest false same key under after more =
+    let at : is_service service e.1 ≡ false = rw (← key) same in
+    rw at (ap (λ l. e.1 ∷ l) more)
+
+-- a removal of the key takes the service's row out
+pub rows_remove : (given : ℕ) (service : ServiceId) (entries : List (ℕ × Row)) → All (IsUnder given) entries → AllPairs IsBefore entries → values_of (remove_entry (nat_eq service.0) entries) ≡ without service (values_of entries)
+rows_remove given service [] under pairs = refl
+rows_remove given service (e ∷ rest) under pairs =
+    let others = All-tail (IsUnder given) e rest under in
+    rows_remove_by given service e rest (nat_eq service.0 e.0) refl (All-head (IsUnder given) e rest under).key others (pairs_head IsBefore e rest pairs)
+    (rows_remove given service rest others (pairs_tail IsBefore e rest pairs))

@@ -1,0 +1,22 @@
+-- The counts of uses after one more or one less.
+use Rattle.std.proofs.Common.{◌≡◌, ℕ, List, [], ◌∷◌, ap, refl, nat_eq}
+use Rattle.std.specs.Prelude.{Bool, true, false, cond, Some}
+use Rattle.std.specs.Map.{lookup, set_value}
+use Rattle.indexmap.specs.IndexMap.{insert_entry}
+use Rattle.osgi_base.specs.declared.ids.BundleId.{BundleId}
+use Rattle.osgi_registry.specs.Rows.{with_count}
+
+-- an insert puts the user's count
+pub counted_by_insert : (user : BundleId) (count : ℕ) (uses : List (ℕ × ℕ)) → insert_entry nat_eq uses user.0 count ≡ with_count user count uses
+counted_by_insert user count [] = refl
+counted_by_insert user count (first ∷ rest) = ap (λ l. cond (nat_eq user.0 first.0) ((first.0, count) ∷ rest) (first ∷ l)) (counted_by_insert user count rest)
+
+set_by : (user : BundleId) (old count : ℕ) (first : ℕ × ℕ) (rest : List (ℕ × ℕ)) (here : Bool) → (lookup (nat_eq user.0) rest ≡ Some old → set_value (nat_eq user.0) rest count ≡ with_count user count rest) →
+    cond here (Some first.1) (lookup (nat_eq user.0) rest) ≡ Some old → cond here ((first.0, count) ∷ rest) (first ∷ set_value (nat_eq user.0) rest count) ≡ cond here ((first.0, count) ∷ rest) (first ∷ with_count user count rest)
+set_by user old count first rest true more found = refl
+set_by user old count first rest false more found = ap (λ l. first ∷ l) (more found)
+
+-- and so does a write where the user has one
+pub counted_by_set : (user : BundleId) (old count : ℕ) (uses : List (ℕ × ℕ)) → lookup (nat_eq user.0) uses ≡ Some old → set_value (nat_eq user.0) uses count ≡ with_count user count uses
+counted_by_set user old count [] found = absurd (cc found)
+counted_by_set user old count (first ∷ rest) found = set_by user old count first rest (nat_eq user.0 first.0) (counted_by_set user old count rest) found

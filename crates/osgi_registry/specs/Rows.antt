@@ -1,0 +1,116 @@
+-- The registry as contracts see it: the live services in rows, and what calls answer and change by them.
+use Rattle.std.specs.Prelude.{ℕ, ◌==◌, ◌+◌, ◌-◌, ◌<◌, ◌≤◌, nat_le, Bool, not, if◌then◌else◌, List, [], ◌∷◌, Option, None, Some, Result, Ok, Err, All, find, filter, map, length, unwrap_or}
+use Rattle.std.specs.List.Sorted.{IsStrictlyIncreasing}
+use Rattle.std.specs.Map.{lookup}
+use Rattle.std.specs.Option.{option_map_or, option_or}
+use Rattle.osgi_base.specs.declared.ids.BundleId.{BundleId}
+use Rattle.osgi_base.specs.declared.ids.ServiceId.{ServiceId}
+use Rattle.osgi_ops.specs.Properties.{has_twins, with_framework}
+use Rattle.osgi_ops.specs.Settings.{most_services}
+use Rattle.osgi_ops.specs.declared.refusal.Many.TheVariants.{Services}
+use Rattle.osgi_ops.specs.declared.refusal.Refusal.{Refusal}
+use Rattle.osgi_ops.specs.declared.refusal.Refusal.TheVariants.{NoSuchService, BadProperties, NotOwner, TooMany}
+use Rattle.osgi_ops.specs.declared.value.Attribute.{Attribute}
+use Rattle.osgi_registry.specs.declared.service.Service.{Service}
+
+-- a live service, and how often each user holds it, by the user's id
+pub record Row : Type 0 where
+  pub service : Service
+  pub uses : List (ℕ × ℕ)
+
+-- the live services by rising id, and how many ids were given
+pub record RegistryRows : Type 0 where
+  pub rows : List Row
+  pub given : ℕ
+
+abbrev pub id_of : Row → ℕ
+id_of row = row.service.service.0
+
+-- the ids rise from 1, and all of them were given
+pub record AreInOrder (registry : RegistryRows) : Type 0 where
+  pub rising : IsStrictlyIncreasing (map id_of registry.rows)
+  pub given : All (λ row. (0 < id_of row) × (id_of row ≤ registry.given)) registry.rows
+
+abbrev pub is_service : ServiceId → Row → Bool
+is_service service row = service.0 == id_of row
+
+-- the row of the service, if it is live
+abbrev pub row_at : ServiceId → List Row → Option Row
+row_at service rows = find (is_service service) rows
+
+-- the rows with a change at the service
+abbrev pub change : ServiceId → (Row → Row) → List Row → List Row
+change service f rows = map (λ row. if is_service service row then f row else row) rows
+
+abbrev pub without : ServiceId → List Row → List Row
+without service rows = filter (λ row. not (is_service service row)) rows
+
+-- ---- uses
+
+-- how often the user holds it
+abbrev pub count_of : BundleId → List (ℕ × ℕ) → ℕ
+count_of user uses = unwrap_or (lookup (λ other. user.0 == other) uses) 0
+
+-- the uses with this count of the user. A user's place stays, and a new user goes last
+abbrev pub with_count : BundleId → ℕ → List (ℕ × ℕ) → List (ℕ × ℕ)
+with_count user count [] = (user.0, count) ∷ []
+with_count user count (first ∷ rest) = if user.0 == first.0 then (first.0, count) ∷ rest else first ∷ with_count user count rest
+
+abbrev pub used_more : BundleId → Row → Row
+used_more user row = record row { uses = with_count user (count_of user row.uses + 1) row.uses }
+
+abbrev pub used_less : BundleId → Row → Row
+used_less user row = record row { uses = with_count user (count_of user row.uses - 1) row.uses }
+
+-- how often the user holds the service; 0 where it is not live
+abbrev pub use_count : BundleId → ServiceId → List Row → ℕ
+use_count user service rows = option_map_or (λ row. count_of user row.uses) (row_at service rows) 0
+
+-- ---- changes
+
+-- a service as it is registered
+abbrev pub new_row : ServiceId → BundleId → List (List ℕ) → List ℕ → List Attribute → Row
+new_row service owner classes object properties = record {
+  service = record {
+    service = service;
+    owner = owner;
+    classes = classes;
+    object = object;
+    properties = with_framework properties classes service owner;
+  };
+  uses = [];
+}
+
+-- a service whose given properties are replaced by these
+abbrev pub with_properties : List Attribute → Row → Row
+with_properties properties row = record row {
+  service = record row.service { properties = with_framework properties row.service.classes row.service.service row.service.owner };
+}
+
+-- ---- refusals
+
+-- why the owner may not change what is at this row
+abbrev pub refusal_at : BundleId → Option Row → Option Refusal
+refusal_at owner None = Some NoSuchService
+refusal_at owner (Some row) = if owner.0 == row.service.owner.0 then None else Some (NotOwner row.service.owner)
+
+-- why the owner may not change the service: it is not live, or another bundle's
+abbrev pub change_refusal : BundleId → ServiceId → List Row → Option Refusal
+change_refusal owner service rows = refusal_at owner (row_at service rows)
+
+abbrev pub twins_refusal : List Attribute → Option Refusal
+twins_refusal properties = if has_twins properties then Some BadProperties else None
+
+abbrev pub room_refusal : List Row → Option Refusal
+room_refusal rows = if nat_le most_services (length rows) then Some (TooMany Services) else None
+
+abbrev pub register_refusal : List Attribute → List Row → Option Refusal
+register_refusal properties rows = option_or (twins_refusal properties) (room_refusal rows)
+
+abbrev pub modify_refusal : BundleId → ServiceId → List Attribute → List Row → Option Refusal
+modify_refusal owner service properties rows = option_or (change_refusal owner service rows) (twins_refusal properties)
+
+-- what a get of what is at this row answers
+abbrev pub object_at : Option Row → Result (List ℕ) Refusal
+object_at None = Err NoSuchService
+object_at (Some row) = Ok row.service.object

@@ -1,0 +1,217 @@
+//! The registry.
+
+ghost use Rattle.std.specs.Prelude.{◌≡◌, ◌+◌, ◌<◌, [], ◌∷◌, ◌++◌, nat_lt, length, slice_get, None, Some, IfOk, OnOk, OnErr};
+ghost use Rattle.std.specs.Bool.{OnTrue, OnFalse};
+ghost use Rattle.std.specs.Option.{option_map};
+ghost use Rattle.std.specs.Result.{result_err};
+ghost use Rattle.osgi_registry.specs.Rows.{AreInOrder, change, change_refusal, modify_refusal, new_row, object_at, register_refusal, row_at, use_count, used_less, used_more, with_properties, without};
+
+use crate::held::Held;
+use crate::properties::{has_twins, with_framework};
+use crate::service::Service;
+use indexmap::IndexMap;
+use osgi_base::ids::{BundleId, ServiceId};
+use osgi_base::list::List;
+use osgi_base::text::Text;
+use osgi_ops::refusal::{Many, Refusal};
+use osgi_ops::value::Attributes;
+use std::alloc::{AllocError, Global};
+use std::marker::Model;
+
+/// How many services may be live.
+const MOST_SERVICES: usize = 65_536;
+
+/// The live services by rising id, with their uses.
+#[derive(Drop)]
+pub struct Registry {
+    alloc: Global,
+    services: IndexMap<u64, Held>,
+    given: u64,
+}
+
+impl Model for Registry {
+    ghost use Rattle.std.specs.Map.{values_of};
+    ghost use Rattle.osgi_registry.specs.Kept.{IsKept};
+    ghost use Rattle.osgi_registry.specs.Rows.{RegistryRows};
+    ghost use Rattle.std.specs.Coded.{codes};
+    ghost use Rattle.osgi_ops.specs.contracts.value.Value as value;
+
+    ghost Value = { RegistryRows };
+
+    ghost coded = { Prim.hlevel (codes, value.the_row.coded) };
+
+    ghost view = { λ r. record { rows = values_of r.services.entries; given = r.given } };
+
+    ghost invariant = { λ r. IsKept r.given r.services.entries };
+}
+
+impl Registry {
+    pub fn new(alloc: Global) -> Result<Registry, AllocError>
+        ensures empty { IfOk result (λ registry. registry ≡ record { rows = []; given = 0 }) }
+    {
+        Ok(Registry {
+            alloc,
+            services: IndexMap::new(alloc),
+            given: 0,
+        })
+    }
+
+    /// How many services are live.
+    pub fn count(&self) -> usize
+        ensures count { result ≡ length self.now.rows }
+        ensures in_order { AreInOrder self.now }
+    {
+        self.services.len()
+    }
+
+    /// The live service at this place by rising id.
+    pub fn at(&self, place: usize) -> &Service
+        requires { place < length self.now.rows }
+        ensures service { option_map (λ row. row.service) (slice_get self.now.rows place) ≡ Some result.now }
+    {
+        self.services[place].service()
+    }
+
+    /// Registers a service under the next id.
+    pub fn register(
+        &mut self,
+        owner: BundleId,
+        classes: List<Text>,
+        object: Text,
+        properties: Attributes,
+    ) -> Result<Result<ServiceId, Refusal>, AllocError>
+        requires { self.old.given < 4294967295 }
+        ensures refusal { IfOk result (λ answer. result_err answer ≡ register_refusal properties self.old.rows) }
+        ensures id { IfOk result (λ answer. IfOk answer (λ id. id.0 ≡ self.old.given + 1)) }
+        ensures rows { IfOk result (λ answer. IfOk answer (λ id. self.new.rows ≡ self.old.rows ++ new_row id owner classes object properties ∷ [])) }
+        ensures given { IfOk result (λ answer. OnOk answer (self.new.given ≡ self.old.given + 1)) }
+        ensures refused { IfOk result (λ answer. OnErr answer (self.new ≡ self.old)) }
+        ensures unchanged { OnErr result (self.new ≡ self.old) }
+    {
+        if has_twins(properties.items()) {
+            return Ok(Err(Refusal::BadProperties));
+        }
+        if self.services.len() >= MOST_SERVICES {
+            return Ok(Err(Refusal::TooMany {
+                kind: Many::Services,
+            }));
+        }
+        let id = self.given + 1;
+        let service = ServiceId(id);
+        let properties = with_framework(
+            self.alloc,
+            properties.items(),
+            classes.items(),
+            service,
+            owner,
+        )?;
+        let held = Held::new(
+            self.alloc,
+            Service {
+                service,
+                owner,
+                classes,
+                object,
+                properties,
+            },
+        );
+        self.services.insert(id, held)?;
+        self.given = id;
+        Ok(Ok(service))
+    }
+    /// Why the owner may not change the service, if there is a reason.
+    fn refusal_of(&self, owner: BundleId, service: ServiceId) -> Option<Refusal>
+        ensures refusal { result ≡ change_refusal owner service self.now.rows }
+    {
+        let Some(held) = self.services.get(&service.0) else {
+            return Some(Refusal::NoSuchService);
+        };
+        let other = held.service().owner;
+        if owner.0 == other.0 {
+            return None;
+        }
+        Some(Refusal::NotOwner { owner: other })
+    }
+
+    /// Puts these properties in place of all that were given of the service.
+    pub fn modify(
+        &mut self,
+        owner: BundleId,
+        service: ServiceId,
+        properties: Attributes,
+    ) -> Result<Result<(), Refusal>, AllocError>
+        ensures refusal { IfOk result (λ answer. result_err answer ≡ modify_refusal owner service properties self.old.rows) }
+        ensures rows { IfOk result (λ answer. OnOk answer (self.new.rows ≡ change service (with_properties properties) self.old.rows)) }
+        ensures given { self.new.given ≡ self.old.given }
+        ensures refused { IfOk result (λ answer. OnErr answer (self.new ≡ self.old)) }
+        ensures unchanged { OnErr result (self.new ≡ self.old) }
+    {
+        if let Some(refusal) = self.refusal_of(owner, service) {
+            return Ok(Err(refusal));
+        }
+        if has_twins(properties.items()) {
+            return Ok(Err(Refusal::BadProperties));
+        }
+        let Some(held) = self.services.get_mut(&service.0) else {
+            return Ok(Err(Refusal::NoSuchService));
+        };
+        let now = held.service();
+        let all = with_framework(
+            self.alloc,
+            properties.items(),
+            now.classes.items(),
+            now.service,
+            now.owner,
+        )?;
+        held.set_properties(all);
+        Ok(Ok(()))
+    }
+
+    /// Takes the service out, and its uses with it.
+    pub fn unregister(&mut self, owner: BundleId, service: ServiceId) -> Result<(), Refusal>
+        ensures refusal { result_err result ≡ change_refusal owner service self.old.rows }
+        ensures rows { OnOk result (self.new.rows ≡ without service self.old.rows) }
+        ensures given { self.new.given ≡ self.old.given }
+        ensures refused { OnErr result (self.new ≡ self.old) }
+    {
+        if let Some(refusal) = self.refusal_of(owner, service) {
+            return Err(refusal);
+        }
+        self.services.shift_remove(&service.0);
+        Ok(())
+    }
+
+    /// Counts one more use of the service by the user, and answers a copy of its object.
+    pub fn get(
+        &mut self,
+        user: BundleId,
+        service: ServiceId,
+    ) -> Result<Result<Text, Refusal>, AllocError>
+        requires { use_count user service self.old.rows < 18446744073709551615 }
+        ensures object { IfOk result (λ answer. answer ≡ object_at (row_at service self.old.rows)) }
+        ensures rows { IfOk result (λ answer. OnOk answer (self.new.rows ≡ change service (used_more user) self.old.rows)) }
+        ensures given { self.new.given ≡ self.old.given }
+        ensures refused { IfOk result (λ answer. OnErr answer (self.new ≡ self.old)) }
+        ensures unchanged { OnErr result (self.new ≡ self.old) }
+    {
+        let Some(held) = self.services.get_mut(&service.0) else {
+            return Ok(Err(Refusal::NoSuchService));
+        };
+        let object = held.service().object.copy(self.alloc)?;
+        held.add_use(user)?;
+        Ok(Ok(object))
+    }
+
+    /// Counts one use of the service less by the user, and answers whether there was one.
+    pub fn unget(&mut self, user: BundleId, service: ServiceId) -> bool
+        ensures answer { result ≡ nat_lt 0 (use_count user service self.old.rows) }
+        ensures rows { OnTrue result (self.new.rows ≡ change service (used_less user) self.old.rows) }
+        ensures given { self.new.given ≡ self.old.given }
+        ensures unchanged { OnFalse result (self.new ≡ self.old) }
+    {
+        let Some(held) = self.services.get_mut(&service.0) else {
+            return false;
+        };
+        held.take_use(user)
+    }
+}
