@@ -1,3 +1,4 @@
 -- The registry as contracts see it.
 pub mod Kept
+pub mod Places
 pub mod Rows

@@ -1,7 +1,9 @@
 //! The registry of services: which are live, who registered them, and who uses them.
 #![tactic(auto)]
 
+pub mod class_index;
 pub mod held;
+pub mod place;
 pub mod properties;
 pub mod registry;
 pub mod service;

@@ -1,0 +1,89 @@
+//! The services of each class, best first.
+
+ghost use Rattle.std.specs.Prelude.{◌≡◌, false, List, ℕ, [], ◌∷◌, OnOk, OnErr, IfSome, IfNone, Some, slice_get};
+ghost use Rattle.osgi_registry.specs.Places.{Adds, HoldsSame, holds, IsFresh, places_at, Takes};
+ghost use Rattle.osgi_registry.specs.declared.place.Place.{Place};
+
+use crate::place::Place;
+use osgi_base::text::Text;
+use std::alloc::{AllocError, Global};
+use std::collections::{BTreeMap, BTreeSet};
+
+/// The places of the services of each class, in order. A class without services is not kept.
+#[derive(Drop)]
+pub struct ClassIndex {
+    alloc: Global,
+    classes: BTreeMap<Text, BTreeSet<Place>>,
+}
+
+impl ClassIndex {
+    pub fn new(alloc: Global) -> ClassIndex
+        ensures empty { (c : List ℕ) (p : Place) → holds result.classes c p ≡ false }
+    {
+        ClassIndex {
+            alloc,
+            classes: BTreeMap::new(alloc),
+        }
+    }
+
+    /// Adds the place under the class.
+    fn add(&mut self, class: &Text, place: Place) -> Result<(), AllocError>
+        ensures added { OnOk result (Adds self.old.classes self.new.classes (class.now ∷ []) place) }
+        ensures unchanged { OnErr result (HoldsSame self.old.classes self.new.classes) }
+    {
+        if let Some(places) = self.classes.get_mut(class) {
+            places.insert(place)?;
+            return Ok(());
+        }
+        let mut places = BTreeSet::new(self.alloc);
+        places.insert(place)?;
+        self.classes.insert(class.copy(self.alloc)?, places)?;
+        Ok(())
+    }
+
+    /// Takes the place out under the class.
+    fn take(&mut self, class: &Text, place: Place)
+        ensures taken { Takes self.old.classes self.new.classes (class.now ∷ []) place }
+    {
+        let Some(places) = self.classes.get_mut(class) else {
+            return;
+        };
+        places.remove(&place);
+        if places.is_empty() {
+            self.classes.remove(class);
+        }
+    }
+
+    /// Takes the place out under the classes.
+    pub fn take_all(&mut self, classes: &[Text], place: Place)
+        ensures taken { Takes self.old.classes self.new.classes classes.now place }
+    {
+        for class in classes {
+            self.take(class, place);
+        }
+    }
+
+    /// Adds the place under the classes. Where memory is wanting it stands under none of them.
+    pub fn add_all(&mut self, classes: &[Text], place: Place) -> Result<(), AllocError>
+        requires { IsFresh self.old.classes place }
+        ensures added { OnOk result (Adds self.old.classes self.new.classes classes.now place) }
+        ensures unchanged { OnErr result (HoldsSame self.old.classes self.new.classes) }
+    {
+        for class in classes {
+            if let Err(wanting) = self.add(class, place) {
+                self.take_all(classes, place);
+                return Err(wanting);
+            }
+        }
+        Ok(())
+    }
+
+    /// The first place of the class.
+    pub fn first(&self, class: &Text) -> Option<Place>
+        ensures none { IfNone result (places_at self.now.classes class.now ≡ []) }
+        ensures first { IfSome result (λ place. slice_get (places_at self.now.classes class.now) 0 ≡ Some place) }
+    {
+        let places = self.classes.get(class)?;
+        places.first().copied()
+    }
+}
