@@ -8,7 +8,7 @@ use Rattle.std.proofs.lemmas.List.Folds.{map_fixed}
 use Rattle.std.proofs.lemmas.List.Kept.{AllPairs-cons}
 use Rattle.std.proofs.lemmas.Map.Steps.{set_value_same}
 use Rattle.osgi_base.specs.declared.ids.ServiceId.{ServiceId}
-use Rattle.osgi_registry.specs.Kept.{IsBefore, IsKept, IsUnder}
+use Rattle.osgi_registry.specs.Kept.{IsBefore, AreKept, IsUnder}
 use Rattle.osgi_registry.specs.Rows.{change, id_of, is_service, Row, without}
 use Rattle.osgi_registry.proofs.Entries.{pairs_head, pairs_tail}
 
@@ -46,7 +46,7 @@ length_set : (key : ℕ) (row : Row) (entries : List (ℕ × Row)) → length (s
 length_set key row [] = refl
 length_set key row (e ∷ rest) = length_set_by row e rest (set_value (nat_eq key) rest row) (nat_eq key e.0) (length_set key row rest)
 
-pub kept_set : (given key : ℕ) (row : Row) (entries : List (ℕ × Row)) → IsKept given entries → id_of row ≡ key → IsKept given (set_value (nat_eq key) entries row)
+pub kept_set : (given key : ℕ) (row : Row) (entries : List (ℕ × Row)) → AreKept given entries → id_of row ≡ key → AreKept given (set_value (nat_eq key) entries row)
 kept_set given key row entries kept is = record {
   under = All-set_value (IsUnder given) key row entries kept.under (λ e u same. record { key = sym (is ∙ same); some = u.some; below = u.below });
   rising = pairs_set key row entries kept.rising;
@@ -82,7 +82,7 @@ length_remove : (key : ℕ) (entries : List (ℕ × Row)) → length (remove_ent
 length_remove key [] = omega arith
 length_remove key (e ∷ rest) = length_remove_by e rest (remove_entry (nat_eq key) rest) (nat_eq key e.0) (length_remove key rest)
 
-pub kept_remove : (given key : ℕ) (entries : List (ℕ × Row)) → IsKept given entries → IsKept given (remove_entry (nat_eq key) entries)
+pub kept_remove : (given key : ℕ) (entries : List (ℕ × Row)) → AreKept given entries → AreKept given (remove_entry (nat_eq key) entries)
 kept_remove given key entries kept = record {
   under = All-remove (IsUnder given) key entries kept.under;
   rising = pairs_remove key entries kept.rising;
@@ -97,7 +97,7 @@ set_same key old new entries is found = rw is (set_value_same (nat_eq key) entri
 -- ---- the rows
 
 -- no row after this one is the service's
-others_differ : (given : ℕ) (service : ServiceId) (e : ℕ × Row) (rest : List (ℕ × Row)) → service.0 ≡ e.0 → All (IsUnder given) rest → All (IsBefore e) rest → All (λ row. is_service service row ≡ false) (values_of rest)
+pub others_differ : (given : ℕ) (service : ServiceId) (e : ℕ × Row) (rest : List (ℕ × Row)) → service.0 ≡ e.0 → All (IsUnder given) rest → All (IsBefore e) rest → All (λ row. is_service service row ≡ false) (values_of rest)
 others_differ given service e rest is under after =
     All-map (λ row. is_service service row ≡ false) (λ (x : ℕ × Row). x.1) rest
     (λ k d within. let u = under k d within in let b = after k d within in ne_eqb service.0 _ (λ same. absurd (omega (arith, is, same, u.key, b))))

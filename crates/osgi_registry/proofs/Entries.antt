@@ -9,7 +9,7 @@ use Rattle.std.proofs.lemmas.List.Quantifiers.{all_pairs_push}
 use Rattle.indexmap.specs.IndexMap.{insert_entry}
 use Rattle.osgi_base.specs.declared.ids.ServiceId.{ServiceId}
 use Rattle.osgi_ops.specs.Settings.{most_services}
-use Rattle.osgi_registry.specs.Kept.{IsBefore, IsKept, IsUnder}
+use Rattle.osgi_registry.specs.Kept.{IsBefore, AreKept, IsUnder}
 use Rattle.osgi_registry.specs.Rows.{AreInOrder, id_of, row_at, Row}
 
 -- ---- a fresh id
@@ -25,8 +25,8 @@ pub values-push : (entries : List (ℕ × Row)) (key : ℕ) (row : Row) → valu
 values-push [] key row = refl
 values-push (e ∷ rest) key row = ap (λ l. e.1 ∷ l) (values-push rest key row)
 
-pub kept_push : (given : ℕ) (entries : List (ℕ × Row)) (row : Row) → IsKept given entries → id_of row ≡ given + 1 → length entries < most_services → given < 4294967295 →
-    IsKept (given + 1) (entries ++ (given + 1, row) ∷ [])
+pub kept_push : (given : ℕ) (entries : List (ℕ × Row)) (row : Row) → AreKept given entries → id_of row ≡ given + 1 → length entries < most_services → given < 4294967295 →
+    AreKept (given + 1) (entries ++ (given + 1, row) ∷ [])
 kept_push given entries row kept is room fits = record {
   under =
       All-push (IsUnder (given + 1)) entries (given + 1, row)
@@ -91,7 +91,7 @@ rising_ids given (e ∷ rest) under pairs =
     (All-map (λ row. id_of e.1 < id_of row) (λ (x : ℕ × Row). x.1) rest (λ k d within. let u = others k d within in let b = after k d within in omega (arith, here.key, u.key, b))))
     (rising_ids given rest others (pairs_tail IsBefore e rest pairs))
 
-pub in_order : (given : ℕ) (entries : List (ℕ × Row)) → IsKept given entries → AreInOrder (record { rows = values_of entries; given = given })
+pub in_order : (given : ℕ) (entries : List (ℕ × Row)) → AreKept given entries → AreInOrder (record { rows = values_of entries; given = given })
 in_order given entries kept = record {
   rising = λ k within. rising_ids given entries kept.under kept.rising k (k + 1) 0 (omega arith) within;
   given =

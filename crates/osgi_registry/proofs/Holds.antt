@@ -1,12 +1,12 @@
 -- What the index by class holds after a change at one class.
 use Rattle.std.proofs.Common.{◌≡◌, ℕ, List, [], ◌∷◌, ◌++◌, ap, sym, ◌∙◌, refl, length, take, drop, arith}
-use Rattle.std.specs.Prelude.{Bool, true, false, cond, ◌||◌, ◌&&◌, not, Option, None, Some}
+use Rattle.std.specs.Prelude.{Bool, true, false, cond, ◌||◌, ◌&&◌, not, Option}
 use Rattle.std.specs.List.{list_any}
 use Rattle.std.specs.BTreeMap.{get, is_at}
 use Rattle.std.specs.BTreeSet.{BTreeSet}
 use Rattle.std.specs.Cmp.Lexicographic.{slice_cmp}
 use Rattle.std.specs.Option.{option_map_or}
-use Rattle.std.specs.Ordering.{is_eq, nat_cmp}
+use Rattle.std.specs.Ordering.{nat_cmp}
 use Rattle.std.specs.Str.{bytes_eq}
 use Rattle.std.proofs.lemmas.Map.Text.{is_eq-slice_cmp}
 use Rattle.std.proofs.lemmas.Slice.Eq.{bytes_eq-Decides}
@@ -14,7 +14,8 @@ use Rattle.osgi_registry.specs.declared.place.Place.{Place}
 use Rattle.std.proofs.lemmas.Bool.{or_left}
 use Rattle.std.proofs.lemmas.List.{take-append-drop}
 use Rattle.std.proofs.lemmas.List.Folds.{list_any-append}
-use Rattle.osgi_registry.specs.Places.{Adds, Classes, holds, is_among, IsFresh, place_cmp, same_place, Takes}
+use Rattle.osgi_registry.specs.Places.{Adds, Classes, holds, IsFresh, Moves, place_cmp, same_place, StandsUnder, Takes}
+use Rattle.osgi_registry.specs.Rows.{is_among}
 
 abbrev pub at : Classes → List ℕ → Option (BTreeSet Place)
 at classes class = get (slice_cmp nat_cmp) classes class
@@ -121,3 +122,27 @@ restored old mid new classes i place fresh added taken = λ c p.
 -- what is held alike is added to alike
 pub adds_same : (old mid new : Classes) (classes : List (List ℕ)) (place : Place) → Adds old mid classes place → ((c : List ℕ) (p : Place) → holds new c p ≡ holds mid c p) → Adds old new classes place
 adds_same old mid new classes place added same = λ c p. same c p ∙ added c p
+
+-- ---- a place moved
+
+same_moved : (among same old : Bool) → (among ≡ true → same ≡ true → old ≡ true) → old ≡ ((among && same) || (not (among && same) && old))
+same_moved true true old stands = stands refl refl
+same_moved true false old stands = refl
+same_moved false same old stands = refl
+
+-- to where it stands
+pub moves_nowhere : (old : Classes) (classes : List (List ℕ)) (place : Place) → StandsUnder old classes place → Moves old old classes place place
+moves_nowhere old classes place stands = λ c p. same_moved (is_among classes c) (same_place place p) (holds old c p) (stands c p)
+
+moves_by : (among to from old : Bool) → (to ≡ true → from ≡ false) → (not (among && from) && ((among && to) || old)) ≡ ((among && to) || (not (among && from) && old))
+moves_by true true true old apart = absurd (cc (apart refl))
+moves_by true true false old apart = refl
+moves_by true false true old apart = refl
+moves_by true false false old apart = refl
+moves_by false to from old apart = refl
+
+-- elsewhere: added there, and then taken out
+pub moves_elsewhere : (old mid new : Classes) (classes : List (List ℕ)) (from to : Place) → ((p : Place) → same_place to p ≡ true → same_place from p ≡ false) → Adds old mid classes to → Takes mid new classes from → Moves old new classes from to
+moves_elsewhere old mid new classes from to apart added taken = λ c p.
+    taken c p ∙ ap (λ b. not (is_among classes c && same_place from p) && b) (added c p)
+    ∙ moves_by (is_among classes c) (same_place to p) (same_place from p) (holds old c p) (apart p)

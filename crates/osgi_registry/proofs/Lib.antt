@@ -1,6 +1,8 @@
 -- Lemmas on the registry.
 pub mod Changed
 pub mod Entries
+pub mod Exact
 pub mod Holds
+pub mod Placed
 pub mod Pushes
 pub mod Uses

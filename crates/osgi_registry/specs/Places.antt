@@ -6,9 +6,13 @@ use Rattle.std.specs.BTreeSet.{BTreeSet}
 use Rattle.std.specs.Cmp.Lexicographic.{slice_cmp}
 use Rattle.std.specs.Option.{option_map_or}
 use Rattle.std.specs.Ordering.{int_cmp, is_eq, nat_cmp, ordering_then}
-use Rattle.std.specs.Str.{bytes_eq}
 use Rattle.std.specs.declared.cmp.Ordering.{Ordering}
+use Rattle.osgi_base.specs.declared.ids.ServiceId.{ServiceId}
+use Rattle.osgi_ops.specs.Properties.{ranking}
+use Rattle.osgi_ops.specs.declared.value.Attribute.{Attribute}
 use Rattle.osgi_registry.specs.declared.place.Place.{Place}
+use Rattle.osgi_registry.specs.declared.service.Service.{Service}
+use Rattle.osgi_registry.specs.Rows.{has_class, is_among, Row}
 
 -- higher rankings first, then lower ids
 abbrev pub place_cmp : Place → Place → Ordering
@@ -27,9 +31,6 @@ places_at classes class = option_map_or (λ places. places.keys) (get (slice_cmp
 abbrev pub holds : Classes → List ℕ → Place → Bool
 holds classes class place = list_any (is_at (place_cmp place)) (places_at classes class)
 
-abbrev pub is_among : List (List ℕ) → List ℕ → Bool
-is_among classes class = list_any (λ c. bytes_eq c class) classes
-
 -- the place is added under the classes
 abbrev pub Adds : Classes → Classes → List (List ℕ) → Place → Type 0
 Adds old new classes place = (c : List ℕ) (p : Place) → holds new c p ≡ ((is_among classes c && same_place place p) || holds old c p)
@@ -44,3 +45,27 @@ HoldsSame old new = (c : List ℕ) (p : Place) → holds new c p ≡ holds old c
 -- the place stands under no class
 abbrev pub IsFresh : Classes → Place → Type 0
 IsFresh classes place = (c : List ℕ) (p : Place) → same_place place p ≡ true → holds classes c p ≡ false
+
+-- the place moves from one to another under the classes
+abbrev pub Moves : Classes → Classes → List (List ℕ) → Place → Place → Type 0
+Moves old new classes from to = (c : List ℕ) (p : Place) →
+    holds new c p ≡ ((is_among classes c && same_place to p) || (not (is_among classes c && same_place from p) && holds old c p))
+
+-- the place stands under each of the classes
+abbrev pub StandsUnder : Classes → List (List ℕ) → Place → Type 0
+StandsUnder old classes place = (c : List ℕ) (p : Place) → is_among classes c ≡ true → same_place place p ≡ true → holds old c p ≡ true
+
+-- ---- the places of the services that are live
+
+abbrev pub place_with : List Attribute → ServiceId → Place
+place_with properties service = record { ranking = record { 0 = ranking properties }; service = service.0 }
+
+abbrev pub place_of : Service → Place
+place_of service = place_with service.properties service.service
+
+abbrev pub is_placed : List ℕ → Place → Row → Bool
+is_placed class place row = has_class class row && same_place (place_of row.service) place
+
+-- each class has the places of its services and no others
+abbrev pub IsIndexOf : Classes → List Row → Type 0
+IsIndexOf classes rows = (c : List ℕ) (p : Place) → holds classes c p ≡ list_any (is_placed c p) rows

@@ -1,7 +1,8 @@
 //! The services of each class, best first.
 
-ghost use Rattle.std.specs.Prelude.{◌≡◌, false, List, ℕ, [], ◌∷◌, OnOk, OnErr, IfSome, IfNone, Some, slice_get};
-ghost use Rattle.osgi_registry.specs.Places.{Adds, HoldsSame, holds, IsFresh, places_at, Takes};
+ghost use Rattle.std.specs.Prelude.{◌≡◌, true, false, List, ℕ, [], ◌∷◌, OnOk, OnErr, IfSome, IfNone};
+ghost use Rattle.std.specs.Ordering.{is_gt};
+ghost use Rattle.osgi_registry.specs.Places.{Adds, HoldsSame, holds, IsFresh, Moves, place_cmp, same_place, StandsUnder, Takes};
 ghost use Rattle.osgi_registry.specs.declared.place.Place.{Place};
 
 use crate::place::Place;
@@ -78,12 +79,29 @@ impl ClassIndex {
         Ok(())
     }
 
+    /// Moves the place under the classes. Where memory is wanting it stays.
+    pub fn move_all(&mut self, classes: &[Text], from: Place, to: Place) -> Result<(), AllocError>
+        requires stands { StandsUnder self.old.classes classes.now from }
+        requires fresh { same_place from to ≡ false → IsFresh self.old.classes to }
+        ensures moved { OnOk result (Moves self.old.classes self.new.classes classes.now from to) }
+        ensures unchanged { OnErr result (HoldsSame self.old.classes self.new.classes) }
+    {
+        if from == to {
+            return Ok(());
+        }
+        self.add_all(classes, to)?;
+        self.take_all(classes, from);
+        Ok(())
+    }
+
     /// The first place of the class.
     pub fn first(&self, class: &Text) -> Option<Place>
-        ensures none { IfNone result (places_at self.now.classes class.now ≡ []) }
-        ensures first { IfSome result (λ place. slice_get (places_at self.now.classes class.now) 0 ≡ Some place) }
+        ensures none { IfNone result ((p : Place) → holds self.now.classes class.now p ≡ false) }
+        ensures held { IfSome result (λ place. holds self.now.classes class.now place ≡ true) }
+        ensures first { IfSome result (λ place. (p : Place) → holds self.now.classes class.now p ≡ true → is_gt (place_cmp place p) ≡ false) }
     {
         let places = self.classes.get(class)?;
-        places.first().copied()
+        let place = places.first()?;
+        Some(*place)
     }
 }

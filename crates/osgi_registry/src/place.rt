@@ -2,7 +2,10 @@
 
 ghost use Rattle.std.specs.Prelude.{◌≡◌};
 
+use crate::properties::ranking;
+use crate::service::Service;
 use osgi_base::ids::ServiceId;
+use osgi_ops::value::Attribute;
 use std::cmp::Reverse;
 
 /// A place among the services of a class: higher rankings come first, then lower ids.
@@ -13,14 +16,23 @@ pub struct Place {
 }
 
 impl Place {
-    pub fn new(ranking: i32, service: ServiceId) -> Place
-        ensures ranking { result.ranking.0 ≡ ranking }
-        ensures service { result.service ≡ service.0 }
+    ghost use Rattle.osgi_registry.specs.Places.{place_of, place_with};
+
+    /// The place of a service with these properties.
+    pub fn new(properties: &[Attribute], service: ServiceId) -> Place
+        ensures place { result ≡ place_with properties.now service }
     {
         Place {
-            ranking: Reverse(ranking),
+            ranking: Reverse(ranking(properties)),
             service: service.0,
         }
+    }
+
+    /// The place of the service.
+    pub fn of(service: &Service) -> Place
+        ensures place { result ≡ place_of service.now }
+    {
+        Place::new(service.properties.items(), service.service)
     }
 
     pub fn service(self) -> ServiceId

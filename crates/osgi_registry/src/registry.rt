@@ -1,12 +1,15 @@
 //! The registry.
 
-ghost use Rattle.std.specs.Prelude.{◌≡◌, ◌+◌, ◌<◌, [], ◌∷◌, ◌++◌, nat_lt, length, slice_get, None, Some, IfOk, OnOk, OnErr};
+ghost use Rattle.std.specs.Prelude.{◌≡◌, ◌+◌, ◌<◌, [], ◌∷◌, ◌++◌, nat_lt, length, slice_get, None, Some, false, All, IfNone, IfOk, IfSome, OnOk, OnErr};
+ghost use Rattle.osgi_ops.specs.Settings.{most_services};
 ghost use Rattle.std.specs.Bool.{OnTrue, OnFalse};
 ghost use Rattle.std.specs.Option.{option_map};
 ghost use Rattle.std.specs.Result.{result_err};
-ghost use Rattle.osgi_registry.specs.Rows.{AreInOrder, change, change_refusal, modify_refusal, new_row, object_at, register_refusal, row_at, use_count, used_less, used_more, with_properties, without};
+ghost use Rattle.osgi_registry.specs.Rows.{AreInOrder, change, change_refusal, has_class, IsBest, modify_refusal, new_row, object_at, register_refusal, row_at, use_count, used_less, used_more, with_properties, without};
 
+use crate::class_index::ClassIndex;
 use crate::held::Held;
+use crate::place::Place;
 use crate::properties::{has_twins, with_framework};
 use crate::service::Service;
 use indexmap::IndexMap;
@@ -26,6 +29,7 @@ const MOST_SERVICES: usize = 65_536;
 pub struct Registry {
     alloc: Global,
     services: IndexMap<u64, Held>,
+    index: ClassIndex,
     given: u64,
 }
 
@@ -42,7 +46,7 @@ impl Model for Registry {
 
     ghost view = { λ r. record { rows = values_of r.services.entries; given = r.given } };
 
-    ghost invariant = { λ r. IsKept r.given r.services.entries };
+    ghost invariant = { λ r. IsKept r.given r.services.entries r.index.classes };
 }
 
 impl Registry {
@@ -52,6 +56,7 @@ impl Registry {
         Ok(Registry {
             alloc,
             services: IndexMap::new(alloc),
+            index: ClassIndex::new(alloc),
             given: 0,
         })
     }
@@ -96,8 +101,7 @@ impl Registry {
                 kind: Many::Services,
             }));
         }
-        let id = self.given + 1;
-        let service = ServiceId(id);
+        let service = ServiceId(self.given + 1);
         let properties = with_framework(
             self.alloc,
             properties.items(),
@@ -105,20 +109,34 @@ impl Registry {
             service,
             owner,
         )?;
-        let held = Held::new(
-            self.alloc,
-            Service {
-                service,
-                owner,
-                classes,
-                object,
-                properties,
-            },
-        );
-        self.services.insert(id, held)?;
-        self.given = id;
+        self.add(Service {
+            service,
+            owner,
+            classes,
+            object,
+            properties,
+        })?;
         Ok(Ok(service))
     }
+
+    /// Adds a service under the next id.
+    fn add(&mut self, service: Service) -> Result<(), AllocError>
+        requires next { service.service.0 ≡ self.old.given + 1 }
+        requires fits { self.old.given < 4294967295 }
+        requires room { length self.old.rows < most_services }
+        ensures rows { OnOk result (self.new.rows ≡ self.old.rows ++ record { service = service; uses = [] } ∷ []) }
+        ensures given { OnOk result (self.new.given ≡ self.old.given + 1) }
+        ensures unchanged { OnErr result (self.new ≡ self.old) }
+    {
+        let id = service.service.0;
+        self.services.reserve(1)?;
+        self.index
+            .add_all(service.classes.items(), Place::of(&service))?;
+        self.services.insert(id, Held::new(self.alloc, service))?;
+        self.given = id;
+        Ok(())
+    }
+
     /// Why the owner may not change the service, if there is a reason.
     fn refusal_of(&self, owner: BundleId, service: ServiceId) -> Option<Refusal>
         ensures refusal { result ≡ change_refusal owner service self.now.rows }
@@ -163,6 +181,9 @@ impl Registry {
             now.service,
             now.owner,
         )?;
+        let place = Place::new(all.items(), now.service);
+        self.index
+            .move_all(now.classes.items(), Place::of(now), place)?;
         held.set_properties(all);
         Ok(Ok(()))
     }
@@ -177,7 +198,12 @@ impl Registry {
         if let Some(refusal) = self.refusal_of(owner, service) {
             return Err(refusal);
         }
-        self.services.shift_remove(&service.0);
+        let Some(held) = self.services.shift_remove(&service.0) else {
+            return Err(Refusal::NoSuchService);
+        };
+        let service = held.service();
+        self.index
+            .take_all(service.classes.items(), Place::of(service));
         Ok(())
     }
 
@@ -213,5 +239,13 @@ impl Registry {
             return false;
         };
         held.take_use(user)
+    }
+    /// The best live service of the class: that of the highest ranking, and of these that of the lowest id.
+    pub fn find(&self, class: &Text) -> Option<ServiceId>
+        ensures none { IfNone result (All (λ row. has_class class.now row ≡ false) self.now.rows) }
+        ensures best { IfSome result (IsBest class.now self.now.rows) }
+    {
+        let place = self.index.first(class)?;
+        Some(place.service())
     }
 }

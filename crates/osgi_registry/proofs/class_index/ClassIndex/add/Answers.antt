@@ -1,5 +1,5 @@
 -- One more place at the class.
-use Rattle.std.proofs.Common.{◌≡◌, [], ap, sym, ◌∙◌, refl, rules}
+use Rattle.std.proofs.Common.{[], ap, sym, ◌∙◌, rules}
 use Rattle.std.specs.Prelude.{true, cond, None, Some}
 use Rattle.std.specs.List.{list_any}
 use Rattle.std.specs.BTreeMap.{is_at}

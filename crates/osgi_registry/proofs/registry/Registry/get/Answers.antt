@@ -5,12 +5,13 @@ use Rattle.std.specs.Map.{lookup, values_of}
 use Rattle.std.proofs.lemmas.Result.{err_from_is_err_and}
 use Rattle.osgi_registry.proofs.Changed.{kept_set, rows_set, set_same}
 use Rattle.osgi_registry.proofs.Entries.{found_under, row_absent, row_present}
+use Rattle.osgi_registry.proofs.Placed.{index_kept}
 use Rattle.osgi_registry.specs.Rows.{row_at, used_more}
 use Rattle.osgi_registry.proofs.registry.Registry.get.Goals as goal
 
 pub returns-in_default-clause-object : goal.returns-in_default-clause-object
 returns-in_default-clause-object c =
-    let none : row_at c.args.service c.args.self.now.rows ≡ None = row_absent _ c.args.service _ _ (ap (λ r. r.rows) c.self.view_is) c.self.invariant.under (sym c.in_default.ensures.value) in
+    let none : row_at c.args.service c.args.self.now.rows ≡ None = row_absent _ c.args.service _ _ (ap (λ r. r.rows) c.self.view_is) c.self.invariant.rows.under (sym c.in_default.ensures.value) in
     rw none refl
 
 pub invariant_of-self-in_err-object : goal.invariant_of-self-in_err-object
@@ -27,7 +28,7 @@ returns-in_err-object-clause-unchanged c =
 
 pub add_use-requires : goal.add_use-requires
 add_use-requires c =
-    let some : row_at c.args.service c.args.self.now.rows ≡ Some c.in-Some.held.now = row_present _ c.args.service _ _ _ (ap (λ r. r.rows) c.self.view_is) c.self.invariant.under (sym c.in-Some.ensures.value) in
+    let some : row_at c.args.service c.args.self.now.rows ≡ Some c.in-Some.held.now = row_present _ c.args.service _ _ _ (ap (λ r. r.rows) c.self.view_is) c.self.invariant.rows.under (sym c.in-Some.ensures.value) in
     record { room = rw some at c.requires }
 
 pub invariant_of-self-in_err-add_use : goal.invariant_of-self-in_err-add_use
@@ -46,14 +47,17 @@ pub invariant_of-self-2 : goal.invariant_of-self-2
 invariant_of-self-2 c =
     let found : lookup (nat_eq c.args.service.0) c.self.inside.services.entries ≡ Some c.in-Some.held.now = sym c.in-Some.ensures.value in
     rw (c.get_mut.follows.holds c.add_use.new.self).0
-    (kept_set _ c.args.service.0 _ _ c.self.invariant (ap (λ s. s.service.0) c.add_use.ensures.service ∙ sym (found_under _ _ _ _ c.self.invariant.under found).key))
+    (record {
+      rows = kept_set _ c.args.service.0 _ _ c.self.invariant.rows (ap (λ s. s.service.0) c.add_use.ensures.service ∙ sym (found_under _ _ _ _ c.self.invariant.rows.under found).key);
+      index = index_kept _ c.args.service c.in-Some.held.now c.add_use.new.self _ c.self.inside.index.classes c.self.invariant.rows c.self.invariant.index c.add_use.ensures.service found;
+    })
 
 pub returns-clause-object : goal.returns-clause-object
 returns-clause-object c =
-    let some : row_at c.args.service c.args.self.now.rows ≡ Some c.in-Some.held.now = row_present _ c.args.service _ _ _ (ap (λ r. r.rows) c.self.view_is) c.self.invariant.under (sym c.in-Some.ensures.value) in
+    let some : row_at c.args.service c.args.self.now.rows ≡ Some c.in-Some.held.now = row_present _ c.args.service _ _ _ (ap (λ r. r.rows) c.self.view_is) c.self.invariant.rows.under (sym c.in-Some.ensures.value) in
     rw some (ap Ok (c.in_ok-object.ensures.same ∙ ap (λ s. s.object) c.service.ensures.service))
 
 pub returns-clause-rows : goal.returns-clause-rows
 returns-clause-rows c =
     rw ((c.get_mut.follows.holds c.add_use.new.self).0, ← c.self.view_is)
-    (rows_set _ c.args.service c.in-Some.held.now c.add_use.new.self (used_more c.args.user) _ c.self.invariant.under c.self.invariant.rising (sym c.in_ok-add_use.ensures.used) (sym c.in-Some.ensures.value))
+    (rows_set _ c.args.service c.in-Some.held.now c.add_use.new.self (used_more c.args.user) _ c.self.invariant.rows.under c.self.invariant.rows.rising (sym c.in_ok-add_use.ensures.used) (sym c.in-Some.ensures.value))

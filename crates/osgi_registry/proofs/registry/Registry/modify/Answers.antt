@@ -1,24 +1,27 @@
 -- A service with other properties.
-use Rattle.std.proofs.Common.{◌≡◌, ap, sym, ◌∙◌, refl, nat_eq, arith}
+use Rattle.std.proofs.Common.{◌≡◌, ap, sym, ◌∙◌, refl, nat_eq, subst, arith}
 use Rattle.std.specs.Prelude.{None, Some}
 use Rattle.std.specs.Map.{lookup, values_of}
+use Rattle.std.proofs.lemmas.Bool.{eq-eqb}
 use Rattle.std.proofs.lemmas.Result.{err_from_is_err_and}
 use Rattle.osgi_registry.proofs.Changed.{kept_set, rows_set, set_same}
 use Rattle.osgi_registry.proofs.Entries.{found_under, row_absent}
-use Rattle.osgi_registry.specs.Rows.{row_at, with_properties}
+use Rattle.osgi_registry.proofs.Placed.{any_found, fresh_move, index_same, only_one, placed_change, stands}
+use Rattle.osgi_registry.specs.Places.{Moves, place_of}
+use Rattle.osgi_registry.specs.Rows.{id_of, is_service, row_at, with_properties}
 use Rattle.osgi_registry.proofs.registry.Registry.modify.Goals as goal
 
 pub returns-in_default-get_mut-clause-refusal : goal.returns-in_default-get_mut-clause-refusal
 returns-in_default-get_mut-clause-refusal c =
-    let none : row_at c.args.service c.args.self.now.rows ≡ None = row_absent _ c.args.service _ _ (ap (λ r. r.rows) c.self.view_is) c.self.invariant.under (sym c.in_default-get_mut.ensures.value) in
+    let none : row_at c.args.service c.args.self.now.rows ≡ None = row_absent _ c.args.service _ _ (ap (λ r. r.rows) c.self.view_is) c.self.invariant.rows.under (sym c.in_default-get_mut.ensures.value) in
     rw none refl
 
 pub with_framework-requires : goal.with_framework-requires
 with_framework-requires c =
     let found : lookup (nat_eq c.args.service.0) c.self.inside.services.entries ≡ Some c.in-Some-get_mut.held.now = sym c.in-Some-get_mut.ensures.value in
-    let under = found_under _ _ _ _ c.self.invariant.under found in
+    let under = found_under _ _ _ _ c.self.invariant.rows.under found in
     let is = ap (λ s. s.service.0) c.service-now.ensures.service in
-    omega (arith, under.key, under.below, is, c.self.invariant.fits)
+    omega (arith, under.key, under.below, is, c.self.invariant.rows.fits)
 
 pub invariant_of-self-in_err-all : goal.invariant_of-self-in_err-all
 invariant_of-self-in_err-all c =
@@ -32,15 +35,68 @@ returns-in_err-all-clause-unchanged c =
     ((c.get_mut.follows.holds c.in-Some-get_mut.held.now).0 ∙ set_same c.args.service.0 c.in-Some-get_mut.held.now c.in-Some-get_mut.held.now _ refl (sym c.in-Some-get_mut.ensures.value))
     ∙ c.self.view_is)
 
+pub move_all-requires-clause-stands : goal.move_all-requires-clause-stands
+move_all-requires-clause-stands c =
+    rw (c.items-5.ensures.items, c.of.ensures.place, c.service-now.ensures.service)
+    (stands c.self.inside.index.classes c.args.service.0 c.in-Some-get_mut.held.now c.self.inside.services.entries c.self.invariant.index (sym c.in-Some-get_mut.ensures.value))
+
+pub move_all-requires-clause-fresh : goal.move_all-requires-clause-fresh
+move_all-requires-clause-fresh c =
+    let found : lookup (nat_eq c.args.service.0) c.self.inside.services.entries ≡ Some c.in-Some-get_mut.held.now = sym c.in-Some-get_mut.ensures.value in
+    let is : c.new-place.result.service ≡ c.args.service.0
+    = ap (λ p. p.service) c.new-place.ensures.place ∙ ap (λ s. s.service.0) c.service-now.ensures.service ∙ sym (found_under _ _ _ _ c.self.invariant.rows.under found).key in
+    rw (c.of.ensures.place, c.service-now.ensures.service)
+    (fresh_move c.self.inside.given c.args.service c.in-Some-get_mut.held.now c.self.inside.services.entries c.self.inside.index.classes c.new-place.result c.self.invariant.rows c.self.invariant.index found is)
+
+pub invariant_of-self-in_err-move_all : goal.invariant_of-self-in_err-move_all
+invariant_of-self-in_err-move_all c =
+    rw ((c.get_mut.follows.holds c.in-Some-get_mut.held.now).0, set_same c.args.service.0 c.in-Some-get_mut.held.now c.in-Some-get_mut.held.now _ refl (sym c.in-Some-get_mut.ensures.value))
+    (record {
+      rows = c.self.invariant.rows;
+      index = index_same c.self.inside.index.classes c.move_all.new.self.classes (values_of c.self.inside.services.entries) c.self.invariant.index c.in_err-move_all.ensures.unchanged;
+    })
+
+pub returns-in_err-move_all-clause-unchanged : goal.returns-in_err-move_all-clause-unchanged
+returns-in_err-move_all-clause-unchanged c =
+    let p = err_from_is_err_and c.from_residual-in_err-move_all.result c.from_residual-in_err-move_all.ensures.1 in
+    rw p.1
+    (ap (λ es. record { rows = values_of es; given = c.self.inside.given })
+    ((c.get_mut.follows.holds c.in-Some-get_mut.held.now).0 ∙ set_same c.args.service.0 c.in-Some-get_mut.held.now c.in-Some-get_mut.held.now _ refl (sym c.in-Some-get_mut.ensures.value))
+    ∙ c.self.view_is)
+
 pub invariant_of-self-2 : goal.invariant_of-self-2
 invariant_of-self-2 c =
-    let found : lookup (nat_eq c.args.service.0) c.self.inside.services.entries ≡ Some c.in-Some-get_mut.held.now = sym c.in-Some-get_mut.ensures.value in
+    let old = c.self.inside.index.classes in
+    let new = c.move_all.new.self.classes in
+    let row = c.in-Some-get_mut.held.now in
+    let found : lookup (nat_eq c.args.service.0) c.self.inside.services.entries ≡ Some row = sym c.in-Some-get_mut.ensures.value in
+    let key : c.args.service.0 ≡ id_of row = (found_under _ _ _ _ c.self.invariant.rows.under found).key in
+    let is : with_properties c.args.properties row ≡ c.set_properties.new.self
+    = rw (c.set_properties.ensures.set, c.in_ok-all.ensures.all, c.items-2.ensures.items, c.items-3.ensures.items, c.service-now.ensures.service) refl in
+    let among : c.items-5.result.now ≡ row.service.classes = c.items-5.ensures.items ∙ ap (λ s. s.classes) c.service-now.ensures.service in
+    let from : c.of.result ≡ place_of row.service = c.of.ensures.place ∙ ap place_of c.service-now.ensures.service in
+    let to : c.new-place.result ≡ place_of (with_properties c.args.properties row).service
+    = rw
+    (c.new-place.ensures.place, c.items-4.ensures.items, c.in_ok-all.ensures.all, c.items-2.ensures.items, c.items-3.ensures.items, c.service-now.ensures.service)
+    refl in
+    let moved : Moves old new row.service.classes (place_of row.service) (place_of (with_properties c.args.properties row).service)
+    = subst (λ l. Moves old new l (place_of row.service) (place_of (with_properties c.args.properties row).service)) among
+    (subst (λ q. Moves old new c.items-5.result.now q (place_of (with_properties c.args.properties row).service)) from
+    (subst (λ q. Moves old new c.items-5.result.now c.of.result q) to c.in_ok-move_all.ensures.moved)) in
+    let rows = c.self.invariant.rows in
     rw (c.get_mut.follows.holds c.set_properties.new.self).0
-    (kept_set _ c.args.service.0 _ _ c.self.invariant (ap (λ r. r.service.service.0) c.set_properties.ensures.set ∙ sym (found_under _ _ _ _ c.self.invariant.under found).key))
+    (record {
+      rows = kept_set _ c.args.service.0 _ _ rows (ap (λ r. r.service.service.0) c.set_properties.ensures.set ∙ sym key);
+      index =
+          rw (rows_set _ c.args.service row c.set_properties.new.self (with_properties c.args.properties) _ rows.under rows.rising is found)
+          (placed_change old new c.args.service (with_properties c.args.properties) row (values_of c.self.inside.services.entries) c.self.invariant.index moved refl (sym key)
+          (only_one _ c.args.service row _ rows.under rows.rising found)
+          (any_found (is_service c.args.service) c.args.service.0 row c.self.inside.services.entries (eq-eqb c.args.service.0 (id_of row) key) found));
+    })
 
 pub returns-clause-rows : goal.returns-clause-rows
 returns-clause-rows c =
     let is : with_properties c.args.properties c.in-Some-get_mut.held.now ≡ c.set_properties.new.self
     = rw (c.set_properties.ensures.set, c.in_ok-all.ensures.all, c.items-2.ensures.items, c.items-3.ensures.items, c.service-now.ensures.service) refl in
     rw ((c.get_mut.follows.holds c.set_properties.new.self).0, ← c.self.view_is)
-    (rows_set _ c.args.service c.in-Some-get_mut.held.now c.set_properties.new.self (with_properties c.args.properties) _ c.self.invariant.under c.self.invariant.rising is (sym c.in-Some-get_mut.ensures.value))
+    (rows_set _ c.args.service c.in-Some-get_mut.held.now c.set_properties.new.self (with_properties c.args.properties) _ c.self.invariant.rows.under c.self.invariant.rows.rising is (sym c.in-Some-get_mut.ensures.value))

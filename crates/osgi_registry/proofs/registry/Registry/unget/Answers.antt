@@ -5,23 +5,27 @@ use Rattle.std.specs.Map.{lookup, values_of}
 use Rattle.std.proofs.lemmas.Bool.{OnFalse_at, OnFalse_from, OnTrue_at, OnTrue_from}
 use Rattle.osgi_registry.proofs.Changed.{kept_set, rows_set, set_same}
 use Rattle.osgi_registry.proofs.Entries.{found_under, row_absent, row_present}
+use Rattle.osgi_registry.proofs.Placed.{index_kept}
 use Rattle.osgi_registry.specs.Rows.{row_at, used_less}
 use Rattle.osgi_registry.proofs.registry.Registry.unget.Goals as goal
 
 pub returns-in_default-clause-answer : goal.returns-in_default-clause-answer
 returns-in_default-clause-answer c =
-    let none : row_at c.args.service c.args.self.now.rows ≡ None = row_absent _ c.args.service _ _ (ap (λ r. r.rows) c.self.view_is) c.self.invariant.under (sym c.in_default.ensures.value) in
+    let none : row_at c.args.service c.args.self.now.rows ≡ None = row_absent _ c.args.service _ _ (ap (λ r. r.rows) c.self.view_is) c.self.invariant.rows.under (sym c.in_default.ensures.value) in
     rw none refl
 
 pub invariant_of-self-2 : goal.invariant_of-self-2
 invariant_of-self-2 c =
     let found : lookup (nat_eq c.args.service.0) c.self.inside.services.entries ≡ Some c.in-Some.held.now = sym c.in-Some.ensures.value in
     rw (c.get_mut.follows.holds c.take_use.new.self).0
-    (kept_set _ c.args.service.0 _ _ c.self.invariant (ap (λ s. s.service.0) c.take_use.ensures.service ∙ sym (found_under _ _ _ _ c.self.invariant.under found).key))
+    (record {
+      rows = kept_set _ c.args.service.0 _ _ c.self.invariant.rows (ap (λ s. s.service.0) c.take_use.ensures.service ∙ sym (found_under _ _ _ _ c.self.invariant.rows.under found).key);
+      index = index_kept _ c.args.service c.in-Some.held.now c.take_use.new.self _ c.self.inside.index.classes c.self.invariant.rows c.self.invariant.index c.take_use.ensures.service found;
+    })
 
 pub returns-clause-answer : goal.returns-clause-answer
 returns-clause-answer c =
-    let some : row_at c.args.service c.args.self.now.rows ≡ Some c.in-Some.held.now = row_present _ c.args.service _ _ _ (ap (λ r. r.rows) c.self.view_is) c.self.invariant.under (sym c.in-Some.ensures.value) in
+    let some : row_at c.args.service c.args.self.now.rows ≡ Some c.in-Some.held.now = row_present _ c.args.service _ _ _ (ap (λ r. r.rows) c.self.view_is) c.self.invariant.rows.under (sym c.in-Some.ensures.value) in
     rw some c.take_use.ensures.answer
 
 pub returns-clause-rows : goal.returns-clause-rows
@@ -29,7 +33,7 @@ returns-clause-rows c =
     OnTrue_from c.take_use.result _
     (λ yes.
     rw ((c.get_mut.follows.holds c.take_use.new.self).0, ← c.self.view_is)
-    (rows_set _ c.args.service c.in-Some.held.now c.take_use.new.self (used_less c.args.user) _ c.self.invariant.under c.self.invariant.rising (sym (OnTrue_at yes c.take_use.ensures.used)) (sym c.in-Some.ensures.value)))
+    (rows_set _ c.args.service c.in-Some.held.now c.take_use.new.self (used_less c.args.user) _ c.self.invariant.rows.under c.self.invariant.rows.rising (sym (OnTrue_at yes c.take_use.ensures.used)) (sym c.in-Some.ensures.value)))
 
 pub returns-clause-unchanged : goal.returns-clause-unchanged
 returns-clause-unchanged c =

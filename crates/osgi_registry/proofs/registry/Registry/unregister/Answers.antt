@@ -1,9 +1,39 @@
 -- A service taken out.
+use Rattle.std.proofs.Common.{◌≡◌, ap, sym, ◌∙◌, refl, nat_eq, subst}
+use Rattle.std.specs.Prelude.{None, Some}
+use Rattle.std.specs.Map.{lookup, values_of}
 use Rattle.osgi_registry.proofs.Changed.{kept_remove, rows_remove}
+use Rattle.osgi_registry.proofs.Entries.{found_under, row_absent}
+use Rattle.osgi_registry.proofs.Placed.{only_one, placed_remove}
+use Rattle.osgi_registry.specs.Places.{place_of, Takes}
+use Rattle.osgi_registry.specs.Rows.{row_at}
 use Rattle.osgi_registry.proofs.registry.Registry.unregister.Goals as goal
 
-pub invariant_of-self : goal.invariant_of-self
-invariant_of-self c = rw c.shift_remove.ensures.entries (kept_remove _ _ _ c.self.invariant)
+pub returns-in_default-shift_remove-clause-refusal : goal.returns-in_default-shift_remove-clause-refusal
+returns-in_default-shift_remove-clause-refusal c =
+    let none : row_at c.args.service c.args.self.now.rows ≡ None
+    = row_absent _ c.args.service _ _ (ap (λ r. r.rows) c.self.view_is) c.self.invariant.rows.under (sym c.in_default-shift_remove.ensures.value) in
+    rw none refl
+
+pub invariant_of-self-2 : goal.invariant_of-self-2
+invariant_of-self-2 c =
+    let rows = c.self.invariant.rows in
+    let row = c.in-Some-shift_remove.held in
+    let found : lookup (nat_eq c.args.service.0) c.self.inside.services.entries ≡ Some row = sym c.in-Some-shift_remove.ensures.value in
+    let at : c.of.result ≡ place_of row.service = c.of.ensures.place ∙ ap place_of c.service-service.ensures.service in
+    let among : c.items.result.now ≡ row.service.classes = c.items.ensures.items ∙ ap (λ s. s.classes) c.service-service.ensures.service in
+    let taken : Takes c.self.inside.index.classes c.take_all.new.self.classes row.service.classes (place_of row.service)
+    = subst (λ l. Takes c.self.inside.index.classes c.take_all.new.self.classes l (place_of row.service)) among
+    (subst (λ q. Takes c.self.inside.index.classes c.take_all.new.self.classes c.items.result.now q) at c.take_all.ensures.taken) in
+    rw c.in-Some-shift_remove.ensures.entries
+    (record {
+      rows = kept_remove _ _ _ rows;
+      index =
+          rw (rows_remove c.self.inside.given c.args.service c.self.inside.services.entries rows.under rows.rising)
+          (placed_remove c.self.inside.index.classes c.take_all.new.self.classes c.args.service row (values_of c.self.inside.services.entries) c.self.invariant.index taken
+          (sym (found_under _ _ _ _ rows.under found).key) (only_one _ c.args.service row _ rows.under rows.rising found));
+    })
 
 pub returns-clause-rows : goal.returns-clause-rows
-returns-clause-rows c = rw (c.shift_remove.ensures.entries, ← c.self.view_is) (rows_remove _ c.args.service _ c.self.invariant.under c.self.invariant.rising)
+returns-clause-rows c =
+    rw (c.in-Some-shift_remove.ensures.entries, ← c.self.view_is) (rows_remove c.self.inside.given c.args.service c.self.inside.services.entries c.self.invariant.rows.under c.self.invariant.rows.rising)
