@@ -80,7 +80,8 @@ pairs_head R x xs pairs = λ k d within. pairs 0 (suc k) d (omega arith) (omega 
 pub pairs_tail : {X : Type 0} (R : X → X → Type 0) (x : X) (xs : List X) → AllPairs R (x ∷ xs) → AllPairs R xs
 pairs_tail R x xs pairs = λ i j d before within. pairs (suc i) (suc j) d (omega arith) (omega arith)
 
-rising_ids : (given : ℕ) (entries : List (ℕ × Row)) → All (IsUnder given) entries → AllPairs IsBefore entries → AllPairs (λ k l. k < l) (map id_of (values_of entries))
+-- the ids rise
+pub rising_ids : (given : ℕ) (entries : List (ℕ × Row)) → All (IsUnder given) entries → AllPairs IsBefore entries → AllPairs (λ k l. k < l) (map id_of (values_of entries))
 rising_ids given [] under pairs = λ i j d before within. absurd (omega arith)
 rising_ids given (e ∷ rest) under pairs =
     let here = All-head (IsUnder given) e rest under in

@@ -1,7 +1,8 @@
 -- What the index by class holds after a change at one class.
 use Rattle.std.proofs.Common.{◌≡◌, ℕ, List, [], ◌∷◌, ◌++◌, ap, sym, ◌∙◌, refl, length, take, drop, arith}
-use Rattle.std.specs.Prelude.{Bool, true, false, cond, ◌||◌, ◌&&◌, not, Option}
+use Rattle.std.specs.Prelude.{Bool, true, false, cond, ◌||◌, ◌&&◌, not, Option, None, Some, Result, Ok, Err, OnOk}
 use Rattle.std.specs.List.{list_any}
+use Rattle.std.specs.List.Sorted.{IsStrictlySortedBy}
 use Rattle.std.specs.BTreeMap.{get, is_at}
 use Rattle.std.specs.BTreeSet.{BTreeSet}
 use Rattle.std.specs.Cmp.Lexicographic.{slice_cmp}
@@ -14,7 +15,7 @@ use Rattle.osgi_registry.specs.declared.place.Place.{Place}
 use Rattle.std.proofs.lemmas.Bool.{or_left}
 use Rattle.std.proofs.lemmas.List.{take-append-drop}
 use Rattle.std.proofs.lemmas.List.Folds.{list_any-append}
-use Rattle.osgi_registry.specs.Places.{Adds, Classes, holds, IsFresh, Moves, place_cmp, same_place, StandsUnder, Takes}
+use Rattle.osgi_registry.specs.Places.{Adds, Classes, holds, IsFresh, Moves, place_cmp, places_at, same_place, StandsUnder, Takes}
 use Rattle.osgi_registry.specs.Rows.{is_among}
 
 abbrev pub at : Classes → List ℕ → Option (BTreeSet Place)
@@ -146,3 +147,18 @@ pub moves_elsewhere : (old mid new : Classes) (classes : List (List ℕ)) (from 
 moves_elsewhere old mid new classes from to apart added taken = λ c p.
     taken c p ∙ ap (λ b. not (is_among classes c && same_place from p) && b) (added c p)
     ∙ moves_by (is_among classes c) (same_place to p) (same_place from p) (holds old c p) (apart p)
+
+-- ---- places in order
+
+sorted_none : IsStrictlySortedBy place_cmp []
+unfolding IsStrictlySortedBy
+sorted_none = tt
+
+none_by : (places : Option (BTreeSet Place)) → places ≡ None → IsStrictlySortedBy place_cmp (option_map_or (λ p. p.keys) places [])
+none_by None none = sorted_none
+none_by (Some places) none = absurd (cc none)
+
+-- where the class has no places
+pub sorted_nowhere : {T E : Type 0} (r : Result T E) (classes : Classes) (class : List ℕ) → at classes class ≡ None → OnOk r (IsStrictlySortedBy place_cmp (places_at classes class))
+sorted_nowhere (Ok x) classes class none = none_by (at classes class) none
+sorted_nowhere (Err e) classes class none = tt

@@ -5,4 +5,6 @@ pub mod Exact
 pub mod Holds
 pub mod Placed
 pub mod Pushes
+pub mod Ranked
+pub mod Released
 pub mod Uses

@@ -1,6 +1,6 @@
 -- The index by class after the rows change, and what its first place says of them.
 use Rattle.std.proofs.Common.{◌≡◌, ◌≢◌, ◌<◌, ℕ, List, [], ◌∷◌, ◌++◌, ap, sym, ◌∙◌, refl, arith, get_or, length, nat_eq, true≢false}
-use Rattle.std.specs.Prelude.{Bool, true, false, cond, ◌||◌, ◌&&◌, not, Some, All, AllPairs}
+use Rattle.std.specs.Prelude.{Bool, true, false, cond, ◌||◌, ◌&&◌, not, Some, All, AllPairs, Contains}
 use Rattle.std.specs.List.{list_any}
 use Rattle.std.specs.Map.{lookup, set_value, values_of}
 use Rattle.std.specs.Ordering.{is_gt}
@@ -206,7 +206,7 @@ index_kept given service old new entries classes kept index same found =
 -- ---- the first place
 
 -- a service of the class is held at its place
-held_at : (classes : Classes) (c : List ℕ) (rows : List Row) (k : ℕ) (d : Row) → IsIndexOf classes rows → k < length rows → has_class c (get_or rows k d) ≡ true → holds classes c (place_of (get_or rows k d).service) ≡ true
+pub held_at : (classes : Classes) (c : List ℕ) (rows : List Row) (k : ℕ) (d : Row) → IsIndexOf classes rows → k < length rows → has_class c (get_or rows k d) ≡ true → holds classes c (place_of (get_or rows k d).service) ≡ true
 held_at classes c rows k d index within has =
     index c (place_of (get_or rows k d).service)
     ∙ list_any_at (is_placed c (place_of (get_or rows k d).service)) rows k d within (and_from (has_class c (get_or rows k d)) _ has (place_itself (place_of (get_or rows k d).service)))
@@ -220,17 +220,28 @@ pub none_has : (classes : Classes) (c : List ℕ) (rows : List Row) → IsIndexO
 none_has classes c rows index none = λ k d within.
     none_by (has_class c (get_or rows k d)) (holds classes c (place_of (get_or rows k d).service)) (none (place_of (get_or rows k d).service)) (held_at classes c rows k d index within)
 
--- and the first place is that of the best
+-- a service of the class that stands at the place
+pub record IsAt (c : List ℕ) (rows : List Row) (place : Place) : Type 0 where
+  pub row : Row
+  pub live : Contains rows row
+  pub has : has_class c row ≡ true
+  pub is : place_of row.service ≡ place
+
+pub row_held : (classes : Classes) (c : List ℕ) (rows : List Row) (place : Place) → IsIndexOf classes rows → holds classes c place ≡ true → IsAt c rows place
+row_held classes c rows place index held =
+    let some = Any-from_list_any (is_placed c place) rows (sym (index c place) ∙ held) in
+    let parts = and_parts (has_class c some.1) _ some.4 in
+    record { row = some.1; live = (some.0, some.2, some.3); has = parts.0; is = place_exact (place_of some.1.service) place parts.1 }
+
+-- the first place is that of the best
 pub best_at : (classes : Classes) (c : List ℕ) (rows : List Row) (place : Place) (service : ServiceId) → IsIndexOf classes rows → holds classes c place ≡ true →
     ((p : Place) → holds classes c p ≡ true → is_gt (place_cmp place p) ≡ false) → service.0 ≡ place.service → IsBest c rows service
 best_at classes c rows place service index held first is =
-    let some = Any-from_list_any (is_placed c place) rows (sym (index c place) ∙ held) in
-    let parts = and_parts (has_class c some.1) _ some.4 in
-    let same : place_of some.1.service ≡ place = place_exact (place_of some.1.service) place parts.1 in
+    let some = row_held classes c rows place index held in
     record {
-      row = some.1;
-      live = (some.0, some.2, some.3);
-      is = ap (λ n. record { 0 = n }) (is ∙ sym (ap (λ (q : Place). q.service) same));
-      has = parts.0;
-      best = λ k d within has. rw (← same) at (first (place_of (get_or rows k d).service) (held_at classes c rows k d index within has));
+      row = some.row;
+      live = some.live;
+      is = ap (λ n. record { 0 = n }) (is ∙ sym (ap (λ (q : Place). q.service) some.is));
+      has = some.has;
+      best = λ k d within has. rw (← some.is) at (first (place_of (get_or rows k d).service) (held_at classes c rows k d index within has));
     }

@@ -31,6 +31,9 @@ places_at classes class = option_map_or (λ places. places.keys) (get (slice_cmp
 abbrev pub holds : Classes → List ℕ → Place → Bool
 holds classes class place = list_any (is_at (place_cmp place)) (places_at classes class)
 
+abbrev pub service_at : Place → ServiceId
+service_at place = record { 0 = place.service }
+
 -- the place is added under the classes
 abbrev pub Adds : Classes → Classes → List (List ℕ) → Place → Type 0
 Adds old new classes place = (c : List ℕ) (p : Place) → holds new c p ≡ ((is_among classes c && same_place place p) || holds old c p)

@@ -1,5 +1,5 @@
 -- The registry as contracts see it: the live services in rows, and what calls answer and change by them.
-use Rattle.std.specs.Prelude.{ℕ, ◌≡◌, ◌==◌, ◌+◌, ◌-◌, ◌<◌, ◌≤◌, nat_le, Bool, not, if◌then◌else◌, List, [], ◌∷◌, Option, None, Some, Result, Ok, Err, true, false, All, Contains, find, filter, map, length, unwrap_or}
+use Rattle.std.specs.Prelude.{ℕ, ◌≡◌, ◌==◌, ◌+◌, ◌-◌, ◌<◌, ◌≤◌, nat_le, Bool, not, if◌then◌else◌, List, [], ◌∷◌, Option, None, Some, Result, Ok, Err, true, false, All, AllPairs, Contains, find, filter, map, length, unwrap_or}
 use Rattle.std.specs.List.{list_any}
 use Rattle.std.specs.List.Sorted.{IsStrictlyIncreasing}
 use Rattle.std.specs.Map.{lookup}
@@ -7,6 +7,7 @@ use Rattle.std.specs.Option.{option_map_or, option_or}
 use Rattle.std.specs.Ordering.{int_cmp, is_gt, nat_cmp, ordering_then}
 use Rattle.std.specs.Str.{bytes_eq}
 use Rattle.std.specs.declared.cmp.Ordering.{Ordering}
+use Rattle.std.specs.declared.cmp.Ordering.TheVariants.{Less}
 use Rattle.osgi_base.specs.declared.ids.BundleId.{BundleId}
 use Rattle.osgi_base.specs.declared.ids.ServiceId.{ServiceId}
 use Rattle.osgi_ops.specs.Properties.{has_twins, ranking, with_framework}
@@ -69,6 +70,17 @@ pub record IsBest (class : List ℕ) (rows : List Row) (service : ServiceId) : T
   pub has : has_class class row ≡ true
   pub best : All (λ other. has_class class other ≡ true → is_gt (rank_cmp row other) ≡ false) rows
 
+abbrev pub ids_of : List Row → List ServiceId
+ids_of rows = map (λ row. row.service.service) rows
+
+-- the ids of exactly the live services that have the class, each once and the better first
+pub record AreRanked (class : List ℕ) (rows : List Row) (services : List ServiceId) : Type 0 where
+  pub ranked : List Row
+  pub are : services ≡ ids_of ranked
+  pub in_order : AllPairs (λ a b. rank_cmp a b ≡ Less) ranked
+  pub only : All (λ row. Contains rows row × (has_class class row ≡ true)) ranked
+  pub every : All (λ row. has_class class row ≡ true → Contains ranked row) rows
+
 -- ---- uses
 
 -- how often the user holds it
@@ -110,6 +122,23 @@ abbrev pub with_properties : List Attribute → Row → Row
 with_properties properties row = record row {
   service = record row.service { properties = with_framework properties row.service.classes row.service.service row.service.owner };
 }
+
+-- ---- the release of a bundle
+
+abbrev pub is_owned : BundleId → Row → Bool
+is_owned bundle row = row.service.owner.0 == bundle.0
+
+-- a service without the uses of the user
+abbrev pub without_user : BundleId → Row → Row
+without_user user row = record row { uses = filter (λ other. not (user.0 == other.0)) row.uses }
+
+-- the rows of the other bundles
+abbrev pub others : BundleId → List Row → List Row
+others bundle rows = filter (λ row. not (is_owned bundle row)) rows
+
+-- and these without the bundle's uses
+abbrev pub released : BundleId → List Row → List Row
+released bundle rows = map (without_user bundle) (others bundle rows)
 
 -- ---- refusals
 

@@ -2,7 +2,7 @@
 
 ghost use Rattle.std.specs.Prelude.{◌≡◌, ◌+◌, ◌<◌, ◌^◌, ◌-◌, nat_lt, [], OnOk, OnErr};
 ghost use Rattle.std.specs.Bool.{OnTrue, OnFalse};
-ghost use Rattle.osgi_registry.specs.Rows.{count_of, used_less, used_more};
+ghost use Rattle.osgi_registry.specs.Rows.{count_of, used_less, used_more, without_user};
 
 use crate::service::Service;
 use indexmap::IndexMap;
@@ -81,5 +81,12 @@ impl Held {
         }
         *count -= 1;
         true
+    }
+
+    /// Forgets the uses by the user.
+    pub fn forget(&mut self, user: BundleId)
+        ensures forgotten { self.new ≡ without_user user self.old }
+    {
+        self.uses.shift_remove(&user.0);
     }
 }

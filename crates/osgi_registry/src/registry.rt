@@ -1,11 +1,13 @@
 //! The registry.
 
-ghost use Rattle.std.specs.Prelude.{◌≡◌, ◌+◌, ◌<◌, [], ◌∷◌, ◌++◌, nat_lt, length, slice_get, None, Some, false, All, IfNone, IfOk, IfSome, OnOk, OnErr};
+ghost use Rattle.std.specs.Prelude.{◌≡◌, ◌≢◌, AllPairs, filter, not, ◌+◌, ◌<◌, [], ◌∷◌, ◌++◌, nat_lt, length, slice_get, None, Some, false, All, IfNone, IfOk, IfSome, OnOk, OnErr};
 ghost use Rattle.osgi_ops.specs.Settings.{most_services};
 ghost use Rattle.std.specs.Bool.{OnTrue, OnFalse};
 ghost use Rattle.std.specs.Option.{option_map};
 ghost use Rattle.std.specs.Result.{result_err};
-ghost use Rattle.osgi_registry.specs.Rows.{AreInOrder, change, change_refusal, has_class, IsBest, modify_refusal, new_row, object_at, register_refusal, row_at, use_count, used_less, used_more, with_properties, without};
+ghost use Rattle.indexmap.specs.IndexMap.{values};
+ghost use Rattle.osgi_registry.specs.Places.{IsIndexOf};
+ghost use Rattle.osgi_registry.specs.Rows.{AreInOrder, AreRanked, change, change_refusal, has_class, id_of, ids_of, is_owned, IsBest, modify_refusal, new_row, object_at, others, register_refusal, released, row_at, use_count, used_less, used_more, with_properties, without, without_user};
 
 use crate::class_index::ClassIndex;
 use crate::held::Held;
@@ -247,5 +249,66 @@ impl Registry {
     {
         let place = self.index.first(class)?;
         Some(place.service())
+    }
+
+    /// All live services of the class, the best first.
+    pub fn find_all(&self, class: &Text) -> Result<List<ServiceId>, AllocError>
+        ensures ranked { IfOk result (AreRanked class.now self.now.rows) }
+    {
+        self.index.all(class)
+    }
+
+    /// Takes out all services of the bundle and all its uses, and gives the ids of these services, rising.
+    pub fn release(&mut self, bundle: BundleId) -> Result<List<ServiceId>, AllocError>
+        ensures services { IfOk result (λ services. services ≡ ids_of (filter (is_owned bundle) self.old.rows)) }
+        ensures rows { OnOk result (self.new.rows ≡ released bundle self.old.rows) }
+        ensures given { self.new.given ≡ self.old.given }
+        ensures unchanged { OnErr result (self.new ≡ self.old) }
+    {
+        let services = services_of(self.alloc, &self.services, bundle)?;
+        take_places(&mut self.index, &self.services, bundle);
+        self.services.retain(
+            |_id: &u64, held: &mut Held| -> bool
+                ensures { (result ≡ not (is_owned bundle held.old)) × (held.new ≡ without_user bundle held.old) }
+            {
+                held.forget(bundle);
+                held.service().owner.0 != bundle.0
+            },
+        );
+        Ok(services)
+    }
+}
+
+/// The ids of the bundle's services.
+fn services_of(
+    alloc: Global,
+    services: &IndexMap<u64, Held>,
+    bundle: BundleId,
+) -> Result<List<ServiceId>, AllocError>
+    ensures ids { IfOk result (λ ids. ids ≡ ids_of (filter (is_owned bundle) (values services.now))) }
+{
+    let mut ids = List::new(alloc)?;
+    for place in 0..services.len() {
+        let service = services[place].service();
+        if service.owner.0 != bundle.0 {
+            continue;
+        }
+        ids.push(service.service)?;
+    }
+    Ok(ids)
+}
+
+/// Takes the places of the bundle's services out of the index.
+fn take_places(index: &mut ClassIndex, services: &IndexMap<u64, Held>, bundle: BundleId)
+    requires apart { AllPairs (λ a b. id_of a ≢ id_of b) (values services.now) }
+    requires index { IsIndexOf index.old.classes (values services.now) }
+    ensures index { IsIndexOf index.new.classes (others bundle (values services.now)) }
+{
+    for place in 0..services.len() {
+        let service = services[place].service();
+        if service.owner.0 != bundle.0 {
+            continue;
+        }
+        index.take_all(service.classes.items(), Place::of(service));
     }
 }
