@@ -1,5 +1,5 @@
 -- The properties of services: names, ranking, and what the framework sets.
-use Rattle.std.specs.Prelude.{ℕ, ◌||◌, ◌&&◌, pos, negsuc, ℤ, int_le, not, if◌then◌else◌, Bool, true, false, List, [], ◌∷◌, ◌++◌, Option, None, Some, codes, find, filter, map}
+use Rattle.std.specs.Prelude.{ℕ, ◌||◌, ◌&&◌, pos, negsuc, ℤ, int_le, not, if◌then◌else◌, Bool, false, List, [], ◌∷◌, ◌++◌, Option, Some, codes, find, filter, map}
 use Rattle.std.specs.List.{list_any}
 use Rattle.std.specs.Option.{option_map}
 use Rattle.std.specs.Str.{str_eq_ignore_ascii_case}

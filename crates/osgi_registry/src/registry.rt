@@ -242,6 +242,7 @@ impl Registry {
         };
         held.take_use(user)
     }
+
     /// The best live service of the class: that of the highest ranking, and of these that of the lowest id.
     pub fn find(&self, class: &Text) -> Option<ServiceId>
         ensures none { IfNone result (All (λ row. has_class class.now row ≡ false) self.now.rows) }
