@@ -1,10 +1,7 @@
 -- A history with one more entry at its end.
-use Rattle.std.proofs.Common.{◌≡◌, List, [], ◌∷◌, ◌++◌, append-nil, append_assoc, ap, sym, ◌∙◌, refl}
-use Rattle.std.specs.Prelude.{Option, None, Some}
-use Rattle.std.specs.List.{filter_map, cons_option}
+use Rattle.std.proofs.Common.{◌≡◌, List, [], ◌∷◌, ◌++◌, append-nil, append_assoc, ap, sym, ◌∙◌}
 use Rattle.osgi_ops.specs.Along.{along, Each}
 use Rattle.osgi_ops.specs.Legal.{IsAllowed, Legal}
-use Rattle.osgi_ops.specs.Services.{registrations, registration_of}
 use Rattle.osgi_ops.specs.Settings.{Setting}
 use Rattle.osgi_ops.specs.declared.entry.Entry.{Entry}
 
@@ -15,17 +12,6 @@ Each-push allowed before (x ∷ rest) item each new = (each.0, Each-push allowed
 
 pub Legal-push : (setting : Setting) (history : List Entry) (e : Entry) → Legal setting history → IsAllowed setting history e → Legal setting (history ++ e ∷ [])
 Legal-push setting history e legal allowed = Each-push (IsAllowed setting) [] history e legal allowed
-
-cons_option-append : {B : Type 0} (first : Option B) (xs ys zs : List B) → xs ≡ ys ++ zs → cons_option first xs ≡ cons_option first ys ++ zs
-cons_option-append None xs ys zs e = e
-cons_option-append (Some y) xs ys zs e = ap (λ l. y ∷ l) e
-
-pub filter_map-push : {A B : Type 0} (f : A → Option B) (list : List A) (item : A) → filter_map f (list ++ item ∷ []) ≡ filter_map f list ++ cons_option (f item) []
-filter_map-push f [] item = refl
-filter_map-push f (x ∷ rest) item = cons_option-append (f x) _ _ _ (filter_map-push f rest item)
-
-pub registrations-push : (history : List Entry) (e : Entry) → registrations (history ++ e ∷ []) ≡ registrations history ++ cons_option (registration_of e.op e.reply) []
-registrations-push history e = filter_map-push (λ (x : Entry). registration_of x.op x.reply) history e
 
 pub along-push : {A B : Type 0} (read : List A → A → List B) (before list : List A) (item : A) → along read before (list ++ item ∷ []) ≡ along read before list ++ read (before ++ list) item
 along-push read before [] item = append-nil (read before item) ∙ ap (λ l. read l item) (sym (append-nil before))

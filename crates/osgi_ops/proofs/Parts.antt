@@ -7,17 +7,15 @@ use Rattle.std.proofs.lemmas.List.Elements.{All-append, All-cons, All-head, All-
 use Rattle.osgi_ops.proofs.Sessions.{AreNumberedFrom, nothing_follows}
 use Rattle.osgi_ops.specs.Lines.{entries_of, has_command, is_of}
 use Rattle.osgi_ops.specs.Bundles.{system}
-use Rattle.osgi_ops.specs.Plans.{after_one, ask, asked, Call, End, IsCutRun, Plan, Reads, stop, stopped}
+use Rattle.osgi_ops.specs.Plans.{after_one, ask, asked, Call, End, IsCutRun, op_of, Plan, Reads, stop, stopped}
 use Rattle.osgi_ops.specs.Rendering.{is_full, TellsFull}
 use Rattle.osgi_ops.specs.Sessions.{AreTagged, call_of, cut, idle, IsCutRunOf, IsRunOf, Makes, over, run}
 use Rattle.osgi_ops.specs.declared.command.Command.{Command}
-use Rattle.osgi_ops.specs.declared.command.Command.TheVariants as command
 use Rattle.osgi_ops.specs.declared.entry.Entry.{Entry}
 use Rattle.osgi_ops.specs.declared.line.Line.{Line}
 use Rattle.osgi_ops.specs.declared.op.Op.{Op}
-use Rattle.osgi_ops.specs.declared.op.Op.TheVariants as op
 use Rattle.osgi_ops.specs.declared.reply.Reply.{Reply}
-use Rattle.osgi_ops.specs.declared.reply.Reply.TheVariants.{Refused, Service}
+use Rattle.osgi_ops.specs.declared.reply.Reply.TheVariants.{Refused}
 
 -- every entry is of a line below, or from, a number on
 abbrev AreBelow : ℕ → List Entry → Type 0
@@ -58,8 +56,8 @@ back (asked {reply = reply} {end = end} {calls = calls} more) = (reply, end, cal
 
 after_one_stops : (reply : Reply) (end : End) (calls left : List Call) → Reads (after_one reply) end calls left → calls ≡ left
 unfolding Back
-after_one_stops (Service service) end calls left reads = back reads
 after_one_stops (Refused refusal) end calls left reads = back reads
+after_one_stops reply end calls left reads = back reads
 
 one_call : (asks : Op) (end : End) (calls : List Call) → Reads (ask asks after_one) end calls [] → (reply : Reply) × (calls ≡ record { op = asks; reply = reply } ∷ [])
 unfolding Back
@@ -73,8 +71,8 @@ nothing_left call (x ∷ rest) missing whole some e = cc e
 
 cut_nothing : (c : Command) (calls : List Call) → IsCutRun c calls → calls ≡ []
 cut_nothing c [] is = refl
-cut_nothing (command.Register classes object) (call ∷ rest) is =
-    let one = one_call (op.Register system classes object) is.2.0 (call ∷ (rest ++ is.0)) is.2.1 in
+cut_nothing c (call ∷ rest) is =
+    let one = one_call (op_of system c) is.2.0 (call ∷ (rest ++ is.0)) is.2.1 in
     absurd (nothing_left call rest is.0 _ is.1 one.1)
 
 no_calls : (entries : List Entry) → map call_of entries ≡ [] → entries ≡ []

@@ -6,20 +6,18 @@ use Rattle.std.proofs.lemmas.Bool.{and_from, and_right, eq-eqb, ne_eqb, not_from
 use Rattle.std.proofs.lemmas.List.Elements.{All-head}
 use Rattle.std.proofs.lemmas.List.Folds.{list_any-append, list_any_none}
 use Rattle.osgi_ops.specs.Bundles.{system}
-use Rattle.osgi_ops.specs.Plans.{after_one, asked, Call, done, End, Follows, IsCutRun, Reads, refused, stopped}
+use Rattle.osgi_ops.specs.Plans.{after_one, asked, Call, done, End, Follows, IsCutRun, op_of, Reads, refused, stopped}
 use Rattle.osgi_ops.specs.Lines.{has_command, is_of}
 use Rattle.osgi_ops.specs.Rendering.{is_full}
 use Rattle.osgi_ops.specs.Sessions.{AreTagged, HasNoCommand, IsRunOf, IsCutRunOf, Makes, over, idle, run, cut}
 use Rattle.osgi_ops.specs.declared.command.Command.{Command}
-use Rattle.osgi_ops.specs.declared.command.Command.TheVariants as command
 use Rattle.osgi_ops.specs.declared.entry.Entry.{Entry}
 use Rattle.osgi_ops.specs.declared.line.Content.{Content}
 use Rattle.osgi_ops.specs.declared.line.Content.TheVariants.{Empty, Join, Bad, Run}
 use Rattle.osgi_ops.specs.declared.line.Line.{Line}
-use Rattle.osgi_ops.specs.declared.op.Op.TheVariants as op
 use Rattle.osgi_ops.specs.declared.refusal.Refusal.TheVariants.{NoSuchBundle}
 use Rattle.osgi_ops.specs.declared.reply.Reply.{Reply}
-use Rattle.osgi_ops.specs.declared.reply.Reply.TheVariants.{Refused, Service}
+use Rattle.osgi_ops.specs.declared.reply.Reply.TheVariants.{Refused}
 
 abbrev never : List Entry → Type 0
 never entries = ⊥
@@ -41,21 +39,21 @@ Makes-weaker first second weaker (cut {entries = entries} is law) = cut is (weak
 -- ---- runs of one operation
 
 ends_after : (reply : Reply) → (end : End) × Reads (after_one reply) end [] []
-ends_after (Service service) = (done, stopped)
 ends_after (Refused refusal) = (refused, stopped)
+ends_after reply = (done, stopped)
 
 -- the operation with any reply is a whole run
-pub register_follows : (classes : List (List ℕ)) (object : List ℕ) (reply : Reply) → Follows (command.Register classes object) (record { op = op.Register system classes object; reply = reply } ∷ [])
-register_follows classes object reply = let end = ends_after reply in (end.0, asked end.1)
+pub one_follows : (c : Command) (reply : Reply) → Follows c (record { op = op_of system c; reply = reply } ∷ [])
+one_follows c reply = let end = ends_after reply in (end.0, asked end.1)
 
 -- and nothing is a run that was cut
-pub register_cut : (classes : List (List ℕ)) (object : List ℕ) → IsCutRun (command.Register classes object) []
-register_cut classes object =
-    let call : Call = record { op = op.Register system classes object; reply = Refused NoSuchBundle } in
-    (call ∷ [], (λ e. absurd (cc e)), register_follows classes object (Refused NoSuchBundle))
+pub one_cut : (c : Command) → IsCutRun c []
+one_cut c =
+    let call : Call = record { op = op_of system c; reply = Refused NoSuchBundle } in
+    (call ∷ [], (λ e. absurd (cc e)), one_follows c (Refused NoSuchBundle))
 
 pub nothing_follows : (c : Command) → Follows c [] → ⊥
-nothing_follows (command.Register classes object) (end, reads) = elim reads [ ]
+nothing_follows c (end, reads) = elim reads [ ]
 
 -- ---- lines whose runs were not cut have an entry each
 

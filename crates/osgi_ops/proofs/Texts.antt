@@ -8,15 +8,23 @@ use Rattle.osgi_ops.specs.Along.{along}
 use Rattle.osgi_ops.specs.Lines.{is_of}
 use Rattle.osgi_ops.specs.Rendering.{entries_text, entry_lines, entry_text, with_line_end}
 use Rattle.osgi_ops.specs.declared.op.Op.{Op}
-use Rattle.osgi_ops.specs.declared.op.Op.TheVariants.{Register}
+use Rattle.osgi_ops.specs.declared.op.Op.TheVariants.{Modify, Unregister, Unget}
 use Rattle.osgi_ops.specs.declared.reply.Reply.{Reply}
-use Rattle.osgi_ops.specs.declared.reply.Reply.TheVariants.{Service, Refused}
+use Rattle.osgi_ops.specs.declared.reply.Reply.TheVariants.{Service, Done, Best, Services, Object, Flag, ServiceRows, Refused}
 use Rattle.osgi_ops.specs.declared.entry.Entry.{Entry}
 
 -- no entry's text depends on those before it yet
 lines_alone : (before : List Entry) (op : Op) (reply : Reply) → entry_lines before op reply ≡ entry_lines [] op reply
-lines_alone before (Register owner classes object) (Service service) = refl
-lines_alone before (Register owner classes object) (Refused refusal) = refl
+lines_alone before op (Service service) = refl
+lines_alone before op (Best service) = refl
+lines_alone before op (Services services) = refl
+lines_alone before op (Object text) = refl
+lines_alone before op (ServiceRows rows) = refl
+lines_alone before op (Refused refusal) = refl
+lines_alone before (Modify owner service properties) Done = refl
+lines_alone before (Unregister owner service) Done = refl
+lines_alone before (Unget user service) (Flag value) = refl
+lines_alone before op reply = refl
 
 pub text_alone : (before : List Entry) (e : Entry) → entry_text before e ≡ entry_text [] e
 text_alone before e = ap (λ (l : List (List ℕ)). concat (map with_line_end l)) (lines_alone before e.op e.reply)

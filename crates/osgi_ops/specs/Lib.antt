@@ -1,6 +1,7 @@
 -- The definitions of operations, histories, plans and their texts.
 pub mod Along
 pub mod Bundles
+pub mod Classes
 pub mod Legal
 pub mod Lines
 pub mod Names

@@ -24,9 +24,20 @@ abbrev pub after_one : Reply → Plan
 after_one (Refused refusal) = stop refused
 after_one _ = stop done
 
--- the plan of a command that the owner runs
+-- the operation that a command asks for, where the owner runs it
+abbrev pub op_of : BundleId → Command → Op
+op_of owner (command.Register classes object properties) = op.Register owner classes object properties
+op_of owner (command.Modify service properties) = op.Modify owner service properties
+op_of owner (command.Unregister service) = op.Unregister owner service
+op_of owner (command.Find class) = op.Find owner class
+op_of owner (command.FindAll class) = op.FindAll owner class
+op_of owner (command.Get service) = op.Get owner service
+op_of owner (command.Unget service) = op.Unget owner service
+op_of owner command.Services = op.ListServices
+
+-- the plan of a command: that one operation
 abbrev pub plan : BundleId → Command → Plan
-plan owner (command.Register classes object) = ask (op.Register owner classes object) after_one
+plan owner c = ask (op_of owner c) after_one
 
 -- an operation with its reply
 pub record Call : Type 0 where

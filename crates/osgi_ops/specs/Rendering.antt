@@ -1,18 +1,21 @@
 -- The text of a session: what each line and each entry writes.
-use Rattle.std.specs.Prelude.{ℕ, ◌≡◌, ◌↔◌, ◌&&◌, not, if◌then◌else◌, Bool, true, false, List, [], ◌∷◌, ◌++◌, codes, map}
-use Rattle.std.specs.List.{concat, list_any}
-use Rattle.std.specs.Fmt.{decimal}
+use Rattle.std.specs.Prelude.{ℕ, ◌≡◌, ◌↔◌, ◌&&◌, ◌||◌, ◌==◌, not, if◌then◌else◌, Bool, true, false, List, [], ◌∷◌, ◌++◌, codes, map}
+use Rattle.std.specs.List.{concat, join_with_byte, list_any}
+use Rattle.std.specs.Fmt.{decimal, signed_decimal}
+use Rattle.std.specs.Option.{option_to_list}
+use Rattle.osgi_base.specs.declared.ids.ServiceId.{ServiceId}
 use Rattle.osgi_ops.specs.Along.{along}
 use Rattle.osgi_ops.specs.Lines.{entries_of, has_command, is_of}
 use Rattle.osgi_ops.specs.Names.{many_name, refusal_name, refusal_number}
 use Rattle.osgi_ops.specs.Sessions.{IsRunOf}
 use Rattle.osgi_ops.specs.declared.op.Op.{Op}
-use Rattle.osgi_ops.specs.declared.op.Op.TheVariants.{Register}
+use Rattle.osgi_ops.specs.declared.op.Op.TheVariants.{Modify, Unregister, Unget}
 use Rattle.osgi_ops.specs.declared.refusal.Refusal.{Refusal}
 use Rattle.osgi_ops.specs.declared.refusal.Refusal.TheVariants.{NoSuchBundle, NoSuchService, BadProperties, NotOwner, TooMany, HistoryFull}
 use Rattle.osgi_ops.specs.declared.reply.Reply.{Reply}
-use Rattle.osgi_ops.specs.declared.reply.Reply.TheVariants.{Service, Refused}
+use Rattle.osgi_ops.specs.declared.reply.Reply.TheVariants.{Service, Done, Best, Services, Object, Flag, ServiceRows, Refused}
 use Rattle.osgi_ops.specs.declared.entry.Entry.{Entry}
+use Rattle.osgi_ops.specs.declared.service.ServiceRow.{ServiceRow}
 use Rattle.osgi_ops.specs.declared.line.Content.{Content}
 use Rattle.osgi_ops.specs.declared.line.Content.TheVariants.{Empty, Join, Bad, Run}
 use Rattle.osgi_ops.specs.declared.line.Line.{Line}
@@ -29,10 +32,41 @@ details HistoryFull = []
 abbrev pub refusal_text : Refusal → List ℕ
 refusal_text refusal = codes "refused " ++ decimal (refusal_number refusal) ++ codes " " ++ refusal_name refusal ++ details refusal
 
+-- ids, each behind a space; `none` where there are none
+abbrev pub ids_text : List ServiceId → List ℕ
+ids_text [] = codes " none"
+ids_text ids = concat (map (λ id. codes " " ++ decimal id.0) ids)
+
+-- a text between quotes, with a `\` before each `"` and `\`
+abbrev pub quoted : List ℕ → List ℕ
+quoted text = 34 ∷ concat (map (λ b. if (b == 34) || (b == 92) then 92 ∷ b ∷ [] else b ∷ []) text) ++ 34 ∷ []
+
+abbrev pub truth : Bool → List ℕ
+truth true = codes "true"
+truth false = codes "false"
+
+-- what the list of services shows of one
+abbrev pub row_text : ServiceRow → List ℕ
+row_text row =
+    codes "service " ++ decimal row.service.0 ++ codes " " ++ decimal row.owner.0 ++ codes " " ++ signed_decimal row.ranking ++ codes " "
+    ++ join_with_byte 44 row.classes ++ codes " " ++ quoted row.object
+
+abbrev pub rows_lines : List ServiceRow → List (List ℕ)
+rows_lines [] = codes "none" ∷ []
+rows_lines rows = map row_text rows
+
 -- the lines that an operation and its reply write, after the entries before them
 abbrev pub entry_lines : List Entry → Op → Reply → List (List ℕ)
-entry_lines before (Register owner classes object) (Service service) = (codes "service " ++ decimal service.0) ∷ []
+entry_lines before op (Service service) = (codes "service " ++ decimal service.0) ∷ []
+entry_lines before op (Best service) = (codes "found" ++ ids_text (option_to_list service)) ∷ []
+entry_lines before op (Services services) = (codes "found" ++ ids_text services) ∷ []
+entry_lines before op (Object text) = (codes "object " ++ quoted text) ∷ []
+entry_lines before op (ServiceRows rows) = rows_lines rows
 entry_lines before op (Refused refusal) = refusal_text refusal ∷ []
+entry_lines before (Modify owner service properties) Done = (codes "modified " ++ decimal service.0) ∷ []
+entry_lines before (Unregister owner service) Done = (codes "unregistered " ++ decimal service.0) ∷ []
+entry_lines before (Unget user service) (Flag value) = (codes "unget " ++ truth value) ∷ []
+entry_lines before _ _ = []
 
 abbrev pub with_line_end : List ℕ → List ℕ
 with_line_end line = line ++ 10 ∷ []

@@ -1,5 +1,5 @@
 -- A reply as a refusal or an answer.
-use Rattle.std.specs.Prelude.{Bool, true, false}
+use Rattle.std.specs.Prelude.{Bool, true, false, not}
 use Rattle.osgi_ops.specs.Verdict.{Verdict, refuses, answers}
 use Rattle.osgi_ops.specs.declared.refusal.Refusal.{Refusal}
 use Rattle.osgi_ops.specs.declared.reply.Reply.{Reply}
@@ -12,3 +12,7 @@ verdict answer = answers answer
 abbrev pub is_refusal : Reply → Bool
 is_refusal (Refused refusal) = true
 is_refusal _ = false
+
+-- an operation with this reply was accepted
+abbrev pub is_accepted : Reply → Bool
+is_accepted reply = not (is_refusal reply)

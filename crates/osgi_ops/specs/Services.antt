@@ -1,28 +1,115 @@
--- The services of a history, read off its entries.
-use Rattle.std.specs.Prelude.{List, Option, None, Some}
-use Rattle.std.specs.List.{filter_map}
+-- The services of a history, read off its entries: what was registered, what of it is live, its properties, and who uses it.
+use Rattle.std.specs.Prelude.{ℕ, ◌==◌, ◌+◌, ◌-◌, ◌&&◌, length, not, Bool, false, if◌then◌else◌, List, [], ◌∷◌, ◌++◌, Option, None, Some, filter, find, map, unwrap_or, count_by}
+use Rattle.std.specs.List.{filter_map, last_or, list_any}
+use Rattle.std.specs.Option.{option_map_or}
 use Rattle.osgi_base.specs.declared.ids.BundleId.{BundleId}
 use Rattle.osgi_base.specs.declared.ids.ServiceId.{ServiceId}
+use Rattle.osgi_ops.specs.Properties.{with_framework}
+use Rattle.osgi_ops.specs.Replies.{is_accepted}
 use Rattle.osgi_ops.specs.declared.op.Op.{Op}
-use Rattle.osgi_ops.specs.declared.op.Op.TheVariants.{Register}
+use Rattle.osgi_ops.specs.declared.op.Op.TheVariants.{Register, Modify, Unregister, Get, Unget}
 use Rattle.osgi_ops.specs.declared.reply.Reply.{Reply}
-use Rattle.osgi_ops.specs.declared.reply.Reply.TheVariants.{Service}
+use Rattle.osgi_ops.specs.declared.reply.Reply.TheVariants.{Object, Flag}
 use Rattle.osgi_ops.specs.declared.entry.Entry.{Entry}
+use Rattle.osgi_ops.specs.declared.service.Service as declared
+use Rattle.osgi_ops.specs.declared.value.Attribute.{Attribute}
 
--- a service and the bundle that registered it
-pub record Registration : Type 0 where
+-- a service as its Register tells it, with the properties that were given, and the entries since
+pub record Registered : Type 0 where
   pub service : ServiceId
   pub owner : BundleId
+  pub classes : List (List ℕ)
+  pub object : List ℕ
+  pub given : List Attribute
+  pub since : List Entry
 
--- what an operation registered, where it is an accepted Register
-abbrev pub registration_of : Op → Reply → Option Registration
-registration_of (Register owner classes object) (Service service) = Some (record { service = service; owner = owner })
-registration_of _ _ = None
+-- what an operation registered, being an accepted Register: its id is one more than the number of services registered earlier
+abbrev pub registered_by : ℕ → Op → Reply → List Entry → List Registered
+registered_by earlier (Register owner classes object properties) reply since =
+    if is_accepted reply
+    then record { service = record { 0 = earlier + 1 }; owner = owner; classes = classes; object = object; given = properties; since = since } ∷ []
+    else []
+registered_by earlier _ reply since = []
+
+-- what was registered behind so many earlier ones, in order
+abbrev pub registered_after : ℕ → List Entry → List Registered
+registered_after earlier [] = []
+registered_after earlier (e ∷ since) =
+    let here = registered_by earlier e.op e.reply since in here ++ registered_after (earlier + length here) since
 
 -- all that was registered, in order
-abbrev pub registrations : List Entry → List Registration
-registrations history = filter_map (λ e. registration_of e.op e.reply) history
+abbrev pub registered : List Entry → List Registered
+registered history = registered_after 0 history
 
--- what is live of it: all, since nothing takes a service out yet
-abbrev pub live : List Entry → List Registration
-live history = registrations history
+-- the operation took the service out, being an accepted Unregister of it
+abbrev pub takes_out : ServiceId → Op → Reply → Bool
+takes_out service (Unregister owner taken) reply = is_accepted reply && (taken.0 == service.0)
+takes_out service _ reply = false
+
+-- live from its Register on, until it is taken out
+abbrev pub is_live : Registered → Bool
+is_live r = not (list_any (λ e. takes_out r.service e.op e.reply) r.since)
+
+-- the live services, in order of their registration
+abbrev pub live : List Entry → List Registered
+live history = filter is_live (registered history)
+
+abbrev pub is_service : ServiceId → Registered → Bool
+is_service service r = service.0 == r.service.0
+
+-- the live service of this id, if there is one
+abbrev pub live_at : ServiceId → List Entry → Option Registered
+live_at service history = find (is_service service) (live history)
+
+-- ---- properties
+
+-- the properties that an operation gives the service in place of those before, being an accepted Modify of it
+abbrev pub given_by : ServiceId → Op → Reply → Option (List Attribute)
+given_by service (Modify owner modified properties) reply = if is_accepted reply && (modified.0 == service.0) then Some properties else None
+given_by service _ reply = None
+
+-- the properties that were given last
+abbrev pub given_last : Registered → List Attribute
+given_last r = unwrap_or (last_or None (filter_map (λ e. given_by r.service e.op e.reply) r.since)) r.given
+
+-- the service as it stands: the properties that were given last, and the framework's
+abbrev pub service_now : Registered → declared.Service
+service_now r = record {
+  service = r.service;
+  owner = r.owner;
+  classes = r.classes;
+  object = r.object;
+  properties = with_framework (given_last r) r.classes r.service r.owner;
+}
+
+-- the live services as they stand
+abbrev pub services : List Entry → List declared.Service
+services history = map service_now (live history)
+
+-- ---- uses
+
+-- the operation is a Get of the service by the user that answered its object
+abbrev pub is_get : BundleId → ServiceId → Op → Reply → Bool
+is_get user service (Get by got) (Object text) = (by.0 == user.0) && (got.0 == service.0)
+is_get user service _ _ = false
+
+-- it is an Unget of the service by the user that answered true
+abbrev pub is_unget : BundleId → ServiceId → Op → Reply → Bool
+is_unget user service (Unget by let_go) (Flag value) = value && (by.0 == user.0) && (let_go.0 == service.0)
+is_unget user service _ _ = false
+
+-- how often the user got the service since its Register
+abbrev pub gets : BundleId → Registered → ℕ
+gets user r = count_by (λ e. is_get user r.service e.op e.reply) r.since
+
+-- and how often it gave it back
+abbrev pub ungets : BundleId → Registered → ℕ
+ungets user r = count_by (λ e. is_unget user r.service e.op e.reply) r.since
+
+-- how often the user holds it
+abbrev pub uses_of : BundleId → Registered → ℕ
+uses_of user r = gets user r - ungets user r
+
+-- how often the user holds the service; 0 where it is not live
+abbrev pub uses : BundleId → ServiceId → List Entry → ℕ
+uses user service history = option_map_or (uses_of user) (live_at service history) 0

@@ -2,15 +2,48 @@
 
 ghost use Rattle.std.specs.Prelude.{◌≡◌, IfOk};
 
+use crate::value::Attributes;
 use osgi_base::copied::Copied;
+use osgi_base::ids::ServiceId;
 use osgi_base::list::List;
 use osgi_base::text::Text;
 use std::alloc::{AllocError, Global};
 
 #[derive(Debug, Drop, PartialEq, Eq)]
 pub enum Command {
-    /// `register CLASS[,CLASS].. "TEXT"`
-    Register { classes: List<Text>, object: Text },
+    /// `register CLASS[,CLASS].. "TEXT" [PROP]..`
+    Register {
+        classes: List<Text>,
+        object: Text,
+        properties: Attributes,
+    },
+    /// `modify ID [PROP]..`
+    Modify {
+        service: ServiceId,
+        properties: Attributes,
+    },
+    /// `unregister ID`
+    Unregister {
+        service: ServiceId,
+    },
+    /// `find CLASS`
+    Find {
+        class: Text,
+    },
+    /// `findall CLASS`
+    FindAll {
+        class: Text,
+    },
+    /// `get ID`
+    Get {
+        service: ServiceId,
+    },
+    /// `unget ID`
+    Unget {
+        service: ServiceId,
+    },
+    /// `services`
+    Services,
 }
 
 impl Command {
@@ -18,10 +51,32 @@ impl Command {
         ensures same { IfOk result (λ copy. copy ≡ self.now) }
     {
         match self {
-            Command::Register { classes, object } => Ok(Command::Register {
+            Command::Register {
+                classes,
+                object,
+                properties,
+            } => Ok(Command::Register {
                 classes: classes.copy(alloc)?,
                 object: object.copy(alloc)?,
+                properties: properties.copy(alloc)?,
             }),
+            Command::Modify {
+                service,
+                properties,
+            } => Ok(Command::Modify {
+                service: *service,
+                properties: properties.copy(alloc)?,
+            }),
+            Command::Unregister { service } => Ok(Command::Unregister { service: *service }),
+            Command::Find { class } => Ok(Command::Find {
+                class: class.copy(alloc)?,
+            }),
+            Command::FindAll { class } => Ok(Command::FindAll {
+                class: class.copy(alloc)?,
+            }),
+            Command::Get { service } => Ok(Command::Get { service: *service }),
+            Command::Unget { service } => Ok(Command::Unget { service: *service }),
+            Command::Services => Ok(Command::Services),
         }
     }
 }

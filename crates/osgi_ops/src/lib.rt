@@ -8,4 +8,5 @@ pub mod line;
 pub mod op;
 pub mod refusal;
 pub mod reply;
+pub mod service;
 pub mod value;

@@ -2,20 +2,55 @@
 
 ghost use Rattle.std.specs.Prelude.{◌≡◌, IfOk};
 
+use crate::value::Attributes;
 use osgi_base::copied::Copied;
-use osgi_base::ids::BundleId;
+use osgi_base::ids::{BundleId, ServiceId};
 use osgi_base::list::List;
 use osgi_base::text::Text;
 use std::alloc::{AllocError, Global};
 
 #[derive(Debug, Drop, PartialEq, Eq)]
 pub enum Op {
-    /// Registers a service object under one or more class names.
+    /// Registers a service object under one or more class names, with properties.
     Register {
         owner: BundleId,
         classes: List<Text>,
         object: Text,
+        properties: Attributes,
     },
+    /// Puts these properties in place of all that were given of a service.
+    Modify {
+        owner: BundleId,
+        service: ServiceId,
+        properties: Attributes,
+    },
+    /// Takes a service out.
+    Unregister {
+        owner: BundleId,
+        service: ServiceId,
+    },
+    /// Asks for the best service of a class.
+    Find {
+        asker: BundleId,
+        class: Text,
+    },
+    /// Asks for all services of a class.
+    FindAll {
+        asker: BundleId,
+        class: Text,
+    },
+    /// Asks for a service's object, and counts one more use of the service by the user.
+    Get {
+        user: BundleId,
+        service: ServiceId,
+    },
+    /// Counts one use less.
+    Unget {
+        user: BundleId,
+        service: ServiceId,
+    },
+    /// Asks for all services.
+    ListServices,
 }
 
 impl Op {
@@ -27,11 +62,43 @@ impl Op {
                 owner,
                 classes,
                 object,
+                properties,
             } => Ok(Op::Register {
                 owner: *owner,
                 classes: classes.copy(alloc)?,
                 object: object.copy(alloc)?,
+                properties: properties.copy(alloc)?,
             }),
+            Op::Modify {
+                owner,
+                service,
+                properties,
+            } => Ok(Op::Modify {
+                owner: *owner,
+                service: *service,
+                properties: properties.copy(alloc)?,
+            }),
+            Op::Unregister { owner, service } => Ok(Op::Unregister {
+                owner: *owner,
+                service: *service,
+            }),
+            Op::Find { asker, class } => Ok(Op::Find {
+                asker: *asker,
+                class: class.copy(alloc)?,
+            }),
+            Op::FindAll { asker, class } => Ok(Op::FindAll {
+                asker: *asker,
+                class: class.copy(alloc)?,
+            }),
+            Op::Get { user, service } => Ok(Op::Get {
+                user: *user,
+                service: *service,
+            }),
+            Op::Unget { user, service } => Ok(Op::Unget {
+                user: *user,
+                service: *service,
+            }),
+            Op::ListServices => Ok(Op::ListServices),
         }
     }
 }

@@ -39,7 +39,7 @@ pub enum Refusal {
     NoSuchService,
     /// 14: two of the given properties have one name.
     BadProperties,
-    /// 15: the service is another bundle's, this one's.
+    /// 15: the service belongs to another bundle, to this one.
     NotOwner { owner: BundleId },
     /// 17: there are as many of this kind as there may be.
     TooMany { kind: Many },

@@ -1,14 +1,29 @@
 //! What the framework answers to an operation.
 
 use crate::refusal::Refusal;
+use crate::service::ServiceRow;
 use osgi_base::copied::Copied;
 use osgi_base::ids::ServiceId;
+use osgi_base::list::List;
+use osgi_base::text::Text;
 use std::alloc::{AllocError, Global};
 
 #[derive(Debug, Drop, PartialEq, Eq)]
 pub enum Reply {
     /// The service was registered under this id.
     Service { service: ServiceId },
+    /// It was done.
+    Done,
+    /// The best service, if there is one.
+    Best { service: Option<ServiceId> },
+    /// These services, the best first.
+    Services { services: List<ServiceId> },
+    /// The service's object.
+    Object { text: Text },
+    /// Whether there was something to take back.
+    Flag { value: bool },
+    /// All services, by rising id.
+    ServiceRows { rows: List<ServiceRow> },
     Refused { refusal: Refusal },
 }
 
@@ -27,6 +42,18 @@ impl Reply {
     {
         match self {
             Reply::Service { service } => Ok(Reply::Service { service: *service }),
+            Reply::Done => Ok(Reply::Done),
+            Reply::Best { service } => Ok(Reply::Best { service: *service }),
+            Reply::Services { services } => Ok(Reply::Services {
+                services: services.copy(alloc)?,
+            }),
+            Reply::Object { text } => Ok(Reply::Object {
+                text: text.copy(alloc)?,
+            }),
+            Reply::Flag { value } => Ok(Reply::Flag { value: *value }),
+            Reply::ServiceRows { rows } => Ok(Reply::ServiceRows {
+                rows: rows.copy(alloc)?,
+            }),
             Reply::Refused { refusal } => Ok(Reply::Refused {
                 refusal: refusal.copy(alloc)?,
             }),

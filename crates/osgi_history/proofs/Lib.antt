@@ -1,0 +1,2 @@
+-- Lemmas on histories, read from their front.
+pub mod Front

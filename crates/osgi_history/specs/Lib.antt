@@ -1,0 +1,2 @@
+-- What the scans compute.
+pub mod Scans

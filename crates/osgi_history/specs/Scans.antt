@@ -1,0 +1,19 @@
+-- The counts that the scans take.
+use Rattle.std.specs.Prelude.{ℕ, ◌-◌, Bool, false, List, count_by}
+use Rattle.osgi_base.specs.declared.ids.BundleId.{BundleId}
+use Rattle.osgi_base.specs.declared.ids.ServiceId.{ServiceId}
+use Rattle.osgi_ops.specs.Replies.{is_accepted}
+use Rattle.osgi_ops.specs.Services.{is_get, is_unget}
+use Rattle.osgi_ops.specs.declared.op.Op.{Op}
+use Rattle.osgi_ops.specs.declared.op.Op.TheVariants.{Register}
+use Rattle.osgi_ops.specs.declared.reply.Reply.{Reply}
+use Rattle.osgi_ops.specs.declared.entry.Entry.{Entry}
+
+-- an accepted Register
+abbrev pub is_registration : Op → Reply → Bool
+is_registration (Register owner classes object properties) reply = is_accepted reply
+is_registration _ reply = false
+
+-- how often the user holds the service by these entries
+abbrev pub held : BundleId → ServiceId → List Entry → ℕ
+held user service since = count_by (λ e. is_get user service e.op e.reply) since - count_by (λ e. is_unget user service e.op e.reply) since

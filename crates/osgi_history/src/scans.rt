@@ -1,0 +1,146 @@
+//! The live services and their uses, found by going over all entries. Simple and slow: tests compare the registry with it.
+
+ghost use Rattle.std.specs.Prelude.{◌≡◌, ◌<◌, count_by, filter, map, IfOk};
+ghost use Rattle.std.specs.List.{list_any};
+ghost use Rattle.std.specs.Option.{option_map_or, option_to_list};
+ghost use Rattle.osgi_ops.specs.Services.{is_get, is_live, is_unget, live, registered_by, takes_out, uses};
+ghost use Rattle.osgi_history.specs.Scans.{held, is_registration};
+
+use osgi_base::ids::{BundleId, ServiceId};
+use osgi_base::list::List;
+use osgi_ops::entry::Entry;
+use osgi_ops::op::Op;
+use osgi_ops::reply::Reply;
+use std::alloc::{AllocError, Global};
+
+/// Whether the entry is an accepted Unregister of the service.
+fn takes_out(entry: &Entry, service: ServiceId) -> bool
+    ensures taken { result ≡ takes_out service entry.now.op entry.now.reply }
+{
+    match &entry.op {
+        Op::Unregister { service: taken, .. } => !entry.reply.is_refusal() && *taken == service,
+        _ => false,
+    }
+}
+
+/// Whether one of the entries is an accepted Unregister of the service.
+fn is_taken_out(entries: &[Entry], service: ServiceId) -> bool
+    ensures taken { result ≡ list_any (λ e. takes_out service e.op e.reply) entries.now }
+{
+    entries.iter().any(|entry| takes_out(entry, service))
+}
+
+/// Whether the entry is an accepted Register.
+fn is_registration(entry: &Entry) -> bool
+    ensures registers { result ≡ is_registration entry.now.op entry.now.reply }
+{
+    match &entry.op {
+        Op::Register { .. } => !entry.reply.is_refusal(),
+        _ => false,
+    }
+}
+
+/// The service that the entry registered behind so many earlier ones, where the entries since leave it live.
+fn registered(earlier: u64, entry: &Entry, since: &[Entry]) -> Option<ServiceId>
+    requires countable { earlier < 18446744073709551615 }
+    ensures registered { option_to_list result ≡ map (λ r. r.service) (filter is_live (registered_by earlier entry.now.op entry.now.reply since.now)) }
+{
+    if !is_registration(entry) {
+        return None;
+    }
+    let service = ServiceId(earlier + 1);
+    (!is_taken_out(since, service)).then_some(service)
+}
+
+/// The live services after these entries, in order of their registration.
+pub fn live(alloc: Global, entries: &[Entry]) -> Result<List<ServiceId>, AllocError>
+    ensures live { IfOk result (λ ids. ids ≡ map (λ r. r.service) (live entries.now)) }
+{
+    let mut ids = List::new(alloc)?;
+    let mut earlier = 0;
+    for (place, entry) in entries.iter().enumerate() {
+        if let Some(service) = registered(earlier, entry, &entries[place + 1..]) {
+            ids.push(service)?;
+        }
+        earlier += u64::from(is_registration(entry));
+    }
+    Ok(ids)
+}
+
+/// Whether the entry is a Get of the service by the user that answered its object.
+fn is_get(entry: &Entry, user: BundleId, service: ServiceId) -> bool
+    ensures got { result ≡ is_get user service entry.now.op entry.now.reply }
+{
+    match (&entry.op, &entry.reply) {
+        (
+            Op::Get {
+                user: by,
+                service: got,
+            },
+            Reply::Object { .. },
+        ) => *by == user && *got == service,
+        _ => false,
+    }
+}
+
+/// Whether the entry is an Unget of the service by the user that answered true.
+fn is_unget(entry: &Entry, user: BundleId, service: ServiceId) -> bool
+    ensures let_go { result ≡ is_unget user service entry.now.op entry.now.reply }
+{
+    match (&entry.op, &entry.reply) {
+        (
+            Op::Unget {
+                user: by,
+                service: let_go,
+            },
+            Reply::Flag { value },
+        ) => *value && *by == user && *let_go == service,
+        _ => false,
+    }
+}
+
+/// How many of the entries are a Get of the service by the user that answered its object.
+fn gets(entries: &[Entry], user: BundleId, service: ServiceId) -> usize
+    ensures count { result ≡ count_by (λ e. is_get user service e.op e.reply) entries.now }
+{
+    entries
+        .iter()
+        .filter(|entry| is_get(entry, user, service))
+        .count()
+}
+
+/// How many of the entries are an Unget of the service by the user that answered true.
+fn ungets(entries: &[Entry], user: BundleId, service: ServiceId) -> usize
+    ensures count { result ≡ count_by (λ e. is_unget user service e.op e.reply) entries.now }
+{
+    entries
+        .iter()
+        .filter(|entry| is_unget(entry, user, service))
+        .count()
+}
+
+/// The entries since the Register of the service, where it is live.
+fn since_registered(entries: &[Entry], service: ServiceId) -> Option<&[Entry]>
+    ensures since { (user : BundleId) → uses user service entries.now ≡ option_map_or (λ since. held user service since.now) result 0 }
+{
+    let mut earlier = 0;
+    for (place, entry) in entries.iter().enumerate() {
+        let since = &entries[place + 1..];
+        if registered(earlier, entry, since) == Some(service) {
+            return Some(since);
+        }
+        earlier += u64::from(is_registration(entry));
+    }
+    None
+}
+
+/// How often the user holds the service after these entries; 0 where it is not live.
+pub fn uses(entries: &[Entry], user: BundleId, service: ServiceId) -> u64
+    ensures uses { result ≡ uses user service entries.now }
+{
+    let Some(since) = since_registered(entries, service) else {
+        return 0;
+    };
+    let held = gets(since, user, service).saturating_sub(ungets(since, user, service));
+    held as u64
+}
