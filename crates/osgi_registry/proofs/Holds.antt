@@ -16,7 +16,7 @@ use Rattle.std.proofs.lemmas.Bool.{or_left}
 use Rattle.std.proofs.lemmas.List.{take-append-drop}
 use Rattle.std.proofs.lemmas.List.Folds.{list_any-append}
 use Rattle.osgi_registry.specs.Places.{Adds, Classes, holds, IsFresh, Moves, place_cmp, places_at, same_place, StandsUnder, Takes}
-use Rattle.osgi_registry.specs.Rows.{is_among}
+use Rattle.osgi_ops.specs.Classes.{is_among}
 
 abbrev pub at : Classes → List ℕ → Option (BTreeSet Place)
 at classes class = get (slice_cmp nat_cmp) classes class

@@ -7,4 +7,5 @@ pub mod Placed
 pub mod Pushes
 pub mod Ranked
 pub mod Released
+pub mod Standing
 pub mod Uses

@@ -5,13 +5,15 @@ use Rattle.std.specs.List.{list_any}
 use Rattle.std.specs.Map.{lookup, set_value, values_of}
 use Rattle.std.specs.Ordering.{is_gt}
 use Rattle.std.proofs.lemmas.Bool.{and_from, and_parts, and_right, eq-eqb, eqb-true, or_left, or_right}
+use Rattle.std.proofs.lemmas.List.{get_or-map, length-map}
 use Rattle.std.proofs.lemmas.List.Elements.{All-cons, All-head, All-map, All-tail}
 use Rattle.std.proofs.lemmas.List.Folds.{Any-from_list_any, list_any-append, list_any_at, list_any_none}
 use Rattle.osgi_base.specs.declared.ids.ServiceId.{ServiceId}
 use Rattle.osgi_registry.specs.declared.place.Place.{Place}
 use Rattle.osgi_registry.specs.Kept.{AreKept, IsBefore, IsUnder}
 use Rattle.osgi_registry.specs.Places.{Adds, Classes, holds, HoldsSame, is_placed, IsFresh, IsIndexOf, Moves, place_cmp, place_of, same_place, StandsUnder, Takes}
-use Rattle.osgi_registry.specs.Rows.{change, has_class, id_of, is_among, is_service, IsBest, Row, without}
+use Rattle.osgi_ops.specs.Classes.{has_class, is_among, IsBest}
+use Rattle.osgi_registry.specs.Rows.{change, id_of, is_service, Row, services_of, without}
 use Rattle.osgi_registry.proofs.Changed.{others_differ, rows_set}
 use Rattle.osgi_registry.proofs.Entries.{pairs_head, pairs_tail}
 use Rattle.osgi_registry.proofs.Exact.{place_exact, place_itself}
@@ -41,7 +43,7 @@ pub fresh_place : (classes : Classes) (rows : List Row) (place : Place) → IsIn
 fresh_place classes rows place index apart = λ c p same.
     index c p
     ∙ list_any_none (is_placed c p) rows
-    (λ k d within. and_right (has_class c (get_or rows k d)) _ (apart_by (place_of (get_or rows k d).service) place p _ refl (apart k d within) same))
+    (λ k d within. and_right (has_class c (get_or rows k d).service) _ (apart_by (place_of (get_or rows k d).service) place p _ refl (apart k d within) same))
 
 -- as that of an id which was not given
 pub fresh_id : (given : ℕ) (entries : List (ℕ × Row)) (place : Place) → All (IsUnder given) entries → given < place.service → All (λ row. place_of row.service ≢ place) (values_of entries)
@@ -82,7 +84,7 @@ any_found test key row [] passes found = absurd (cc found)
 any_found test key row (e ∷ rest) passes found = any_by test key row e rest (nat_eq key e.0) passes (any_found test key row rest passes) found
 
 pub stands : (classes : Classes) (key : ℕ) (row : Row) (entries : List (ℕ × Row)) → IsIndexOf classes (values_of entries) → lookup (nat_eq key) entries ≡ Some row → StandsUnder classes row.service.classes (place_of row.service)
-stands classes key row entries index found = λ c p has same. index c p ∙ any_found (is_placed c p) key row entries (and_from (has_class c row) _ has same) found
+stands classes key row entries index found = λ c p has same. index c p ∙ any_found (is_placed c p) key row entries (and_from (has_class c row.service) _ has same) found
 
 apart_one : (service : ServiceId) (row r : Row) (to : Place) (test : Bool) → is_service service r ≡ test → (is_service service r ≡ true → r ≡ row) → to.service ≡ service.0 → same_place (place_of row.service) to ≡ false → place_of r.service ≢ to
 apart_one service row r to true at only is apart same =
@@ -99,8 +101,8 @@ fresh_move given service row entries classes to kept index found is apart =
 
 separate_by : (service : ServiceId) (c : List ℕ) (p : Place) (row r : Row) (test : Bool) → is_placed c p row ≡ test → id_of row ≡ service.0 → is_service service r ≡ false → is_placed c p r ≡ true → test ≡ false
 separate_by service c p row r true own is other placed =
-    let a = place_exact _ p (and_parts (has_class c row) _ own).1 in
-    let b = place_exact _ p (and_parts (has_class c r) _ placed).1 in
+    let a = place_exact _ p (and_parts (has_class c row.service) _ own).1 in
+    let b = place_exact _ p (and_parts (has_class c r.service) _ placed).1 in
     let same : id_of row ≡ id_of r = ap (λ (q : Place). q.service) (a ∙ sym b) in
     absurd (true≢false (sym (eq-eqb service.0 (id_of r) (sym is ∙ same)) ∙ other))
 separate_by service c p row r false own is other placed = refl
@@ -206,42 +208,49 @@ index_kept given service old new entries classes kept index same found =
 -- ---- the first place
 
 -- a service of the class is held at its place
-pub held_at : (classes : Classes) (c : List ℕ) (rows : List Row) (k : ℕ) (d : Row) → IsIndexOf classes rows → k < length rows → has_class c (get_or rows k d) ≡ true → holds classes c (place_of (get_or rows k d).service) ≡ true
+pub held_at : (classes : Classes) (c : List ℕ) (rows : List Row) (k : ℕ) (d : Row) → IsIndexOf classes rows → k < length rows → has_class c (get_or rows k d).service ≡ true → holds classes c (place_of (get_or rows k d).service) ≡ true
 held_at classes c rows k d index within has =
     index c (place_of (get_or rows k d).service)
-    ∙ list_any_at (is_placed c (place_of (get_or rows k d).service)) rows k d within (and_from (has_class c (get_or rows k d)) _ has (place_itself (place_of (get_or rows k d).service)))
+    ∙ list_any_at (is_placed c (place_of (get_or rows k d).service)) rows k d within (and_from (has_class c (get_or rows k d).service) _ has (place_itself (place_of (get_or rows k d).service)))
 
 none_by : (test held : Bool) → held ≡ false → (test ≡ true → held ≡ true) → test ≡ false
 none_by true held none held_if = absurd (true≢false (sym (held_if refl) ∙ none))
 none_by false held none held_if = refl
 
 -- where no place is held, no service has the class
-pub none_has : (classes : Classes) (c : List ℕ) (rows : List Row) → IsIndexOf classes rows → ((p : Place) → holds classes c p ≡ false) → All (λ row. has_class c row ≡ false) rows
-none_has classes c rows index none = λ k d within.
-    none_by (has_class c (get_or rows k d)) (holds classes c (place_of (get_or rows k d).service)) (none (place_of (get_or rows k d).service)) (held_at classes c rows k d index within)
+pub none_has : (classes : Classes) (c : List ℕ) (rows : List Row) → IsIndexOf classes rows → ((p : Place) → holds classes c p ≡ false) → All (λ service. has_class c service ≡ false) (services_of rows)
+none_has classes c rows index none =
+    All-map (λ service. has_class c service ≡ false) (λ row. row.service) rows
+    (λ k d within. none_by (has_class c (get_or rows k d).service) (holds classes c (place_of (get_or rows k d).service)) (none (place_of (get_or rows k d).service)) (held_at classes c rows k d index within))
 
 -- a service of the class that stands at the place
 pub record IsAt (c : List ℕ) (rows : List Row) (place : Place) : Type 0 where
   pub row : Row
   pub live : Contains rows row
-  pub has : has_class c row ≡ true
+  pub has : has_class c row.service ≡ true
   pub is : place_of row.service ≡ place
 
 pub row_held : (classes : Classes) (c : List ℕ) (rows : List Row) (place : Place) → IsIndexOf classes rows → holds classes c place ≡ true → IsAt c rows place
 row_held classes c rows place index held =
     let some = Any-from_list_any (is_placed c place) rows (sym (index c place) ∙ held) in
-    let parts = and_parts (has_class c some.1) _ some.4 in
+    let parts = and_parts (has_class c some.1.service) _ some.4 in
     record { row = some.1; live = (some.0, some.2, some.3); has = parts.0; is = place_exact (place_of some.1.service) place parts.1 }
+
+pub Contains-services : (rows : List Row) (row : Row) → Contains rows row → Contains (services_of rows) row.service
+Contains-services rows row (k, within, is) =
+    (k, omega (arith, length-map rows (λ r. r.service), within), get_or-map (λ r. r.service) rows k row row.service within ∙ ap (λ r. r.service) is)
 
 -- the first place is that of the best
 pub best_at : (classes : Classes) (c : List ℕ) (rows : List Row) (place : Place) (service : ServiceId) → IsIndexOf classes rows → holds classes c place ≡ true →
-    ((p : Place) → holds classes c p ≡ true → is_gt (place_cmp place p) ≡ false) → service.0 ≡ place.service → IsBest c rows service
+    ((p : Place) → holds classes c p ≡ true → is_gt (place_cmp place p) ≡ false) → service.0 ≡ place.service → IsBest c (services_of rows) service
 best_at classes c rows place service index held first is =
     let some = row_held classes c rows place index held in
     record {
-      row = some.row;
-      live = some.live;
+      service = some.row.service;
+      there = Contains-services rows some.row some.live;
       is = ap (λ n. record { 0 = n }) (is ∙ sym (ap (λ (q : Place). q.service) some.is));
       has = some.has;
-      best = λ k d within has. rw (← some.is) at (first (place_of (get_or rows k d).service) (held_at classes c rows k d index within has));
+      best =
+          All-map (λ other. has_class c other ≡ true → is_gt (place_cmp (place_of some.row.service) (place_of other)) ≡ false) (λ row. row.service) rows
+          (λ k d within has. rw (← some.is) at (first (place_of (get_or rows k d).service) (held_at classes c rows k d index within has)));
     }

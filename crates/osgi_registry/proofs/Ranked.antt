@@ -8,7 +8,7 @@ use Rattle.std.specs.List.Sorted.{IsStrictlySortedBy}
 use Rattle.std.specs.Map.{values_of}
 use Rattle.std.proofs.lemmas.Bool.{cases_eq, cases_lt, or_cases}
 use Rattle.std.proofs.lemmas.List.{get_or-map, get_or_default, length-map}
-use Rattle.std.proofs.lemmas.List.Elements.{All-cons, All-head, All-nil, All-tail, Contains-append_right, Contains-get_or}
+use Rattle.std.proofs.lemmas.List.Elements.{All-cons, All-head, All-map, All-nil, All-tail, Contains-append_right, Contains-get_or}
 use Rattle.std.proofs.lemmas.List.Folds.{list_any_at}
 use Rattle.std.proofs.lemmas.List.Kept.{AllPairs-cons}
 use Rattle.std.proofs.lemmas.Map.Keys.{Less-from_sorted}
@@ -16,48 +16,52 @@ use Rattle.osgi_base.specs.declared.ids.ServiceId.{ServiceId}
 use Rattle.osgi_registry.specs.declared.place.Place.{Place}
 use Rattle.osgi_registry.specs.Kept.{AreKept}
 use Rattle.osgi_registry.specs.Places.{Classes, IsIndexOf, place_cmp, place_of, places_at, service_at}
-use Rattle.osgi_registry.specs.Rows.{AreRanked, has_class, id_of, rank_cmp, Row}
+use Rattle.osgi_ops.specs.Classes.{AreRanked, has_class, ids_of, rank_cmp}
+use Rattle.osgi_ops.specs.declared.service.Service.{Service}
+use Rattle.osgi_registry.specs.Rows.{id_of, Row, services_of}
 use Rattle.osgi_registry.proofs.Entries.{pairs_head, pairs_tail, rising_ids}
 use Rattle.osgi_registry.proofs.Exact.{place_exact, place_itself}
-use Rattle.osgi_registry.proofs.Placed.{held_at, IsAt, row_held}
+use Rattle.osgi_registry.proofs.Placed.{Contains-services, held_at, IsAt, row_held}
 
 module _ (c : List ℕ) (rows : List Row) where
-  -- the row at each place
-  abbrev rows_at : (places : List Place) → All (IsAt c rows) places → List Row
-  rows_at [] at = []
-  rows_at (p ∷ rest) at = (All-head (IsAt c rows) p rest at).row ∷ rows_at rest (All-tail (IsAt c rows) p rest at)
+  -- the service at each place
+  abbrev at_places : (places : List Place) → All (IsAt c rows) places → List Service
+  at_places [] at = []
+  at_places (p ∷ rest) at = (All-head (IsAt c rows) p rest at).row.service ∷ at_places rest (All-tail (IsAt c rows) p rest at)
 
-  services_are : (places : List Place) (at : All (IsAt c rows) places) → map service_at places ≡ map (λ row. row.service.service) (rows_at places at)
-  services_are [] at = refl
-  services_are (p ∷ rest) at =
+  ids_are : (places : List Place) (at : All (IsAt c rows) places) → map service_at places ≡ ids_of (at_places places at)
+  ids_are [] at = refl
+  ids_are (p ∷ rest) at =
       let here = All-head (IsAt c rows) p rest at in
-      λ i. service_at (sym here.is i) ∷ services_are rest (All-tail (IsAt c rows) p rest at) i
+      λ i. service_at (sym here.is i) ∷ ids_are rest (All-tail (IsAt c rows) p rest at) i
 
-  only_those : (places : List Place) (at : All (IsAt c rows) places) → All (λ row. Contains rows row × (has_class c row ≡ true)) (rows_at places at)
-  only_those [] at = All-nil (λ row. Contains rows row × (has_class c row ≡ true))
+  only_those : (places : List Place) (at : All (IsAt c rows) places) → All (λ service. Contains (services_of rows) service × (has_class c service ≡ true)) (at_places places at)
+  only_those [] at = All-nil (λ service. Contains (services_of rows) service × (has_class c service ≡ true))
   only_those (p ∷ rest) at =
       let here = All-head (IsAt c rows) p rest at in
-      All-cons (λ row. Contains rows row × (has_class c row ≡ true)) here.row (rows_at rest (All-tail (IsAt c rows) p rest at)) (here.live, here.has) (only_those rest (All-tail (IsAt c rows) p rest at))
+      All-cons (λ service. Contains (services_of rows) service × (has_class c service ≡ true)) here.row.service (at_places rest (All-tail (IsAt c rows) p rest at))
+      (Contains-services rows here.row here.live, here.has) (only_those rest (All-tail (IsAt c rows) p rest at))
 
-  after : (row : Row) (places : List Place) (at : All (IsAt c rows) places) → All (λ q. place_cmp (place_of row.service) q ≡ Less) places → All (λ r. rank_cmp row r ≡ Less) (rows_at places at)
-  after row [] at less = All-nil (λ r. rank_cmp row r ≡ Less)
-  after row (p ∷ rest) at less =
+  after : (service : Service) (places : List Place) (at : All (IsAt c rows) places) → All (λ q. place_cmp (place_of service) q ≡ Less) places → All (λ s. rank_cmp service s ≡ Less) (at_places places at)
+  after service [] at less = All-nil (λ s. rank_cmp service s ≡ Less)
+  after service (p ∷ rest) at less =
       let here = All-head (IsAt c rows) p rest at in
-      let first : rank_cmp row here.row ≡ Less
-      = ap (place_cmp (place_of row.service)) here.is ∙ All-head (λ q. place_cmp (place_of row.service) q ≡ Less) p rest less in
-      All-cons (λ r. rank_cmp row r ≡ Less) here.row (rows_at rest (All-tail (IsAt c rows) p rest at)) first
-      (after row rest (All-tail (IsAt c rows) p rest at) (All-tail (λ q. place_cmp (place_of row.service) q ≡ Less) p rest less))
+      let first : rank_cmp service here.row.service ≡ Less
+      = ap (place_cmp (place_of service)) here.is ∙ All-head (λ q. place_cmp (place_of service) q ≡ Less) p rest less in
+      All-cons (λ s. rank_cmp service s ≡ Less) here.row.service (at_places rest (All-tail (IsAt c rows) p rest at)) first
+      (after service rest (All-tail (IsAt c rows) p rest at) (All-tail (λ q. place_cmp (place_of service) q ≡ Less) p rest less))
 
-  ordered : (places : List Place) (at : All (IsAt c rows) places) → AllPairs (λ p q. place_cmp p q ≡ Less) places → AllPairs (λ a b. rank_cmp a b ≡ Less) (rows_at places at)
+  ordered : (places : List Place) (at : All (IsAt c rows) places) → AllPairs (λ p q. place_cmp p q ≡ Less) places → AllPairs (λ a b. rank_cmp a b ≡ Less) (at_places places at)
   ordered [] at pairs = λ i j d before within. absurd (omega arith)
   ordered (p ∷ rest) at pairs =
       let here = All-head (IsAt c rows) p rest at in
       let others = All-tail (IsAt c rows) p rest at in
-      AllPairs-cons (λ a b. rank_cmp a b ≡ Less) here.row (rows_at rest others)
-      (after here.row rest others (subst (λ q. All (λ r. place_cmp q r ≡ Less) rest) (sym here.is) (pairs_head (λ q r. place_cmp q r ≡ Less) p rest pairs)))
+      AllPairs-cons (λ a b. rank_cmp a b ≡ Less) here.row.service (at_places rest others)
+      (after here.row.service rest others (subst (λ q. All (λ r. place_cmp q r ≡ Less) rest) (sym here.is) (pairs_head (λ q r. place_cmp q r ≡ Less) p rest pairs)))
       (ordered rest others (pairs_tail (λ q r. place_cmp q r ≡ Less) p rest pairs))
 
-  every : (row : Row) (places : List Place) (at : All (IsAt c rows) places) → ((r : Row) → Contains rows r → id_of r ≡ id_of row → r ≡ row) → list_any (is_at (place_cmp (place_of row.service))) places ≡ true → Contains (rows_at places at) row
+  every : (row : Row) (places : List Place) (at : All (IsAt c rows) places) → ((r : Row) → Contains rows r → id_of r ≡ id_of row → r ≡ row) → list_any (is_at (place_cmp (place_of row.service))) places ≡ true →
+      Contains (at_places places at) row.service
   every row [] at unique some = absurd (cc some)
   every row (p ∷ rest) at unique some =
       let here = All-head (IsAt c rows) p rest at in
@@ -66,8 +70,8 @@ module _ (c : List ℕ) (rows : List Row) where
       (λ first.
       let same : id_of here.row ≡ id_of row = ap (λ (q : Place). q.service) (here.is ∙ sym (place_exact (place_of row.service) p first)) in
       let is : here.row ≡ row = unique here.row here.live same in
-      subst (λ r. Contains (here.row ∷ rows_at rest others) r) is (Contains-get_or (here.row ∷ rows_at rest others) 0 here.row (omega arith)))
-      (λ later. Contains-append_right (here.row ∷ []) (rows_at rest others) row (every row rest others unique later))
+      subst (λ r. Contains (here.row.service ∷ at_places rest others) r.service) is (Contains-get_or (here.row.service ∷ at_places rest others) 0 here.row.service (omega arith)))
+      (λ later. Contains-append_right (here.row.service ∷ []) (at_places rest others) row.service (every row rest others unique later))
       (or_cases _ _ some)
 
 below : (given : ℕ) (entries : List (ℕ × Row)) (a b : Row) (k l : ℕ) → AreKept given entries → k < l → l < length (values_of entries) → get_or (values_of entries) k a ≡ a → get_or (values_of entries) l b ≡ b → id_of a < id_of b
@@ -91,20 +95,24 @@ same_row : (given : ℕ) (entries : List (ℕ × Row)) (a b : Row) → AreKept g
 same_row given entries a b kept in_a in_b same = same_by given entries a b in_a.0 in_b.0 kept in_a.1 in_b.1 in_a.2 in_b.2 same (cases_eq in_a.0 in_b.0)
 
 pub ranked_at : (given : ℕ) (classes : Classes) (c : List ℕ) (entries : List (ℕ × Row)) → AreKept given entries → IsIndexOf classes (values_of entries) → IsStrictlySortedBy place_cmp (places_at classes c) →
-    AreRanked c (values_of entries) (map service_at (places_at classes c))
+    AreRanked c (services_of (values_of entries)) (map service_at (places_at classes c))
 ranked_at given classes c entries kept index sorted =
     let rows = values_of entries in
     let places = places_at classes c in
     let at : All (IsAt c rows) places
     = λ k d within. row_held classes c rows (get_or places k d) index (list_any_at (is_at (place_cmp (get_or places k d))) places k d within (place_itself (get_or places k d))) in
     record {
-      ranked = rows_at c rows places at;
-      are = services_are c rows places at;
+      ranked = at_places c rows places at;
+      are = ids_are c rows places at;
       in_order = ordered c rows places at (λ i j d before within. Less-from_sorted place_cmp places i j d sorted before within);
       only = only_those c rows places at;
-      every = λ k d within has. every c rows (get_or rows k d) places at (λ r live same. same_row given entries r (get_or rows k d) kept live (Contains-get_or rows k d within) same) (held_at classes c rows k d index within has);
+      every =
+          All-map (λ service. has_class c service ≡ true → Contains (at_places c rows places at) service) (λ row. row.service) rows
+          (λ k d within has.
+          every c rows (get_or rows k d) places at (λ r live same. same_row given entries r (get_or rows k d) kept live (Contains-get_or rows k d within) same) (held_at classes c rows k d index within has));
     }
 
-pub ranked_result : {E : Type 0} (r : Result (List ServiceId) E) (c : List ℕ) (rows : List Row) (services : List ServiceId) (sorted : Type 0) → IfOk r (λ given. given ≡ services) → OnOk r sorted → (sorted → AreRanked c rows services) → IfOk r (AreRanked c rows)
-ranked_result (Ok given) c rows services sorted are order ranked = subst (λ s. AreRanked c rows s) (sym are) (ranked order)
+pub ranked_result : {E : Type 0} (r : Result (List ServiceId) E) (c : List ℕ) (rows : List Row) (services : List ServiceId) (sorted : Type 0) → IfOk r (λ given. given ≡ services) → OnOk r sorted → (sorted → AreRanked c (services_of rows) services) →
+    IfOk r (AreRanked c (services_of rows))
+ranked_result (Ok given) c rows services sorted are order ranked = subst (λ s. AreRanked c (services_of rows) s) (sym are) (ranked order)
 ranked_result (Err e) c rows services sorted are order ranked = tt

@@ -14,7 +14,8 @@ use Rattle.osgi_base.specs.declared.ids.BundleId.{BundleId}
 use Rattle.osgi_registry.specs.declared.place.Place.{Place}
 use Rattle.osgi_registry.specs.Kept.{AreKept, IsBefore, IsUnder}
 use Rattle.osgi_registry.specs.Places.{Classes, is_placed, IsIndexOf, place_of, Takes}
-use Rattle.osgi_registry.specs.Rows.{has_class, id_of, ids_of, is_owned, others, released, Row, without_user}
+use Rattle.osgi_ops.specs.Classes.{has_class}
+use Rattle.osgi_registry.specs.Rows.{id_of, ids_of, is_owned, others, released, Row, without_user}
 use Rattle.osgi_registry.proofs.Entries.{pairs_head, pairs_tail}
 use Rattle.osgi_registry.proofs.Exact.{place_exact}
 
@@ -79,8 +80,8 @@ stays bundle rows i row within at other =
 
 apart_by : (c : List ℕ) (p : Place) (row r : Row) (test : Bool) → is_placed c p row ≡ test → id_of r ≢ id_of row → is_placed c p r ≡ true → test ≡ false
 apart_by c p row r true own apart placed =
-    let a = place_exact (place_of row.service) p (and_parts (has_class c row) _ own).1 in
-    let b = place_exact (place_of r.service) p (and_parts (has_class c r) _ placed).1 in
+    let a = place_exact (place_of row.service) p (and_parts (has_class c row.service) _ own).1 in
+    let b = place_exact (place_of r.service) p (and_parts (has_class c r.service) _ placed).1 in
     absurd (apart (ap (λ (q : Place). q.service) (b ∙ sym a)))
 apart_by c p row r false own apart placed = refl
 

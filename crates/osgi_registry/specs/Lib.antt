@@ -2,3 +2,4 @@
 pub mod Kept
 pub mod Places
 pub mod Rows
+pub mod Stands

@@ -8,11 +8,12 @@ use Rattle.std.specs.Option.{option_map_or}
 use Rattle.std.specs.Ordering.{int_cmp, is_eq, nat_cmp, ordering_then}
 use Rattle.std.specs.declared.cmp.Ordering.{Ordering}
 use Rattle.osgi_base.specs.declared.ids.ServiceId.{ServiceId}
+use Rattle.osgi_ops.specs.Classes.{has_class, is_among}
 use Rattle.osgi_ops.specs.Properties.{ranking}
 use Rattle.osgi_ops.specs.declared.value.Attribute.{Attribute}
 use Rattle.osgi_registry.specs.declared.place.Place.{Place}
-use Rattle.osgi_registry.specs.declared.service.Service.{Service}
-use Rattle.osgi_registry.specs.Rows.{has_class, is_among, Row}
+use Rattle.osgi_ops.specs.declared.service.Service.{Service}
+use Rattle.osgi_registry.specs.Rows.{Row}
 
 -- higher rankings first, then lower ids
 abbrev pub place_cmp : Place → Place → Ordering
@@ -67,7 +68,7 @@ abbrev pub place_of : Service → Place
 place_of service = place_with service.properties service.service
 
 abbrev pub is_placed : List ℕ → Place → Row → Bool
-is_placed class place row = has_class class row && same_place (place_of row.service) place
+is_placed class place row = has_class class row.service && same_place (place_of row.service) place
 
 -- each class has the places of its services and no others
 abbrev pub IsIndexOf : Classes → List Row → Type 0

@@ -1,22 +1,17 @@
 -- The registry as contracts see it: the live services in rows, and what calls answer and change by them.
-use Rattle.std.specs.Prelude.{ℕ, ◌≡◌, ◌==◌, ◌+◌, ◌-◌, ◌<◌, ◌≤◌, nat_le, Bool, not, if◌then◌else◌, List, [], ◌∷◌, Option, None, Some, Result, Ok, Err, true, false, All, AllPairs, Contains, find, filter, map, length, unwrap_or}
-use Rattle.std.specs.List.{list_any}
+use Rattle.std.specs.Prelude.{ℕ, ◌==◌, ◌+◌, ◌-◌, ◌<◌, ◌≤◌, nat_le, Bool, not, if◌then◌else◌, List, [], ◌∷◌, Option, None, Some, Result, Ok, Err, All, find, filter, map, length, unwrap_or}
 use Rattle.std.specs.List.Sorted.{IsStrictlyIncreasing}
 use Rattle.std.specs.Map.{lookup}
 use Rattle.std.specs.Option.{option_map_or, option_or}
-use Rattle.std.specs.Ordering.{int_cmp, is_gt, nat_cmp, ordering_then}
-use Rattle.std.specs.Str.{bytes_eq}
-use Rattle.std.specs.declared.cmp.Ordering.{Ordering}
-use Rattle.std.specs.declared.cmp.Ordering.TheVariants.{Less}
 use Rattle.osgi_base.specs.declared.ids.BundleId.{BundleId}
 use Rattle.osgi_base.specs.declared.ids.ServiceId.{ServiceId}
-use Rattle.osgi_ops.specs.Properties.{has_twins, ranking, with_framework}
+use Rattle.osgi_ops.specs.Properties.{has_twins, with_framework}
 use Rattle.osgi_ops.specs.Settings.{most_services}
 use Rattle.osgi_ops.specs.declared.refusal.Many.TheVariants.{Services}
 use Rattle.osgi_ops.specs.declared.refusal.Refusal.{Refusal}
 use Rattle.osgi_ops.specs.declared.refusal.Refusal.TheVariants.{NoSuchService, BadProperties, NotOwner, TooMany}
 use Rattle.osgi_ops.specs.declared.value.Attribute.{Attribute}
-use Rattle.osgi_registry.specs.declared.service.Service.{Service}
+use Rattle.osgi_ops.specs.declared.service.Service.{Service}
 
 -- a live service, and how often each user holds it, by the user's id
 pub record Row : Type 0 where
@@ -31,7 +26,7 @@ pub record RegistryRows : Type 0 where
 abbrev pub id_of : Row → ℕ
 id_of row = row.service.service.0
 
--- the ids rise from 1, and all of them were given
+-- the ids are above 0 and rise, and all of them were given
 pub record AreInOrder (registry : RegistryRows) : Type 0 where
   pub rising : IsStrictlyIncreasing (map id_of registry.rows)
   pub given : All (λ row. (0 < id_of row) × (id_of row ≤ registry.given)) registry.rows
@@ -50,36 +45,14 @@ change service f rows = map (λ row. if is_service service row then f row else r
 abbrev pub without : ServiceId → List Row → List Row
 without service rows = filter (λ row. not (is_service service row)) rows
 
--- ---- classes
+-- ---- services and classes
 
-abbrev pub is_among : List (List ℕ) → List ℕ → Bool
-is_among classes class = list_any (λ c. bytes_eq c class) classes
-
-abbrev pub has_class : List ℕ → Row → Bool
-has_class class row = is_among row.service.classes class
-
--- the better stands first: the higher ranking, then the lower id
-abbrev pub rank_cmp : Row → Row → Ordering
-rank_cmp a b = ordering_then (int_cmp (ranking b.service.properties) (ranking a.service.properties)) (nat_cmp (id_of a) (id_of b))
-
--- the service is live, has the class, and stands after no other that has it
-pub record IsBest (class : List ℕ) (rows : List Row) (service : ServiceId) : Type 0 where
-  pub row : Row
-  pub live : Contains rows row
-  pub is : service ≡ row.service.service
-  pub has : has_class class row ≡ true
-  pub best : All (λ other. has_class class other ≡ true → is_gt (rank_cmp row other) ≡ false) rows
+-- the services alone
+abbrev pub services_of : List Row → List Service
+services_of rows = map (λ row. row.service) rows
 
 abbrev pub ids_of : List Row → List ServiceId
 ids_of rows = map (λ row. row.service.service) rows
-
--- the ids of exactly the live services that have the class, each once and the better first
-pub record AreRanked (class : List ℕ) (rows : List Row) (services : List ServiceId) : Type 0 where
-  pub ranked : List Row
-  pub are : services ≡ ids_of ranked
-  pub in_order : AllPairs (λ a b. rank_cmp a b ≡ Less) ranked
-  pub only : All (λ row. Contains rows row × (has_class class row ≡ true)) ranked
-  pub every : All (λ row. has_class class row ≡ true → Contains ranked row) rows
 
 -- ---- uses
 

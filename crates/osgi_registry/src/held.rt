@@ -4,9 +4,9 @@ ghost use Rattle.std.specs.Prelude.{◌≡◌, ◌+◌, ◌<◌, ◌^◌, ◌-�
 ghost use Rattle.std.specs.Bool.{OnTrue, OnFalse};
 ghost use Rattle.osgi_registry.specs.Rows.{count_of, used_less, used_more, without_user};
 
-use crate::service::Service;
 use indexmap::IndexMap;
 use osgi_base::ids::BundleId;
+use osgi_ops::service::Service;
 use osgi_ops::value::Attributes;
 use std::alloc::{AllocError, Global};
 use std::marker::Model;

@@ -6,4 +6,5 @@ pub mod held;
 pub mod place;
 pub mod properties;
 pub mod registry;
-pub mod service;
+
+pub use osgi_ops::service::Service;

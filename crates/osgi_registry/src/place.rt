@@ -3,8 +3,8 @@
 ghost use Rattle.std.specs.Prelude.{◌≡◌};
 
 use crate::properties::ranking;
-use crate::service::Service;
 use osgi_base::ids::ServiceId;
+use osgi_ops::service::Service;
 use osgi_ops::value::Attribute;
 use std::cmp::Reverse;
 

@@ -94,7 +94,7 @@ pub fn with_framework(
     service: ServiceId,
     owner: BundleId,
 ) -> Result<Attributes, AllocError>
-    requires { service.0 ≤ 4294967295 }
+    requires fits { service.0 ≤ 4294967295 }
     ensures all { IfOk result (λ all. all ≡ spec.with_framework given.now classes.now service owner) }
 {
     let mut all = others(alloc, given)?;
@@ -130,8 +130,8 @@ fn property(alloc: Global, name: &[u8], value: Value) -> Result<Attribute, Alloc
 
 /// An id as a value.
 fn id_value(id: u64) -> Value
-    requires { id ≤ 4294967295 }
-    ensures { result ≡ Value.Long (pos id) }
+    requires fits { id ≤ 4294967295 }
+    ensures value { result ≡ Value.Long (pos id) }
 {
     Value::Long(id as i64)
 }

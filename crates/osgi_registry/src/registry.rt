@@ -1,24 +1,27 @@
 //! The registry.
 
 ghost use Rattle.std.specs.Prelude.{◌≡◌, ◌≢◌, AllPairs, filter, not, ◌+◌, ◌<◌, [], ◌∷◌, ◌++◌, nat_lt, length, slice_get, None, Some, false, All, IfNone, IfOk, IfSome, OnOk, OnErr};
+ghost use Rattle.osgi_ops.specs.Classes.{AreRanked, has_class, IsBest};
 ghost use Rattle.osgi_ops.specs.Settings.{most_services};
 ghost use Rattle.std.specs.Bool.{OnTrue, OnFalse};
-ghost use Rattle.std.specs.Option.{option_map};
 ghost use Rattle.std.specs.Result.{result_err};
 ghost use Rattle.indexmap.specs.IndexMap.{values};
+ghost use Rattle.osgi_ops.specs.declared.op.Op.TheVariants as op;
+ghost use Rattle.osgi_ops.specs.declared.reply.Reply.TheVariants as answers;
 ghost use Rattle.osgi_registry.specs.Places.{IsIndexOf};
-ghost use Rattle.osgi_registry.specs.Rows.{AreInOrder, AreRanked, change, change_refusal, has_class, id_of, ids_of, is_owned, IsBest, modify_refusal, new_row, object_at, others, register_refusal, released, row_at, use_count, used_less, used_more, with_properties, without, without_user};
+ghost use Rattle.osgi_registry.specs.Rows.{AreInOrder, change, change_refusal, id_of, ids_of, is_owned, modify_refusal, new_row, object_at, others, register_refusal, released, row_at, services_of, use_count, used_less, used_more, with_properties, without, without_user};
+ghost use Rattle.osgi_registry.specs.Stands.{StandsAfter, StandsFor};
 
 use crate::class_index::ClassIndex;
 use crate::held::Held;
 use crate::place::Place;
 use crate::properties::{has_twins, with_framework};
-use crate::service::Service;
 use indexmap::IndexMap;
 use osgi_base::ids::{BundleId, ServiceId};
 use osgi_base::list::List;
 use osgi_base::text::Text;
 use osgi_ops::refusal::{Many, Refusal};
+use osgi_ops::service::Service;
 use osgi_ops::value::Attributes;
 use std::alloc::{AllocError, Global};
 use std::marker::Model;
@@ -54,6 +57,7 @@ impl Model for Registry {
 impl Registry {
     pub fn new(alloc: Global) -> Result<Registry, AllocError>
         ensures empty { IfOk result (λ registry. registry ≡ record { rows = []; given = 0 }) }
+        ensures stands { IfOk result (StandsFor []) }
     {
         Ok(Registry {
             alloc,
@@ -73,8 +77,9 @@ impl Registry {
 
     /// The live service at this place by rising id.
     pub fn at(&self, place: usize) -> &Service
-        requires { place < length self.now.rows }
-        ensures service { option_map (λ row. row.service) (slice_get self.now.rows place) ≡ Some result.now }
+        requires within { place < length self.now.rows }
+        ensures service { slice_get (services_of self.now.rows) place ≡ Some result.now }
+        ensures in_order { AreInOrder self.now }
     {
         self.services[place].service()
     }
@@ -87,11 +92,12 @@ impl Registry {
         object: Text,
         properties: Attributes,
     ) -> Result<Result<ServiceId, Refusal>, AllocError>
-        requires { self.old.given < 4294967295 }
+        requires ids_left { self.old.given < 4294967295 }
         ensures refusal { IfOk result (λ answer. result_err answer ≡ register_refusal properties self.old.rows) }
         ensures id { IfOk result (λ answer. IfOk answer (λ id. id.0 ≡ self.old.given + 1)) }
         ensures rows { IfOk result (λ answer. IfOk answer (λ id. self.new.rows ≡ self.old.rows ++ new_row id owner classes object properties ∷ [])) }
         ensures given { IfOk result (λ answer. OnOk answer (self.new.given ≡ self.old.given + 1)) }
+        ensures stands { IfOk result (λ answer. IfOk answer (λ id. StandsAfter (op.Register owner classes object properties) (answers.Service id) self.old self.new)) }
         ensures refused { IfOk result (λ answer. OnErr answer (self.new ≡ self.old)) }
         ensures unchanged { OnErr result (self.new ≡ self.old) }
     {
@@ -163,6 +169,7 @@ impl Registry {
         ensures refusal { IfOk result (λ answer. result_err answer ≡ modify_refusal owner service properties self.old.rows) }
         ensures rows { IfOk result (λ answer. OnOk answer (self.new.rows ≡ change service (with_properties properties) self.old.rows)) }
         ensures given { self.new.given ≡ self.old.given }
+        ensures stands { IfOk result (λ answer. OnOk answer (StandsAfter (op.Modify owner service properties) answers.Done self.old self.new)) }
         ensures refused { IfOk result (λ answer. OnErr answer (self.new ≡ self.old)) }
         ensures unchanged { OnErr result (self.new ≡ self.old) }
     {
@@ -195,6 +202,7 @@ impl Registry {
         ensures refusal { result_err result ≡ change_refusal owner service self.old.rows }
         ensures rows { OnOk result (self.new.rows ≡ without service self.old.rows) }
         ensures given { self.new.given ≡ self.old.given }
+        ensures stands { OnOk result (StandsAfter (op.Unregister owner service) answers.Done self.old self.new) }
         ensures refused { OnErr result (self.new ≡ self.old) }
     {
         if let Some(refusal) = self.refusal_of(owner, service) {
@@ -215,10 +223,11 @@ impl Registry {
         user: BundleId,
         service: ServiceId,
     ) -> Result<Result<Text, Refusal>, AllocError>
-        requires { use_count user service self.old.rows < 18446744073709551615 }
+        requires countable { use_count user service self.old.rows < 18446744073709551615 }
         ensures object { IfOk result (λ answer. answer ≡ object_at (row_at service self.old.rows)) }
         ensures rows { IfOk result (λ answer. OnOk answer (self.new.rows ≡ change service (used_more user) self.old.rows)) }
         ensures given { self.new.given ≡ self.old.given }
+        ensures stands { IfOk result (λ answer. IfOk answer (λ text. StandsAfter (op.Get user service) (answers.Object text) self.old self.new)) }
         ensures refused { IfOk result (λ answer. OnErr answer (self.new ≡ self.old)) }
         ensures unchanged { OnErr result (self.new ≡ self.old) }
     {
@@ -235,6 +244,7 @@ impl Registry {
         ensures answer { result ≡ nat_lt 0 (use_count user service self.old.rows) }
         ensures rows { OnTrue result (self.new.rows ≡ change service (used_less user) self.old.rows) }
         ensures given { self.new.given ≡ self.old.given }
+        ensures stands { StandsAfter (op.Unget user service) (answers.Flag result) self.old self.new }
         ensures unchanged { OnFalse result (self.new ≡ self.old) }
     {
         let Some(held) = self.services.get_mut(&service.0) else {
@@ -245,8 +255,8 @@ impl Registry {
 
     /// The best live service of the class: that of the highest ranking, and of these that of the lowest id.
     pub fn find(&self, class: &Text) -> Option<ServiceId>
-        ensures none { IfNone result (All (λ row. has_class class.now row ≡ false) self.now.rows) }
-        ensures best { IfSome result (IsBest class.now self.now.rows) }
+        ensures none { IfNone result (All (λ service. has_class class.now service ≡ false) (services_of self.now.rows)) }
+        ensures best { IfSome result (IsBest class.now (services_of self.now.rows)) }
     {
         let place = self.index.first(class)?;
         Some(place.service())
@@ -254,7 +264,7 @@ impl Registry {
 
     /// All live services of the class, the best first.
     pub fn find_all(&self, class: &Text) -> Result<List<ServiceId>, AllocError>
-        ensures ranked { IfOk result (AreRanked class.now self.now.rows) }
+        ensures ranked { IfOk result (AreRanked class.now (services_of self.now.rows)) }
     {
         self.index.all(class)
     }
@@ -270,7 +280,7 @@ impl Registry {
         take_places(&mut self.index, &self.services, bundle);
         self.services.retain(
             |_id: &u64, held: &mut Held| -> bool
-                ensures { (result ≡ not (is_owned bundle held.old)) × (held.new ≡ without_user bundle held.old) }
+                ensures kept { (result ≡ not (is_owned bundle held.old)) × (held.new ≡ without_user bundle held.old) }
             {
                 held.forget(bundle);
                 held.service().owner.0 != bundle.0

@@ -15,8 +15,8 @@ returns c = record {
         c.in_ok-property-2.ensures.property,
         c.in_ok-property.ensures.property,
         c.in_ok-of.ensures.bytes,
-        c.id_value.ensures,
-        c.id_value-2.ensures,
+        c.id_value.ensures.value,
+        c.id_value-2.ensures.value,
         c.in_ok-class_names.ensures.names,
         c.in_ok-all.ensures.others,
       )

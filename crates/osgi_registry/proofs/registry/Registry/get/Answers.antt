@@ -7,6 +7,7 @@ use Rattle.osgi_registry.proofs.Changed.{kept_set, rows_set, set_same}
 use Rattle.osgi_registry.proofs.Entries.{found_under, row_absent, row_present}
 use Rattle.osgi_registry.proofs.Placed.{index_kept}
 use Rattle.osgi_registry.specs.Rows.{row_at, used_more}
+use Rattle.osgi_registry.proofs.Standing.{stands_used}
 use Rattle.osgi_registry.proofs.registry.Registry.get.Goals as goal
 
 pub returns-in_default-clause-object : goal.returns-in_default-clause-object
@@ -29,7 +30,7 @@ returns-in_err-object-clause-unchanged c =
 pub add_use-requires : goal.add_use-requires
 add_use-requires c =
     let some : row_at c.args.service c.args.self.now.rows ≡ Some c.in-Some.held.now = row_present _ c.args.service _ _ _ (ap (λ r. r.rows) c.self.view_is) c.self.invariant.rows.under (sym c.in-Some.ensures.value) in
-    record { room = rw some at c.requires }
+    record { room = rw some at c.requires.countable }
 
 pub invariant_of-self-in_err-add_use : goal.invariant_of-self-in_err-add_use
 invariant_of-self-in_err-add_use c =
@@ -61,3 +62,6 @@ pub returns-clause-rows : goal.returns-clause-rows
 returns-clause-rows c =
     rw ((c.get_mut.follows.holds c.add_use.new.self).0, ← c.self.view_is)
     (rows_set _ c.args.service c.in-Some.held.now c.add_use.new.self (used_more c.args.user) _ c.self.invariant.rows.under c.self.invariant.rows.rising (sym c.in_ok-add_use.ensures.used) (sym c.in-Some.ensures.value))
+
+pub returns-clause-stands : goal.returns-clause-stands
+returns-clause-stands c = λ history tag stands. stands_used history c.args.self.now _ tag c.args.user c.args.service _ stands (returns-clause-rows c) (ap (λ r. r.given) c.self.view_is)

@@ -9,6 +9,7 @@ use Rattle.osgi_registry.proofs.Entries.{found_under, row_absent}
 use Rattle.osgi_registry.proofs.Placed.{any_found, fresh_move, index_same, only_one, placed_change, stands}
 use Rattle.osgi_registry.specs.Places.{Moves, place_of}
 use Rattle.osgi_registry.specs.Rows.{id_of, is_service, row_at, with_properties}
+use Rattle.osgi_registry.proofs.Standing.{stands_modified}
 use Rattle.osgi_registry.proofs.registry.Registry.modify.Goals as goal
 
 pub returns-in_default-get_mut-clause-refusal : goal.returns-in_default-get_mut-clause-refusal
@@ -100,3 +101,6 @@ returns-clause-rows c =
     = rw (c.set_properties.ensures.set, c.in_ok-all.ensures.all, c.items-2.ensures.items, c.items-3.ensures.items, c.service-now.ensures.service) refl in
     rw ((c.get_mut.follows.holds c.set_properties.new.self).0, ← c.self.view_is)
     (rows_set _ c.args.service c.in-Some-get_mut.held.now c.set_properties.new.self (with_properties c.args.properties) _ c.self.invariant.rows.under c.self.invariant.rows.rising is (sym c.in-Some-get_mut.ensures.value))
+
+pub returns-clause-stands : goal.returns-clause-stands
+returns-clause-stands c = λ history tag stands. stands_modified history c.args.self.now _ tag c.args.owner c.args.service c.args.properties stands (returns-clause-rows c) (ap (λ r. r.given) c.self.view_is)

@@ -1,12 +1,16 @@
 -- One use less.
-use Rattle.std.proofs.Common.{◌≡◌, ap, sym, ◌∙◌, refl, nat_eq}
-use Rattle.std.specs.Prelude.{None, Some}
+use Rattle.std.proofs.Common.{◌≡◌, [], ◌∷◌, ◌++◌, ap, sym, subst, ◌∙◌, refl, nat_eq, rules}
+use Rattle.std.specs.Prelude.{false, None, Some}
 use Rattle.std.specs.Map.{lookup, values_of}
 use Rattle.std.proofs.lemmas.Bool.{OnFalse_at, OnFalse_from, OnTrue_at, OnTrue_from}
 use Rattle.osgi_registry.proofs.Changed.{kept_set, rows_set, set_same}
 use Rattle.osgi_registry.proofs.Entries.{found_under, row_absent, row_present}
-use Rattle.osgi_registry.proofs.Placed.{index_kept}
+use Rattle.osgi_registry.proofs.Placed.{index_kept, only_one}
+use Rattle.osgi_ops.specs.declared.op.Op.TheVariants as op
+use Rattle.osgi_ops.specs.declared.reply.Reply.TheVariants as answers
 use Rattle.osgi_registry.specs.Rows.{row_at, used_less}
+use Rattle.osgi_registry.specs.Stands.{StandsFor}
+use Rattle.osgi_registry.proofs.Standing.{all_held, stands_ungot, stands_unreturned}
 use Rattle.osgi_registry.proofs.registry.Registry.unget.Goals as goal
 
 pub returns-in_default-clause-answer : goal.returns-in_default-clause-answer
@@ -42,3 +46,19 @@ returns-clause-unchanged c =
     ap (λ es. record { rows = values_of es; given = c.self.inside.given })
     ((c.get_mut.follows.holds c.take_use.new.self).0 ∙ set_same c.args.service.0 c.in-Some.held.now c.take_use.new.self _ (OnFalse_at no c.take_use.ensures.unchanged) (sym c.in-Some.ensures.value))
     ∙ c.self.view_is)
+
+pub returns-in_default-clause-unchanged : goal.returns-in_default-clause-unchanged
+returns-in_default-clause-unchanged c = search rules
+
+pub returns-in_default-clause-stands : goal.returns-in_default-clause-stands
+returns-in_default-clause-stands c = λ history tag stands.
+    subst (λ r. StandsFor (history ++ record { tag = tag; op = op.Unget c.args.user c.args.service; reply = answers.Flag false } ∷ []) r) (sym (returns-in_default-clause-unchanged c))
+    (stands_unreturned history c.args.self.now tag c.args.user c.args.service stands)
+
+pub returns-clause-stands : goal.returns-clause-stands
+returns-clause-stands c = λ history tag stands.
+    let found : lookup (nat_eq c.args.service.0) c.self.inside.services.entries ≡ Some c.in-Some.held.now = sym c.in-Some.ensures.value in
+    stands_ungot history c.args.self.now _ tag c.args.user c.args.service c.take_use.result stands (returns-clause-rows c) (returns-clause-unchanged c) (ap (λ r. r.given) c.self.view_is)
+    (λ held.
+    all_held c.args.user c.args.service c.in-Some.held.now c.args.self.now.rows c.take_use.result c.take_use.ensures.answer held
+    (rw (← c.self.view_is) (only_one c.self.inside.given c.args.service c.in-Some.held.now c.self.inside.services.entries c.self.invariant.rows.under c.self.invariant.rows.rising found)))

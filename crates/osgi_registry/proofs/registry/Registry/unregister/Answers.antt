@@ -7,6 +7,7 @@ use Rattle.osgi_registry.proofs.Entries.{found_under, row_absent}
 use Rattle.osgi_registry.proofs.Placed.{only_one, placed_remove}
 use Rattle.osgi_registry.specs.Places.{place_of, Takes}
 use Rattle.osgi_registry.specs.Rows.{row_at}
+use Rattle.osgi_registry.proofs.Standing.{stands_taken}
 use Rattle.osgi_registry.proofs.registry.Registry.unregister.Goals as goal
 
 pub returns-in_default-shift_remove-clause-refusal : goal.returns-in_default-shift_remove-clause-refusal
@@ -37,3 +38,6 @@ invariant_of-self-2 c =
 pub returns-clause-rows : goal.returns-clause-rows
 returns-clause-rows c =
     rw (c.in-Some-shift_remove.ensures.entries, ← c.self.view_is) (rows_remove c.self.inside.given c.args.service c.self.inside.services.entries c.self.invariant.rows.under c.self.invariant.rows.rising)
+
+pub returns-clause-stands : goal.returns-clause-stands
+returns-clause-stands c = λ history tag stands. stands_taken history c.args.self.now _ tag c.args.owner c.args.service stands (returns-clause-rows c) (ap (λ r. r.given) c.self.view_is)
