@@ -1,2 +1,3 @@
 -- Lemmas on the machine.
-pub mod Pushed
+pub mod Keeping
+pub mod Replying

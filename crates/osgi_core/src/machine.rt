@@ -2,45 +2,45 @@
 
 ghost use Rattle.std.specs.Prelude.{◌≡◌, [], IfOk, OnErr};
 ghost use Rattle.osgi_ops.specs.Legal.{Legal, IsStep};
-ghost use Rattle.osgi_ops.specs.Operations.{IsReply, moment};
-ghost use Rattle.osgi_ops.specs.Services.{registration_of};
 ghost use Rattle.osgi_ops.specs.Settings.{setting_of};
-ghost use Rattle.osgi_core.specs.Kept.{count_of};
 
-use osgi_base::ids::{ServiceId, Tag};
+use crate::replies::reply_to;
+use osgi_base::ids::Tag;
 use osgi_base::list::List;
 use osgi_ops::entry::Entry;
 use osgi_ops::limits::Limits;
 use osgi_ops::op::Op;
-use osgi_ops::refusal::{Many, Refusal};
+use osgi_ops::refusal::Refusal;
 use osgi_ops::reply::Reply;
+use osgi_registry::registry::Registry;
 use std::alloc::{AllocError, Global};
 use std::marker::Model;
 
-/// How many services may be live.
-const MOST_SERVICES: u64 = 65_536;
-
-/// The framework on one thread: the limits that it runs under, and its history.
+/// The framework on one thread: the limits that it runs under, its history, and the services that are live after it.
 ///
 /// The history is legal at all times: each entry's reply is what the operation answers after the entries before it.
 #[derive(Drop)]
 pub struct Core {
     alloc: Global,
     limits: Limits,
-    entries: List<Entry>,
-    services: u64,
+    entries: Vec<Entry>,
+    registry: Registry,
 }
 
 impl Model for Core {
     ghost use Rattle.osgi_ops.specs.Settings.{setting_of};
     ghost use Rattle.osgi_core.specs.Kept.{IsKept};
     ghost use Rattle.osgi_core.specs.Machine.{Machine};
+    ghost use Rattle.std.specs.Coded.{codes};
+    ghost use Rattle.osgi_ops.specs.contracts.value.Value as value;
 
     ghost Value = { Machine };
 
-    ghost view = { λ c. record { setting = setting_of c.limits; entries = c.entries } };
+    ghost coded = { Prim.hlevel (codes, value.the_row.coded) };
 
-    ghost invariant = { λ c. IsKept (setting_of c.limits) c.entries c.services };
+    ghost view = { λ c. record { setting = setting_of c.limits; entries = c.entries.items } };
+
+    ghost invariant = { λ c. IsKept (setting_of c.limits) c.entries.items c.registry };
 }
 
 impl Core {
@@ -52,8 +52,8 @@ impl Core {
         Ok(Core {
             alloc,
             limits,
-            entries: List::new(alloc)?,
-            services: 0,
+            entries: Vec::new(alloc),
+            registry: Registry::new(alloc)?,
         })
     }
 
@@ -62,7 +62,7 @@ impl Core {
         ensures entries { result.now ≡ self.now.entries }
         ensures legal { Legal self.now.setting self.now.entries }
     {
-        self.entries.items()
+        self.entries.as_slice()
     }
 
     /// The history, without a copy.
@@ -74,9 +74,9 @@ impl Core {
             alloc: _,
             limits: _,
             entries,
-            services: _,
+            registry: _,
         } = self;
-        entries
+        List::from(entries)
     }
 
     /// Applies an operation and records it with its reply.
@@ -88,56 +88,19 @@ impl Core {
         ensures unchanged { OnErr result (self.new ≡ self.old) }
         ensures legal { Legal self.new.setting self.new.entries }
     {
-        let length = self.entries.items().len() as u64;
-        if length >= self.limits.entries {
+        if self.entries.len() as u64 >= self.limits.entries {
             return Ok(Reply::Refused {
                 refusal: Refusal::HistoryFull,
             });
         }
-        let reply = self.reply_to(tag, &op);
-        let kept = reply.copy(self.alloc)?;
-        let added = services_added(&op, &reply);
+        // The history's room is taken first: once the registry has changed nothing may fail.
+        self.entries.reserve(1)?;
+        let (reply, kept) = reply_to(self.alloc, &mut self.registry, &op)?;
         self.entries.push(Entry {
             tag,
             op,
             reply: kept,
         })?;
-        self.services += added;
         Ok(reply)
-    }
-
-    /// What an operation answers now.
-    fn reply_to(&self, tag: Tag, op: &Op) -> Reply
-        ensures reply { IsReply (moment self.now.setting self.now.entries tag) op.now result }
-    {
-        match op {
-            Op::Register { owner, .. } => {
-                if owner.0 != 0 {
-                    return Reply::Refused {
-                        refusal: Refusal::NoSuchBundle,
-                    };
-                }
-                if self.services >= MOST_SERVICES {
-                    return Reply::Refused {
-                        refusal: Refusal::TooMany {
-                            kind: Many::Services,
-                        },
-                    };
-                }
-                Reply::Service {
-                    service: ServiceId(self.services + 1),
-                }
-            }
-        }
-    }
-}
-
-/// How many services are registered by an operation with this reply.
-fn services_added(op: &Op, reply: &Reply) -> u64
-    ensures count { result ≡ count_of (registration_of op.now reply.now) }
-{
-    match (op, reply) {
-        (Op::Register { .. }, Reply::Service { .. }) => 1,
-        (Op::Register { .. }, Reply::Refused { .. }) => 0,
     }
 }

@@ -1,0 +1,314 @@
+-- What the registry answers is what is due after each history that it stands for.
+use Rattle.std.proofs.Common.{◌≡◌, ◌≢◌, ◌+◌, ◌≤◌, ◌<◌, ℕ, inl, inr, List, [], ◌∷◌, ◌++◌, length, map, drop, take, ap, sym, subst, ◌∙◌, refl, arith}
+use Rattle.std.specs.Prelude.{Bool, true, false, cond, ◌==◌, nat_le, nat_lt, Option, None, Some, Result, Ok, Err, IfNone, IfOk, IfSome, IsSomeAnd, All}
+use Rattle.std.specs.List.{slice_get}
+use Rattle.std.specs.Option.{option_map_or, option_or}
+use Rattle.std.proofs.lemmas.Bool.{eqb-false, eqb-true, leb-false, leb-true}
+use Rattle.std.proofs.lemmas.List.{length-map, map-append, take_all, take_more}
+use Rattle.std.proofs.lemmas.Option.{get_or_from_slice_get, slice_get_within}
+use Rattle.osgi_base.specs.declared.ids.BundleId.{BundleId}
+use Rattle.osgi_base.specs.declared.ids.ServiceId.{ServiceId}
+use Rattle.osgi_ops.proofs.Verdicts.{gives_first, gives_rest}
+use Rattle.osgi_ops.specs.Bundles.{IsLive, system}
+use Rattle.osgi_ops.specs.Classes.{AreRanked, has_class, IsBest, IsFound}
+use Rattle.osgi_ops.specs.Operations.{Answers, conditions, IsReply, moment, Moment, no_such_bundle, row_of}
+use Rattle.osgi_ops.specs.Properties.{has_twins}
+use Rattle.osgi_ops.specs.Services.{live, live_at, Registered, registered, services, uses, uses_of}
+use Rattle.osgi_ops.specs.Settings.{most_services}
+use Rattle.osgi_ops.specs.Verdict.{answers, Gives, refuses, Verdict, Where}
+use Rattle.osgi_ops.specs.declared.entry.Entry.{Entry}
+use Rattle.osgi_ops.specs.declared.op.Op.{Op}
+use Rattle.osgi_ops.specs.declared.op.Op.TheVariants as op
+use Rattle.osgi_ops.specs.declared.refusal.Many.TheVariants.{Services}
+use Rattle.osgi_ops.specs.declared.refusal.Refusal.{Refusal}
+use Rattle.osgi_ops.specs.declared.refusal.Refusal.TheVariants.{NoSuchBundle, NoSuchService, BadProperties, NotOwner, TooMany}
+use Rattle.osgi_ops.specs.declared.reply.Reply.{Reply}
+use Rattle.osgi_ops.specs.declared.reply.Reply.TheVariants as answer
+use Rattle.osgi_ops.specs.declared.service.Service.{Service}
+use Rattle.osgi_ops.specs.declared.service.ServiceRow.{ServiceRow}
+use Rattle.osgi_ops.specs.declared.value.Attribute.{Attribute}
+use Rattle.osgi_registry.proofs.Standing.{Found, nowhere, quiet_find, quiet_find_all, quiet_list, quiet_refused, rows_found, rows_length, rows_services, stands_quiet, there}
+use Rattle.osgi_registry.specs.Rows.{count_of, modify_refusal, object_at, refusal_at, register_refusal, RegistryRows, Row, row_at, services_of, twins_refusal, use_count}
+use Rattle.osgi_registry.specs.Stands.{IsRowOf, StandsAfter, StandsFor}
+use Rattle.osgi_core.specs.Replied.{IsReplied}
+
+-- ---- bundles
+
+is_system : (bundle : BundleId) → (bundle.0 == 0) ≡ true → bundle ≡ system
+is_system bundle is = λ i. record { 0 = eqb-true bundle.0 0 is i }
+
+not_system : (bundle : BundleId) → (bundle.0 == 0) ≡ false → bundle ≡ system → ⊥
+not_system bundle other is = eqb-false bundle.0 0 other (ap (λ (b : BundleId). b.0) is)
+
+-- an operation whose first condition is that a bundle is there
+abbrev pub Asks : BundleId → Op → Type 1
+Asks bundle o = (now : Moment) → conditions now o ≡ no_such_bundle now bundle ∷ drop 1 (conditions now o)
+
+no_bundle : (o : Op) (bundle : BundleId) (now : Moment) → Asks bundle o → (bundle.0 == 0) ≡ false → IsReply now o (answer.Refused NoSuchBundle)
+no_bundle o bundle now asks other =
+    subst (λ cs. Gives cs (Answers now o) (refuses NoSuchBundle)) (sym (asks now)) (gives_first NoSuchBundle (¬ IsLive now.before bundle) (drop 1 (conditions now o)) (Answers now o) (not_system bundle other))
+
+-- one that is there is not refused by it
+some_bundle : (o : Op) (bundle : BundleId) (now : Moment) (v : Verdict Refusal Reply) → Asks bundle o → (bundle.0 == 0) ≡ true → Gives (drop 1 (conditions now o)) (Answers now o) v → Gives (conditions now o) (Answers now o) v
+some_bundle o bundle now v asks is given =
+    subst (λ cs. Gives cs (Answers now o) v) (sym (asks now)) (gives_rest NoSuchBundle (¬ IsLive now.before bundle) (drop 1 (conditions now o)) (Answers now o) v (λ not. not (is_system bundle is)) given)
+
+-- ---- services
+
+abbrev Others : BundleId → Option Registered → Refusal → Type 0
+Others owner of refusal = IsSomeAnd of (λ r. (r.owner ≢ owner) × (refusal ≡ NotOwner r.owner))
+
+same_owner : (row : Row) (r : Registered) → IsRowOf row r → row.service.owner ≡ r.owner
+same_owner row r is = ap (λ (s : Service). s.owner) is.service
+
+refused_there : (owner : BundleId) (row : Row) (r : Registered) (refusal : Refusal) (rest : List (Refusal → Type 0)) (due : Reply → Type 0) (own : Bool) → (owner.0 == row.service.owner.0) ≡ own → IsRowOf row r →
+    Some refusal ≡ cond own None (Some (NotOwner row.service.owner)) → Gives (Where NoSuchService (Some r ≡ None) ∷ Others owner (Some r) ∷ rest) due (refuses refusal)
+refused_there owner row r refusal rest due true own is e = absurd (cc e)
+refused_there owner row r refusal rest due false own is e =
+    let named : refusal ≡ NotOwner row.service.owner = cc e in
+    let other : r.owner ≡ owner → ⊥ = λ same. eqb-false owner.0 row.service.owner.0 own (ap (λ (b : BundleId). b.0) (sym same ∙ sym (same_owner row r is))) in
+    inr ((λ f called. cc called.1), inl (refusal, (other, named ∙ ap NotOwner (same_owner row r is)), refl))
+
+-- the refusal by the row is the first that is called for
+change_refused : (owner : BundleId) (at : Option Row) (of : Option Registered) (refusal : Refusal) (rest : List (Refusal → Type 0)) (due : Reply → Type 0) → Found at of → Some refusal ≡ refusal_at owner at →
+    Gives (Where NoSuchService (of ≡ None) ∷ Others owner of ∷ rest) due (refuses refusal)
+change_refused owner None (Some r) refusal rest due found e = elim found [ ]
+change_refused owner (Some row) None refusal rest due found e = elim found [ ]
+change_refused owner None None refusal rest due nowhere e =
+    let named : refusal ≡ NoSuchService = cc e in
+    inl (NoSuchService, (refl, refl), ap refuses named)
+change_refused owner (Some row) (Some r) refusal rest due (there is) e = refused_there owner row r refusal rest due (owner.0 == row.service.owner.0) refl is e
+
+passed_there : (owner : BundleId) (row : Row) (r : Registered) (rest : List (Refusal → Type 0)) (due : Reply → Type 0) (v : Verdict Refusal Reply) (own : Bool) → (owner.0 == row.service.owner.0) ≡ own → IsRowOf row r →
+    None ≡ cond own None (Some (NotOwner row.service.owner)) → Gives rest due v → Gives (Where NoSuchService (Some r ≡ None) ∷ Others owner (Some r) ∷ rest) due v
+passed_there owner row r rest due v true own is e given =
+    let same : r.owner ≡ owner = sym (same_owner row r is) ∙ (λ i. record { 0 = sym (eqb-true owner.0 row.service.owner.0 own) i }) in
+    inr ((λ f called. cc called.1), inr ((λ f called. called.0 same), given))
+passed_there owner row r rest due v false own is e given = absurd (cc e)
+
+-- where there is none, neither is
+change_passed : (owner : BundleId) (at : Option Row) (of : Option Registered) (rest : List (Refusal → Type 0)) (due : Reply → Type 0) (v : Verdict Refusal Reply) → Found at of → None ≡ refusal_at owner at → Gives rest due v →
+    Gives (Where NoSuchService (of ≡ None) ∷ Others owner of ∷ rest) due v
+change_passed owner None (Some r) rest due v found e given = elim found [ ]
+change_passed owner (Some row) None rest due v found e given = elim found [ ]
+change_passed owner None None rest due v nowhere e given = absurd (cc e)
+change_passed owner (Some row) (Some r) rest due v (there is) e given = passed_there owner row r rest due v (owner.0 == row.service.owner.0) refl is e given
+
+-- ---- each operation
+
+found_now : (history : List Entry) (registry : RegistryRows) (service : ServiceId) → StandsFor history registry → Found (row_at service registry.rows) (live_at service history)
+found_now history registry service stands = rows_found service registry.rows (live history) stands.rows
+
+-- what refuses an operation changes nothing that the registry stands for
+refused_stands : (o : Op) (old new : RegistryRows) (refusal : Refusal) → new ≡ old → StandsAfter o (answer.Refused refusal) old new
+refused_stands o old new refusal same = λ history tag stands.
+    subst (λ r. StandsFor (history ++ record { tag = tag; op = o; reply = answer.Refused refusal } ∷ []) r) (sym same) (stands_quiet history old _ stands (quiet_refused tag o refusal))
+
+-- a bundle that is not there
+pub replied_no_bundle : (o : Op) (bundle : BundleId) (registry : RegistryRows) → Asks bundle o → (bundle.0 == 0) ≡ false → IsReplied o registry registry (answer.Refused NoSuchBundle)
+replied_no_bundle o bundle registry asks other =
+    record { due = λ setting history tag stands. no_bundle o bundle (moment setting history tag) asks other; stands = refused_stands o registry registry NoSuchBundle refl }
+
+-- Register
+room_is : (history : List Entry) (registry : RegistryRows) → StandsFor history registry → length registry.rows ≡ length (live history)
+room_is history registry stands = rows_length registry.rows (live history) stands.rows
+
+register_refused : (properties : List Attribute) (rows : List Row) (count : ℕ) (refusal : Refusal) (due : Reply → Type 0) (twins full : Bool) → has_twins properties ≡ twins → nat_le most_services (length rows) ≡ full → length rows ≡ count →
+    Some refusal ≡ option_or (cond twins (Some BadProperties) None) (cond full (Some (TooMany Services)) None) →
+    Gives (Where BadProperties (has_twins properties ≡ true) ∷ Where (TooMany Services) (most_services ≤ count) ∷ []) due (refuses refusal)
+register_refused properties rows count refusal due true full t f is e =
+    let named : refusal ≡ BadProperties = cc e in
+    inl (BadProperties, (refl, t), ap refuses named)
+register_refused properties rows count refusal due false true t f is e =
+    let named : refusal ≡ TooMany Services = cc e in
+    inr ((λ g called. absurd (cc (called.1, t))), inl (TooMany Services, (refl, rw is at (leb-true _ _ f)), ap refuses named))
+register_refused properties rows count refusal due false false t f is e = absurd (cc e)
+
+register_passed : (properties : List Attribute) (rows : List Row) (count : ℕ) (due : Reply → Type 0) (v : Verdict Refusal Reply) (twins full : Bool) → has_twins properties ≡ twins → nat_le most_services (length rows) ≡ full → length rows ≡ count →
+    None ≡ option_or (cond twins (Some BadProperties) None) (cond full (Some (TooMany Services)) None) → Gives [] due v →
+    Gives (Where BadProperties (has_twins properties ≡ true) ∷ Where (TooMany Services) (most_services ≤ count) ∷ []) due v
+register_passed properties rows count due v true full t f is e given = absurd (cc e)
+register_passed properties rows count due v false true t f is e given = absurd (cc e)
+register_passed properties rows count due v false false t f is e given =
+    let room : length rows < most_services = leb-false _ _ f in
+    inr ((λ g called. absurd (cc (called.1, t))), inr ((λ g called. let c = called.1 in absurd (omega (arith, room, c, is))), given))
+
+pub replied_registered : (owner : BundleId) (classes : List (List ℕ)) (object : List ℕ) (properties : List Attribute) (old new : RegistryRows) (service : ServiceId) → (owner.0 == 0) ≡ true → None ≡ register_refusal properties old.rows →
+    service.0 ≡ old.given + 1 → StandsAfter (op.Register owner classes object properties) (answer.Service service) old new → IsReplied (op.Register owner classes object properties) old new (answer.Service service)
+replied_registered owner classes object properties old new service asked none id stands = record {
+  due = λ setting history tag stood.
+      let is : answer.Service service ≡ answer.Service (record { 0 = length (registered history) + 1 }) = λ i. answer.Service (record { 0 = (id ∙ ap (λ n. n + 1) stood.given) i }) in
+      some_bundle (op.Register owner classes object properties) owner (moment setting history tag) (answers (answer.Service service)) (λ now. refl) asked
+      (register_passed properties old.rows (length (live history)) (Answers (moment setting history tag) (op.Register owner classes object properties)) (answers (answer.Service service)) (has_twins properties) (nat_le most_services (length old.rows)) refl refl (room_is history old stood) none is);
+  stands = stands;
+}
+
+pub replied_unregistered : (owner : BundleId) (classes : List (List ℕ)) (object : List ℕ) (properties : List Attribute) (old new : RegistryRows) (refusal : Refusal) → (owner.0 == 0) ≡ true → Some refusal ≡ register_refusal properties old.rows →
+    new ≡ old → IsReplied (op.Register owner classes object properties) old new (answer.Refused refusal)
+replied_unregistered owner classes object properties old new refusal asked some same = record {
+  due = λ setting history tag stood.
+      some_bundle (op.Register owner classes object properties) owner (moment setting history tag) (refuses refusal) (λ now. refl) asked
+      (register_refused properties old.rows (length (live history)) refusal (Answers (moment setting history tag) (op.Register owner classes object properties)) (has_twins properties) (nat_le most_services (length old.rows)) refl refl (room_is history old stood) some);
+  stands = refused_stands _ old new refusal same;
+}
+
+-- Modify
+twins_refused : (properties : List Attribute) (refusal : Refusal) (due : Reply → Type 0) (twins : Bool) → has_twins properties ≡ twins → Some refusal ≡ cond twins (Some BadProperties) None →
+    Gives (Where BadProperties (has_twins properties ≡ true) ∷ []) due (refuses refusal)
+twins_refused properties refusal due true t e =
+    let named : refusal ≡ BadProperties = cc e in
+    inl (BadProperties, (refl, t), ap refuses named)
+twins_refused properties refusal due false t e = absurd (cc e)
+
+twins_passed : (properties : List Attribute) (due : Reply → Type 0) (v : Verdict Refusal Reply) (twins : Bool) → has_twins properties ≡ twins → None ≡ cond twins (Some BadProperties) None → Gives [] due v →
+    Gives (Where BadProperties (has_twins properties ≡ true) ∷ []) due v
+twins_passed properties due v true t e given = absurd (cc e)
+twins_passed properties due v false t e given = inr ((λ g called. absurd (cc (called.1, t))), given)
+
+modify_refused : (owner : BundleId) (at : Option Row) (of : Option Registered) (properties : List Attribute) (refusal : Refusal) (due : Reply → Type 0) (first : Option Refusal) → Found at of → refusal_at owner at ≡ first →
+    Some refusal ≡ option_or first (twins_refusal properties) → Gives (Where NoSuchService (of ≡ None) ∷ Others owner of ∷ Where BadProperties (has_twins properties ≡ true) ∷ []) due (refuses refusal)
+modify_refused owner at of properties refusal due None found is e = change_passed owner at of (Where BadProperties (has_twins properties ≡ true) ∷ []) due (refuses refusal) found (sym is) (twins_refused properties refusal due (has_twins properties) refl e)
+modify_refused owner at of properties refusal due (Some other) found is e = change_refused owner at of refusal (Where BadProperties (has_twins properties ≡ true) ∷ []) due found (e ∙ sym is)
+
+modify_passed : (owner : BundleId) (at : Option Row) (of : Option Registered) (properties : List Attribute) (due : Reply → Type 0) (v : Verdict Refusal Reply) (first : Option Refusal) → Found at of → refusal_at owner at ≡ first →
+    None ≡ option_or first (twins_refusal properties) → Gives [] due v → Gives (Where NoSuchService (of ≡ None) ∷ Others owner of ∷ Where BadProperties (has_twins properties ≡ true) ∷ []) due v
+modify_passed owner at of properties due v None found is e given = change_passed owner at of (Where BadProperties (has_twins properties ≡ true) ∷ []) due v found (sym is) (twins_passed properties due v (has_twins properties) refl e given)
+modify_passed owner at of properties due v (Some other) found is e given = absurd (cc e)
+
+pub replied_modified : (owner : BundleId) (service : ServiceId) (properties : List Attribute) (old new : RegistryRows) → (owner.0 == 0) ≡ true → None ≡ modify_refusal owner service properties old.rows →
+    StandsAfter (op.Modify owner service properties) answer.Done old new → IsReplied (op.Modify owner service properties) old new answer.Done
+replied_modified owner service properties old new asked none stands = record {
+  due = λ setting history tag stood.
+      some_bundle (op.Modify owner service properties) owner (moment setting history tag) (answers answer.Done) (λ now. refl) asked
+      (modify_passed owner (row_at service old.rows) (live_at service history) properties (Answers (moment setting history tag) (op.Modify owner service properties)) (answers answer.Done) _ (found_now history old service stood) refl none refl);
+  stands = stands;
+}
+
+pub replied_unmodified : (owner : BundleId) (service : ServiceId) (properties : List Attribute) (old new : RegistryRows) (refusal : Refusal) → (owner.0 == 0) ≡ true → Some refusal ≡ modify_refusal owner service properties old.rows → new ≡ old →
+    IsReplied (op.Modify owner service properties) old new (answer.Refused refusal)
+replied_unmodified owner service properties old new refusal asked some same = record {
+  due = λ setting history tag stood.
+      some_bundle (op.Modify owner service properties) owner (moment setting history tag) (refuses refusal) (λ now. refl) asked
+      (modify_refused owner (row_at service old.rows) (live_at service history) properties refusal (Answers (moment setting history tag) (op.Modify owner service properties)) _ (found_now history old service stood) refl some);
+  stands = refused_stands _ old new refusal same;
+}
+
+-- Unregister
+pub replied_taken : (owner : BundleId) (service : ServiceId) (old new : RegistryRows) → (owner.0 == 0) ≡ true → None ≡ refusal_at owner (row_at service old.rows) → StandsAfter (op.Unregister owner service) answer.Done old new →
+    IsReplied (op.Unregister owner service) old new answer.Done
+replied_taken owner service old new asked none stands = record {
+  due = λ setting history tag stood.
+      some_bundle (op.Unregister owner service) owner (moment setting history tag) (answers answer.Done) (λ now. refl) asked (change_passed owner (row_at service old.rows) (live_at service history) [] (Answers (moment setting history tag) (op.Unregister owner service)) (answers answer.Done) (found_now history old service stood) none refl);
+  stands = stands;
+}
+
+pub replied_untaken : (owner : BundleId) (service : ServiceId) (old new : RegistryRows) (refusal : Refusal) → (owner.0 == 0) ≡ true → Some refusal ≡ refusal_at owner (row_at service old.rows) → new ≡ old →
+    IsReplied (op.Unregister owner service) old new (answer.Refused refusal)
+replied_untaken owner service old new refusal asked some same = record {
+  due = λ setting history tag stood.
+      some_bundle (op.Unregister owner service) owner (moment setting history tag) (refuses refusal) (λ now. refl) asked (change_refused owner (row_at service old.rows) (live_at service history) refusal [] (Answers (moment setting history tag) (op.Unregister owner service)) (found_now history old service stood) some);
+  stands = refused_stands _ old new refusal same;
+}
+
+-- Find
+found_is : (class : List ℕ) (list : List Service) (found : Option ServiceId) → IfNone found (All (λ service. has_class class service ≡ false) list) → IfSome found (IsBest class list) → IsFound class list found
+found_is class list None none best = none
+found_is class list (Some service) none best = best
+
+services_now : (history : List Entry) (registry : RegistryRows) → StandsFor history registry → services_of registry.rows ≡ services history
+services_now history registry stands = rows_services registry.rows (live history) stands.rows
+
+pub replied_found : (asker : BundleId) (class : List ℕ) (registry : RegistryRows) (found : Option ServiceId) → (asker.0 == 0) ≡ true → IfNone found (All (λ service. has_class class service ≡ false) (services_of registry.rows)) →
+    IfSome found (IsBest class (services_of registry.rows)) → IsReplied (op.Find asker class) registry registry (answer.Best found)
+replied_found asker class registry found asked none best = record {
+  due = λ setting history tag stood.
+      some_bundle (op.Find asker class) asker (moment setting history tag) (answers (answer.Best found)) (λ now. refl) asked
+      (found, refl, subst (λ list. IsFound class list found) (services_now history registry stood) (found_is class (services_of registry.rows) found none best));
+  stands = λ history tag stood. stands_quiet history registry _ stood (quiet_find tag asker class found);
+}
+
+-- FindAll
+pub replied_found_all : (asker : BundleId) (class : List ℕ) (registry : RegistryRows) (found : List ServiceId) → (asker.0 == 0) ≡ true → AreRanked class (services_of registry.rows) found →
+    IsReplied (op.FindAll asker class) registry registry (answer.Services found)
+replied_found_all asker class registry found asked ranked = record {
+  due = λ setting history tag stood.
+      some_bundle (op.FindAll asker class) asker (moment setting history tag) (answers (answer.Services found)) (λ now. refl) asked (found, refl, subst (λ list. AreRanked class list found) (services_now history registry stood) ranked);
+  stands = λ history tag stood. stands_quiet history registry _ stood (quiet_find_all tag asker class found);
+}
+
+-- Get
+get_refused : (at : Option Row) (of : Option Registered) (refusal : Refusal) (due : Reply → Type 0) → Found at of → Err refusal ≡ object_at at → Gives (Where NoSuchService (of ≡ None) ∷ []) due (refuses refusal)
+get_refused None (Some r) refusal due found e = elim found [ ]
+get_refused (Some row) None refusal due found e = elim found [ ]
+get_refused None None refusal due nowhere e =
+    let named : refusal ≡ NoSuchService = cc e in
+    inl (NoSuchService, (refl, refl), ap refuses named)
+get_refused (Some row) (Some r) refusal due (there is) e = absurd (cc e)
+
+get_answers : (at : Option Row) (of : Option Registered) (text : List ℕ) → Found at of → Ok text ≡ object_at at →
+    Gives (Where NoSuchService (of ≡ None) ∷ []) (λ reply. IsSomeAnd of (λ r. reply ≡ answer.Object r.object)) (answers (answer.Object text))
+get_answers None (Some r) text found e = elim found [ ]
+get_answers (Some row) None text found e = elim found [ ]
+get_answers None None text nowhere e = absurd (cc e)
+get_answers (Some row) (Some r) text (there is) e =
+    let same : text ≡ row.service.object = cc e in
+    inr ((λ f called. cc called.1), ap answer.Object (same ∙ ap (λ (s : Service). s.object) is.service))
+
+pub replied_got : (user : BundleId) (service : ServiceId) (old new : RegistryRows) (text : List ℕ) → (user.0 == 0) ≡ true → Ok text ≡ object_at (row_at service old.rows) → StandsAfter (op.Get user service) (answer.Object text) old new →
+    IsReplied (op.Get user service) old new (answer.Object text)
+replied_got user service old new text asked got stands = record {
+  due = λ setting history tag stood. some_bundle (op.Get user service) user (moment setting history tag) (answers (answer.Object text)) (λ now. refl) asked (get_answers (row_at service old.rows) (live_at service history) text (found_now history old service stood) got);
+  stands = stands;
+}
+
+pub replied_ungotten : (user : BundleId) (service : ServiceId) (old new : RegistryRows) (refusal : Refusal) → (user.0 == 0) ≡ true → Err refusal ≡ object_at (row_at service old.rows) → new ≡ old →
+    IsReplied (op.Get user service) old new (answer.Refused refusal)
+replied_ungotten user service old new refusal asked got same = record {
+  due = λ setting history tag stood. some_bundle (op.Get user service) user (moment setting history tag) (refuses refusal) (λ now. refl) asked (get_refused (row_at service old.rows) (live_at service history) refusal (Answers (moment setting history tag) (op.Get user service)) (found_now history old service stood) got);
+  stands = refused_stands _ old new refusal same;
+}
+
+-- Unget
+count_found : (user : BundleId) (at : Option Row) (of : Option Registered) → Found at of → option_map_or (λ row. count_of user row.uses) at 0 ≡ option_map_or (uses_of user) of 0
+count_found user None (Some r) found = elim found [ ]
+count_found user (Some row) None found = elim found [ ]
+count_found user None None nowhere = refl
+count_found user (Some row) (Some r) (there is) = is.uses user
+
+-- the registry counts the uses of the history
+pub uses_now : (history : List Entry) (registry : RegistryRows) (user : BundleId) (service : ServiceId) → StandsFor history registry → use_count user service registry.rows ≡ uses user service history
+uses_now history registry user service stands = count_found user (row_at service registry.rows) (live_at service history) (found_now history registry service stands)
+
+pub replied_ungot : (user : BundleId) (service : ServiceId) (old new : RegistryRows) (value : Bool) → (user.0 == 0) ≡ true → value ≡ nat_lt 0 (use_count user service old.rows) → StandsAfter (op.Unget user service) (answer.Flag value) old new →
+    IsReplied (op.Unget user service) old new (answer.Flag value)
+replied_ungot user service old new value asked is stands = record {
+  due = λ setting history tag stood. some_bundle (op.Unget user service) user (moment setting history tag) (answers (answer.Flag value)) (λ now. refl) asked (ap answer.Flag (is ∙ ap (nat_lt 0) (uses_now history old user service stood)));
+  stands = stands;
+}
+
+-- ListServices
+pub replied_listed : (registry : RegistryRows) (rows : List ServiceRow) → rows ≡ map row_of (services_of registry.rows) → IsReplied op.ListServices registry registry (answer.ServiceRows rows)
+replied_listed registry rows are = record {
+  due = λ setting history tag stood. ap answer.ServiceRows (are ∙ ap (map row_of) (services_now history registry stood));
+  stands = λ history tag stood. stands_quiet history registry _ stood (quiet_list tag rows);
+}
+
+-- ---- what a function answers
+
+-- a refusal, made twice, that a function hands on
+pub by_refused : {E : Type 0} (r : Result (Reply × Reply) E) (P : Reply → Type 0) (refusal : Refusal) → IfOk r (λ x. (x.0 ≡ answer.Refused refusal) × (x.1 ≡ answer.Refused refusal)) → P (answer.Refused refusal) → IfOk r (λ x. P x.0)
+by_refused (Ok x) P refusal is p = subst P (sym is.0) p
+by_refused (Err e) P refusal is p = tt
+
+-- one row more
+pub rows_more : (rows : List Row) (so_far : List ServiceRow) (place : ℕ) (service : Service) (row : ServiceRow) → so_far ≡ map row_of (take place (services_of rows)) → row ≡ row_of service → slice_get (services_of rows) place ≡ Some service →
+    so_far ++ row ∷ [] ≡ map row_of (take (place + 1) (services_of rows))
+rows_more rows so_far place service row are is at =
+    let within = slice_get_within (services_of rows) place service at in
+    let more : take (place + 1) (services_of rows) ≡ take place (services_of rows) ++ service ∷ []
+    = take_more (services_of rows) place service within ∙ ap (λ s. take place (services_of rows) ++ s ∷ []) (get_or_from_slice_get (services_of rows) place service service at) in
+    (λ i. are i ++ is i ∷ []) ∙ sym (map-append row_of (take place (services_of rows)) (service ∷ [])) ∙ ap (map row_of) (sym more)
+
+-- all of them
+pub rows_all : (rows : List Row) (all : List ServiceRow) (place : ℕ) → all ≡ map row_of (take place (services_of rows)) → length rows ≤ place → all ≡ map row_of (services_of rows)
+rows_all rows all place are past = are ∙ ap (map row_of) (take_all place (services_of rows) (omega (arith, length-map rows (λ (row : Row). row.service), past)))
