@@ -14,7 +14,7 @@ use Rattle.osgi_ops.specs.Sessions.{Makes, MayBeCut}
 use Rattle.osgi_ops.specs.Settings.{Setting}
 use Rattle.osgi_ops.specs.declared.entry.Entry.{Entry}
 use Rattle.osgi_ops.specs.declared.line.Line.{Line}
-use Rattle.osgi_program.specs.Console.{AreReadFrom}
+use Rattle.osgi_console.specs.Console.{AreReadFrom}
 use Rattle.osgi_program.specs.Ended.{IsRun, status_by}
 use Rattle.osgi_program.specs.Outcome.{IsSession, is_handing, IsWrittenStatus, most_input, status_of}
 use Rattle.osgi_program.specs.Running.{IsCutAt, never, RunsLines}

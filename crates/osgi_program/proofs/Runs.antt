@@ -2,40 +2,41 @@
 use Rattle.std.proofs.Common.{◌≡◌, ℕ, inl, inr, List, [], ◌∷◌, ◌++◌, length, ap, subst, ◌∙◌, refl, append_assoc, append-nil, arith}
 use Rattle.std.specs.Prelude.{All}
 use Rattle.std.proofs.lemmas.List.Elements.{All-cons}
-use Rattle.osgi_ops.proofs.Sessions.{Makes-append, register_cut, register_follows}
+use Rattle.osgi_ops.proofs.Sessions.{Makes-append, one_cut, one_follows}
+use Rattle.osgi_ops.specs.Bundles.{system}
+use Rattle.osgi_ops.specs.Plans.{op_of}
 use Rattle.osgi_ops.specs.Sessions.{idle, IsCutRunOf, IsRunOf, Makes, over, run}
 use Rattle.osgi_ops.specs.declared.command.Command.{Command}
-use Rattle.osgi_ops.specs.declared.command.Command.TheVariants as command
 use Rattle.osgi_ops.specs.declared.entry.Entry.{Entry}
 use Rattle.osgi_ops.specs.declared.line.Content.TheVariants.{Run}
 use Rattle.osgi_ops.specs.declared.line.Line.{Line}
 use Rattle.osgi_ops.specs.declared.reply.Reply.{Reply}
-use Rattle.osgi_program.specs.Running.{IsAsked, IsCutAt, never, op_of, RunsLine, RunsLines, tag_of}
+use Rattle.osgi_program.specs.Running.{IsAsked, IsCutAt, never, RunsLine, RunsLines, tag_of}
 use Rattle.osgi_program.specs.declared.runner.Ran.{Ran}
 use Rattle.osgi_program.specs.declared.runner.Ran.TheVariants as ran
 
 untagged : (caller : ℕ) (line : Line) → All (λ (e : Entry). e.tag ≡ record { caller = caller; command = line.number }) []
 untagged caller line = λ k d below. absurd (omega arith)
 
-one_run : (line : Line) (c : Command) (reply : Reply) → line.content ≡ Run c → IsRunOf 0 line (record { tag = tag_of line.number; op = op_of c; reply = reply } ∷ [])
-one_run line (command.Register classes object) reply says = record {
-  command = command.Register classes object;
+one_run : (line : Line) (c : Command) (reply : Reply) → line.content ≡ Run c → IsRunOf 0 line (record { tag = tag_of line.number; op = op_of system c; reply = reply } ∷ [])
+one_run line c reply says = record {
+  command = c;
   says = says;
   tagged = All-cons (λ (e : Entry). e.tag ≡ record { caller = 0; command = line.number }) _ [] refl (untagged 0 line);
-  follows = register_follows classes object reply;
+  follows = one_follows c reply;
 }
 
 no_run : (line : Line) (c : Command) → line.content ≡ Run c → IsCutRunOf 0 line []
-no_run line (command.Register classes object) says = record {
-  command = command.Register classes object;
+no_run line c says = record {
+  command = c;
   says = says;
   tagged = untagged 0 line;
-  cut = register_cut classes object;
+  cut = one_cut c;
 }
 
 -- a line runs as its one operation does
-pub asked_line : (how : Ran) (limit : ℕ) (line : Line) (c : Command) (before after : List Entry) → line.content ≡ Run c → IsAsked how limit (tag_of line.number) (op_of c) before after → RunsLine how limit line before after
-asked_line ran.All limit line c before after says asked = (record { tag = tag_of line.number; op = op_of c; reply = asked.0 } ∷ [], asked.1, inr (one_run line c asked.0 says))
+pub asked_line : (how : Ran) (limit : ℕ) (line : Line) (c : Command) (before after : List Entry) → line.content ≡ Run c → IsAsked how limit (tag_of line.number) (op_of system c) before after → RunsLine how limit line before after
+asked_line ran.All limit line c before after says asked = (record { tag = tag_of line.number; op = op_of system c; reply = asked.0 } ∷ [], asked.1, inr (one_run line c asked.0 says))
 asked_line ran.Full limit line c before after says asked = (asked.0, asked.1, no_run line c says)
 asked_line ran.Starved limit line c before after says asked = (asked, no_run line c says)
 

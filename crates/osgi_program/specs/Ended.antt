@@ -2,7 +2,7 @@
 use Rattle.std.specs.Prelude.{ℕ, ◌≡◌, if◌then◌else◌, List, []}
 use Rattle.osgi_ops.specs.Legal.{Legal}
 use Rattle.osgi_ops.specs.Settings.{Setting}
-use Rattle.osgi_program.specs.Console.{AreLinesOf}
+use Rattle.osgi_console.specs.Console.{AreLinesOf}
 use Rattle.osgi_program.specs.Outcome.{is_troubled}
 use Rattle.osgi_program.specs.Running.{RunsLines}
 use Rattle.osgi_program.specs.declared.runner.Ran.{Ran}

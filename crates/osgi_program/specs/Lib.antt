@@ -1,7 +1,4 @@
--- The definitions of the console's text and of the top call.
-pub mod Console
-pub mod ConsoleReader
+-- The definitions of how lines run and of the top call.
 pub mod Ended
 pub mod Outcome
 pub mod Running
-pub mod Texts

@@ -12,7 +12,7 @@ use Rattle.osgi_ops.specs.declared.line.Content.{Content}
 use Rattle.osgi_ops.specs.declared.line.Content.TheVariants.{Bad}
 use Rattle.osgi_ops.specs.declared.line.Line.{Line}
 use Rattle.osgi_ops.specs.declared.reply.Reply.{Reply}
-use Rattle.osgi_program.specs.Console.{AreLinesOf}
+use Rattle.osgi_console.specs.Console.{AreLinesOf}
 use Rattle.osgi_program.specs.declared.session.Session.{Session}
 
 -- how many bytes an input may have

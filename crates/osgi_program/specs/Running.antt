@@ -1,21 +1,13 @@
 -- How lines run on the machine.
 use Rattle.std.specs.Prelude.{ℕ, ◌≡◌, ◌⊎◌, List, [], ◌∷◌, ◌++◌, length}
 use Rattle.osgi_base.specs.declared.ids.Tag.{Tag}
-use Rattle.osgi_ops.specs.Bundles.{system}
 use Rattle.osgi_ops.specs.Sessions.{HasNoCommand, IsCutRunOf, IsRunOf, Makes}
-use Rattle.osgi_ops.specs.declared.command.Command.{Command}
-use Rattle.osgi_ops.specs.declared.command.Command.TheVariants as command
 use Rattle.osgi_ops.specs.declared.entry.Entry.{Entry}
 use Rattle.osgi_ops.specs.declared.line.Line.{Line}
 use Rattle.osgi_ops.specs.declared.op.Op.{Op}
-use Rattle.osgi_ops.specs.declared.op.Op.TheVariants as op
 use Rattle.osgi_ops.specs.declared.reply.Reply.{Reply}
 use Rattle.osgi_program.specs.declared.runner.Ran.{Ran}
 use Rattle.osgi_program.specs.declared.runner.Ran.TheVariants.{All, Full, Starved}
-
--- the one operation that a command of the console asks for
-abbrev pub op_of : Command → Op
-op_of (command.Register classes object) = op.Register system classes object
 
 abbrev pub tag_of : ℕ → Tag
 tag_of number = record { caller = 0; command = number }

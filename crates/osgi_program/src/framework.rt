@@ -8,14 +8,14 @@ ghost use Rattle.osgi_outside.specs.Causes.{Rose};
 ghost use Rattle.osgi_program.specs.Outcome.{most_input, is_bad, is_troubled, status_of, IsSession, IsWritten, IsPartlyWritten, IsWrittenStatus, IsBareStatus};
 ghost use Rattle.osgi_program.specs.Ended.{IsRun, status_by};
 
-use crate::console::parse;
-use crate::rendering::render;
 use crate::runner::{Ran, run_lines};
 use crate::session::{
     DONE, FAULTY_WORDS, Finished, HISTORY_FULL, INPUT_TOO_LONG, NO_MEMORY, READ_FAILED, Session,
     TROUBLED, WRITE_FAILED,
 };
 use osgi_base::text::Text;
+use osgi_console::reading::parse;
+use osgi_console::rendering::render;
 use osgi_core::machine::Core;
 use osgi_ops::entry::Entry;
 use osgi_ops::limits::Limits;

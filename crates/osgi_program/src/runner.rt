@@ -1,7 +1,9 @@
 //! Lines run on the machine.
 
 ghost use Rattle.std.specs.Prelude.{◌≡◌, IfOk};
-ghost use Rattle.osgi_program.specs.Running.{IsAsked, RunsLine, RunsLines, op_of, tag_of};
+ghost use Rattle.osgi_ops.specs.Bundles.{system};
+ghost use Rattle.osgi_ops.specs.Plans.{op_of};
+ghost use Rattle.osgi_program.specs.Running.{IsAsked, RunsLine, RunsLines, tag_of};
 
 use osgi_base::ids::{BundleId, Tag};
 use osgi_core::machine::Core;
@@ -11,6 +13,9 @@ use osgi_ops::op::Op;
 use osgi_ops::refusal::Refusal;
 use osgi_ops::reply::Reply;
 use std::alloc::{AllocError, Global};
+
+/// The system bundle, which runs the console's commands.
+const SYSTEM: BundleId = BundleId(0);
 
 /// How far the running of lines came.
 #[derive(Clone, Copy, Debug, PartialEq, Eq)]
@@ -25,21 +30,55 @@ pub enum Ran {
 
 /// The operation that a command of the console asks for, which the system bundle owns.
 fn operation(alloc: Global, command: &Command) -> Result<Op, AllocError>
-    ensures operation { IfOk result (λ op. op ≡ op_of command.now) }
+    ensures operation { IfOk result (λ op. op ≡ op_of system command.now) }
 {
     match command {
-        Command::Register { classes, object } => Ok(Op::Register {
-            owner: BundleId(0),
+        Command::Register {
+            classes,
+            object,
+            properties,
+        } => Ok(Op::Register {
+            owner: SYSTEM,
             classes: classes.copy(alloc)?,
             object: object.copy(alloc)?,
+            properties: properties.copy(alloc)?,
         }),
+        Command::Modify {
+            service,
+            properties,
+        } => Ok(Op::Modify {
+            owner: SYSTEM,
+            service: *service,
+            properties: properties.copy(alloc)?,
+        }),
+        Command::Unregister { service } => Ok(Op::Unregister {
+            owner: SYSTEM,
+            service: *service,
+        }),
+        Command::Find { class } => Ok(Op::Find {
+            asker: SYSTEM,
+            class: class.copy(alloc)?,
+        }),
+        Command::FindAll { class } => Ok(Op::FindAll {
+            asker: SYSTEM,
+            class: class.copy(alloc)?,
+        }),
+        Command::Get { service } => Ok(Op::Get {
+            user: SYSTEM,
+            service: *service,
+        }),
+        Command::Unget { service } => Ok(Op::Unget {
+            user: SYSTEM,
+            service: *service,
+        }),
+        Command::Services => Ok(Op::ListServices),
     }
 }
 
 /// Runs the command of a line.
 fn run_command(alloc: Global, core: &mut Core, number: u32, command: &Command) -> Ran
     ensures setting { core.new.setting ≡ core.old.setting }
-    ensures asked { IsAsked result core.old.setting.bounds.entries (tag_of number) (op_of command.now) core.old.entries core.new.entries }
+    ensures asked { IsAsked result core.old.setting.bounds.entries (tag_of number) (op_of system command.now) core.old.entries core.new.entries }
 {
     let Ok(op) = operation(alloc, command) else {
         return Ran::Starved;

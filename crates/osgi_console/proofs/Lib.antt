@@ -1,0 +1,17 @@
+-- Lemmas on the console's text.
+pub mod Attributes
+pub mod Classes
+pub mod Contents
+pub mod Lines
+pub mod Longs
+pub mod Numbers
+pub mod Parting
+pub mod Parts
+pub mod Places
+pub mod Quoting
+pub mod Spaces
+pub mod Splitting
+pub mod TextMap
+pub mod Trimming
+pub mod Verbs
+pub mod Whole

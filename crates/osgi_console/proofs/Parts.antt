@@ -1,0 +1,45 @@
+-- Texts of the items of a list, one after another.
+use Rattle.std.proofs.Common.{◌≡◌, ℕ, ◌+◌, ◌<◌, ◌≤◌, false, refl, append-nil, List, [], ◌∷◌, ◌++◌, length, get_or, drop, map, ap, sym, ◌∙◌, append_assoc}
+use Rattle.std.specs.Prelude.{◌==◌, ◌||◌, if◌then◌else◌, nat_eq}
+use Rattle.std.specs.Fmt.{decimal}
+use Rattle.std.specs.List.{concat, join_with_byte}
+use Rattle.std.proofs.lemmas.List.{at_drop_all, at_drop_more}
+use Rattle.std.proofs.lemmas.Simd.{map-map}
+use Rattle.osgi_base.specs.declared.ids.ServiceId.{ServiceId}
+use Rattle.osgi_ops.specs.Rendering.{ids_text, row_text, rows_lines, with_line_end}
+use Rattle.osgi_ops.specs.declared.service.ServiceRow.{ServiceRow}
+
+-- a byte as it stands between quotes
+abbrev pub escaped : ℕ → List ℕ
+escaped byte = if (byte == 34) || (byte == 92) then 92 ∷ byte ∷ [] else byte ∷ []
+
+-- with the text of the next item, the texts of those that are left make the same whole
+pub parts_step : {A : Type 0} (text : A → List ℕ) (items : List A) (i : ℕ) (d item : A) (whole out more : List ℕ) → i < length items → item ≡ get_or items i d →
+    more ≡ out ++ text item → out ++ concat (map text (drop i items)) ≡ whole → more ++ concat (map text (drop (i + 1) items)) ≡ whole
+parts_step text items i d item whole out more within is added so_far =
+    ap (λ l. l ++ concat (map text (drop (i + 1) items))) added
+    ∙ append_assoc out (text item) (concat (map text (drop (i + 1) items)))
+    ∙ ap (λ x. out ++ (text x ++ concat (map text (drop (i + 1) items)))) is
+    ∙ ap (λ l. out ++ l) (sym (at_drop_more (λ l. concat (map text l)) items i d within))
+    ∙ so_far
+
+-- the whole stands where no item is left
+pub parts_end : {A : Type 0} (text : A → List ℕ) (items : List A) (i : ℕ) (whole out : List ℕ) → length items ≤ i →
+    out ++ concat (map text (drop i items)) ≡ whole → out ≡ whole
+parts_end text items i whole out over so_far =
+    sym (append-nil out) ∙ ap (λ l. out ++ l) (sym (at_drop_all (λ l. concat (map text l)) items i over)) ∙ so_far
+
+-- ids, where there are some
+pub ids_text-some : (ids : List ServiceId) → nat_eq (length ids) 0 ≡ false → ids_text ids ≡ concat (map (λ id. 32 ∷ decimal id.0) ids)
+ids_text-some [] none = absurd (cc)
+ids_text-some (id ∷ ids) some = refl
+
+-- the lines of services, where there are some
+pub rows_lines-some : (rows : List ServiceRow) → nat_eq (length rows) 0 ≡ false → map with_line_end (rows_lines rows) ≡ map (λ row. with_line_end (row_text row)) rows
+rows_lines-some [] none = absurd (cc)
+rows_lines-some (row ∷ rows) some = map-map with_line_end row_text (row ∷ rows)
+
+-- joined pieces: the first, and the others each behind a comma
+pub join-cons : (class : List ℕ) (classes : List (List ℕ)) → join_with_byte 44 (class ∷ classes) ≡ class ++ concat (map (λ c. 44 ∷ c) classes)
+join-cons class [] = sym (append-nil class)
+join-cons class (next ∷ classes) = ap (λ l. class ++ 44 ∷ l) (join-cons next classes)

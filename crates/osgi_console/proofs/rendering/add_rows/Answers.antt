@@ -1,0 +1,19 @@
+-- Each service adds its line.
+use Rattle.std.proofs.Common.{◌≡◌, ◌++◌, arith, sym}
+use Rattle.std.proofs.lemmas.Grind.{common_steps}
+use Rattle.osgi_ops.specs.Rendering.{row_text, with_line_end}
+use Rattle.osgi_ops.specs.declared.service.ServiceRow.{ServiceRow}
+use Rattle.osgi_console.proofs.Parts.{parts_end, parts_step, rows_lines-some}
+use Rattle.osgi_console.proofs.rendering.add_rows.Goals as goal
+
+pub loop-row-preserved : goal.loop-row-preserved
+loop-row-preserved c =
+    let row : ServiceRow = c.row-item.result in
+    let added : c.push.new.self.items ≡ c.loop-row.out.items ++ with_line_end (row_text row) = grind (arith, common_steps) in
+    parts_step (λ (row : ServiceRow). with_line_end (row_text row)) c.args.rows.now c.loop-row.row-index row row _ c.loop-row.out.items _ c.loop-row-test.true c.row-item.is added
+    c.loop-row.invariant
+
+pub returns : goal.returns
+returns c =
+    let all = parts_end (λ (row : ServiceRow). with_line_end (row_text row)) c.args.rows.now c.loop-row.row-index _ c.loop-row.out.items c.loop-row-test.false c.loop-row.invariant in
+    record { added = rw (rows_lines-some c.args.rows.now (sym c.if-is_empty.ensures)) all }

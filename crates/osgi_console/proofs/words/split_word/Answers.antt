@@ -1,0 +1,25 @@
+-- Behind the spaces at the front stands the first word, where any does.
+use Rattle.std.proofs.Common.{◌≢◌, ◌<◌, length, ◌∙◌, sym, ap, arith}
+use Rattle.std.proofs.lemmas.Bool.{eqb-false, eqb-true}
+use Rattle.osgi_console.specs.declared.words.Place.TheVariants.{Bare}
+use Rattle.osgi_console.specs.Splitting.{after_spaces}
+use Rattle.osgi_console.proofs.Splitting.{first_word, no_word, word_len-within}
+use Rattle.osgi_console.proofs.words.split_word.Goals as goal
+
+pub returns-then-is_empty : goal.returns-then-is_empty
+returns-then-is_empty c =
+    let none = eqb-true (length c.skip_spaces-text.result.now) 0 (sym c.is_empty.ensures ∙ c.if-is_empty.true) in
+    record { words = no_word c.args.text.now (ap length (sym c.skip_spaces-text.ensures.rest) ∙ none) }
+
+pub split_at-requires : goal.split_at-requires
+split_at-requires c = omega (arith, c.word_len.ensures.len, word_len-within Bare c.skip_spaces-text.result.now)
+
+pub returns : goal.returns
+returns c =
+    let other : length c.skip_spaces-text.result.now ≢ 0
+    = eqb-false (length c.skip_spaces-text.result.now) 0 (sym c.is_empty.ensures ∙ c.if-is_empty.false) in
+    let some : 0 < length (after_spaces c.args.text.now) = omega (arith, other, ap length c.skip_spaces-text.ensures.rest) in
+    record {
+      words = rw (c.split_at.ensures.front, c.split_at.ensures.back, c.word_len.ensures.len, c.skip_spaces-text.ensures.rest)
+          (first_word c.args.text.now some);
+    }

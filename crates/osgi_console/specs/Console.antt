@@ -1,0 +1,64 @@
+-- The text of the console: which lines the input has, and what each of them says.
+use Rattle.std.specs.Prelude.{ℕ, ◌≡◌, ◌+◌, List, [], ◌∷◌, ◌++◌, codes}
+use Rattle.std.specs.Str.Lines.{lines}
+use Rattle.osgi_base.specs.declared.ids.ServiceId.{ServiceId}
+use Rattle.osgi_ops.specs.declared.command.Command.{Command}
+use Rattle.osgi_ops.specs.declared.command.Command.TheVariants as command
+use Rattle.osgi_ops.specs.declared.line.Content.{Content}
+use Rattle.osgi_ops.specs.declared.line.Content.TheVariants.{Empty, Join, Bad, Run}
+use Rattle.osgi_ops.specs.declared.line.Line.{Line}
+use Rattle.osgi_ops.specs.declared.value.Attribute.{Attribute}
+use Rattle.osgi_console.specs.Values.{AreProperties}
+use Rattle.osgi_console.specs.Words.{AreClasses, AreSpaces, IsClass, IsId, IsParted, IsQuoted}
+
+-- a line that says nothing: spaces, or a comment, whose first byte besides spaces is `#`
+pub data SaysNothing : List ℕ → Type 0 where
+  blank : {text : List ℕ} → AreSpaces text → SaysNothing text
+  comment : {text : List ℕ} (spaces rest : List ℕ) → AreSpaces spaces → text ≡ spaces ++ 35 ∷ rest → SaysNothing text
+
+-- the words of a command
+pub data AreWordsOf : List (List ℕ) → Command → Type 0 where
+  -- `register CLASS[,CLASS].. "TEXT" [PROP]..`
+  register : {names quoted : List ℕ} {words classes : List (List ℕ)} {object : List ℕ} {properties : List Attribute} →
+      AreClasses names classes → IsQuoted quoted object → AreProperties words properties →
+      AreWordsOf (codes "register" ∷ names ∷ quoted ∷ words) (command.Register classes object properties)
+  -- `modify ID [PROP]..`
+  modify : {id : List ℕ} {words : List (List ℕ)} {service : ServiceId} {properties : List Attribute} →
+      IsId id service → AreProperties words properties → AreWordsOf (codes "modify" ∷ id ∷ words) (command.Modify service properties)
+  -- `unregister ID`
+  unregister : {id : List ℕ} {service : ServiceId} → IsId id service → AreWordsOf (codes "unregister" ∷ id ∷ []) (command.Unregister service)
+  -- `find CLASS`
+  find : {class : List ℕ} → IsClass class → AreWordsOf (codes "find" ∷ class ∷ []) (command.Find class)
+  -- `findall CLASS`
+  findall : {class : List ℕ} → IsClass class → AreWordsOf (codes "findall" ∷ class ∷ []) (command.FindAll class)
+  -- `get ID`
+  get : {id : List ℕ} {service : ServiceId} → IsId id service → AreWordsOf (codes "get" ∷ id ∷ []) (command.Get service)
+  -- `unget ID`
+  unget : {id : List ℕ} {service : ServiceId} → IsId id service → AreWordsOf (codes "unget" ∷ id ∷ []) (command.Unget service)
+  -- `services`
+  services : AreWordsOf (codes "services" ∷ []) command.Services
+
+-- the line says this command: it is the command's words, with spaces at both ends too. Each word wants spaces before it,
+-- and the first word of a line needs none: so a space is put before the line
+pub record Says (line : List ℕ) (command : Command) : Type 0 where
+  pub words : List (List ℕ)
+  pub are : AreWordsOf words command
+  pub parted : IsParted words (32 ∷ line)
+
+-- what a line is read as: it is bad where it says neither nothing nor a command
+abbrev pub Reads : List ℕ → Content → Type 0
+Reads line Empty = SaysNothing line
+Reads line Join = ⊥
+Reads line Bad = (¬ SaysNothing line) × ((command : Command) → ¬ Says line command)
+Reads line (Run command) = Says line command
+
+-- the lines of these texts, numbered from here on
+abbrev pub AreReadFrom : ℕ → List (List ℕ) → List Line → Type 0
+AreReadFrom number [] [] = Unit {0}
+AreReadFrom number (text ∷ texts) (line ∷ rest) =
+    (line.number ≡ number) × (line.lane ≡ 0) × Reads text line.content × AreReadFrom (number + 1) texts rest
+AreReadFrom number _ _ = ⊥
+
+-- the lines of an input. A line ends by LF or CRLF, which the last one need not have; lines are numbered from 1
+abbrev pub AreLinesOf : List ℕ → List Line → Type 0
+AreLinesOf bytes all = AreReadFrom 1 (lines bytes) all

@@ -1,0 +1,90 @@
+-- What the reader computes of the words of a line, and of lines. No public promise speaks of this: it is proved to give the
+-- readings of the grammar.
+use Rattle.std.specs.Prelude.{ℕ, ◌+◌, ◌==◌, if◌then◌else◌, List, [], ◌∷◌, codes, Option, None, Some, option_and_then, find}
+use Rattle.std.specs.Option.{option_map}
+use Rattle.std.specs.Str.{bytes_eq}
+use Rattle.osgi_base.specs.declared.ids.ServiceId.{ServiceId}
+use Rattle.osgi_ops.specs.declared.command.Command.{Command}
+use Rattle.osgi_ops.specs.declared.command.Command.TheVariants as command
+use Rattle.osgi_ops.specs.declared.line.Content.{Content}
+use Rattle.osgi_ops.specs.declared.line.Content.TheVariants.{Empty, Bad, Run}
+use Rattle.osgi_ops.specs.declared.line.Line.{Line}
+use Rattle.osgi_console.specs.declared.commands.Verb.{Verb}
+use Rattle.osgi_console.specs.declared.commands.Verb.TheVariants as verb
+use Rattle.osgi_console.specs.Splitting.{after_spaces, words_of}
+use Rattle.osgi_console.specs.WordReader.{class_of, classes_of, id_of, quoted_of}
+use Rattle.osgi_console.specs.PropertyReader.{properties_of}
+
+-- ---- commands
+
+-- the first word of a command
+abbrev pub name_of : Verb → List ℕ
+name_of verb.Register = codes "register"
+name_of verb.Modify = codes "modify"
+name_of verb.Unregister = codes "unregister"
+name_of verb.Find = codes "find"
+name_of verb.FindAll = codes "findall"
+name_of verb.Get = codes "get"
+name_of verb.Unget = codes "unget"
+name_of verb.Services = codes "services"
+
+abbrev pub verbs : List Verb
+verbs = verb.Register ∷ verb.Modify ∷ verb.Unregister ∷ verb.Find ∷ verb.FindAll ∷ verb.Get ∷ verb.Unget ∷ verb.Services ∷ []
+
+abbrev pub verb_of : List ℕ → Option Verb
+verb_of word = find (λ verb. bytes_eq (name_of verb) word) verbs
+
+abbrev pub register_of : List (List ℕ) → Option Command
+register_of (names ∷ quoted ∷ words) =
+    option_and_then (λ classes. option_and_then (λ object. option_map (λ properties. command.Register classes object properties) (properties_of words)) (quoted_of quoted)) (classes_of names)
+register_of _ = None
+
+abbrev pub modify_of : List (List ℕ) → Option Command
+modify_of [] = None
+modify_of (id ∷ words) = option_and_then (λ service. option_map (λ properties. command.Modify service properties) (properties_of words)) (id_of id)
+
+-- the one argument
+abbrev pub only_id_of : List (List ℕ) → Option ServiceId
+only_id_of (id ∷ []) = id_of id
+only_id_of _ = None
+
+abbrev pub only_class_of : List (List ℕ) → Option (List ℕ)
+only_class_of (class ∷ []) = class_of class
+only_class_of _ = None
+
+abbrev pub services_of : List (List ℕ) → Option Command
+services_of [] = Some command.Services
+services_of _ = None
+
+abbrev pub command_by : Verb → List (List ℕ) → Option Command
+command_by verb.Register arguments = register_of arguments
+command_by verb.Modify arguments = modify_of arguments
+command_by verb.Unregister arguments = option_map command.Unregister (only_id_of arguments)
+command_by verb.Find arguments = option_map command.Find (only_class_of arguments)
+command_by verb.FindAll arguments = option_map command.FindAll (only_class_of arguments)
+command_by verb.Get arguments = option_map command.Get (only_id_of arguments)
+command_by verb.Unget arguments = option_map command.Unget (only_id_of arguments)
+command_by verb.Services arguments = services_of arguments
+
+abbrev pub command_of : List (List ℕ) → Option Command
+command_of [] = None
+command_of (name ∷ arguments) = option_and_then (λ verb. command_by verb arguments) (verb_of name)
+
+-- ---- lines
+
+abbrev pub run_or_bad : Option Command → Content
+run_or_bad None = Bad
+run_or_bad (Some command) = Run command
+
+-- the content of a line by what stands behind the spaces at its front
+abbrev pub content_from : List ℕ → Content
+content_from [] = Empty
+content_from (b ∷ rest) = if b == 35 then Empty else run_or_bad (command_of (words_of (b ∷ rest)))
+
+abbrev pub content_of : List ℕ → Content
+content_of text = content_from (after_spaces text)
+
+-- the lines of these texts, numbered from here on
+abbrev pub numbered : ℕ → List (List ℕ) → List Line
+numbered number [] = []
+numbered number (text ∷ texts) = record { number = number; lane = 0; content = content_of text } ∷ numbered (number + 1) texts
