@@ -83,6 +83,7 @@ pub fn command(alloc: Global, classes: &[&[u8]], object: &[u8]) -> Result<Comman
     Ok(Command::Register {
         classes: text_list(alloc, classes)?,
         object: Text::of(alloc, object)?,
+        properties: List::new(alloc)?,
     })
 }
 
@@ -91,6 +92,7 @@ pub fn op(alloc: Global, owner: u32, classes: &[&[u8]], object: &[u8]) -> Result
         owner: BundleId(owner),
         classes: text_list(alloc, classes)?,
         object: Text::of(alloc, object)?,
+        properties: List::new(alloc)?,
     })
 }
 

@@ -16,4 +16,8 @@ mod machine;
 #[cfg(test)]
 mod names;
 #[cfg(test)]
+mod properties;
+#[cfg(test)]
 mod runs;
+#[cfg(test)]
+mod services;

@@ -1,5 +1,6 @@
 //! The numbers and names of refusals, and the standard limits.
 
+use osgi_base::ids::BundleId;
 use osgi_ops::limits::Limits;
 use osgi_ops::refusal::{Many, Refusal};
 use std::test::Fail;
@@ -7,8 +8,12 @@ use std::test::Fail;
 #[test]
 fn refusals_have_numbers_and_names(rt: HostRuntime) {
     let many = Refusal::TooMany { kind: Many::Jobs };
+    let owner = BundleId(7);
     for (refusal, number, name) in [
         (Refusal::NoSuchBundle, 1, "NoSuchBundle"),
+        (Refusal::NoSuchService, 13, "NoSuchService"),
+        (Refusal::BadProperties, 14, "BadProperties"),
+        (Refusal::NotOwner { owner }, 15, "NotOwner"),
         (many, 17, "TooMany"),
         (Refusal::HistoryFull, 18, "HistoryFull"),
     ] {

@@ -1,0 +1,76 @@
+//! Gets, with the uses of each user counted before, so that they are known to stay below the most that there can be.
+
+ghost use Rattle.std.specs.Prelude.{◌≡◌, ◌+◌, ◌<◌, ◌≤◌, IfSome, OnOk};
+ghost use Rattle.osgi_registry.specs.Rows.{use_count};
+
+use osgi_base::ids::{BundleId, ServiceId};
+use osgi_base::text::Text;
+use osgi_ops::refusal::Refusal;
+use osgi_registry::registry::Registry;
+use std::alloc::AllocError;
+use std::test::Fail;
+
+/// No test takes as many uses of one service by one user.
+const MANY: u64 = 1000;
+
+/// Takes back all uses of the service by the user, and tells how many there were.
+fn take_back(registry: &mut Registry, user: BundleId, service: ServiceId) -> Option<u64>
+    ensures none { IfSome result (λ uses. use_count user service registry.new.rows ≡ 0) }
+    ensures few { IfSome result (λ uses. uses < 1000) }
+    ensures given { registry.new.given ≡ registry.old.given }
+{
+    for uses in 0..MANY {
+        if !registry.unget(user, service) {
+            return Some(uses);
+        }
+    }
+    None
+}
+
+/// Takes one more use.
+fn take_one(
+    registry: &mut Registry,
+    user: BundleId,
+    service: ServiceId,
+) -> Result<Result<Text, Refusal>, AllocError>
+    requires { use_count user service registry.old.rows < 1000 }
+    ensures more { use_count user service registry.new.rows ≤ use_count user service registry.old.rows + 1 }
+    ensures given { registry.new.given ≡ registry.old.given }
+{
+    registry.get(user, service)
+}
+
+/// Takes so many uses.
+fn take(registry: &mut Registry, user: BundleId, service: ServiceId, uses: u64) -> Result<(), Fail>
+    requires none { use_count user service registry.old.rows ≡ 0 }
+    requires few { uses < 1000 }
+    ensures few { OnOk result (use_count user service registry.new.rows < 1000) }
+    ensures given { registry.new.given ≡ registry.old.given }
+{
+    for _ in 0..uses {
+        take_one(registry, user, service)??;
+    }
+    Ok(())
+}
+
+/// How often the user holds the service: the uses are taken back one by one, and taken again.
+pub fn count(registry: &mut Registry, user: BundleId, service: ServiceId) -> Result<u64, Fail>
+    ensures few { OnOk result (use_count user service registry.new.rows < 1000) }
+    ensures given { registry.new.given ≡ registry.old.given }
+{
+    let uses = take_back(registry, user, service).ok_or("too many uses")?;
+    take(registry, user, service, uses)?;
+    Ok(uses)
+}
+
+/// Counts one more use, and tells what the registry answered.
+pub fn get(
+    registry: &mut Registry,
+    user: BundleId,
+    service: ServiceId,
+) -> Result<Result<Text, Refusal>, Fail>
+    ensures given { registry.new.given ≡ registry.old.given }
+{
+    count(registry, user, service)?;
+    Ok(take_one(registry, user, service)?)
+}
