@@ -2,11 +2,14 @@
 use Rattle.std.proofs.Common.{◌≡◌, ℕ, suc, ◌+◌, ◌<◌, ◌≤◌, List, [], ◌∷◌, ◌++◌, length, length-append, map, ap, sym, ◌∙◌, refl, arith, nat_eq}
 use Rattle.std.specs.Prelude.{Bool, true, false, cond, None, Some, All, AllPairs}
 use Rattle.std.specs.Map.{lookup, values_of}
-use Rattle.std.proofs.lemmas.Bool.{eqb-true, ne_eqb}
+use Rattle.std.proofs.lemmas.Bool.{eqb-true}
 use Rattle.std.proofs.lemmas.List.Elements.{All-head, All-map, All-push, All-tail, All-weaker}
 use Rattle.std.proofs.lemmas.List.Kept.{AllPairs-cons}
 use Rattle.std.proofs.lemmas.List.Quantifiers.{all_pairs_push}
-use Rattle.indexmap.specs.IndexMap.{insert_entry}
+use Rattle.std.specs.BTreeMap.{insert_entry}
+use Rattle.std.specs.Cmp.{nat_cmp_is}
+use Rattle.std.specs.Ordering.{match_ordering, nat_cmp}
+use Rattle.std.specs.declared.cmp.Ordering.TheVariants.{Greater}
 use Rattle.osgi_base.specs.declared.ids.ServiceId.{ServiceId}
 use Rattle.osgi_ops.specs.Settings.{most_services}
 use Rattle.osgi_registry.specs.Kept.{IsBefore, AreKept, IsUnder}
@@ -15,11 +18,13 @@ use Rattle.osgi_registry.specs.Rows.{AreInOrder, id_of, row_at, Row}
 -- ---- a fresh id
 
 -- goes last
-pub inserted : (given : ℕ) (entries : List (ℕ × Row)) (row : Row) → All (IsUnder given) entries → insert_entry nat_eq entries (given + 1) row ≡ entries ++ (given + 1, row) ∷ []
+pub inserted : (given : ℕ) (entries : List (ℕ × Row)) (row : Row) → All (IsUnder given) entries → insert_entry nat_cmp entries (given + 1) row ≡ entries ++ (given + 1, row) ∷ []
 inserted given [] row under = refl
 inserted given (e ∷ rest) row under =
     let here = All-head (IsUnder given) e rest under in
-    rw (ne_eqb (given + 1) e.0 (λ same. omega (arith, same, here.below))) (ap (λ l. e ∷ l) (inserted given rest row (All-tail (IsUnder given) e rest under)))
+    let above : Greater ≡ nat_cmp (given + 1) e.0 = nat_cmp_is (given + 1) e.0 Greater (omega (arith, here.below)) in
+    ap (λ o. match_ordering o ((given + 1, row) ∷ e ∷ rest) ((e.0, row) ∷ rest) (e ∷ insert_entry nat_cmp rest (given + 1) row)) (sym above)
+    ∙ ap (λ l. e ∷ l) (inserted given rest row (All-tail (IsUnder given) e rest under))
 
 pub values-push : (entries : List (ℕ × Row)) (key : ℕ) (row : Row) → values_of (entries ++ (key, row) ∷ []) ≡ values_of entries ++ row ∷ []
 values-push [] key row = refl

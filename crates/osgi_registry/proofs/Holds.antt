@@ -1,5 +1,5 @@
 -- What the index by class holds after a change at one class.
-use Rattle.std.proofs.Common.{◌≡◌, ℕ, List, [], ◌∷◌, ◌++◌, ap, sym, ◌∙◌, refl, length, take, drop, arith}
+use Rattle.std.proofs.Common.{◌≡◌, ℕ, List, [], ◌∷◌, ◌++◌, ap, sym, ◌∙◌, refl, length, take, drop, arith, subst}
 use Rattle.std.specs.Prelude.{Bool, true, false, cond, ◌||◌, ◌&&◌, not, Option, None, Some, Result, Ok, Err, OnOk}
 use Rattle.std.specs.List.{list_any}
 use Rattle.std.specs.List.Sorted.{IsStrictlySortedBy}
@@ -13,7 +13,7 @@ use Rattle.std.proofs.lemmas.Map.Text.{is_eq-slice_cmp}
 use Rattle.std.proofs.lemmas.Slice.Eq.{bytes_eq-Decides}
 use Rattle.osgi_registry.specs.declared.place.Place.{Place}
 use Rattle.std.proofs.lemmas.Bool.{or_left}
-use Rattle.std.proofs.lemmas.List.{take-append-drop}
+use Rattle.std.proofs.lemmas.List.{take-append-drop, take_all}
 use Rattle.std.proofs.lemmas.List.Folds.{list_any-append}
 use Rattle.osgi_registry.specs.Places.{Adds, Classes, holds, IsFresh, Moves, place_cmp, places_at, same_place, StandsUnder, Takes}
 use Rattle.osgi_ops.specs.Classes.{is_among}
@@ -119,6 +119,11 @@ pub restored : (old mid new : Classes) (classes : List (List ℕ)) (i : ℕ) (pl
 restored old mid new classes i place fresh added taken = λ c p.
     taken c p ∙ ap (λ b. not (is_among classes c && same_place place p) && b) (added c p)
     ∙ restored_by (is_among classes c) (is_among (take i classes) c) (same_place place p) (holds old c p) (among_taken classes i c) (fresh c p)
+
+-- and so does a place added under all of them and taken out again
+pub undone : (old mid new : Classes) (classes : List (List ℕ)) (place : Place) → IsFresh old place → Adds old mid classes place → Takes mid new classes place → (c : List ℕ) (p : Place) → holds new c p ≡ holds old c p
+undone old mid new classes place fresh added taken =
+    restored old mid new classes (length classes) place fresh (subst (λ l. Adds old mid l place) (sym (take_all (length classes) classes (omega arith))) added) taken
 
 -- what is held alike is added to alike
 pub adds_same : (old mid new : Classes) (classes : List (List ℕ)) (place : Place) → Adds old mid classes place → ((c : List ℕ) (p : Place) → holds new c p ≡ holds mid c p) → Adds old new classes place

@@ -3,6 +3,7 @@ pub mod Changed
 pub mod Entries
 pub mod Exact
 pub mod Holds
+pub mod Keys
 pub mod Placed
 pub mod Pushes
 pub mod Ranked

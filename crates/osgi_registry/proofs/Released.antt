@@ -5,12 +5,13 @@ use Rattle.std.specs.List.{list_any}
 use Rattle.std.specs.Map.{lookup, remove_entry, values_of}
 use Rattle.std.specs.Map.Calls.{RetainsPairs}
 use Rattle.std.proofs.lemmas.Bool.{and_parts, or_cases}
-use Rattle.std.proofs.lemmas.List.{drop_more, get_or-drop, get_or-take, length-drop, length-map, length-take-le, take_more}
+use Rattle.std.proofs.lemmas.List.{drop_all, drop_more, get_or-drop, get_or-take, length-drop, length-map, length-take-le, take_all, take_more}
 use Rattle.std.proofs.lemmas.Option.{get_or_from_slice_get}
 use Rattle.std.proofs.lemmas.List.Elements.{All-filter, All-head, All-map, All-tail, filter-append}
 use Rattle.std.proofs.lemmas.List.Folds.{list_any-append}
 use Rattle.std.proofs.lemmas.List.Kept.{AllPairs-cons, AllPairs-filter}
 use Rattle.osgi_base.specs.declared.ids.BundleId.{BundleId}
+use Rattle.osgi_base.specs.declared.ids.ServiceId.{ServiceId}
 use Rattle.osgi_registry.specs.declared.place.Place.{Place}
 use Rattle.osgi_registry.specs.Kept.{AreKept, IsBefore, IsUnder}
 use Rattle.osgi_registry.specs.Places.{Classes, is_placed, IsIndexOf, place_of, Takes}
@@ -45,16 +46,15 @@ forgotten user uses left is none = sym (unused user left none) ∙ ap (filter (�
 
 -- ---- one more row
 
-ids_push : (rows : List Row) (row : Row) → ids_of (rows ++ row ∷ []) ≡ ids_of rows ++ row.service.service ∷ []
-ids_push [] row = refl
-ids_push (r ∷ rest) row = ap (λ l. r.service.service ∷ l) (ids_push rest row)
+-- the first of those that are left is the bundle's
+pub ids_more : (bundle : BundleId) (ids : List ServiceId) (left rest : List Row) (row : Row) → left ≡ row ∷ rest → is_owned bundle row ≡ true →
+    (ids ++ row.service.service ∷ []) ++ ids_of (filter (is_owned bundle) rest) ≡ ids ++ ids_of (filter (is_owned bundle) left)
+ids_more bundle ids left rest row is own = rw (is, own) (append_assoc ids (row.service.service ∷ []) (ids_of (filter (is_owned bundle) rest)))
 
-pub ids_more : (bundle : BundleId) (front : List Row) (row : Row) → is_owned bundle row ≡ true → ids_of (filter (is_owned bundle) (front ++ row ∷ [])) ≡ ids_of (filter (is_owned bundle) front) ++ row.service.service ∷ []
-ids_more bundle front row own =
-    ap ids_of (filter-append (is_owned bundle) front (row ∷ []) ∙ ap (λ l. filter (is_owned bundle) front ++ l) (rw own refl)) ∙ ids_push (filter (is_owned bundle) front) row
-
-pub ids_others : (bundle : BundleId) (front : List Row) (row : Row) → is_owned bundle row ≡ false → filter (is_owned bundle) (front ++ row ∷ []) ≡ filter (is_owned bundle) front
-ids_others bundle front row other = filter-append (is_owned bundle) front (row ∷ []) ∙ ap (λ l. filter (is_owned bundle) front ++ l) (rw other refl) ∙ append-nil (filter (is_owned bundle) front)
+-- or another's
+pub ids_others : (bundle : BundleId) (ids : List ServiceId) (left rest : List Row) (row : Row) → left ≡ row ∷ rest → is_owned bundle row ≡ false →
+    ids ++ ids_of (filter (is_owned bundle) rest) ≡ ids ++ ids_of (filter (is_owned bundle) left)
+ids_others bundle ids left rest row is other = rw (is, other) refl
 
 pub others_own : (bundle : BundleId) (front : List Row) (row : Row) → is_owned bundle row ≡ true → others bundle (front ++ row ∷ []) ≡ others bundle front
 others_own bundle front row own = filter-append (λ r. not (is_owned bundle r)) front (row ∷ []) ∙ ap (λ l. others bundle front ++ l) (rw own refl) ∙ append-nil (others bundle front)
@@ -62,7 +62,7 @@ others_own bundle front row own = filter-append (λ r. not (is_owned bundle r)) 
 pub others_more : (bundle : BundleId) (front : List Row) (row : Row) → is_owned bundle row ≡ false → others bundle (front ++ row ∷ []) ≡ others bundle front ++ row ∷ []
 others_more bundle front row other = filter-append (λ r. not (is_owned bundle r)) front (row ∷ []) ∙ ap (λ l. others bundle front ++ l) (rw other refl)
 
-pub front_more : (rows : List Row) (i : ℕ) (row : Row) → i < length rows → slice_get rows i ≡ Some row → take (i + 1) rows ≡ take i rows ++ row ∷ []
+front_more : (rows : List Row) (i : ℕ) (row : Row) → i < length rows → slice_get rows i ≡ Some row → take (i + 1) rows ≡ take i rows ++ row ∷ []
 front_more rows i row within at = take_more rows i row within ∙ ap (λ r. take i rows ++ r ∷ []) (get_or_from_slice_get rows i row row at)
 
 rest_more : (rows : List Row) (i : ℕ) (row : Row) → i < length rows → slice_get rows i ≡ Some row → drop i rows ≡ row ∷ drop (i + 1) rows
@@ -122,6 +122,14 @@ goes old new bundle rows i row within at own apart index taken = λ c p.
     (none_shared c p row rest (after_apart rows i row within at apart))
     ∙ sym (list_any-append P front rest)
     ∙ ap (λ l. list_any P (l ++ rest)) (sym (ap (others bundle) (front_more rows i row within at) ∙ others_own bundle (take i rows) row own))
+
+-- all are passed
+pub all_passed : (classes : Classes) (bundle : BundleId) (rows : List Row) (i : ℕ) → i ≡ length rows → IsIndexOf classes (others bundle (take i rows) ++ drop i rows) → IsIndexOf classes (others bundle rows)
+all_passed classes bundle rows i is index =
+    let none : drop i rows ≡ [] = drop_all i rows (omega (arith, is)) in
+    let all : take i rows ≡ rows = take_all i rows (omega (arith, is)) in
+    let left : others bundle (take i rows) ++ drop i rows ≡ others bundle rows = (λ j. others bundle (all j) ++ none j) ∙ append-nil (others bundle rows) in
+    λ c p. index c p ∙ ap (list_any (is_placed c p)) left
 
 -- ---- the entries that are left
 

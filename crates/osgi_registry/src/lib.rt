@@ -6,5 +6,6 @@ pub mod held;
 pub mod place;
 pub mod properties;
 pub mod registry;
+pub mod services;
 
 pub use osgi_ops::service::Service;

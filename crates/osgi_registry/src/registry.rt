@@ -5,7 +5,7 @@ ghost use Rattle.osgi_ops.specs.Classes.{AreRanked, has_class, IsBest};
 ghost use Rattle.osgi_ops.specs.Settings.{most_services};
 ghost use Rattle.std.specs.Bool.{OnTrue, OnFalse};
 ghost use Rattle.std.specs.Result.{result_err};
-ghost use Rattle.indexmap.specs.IndexMap.{values};
+ghost use Rattle.std.specs.BTreeMap.{values};
 ghost use Rattle.osgi_ops.specs.declared.op.Op.TheVariants as op;
 ghost use Rattle.osgi_ops.specs.declared.reply.Reply.TheVariants as answers;
 ghost use Rattle.osgi_registry.specs.Places.{IsIndexOf};
@@ -16,7 +16,7 @@ use crate::class_index::ClassIndex;
 use crate::held::Held;
 use crate::place::Place;
 use crate::properties::{has_twins, with_framework};
-use indexmap::IndexMap;
+use crate::services::Services;
 use osgi_base::ids::{BundleId, ServiceId};
 use osgi_base::list::List;
 use osgi_base::text::Text;
@@ -24,6 +24,7 @@ use osgi_ops::refusal::{Many, Refusal};
 use osgi_ops::service::Service;
 use osgi_ops::value::Attributes;
 use std::alloc::{AllocError, Global};
+use std::collections::BTreeMap;
 use std::marker::Model;
 
 /// How many services may be live.
@@ -33,7 +34,7 @@ const MOST_SERVICES: usize = 65_536;
 #[derive(Drop)]
 pub struct Registry {
     alloc: Global,
-    services: IndexMap<u64, Held>,
+    services: BTreeMap<u64, Held>,
     index: ClassIndex,
     given: u64,
 }
@@ -61,7 +62,7 @@ impl Registry {
     {
         Ok(Registry {
             alloc,
-            services: IndexMap::new(alloc),
+            services: BTreeMap::new(alloc),
             index: ClassIndex::new(alloc),
             given: 0,
         })
@@ -81,7 +82,18 @@ impl Registry {
         ensures service { slice_get (services_of self.now.rows) place ≡ Some result.now }
         ensures in_order { AreInOrder self.now }
     {
-        self.services[place].service()
+        let Some(held) = self.services.values().nth(place) else {
+            unreachable!()
+        };
+        held.service()
+    }
+
+    /// The live services by rising id.
+    pub fn services(&self) -> Services<'_>
+        ensures services { result ≡ services_of self.now.rows }
+        ensures in_order { AreInOrder self.now }
+    {
+        Services::new(self.services.values())
     }
 
     /// Registers a service under the next id.
@@ -137,10 +149,14 @@ impl Registry {
         ensures unchanged { OnErr result (self.new ≡ self.old) }
     {
         let id = service.service.0;
-        self.services.reserve(1)?;
-        self.index
-            .add_all(service.classes.items(), Place::of(&service))?;
-        self.services.insert(id, Held::new(self.alloc, service))?;
+        let place = Place::of(&service);
+        self.index.add_all(service.classes.items(), place)?;
+        let held = Held::new(self.alloc, service);
+        if let Err(wanting) = self.services.insert(id, held) {
+            let (_, held) = wanting.value;
+            self.index.take_all(held.service().classes.items(), place);
+            return Err(AllocError);
+        }
         self.given = id;
         Ok(())
     }
@@ -208,7 +224,7 @@ impl Registry {
         if let Some(refusal) = self.refusal_of(owner, service) {
             return Err(refusal);
         }
-        let Some(held) = self.services.shift_remove(&service.0) else {
+        let Some(held) = self.services.remove(&service.0) else {
             return Err(Refusal::NoSuchService);
         };
         let service = held.service();
@@ -293,14 +309,14 @@ impl Registry {
 /// The ids of the bundle's services.
 fn services_of(
     alloc: Global,
-    services: &IndexMap<u64, Held>,
+    services: &BTreeMap<u64, Held>,
     bundle: BundleId,
 ) -> Result<List<ServiceId>, AllocError>
     ensures ids { IfOk result (λ ids. ids ≡ ids_of (filter (is_owned bundle) (values services.now))) }
 {
     let mut ids = List::new(alloc)?;
-    for place in 0..services.len() {
-        let service = services[place].service();
+    for held in services.values() {
+        let service = held.service();
         if service.owner.0 != bundle.0 {
             continue;
         }
@@ -310,13 +326,13 @@ fn services_of(
 }
 
 /// Takes the places of the bundle's services out of the index.
-fn take_places(index: &mut ClassIndex, services: &IndexMap<u64, Held>, bundle: BundleId)
+fn take_places(index: &mut ClassIndex, services: &BTreeMap<u64, Held>, bundle: BundleId)
     requires apart { AllPairs (λ a b. id_of a ≢ id_of b) (values services.now) }
     requires index { IsIndexOf index.old.classes (values services.now) }
     ensures index { IsIndexOf index.new.classes (others bundle (values services.now)) }
 {
-    for place in 0..services.len() {
-        let service = services[place].service();
+    for held in services.values() {
+        let service = held.service();
         if service.owner.0 != bundle.0 {
             continue;
         }

@@ -6,6 +6,7 @@ use Rattle.std.proofs.lemmas.Bool.{eq-eqb}
 use Rattle.std.proofs.lemmas.Result.{err_from_is_err_and}
 use Rattle.osgi_registry.proofs.Changed.{kept_set, rows_set, set_same}
 use Rattle.osgi_registry.proofs.Entries.{found_under, row_absent}
+use Rattle.osgi_registry.proofs.Keys.{found_by, set_by}
 use Rattle.osgi_registry.proofs.Placed.{any_found, fresh_move, index_same, only_one, placed_change, stands}
 use Rattle.osgi_registry.specs.Places.{Moves, place_of}
 use Rattle.osgi_registry.specs.Rows.{id_of, is_service, row_at, with_properties}
@@ -14,36 +15,36 @@ use Rattle.osgi_registry.proofs.registry.Registry.modify.Goals as goal
 
 pub returns-in_default-get_mut-clause-refusal : goal.returns-in_default-get_mut-clause-refusal
 returns-in_default-get_mut-clause-refusal c =
-    let none : row_at c.args.service c.args.self.now.rows ≡ None = row_absent _ c.args.service _ _ (ap (λ r. r.rows) c.self.view_is) c.self.invariant.rows.under (sym c.in_default-get_mut.ensures.value) in
+    let none : row_at c.args.service c.args.self.now.rows ≡ None = row_absent _ c.args.service _ _ (ap (λ r. r.rows) c.self.view_is) c.self.invariant.rows.under (found_by c.args.service.0 _ _ c.in_default-get_mut.ensures.value) in
     rw none refl
 
 pub with_framework-requires : goal.with_framework-requires
 with_framework-requires c =
-    let found : lookup (nat_eq c.args.service.0) c.self.inside.services.entries ≡ Some c.in-Some-get_mut.held.now = sym c.in-Some-get_mut.ensures.value in
+    let found : lookup (nat_eq c.args.service.0) c.self.inside.services.entries ≡ Some c.in-Some-get_mut.held.now = found_by c.args.service.0 _ _ c.in-Some-get_mut.ensures.value in
     let under = found_under _ _ _ _ c.self.invariant.rows.under found in
     let is = ap (λ s. s.service.0) c.service-now.ensures.service in
     omega (arith, under.key, under.below, is, c.self.invariant.rows.fits)
 
 pub invariant_of-self-in_err-all : goal.invariant_of-self-in_err-all
 invariant_of-self-in_err-all c =
-    rw ((c.get_mut.follows.holds c.in-Some-get_mut.held.now).0, set_same c.args.service.0 c.in-Some-get_mut.held.now c.in-Some-get_mut.held.now _ refl (sym c.in-Some-get_mut.ensures.value)) c.self.invariant
+    rw (set_by c.args.service.0 _ _ _ (c.get_mut.follows.holds c.in-Some-get_mut.held.now).0, set_same c.args.service.0 c.in-Some-get_mut.held.now c.in-Some-get_mut.held.now _ refl (found_by c.args.service.0 _ _ c.in-Some-get_mut.ensures.value)) c.self.invariant
 
 pub returns-in_err-all-clause-unchanged : goal.returns-in_err-all-clause-unchanged
 returns-in_err-all-clause-unchanged c =
     let p = err_from_is_err_and c.from_residual.result c.from_residual.ensures.1 in
     rw p.1
     (ap (λ es. record { rows = values_of es; given = c.self.inside.given })
-    ((c.get_mut.follows.holds c.in-Some-get_mut.held.now).0 ∙ set_same c.args.service.0 c.in-Some-get_mut.held.now c.in-Some-get_mut.held.now _ refl (sym c.in-Some-get_mut.ensures.value))
+    (set_by c.args.service.0 _ _ _ (c.get_mut.follows.holds c.in-Some-get_mut.held.now).0 ∙ set_same c.args.service.0 c.in-Some-get_mut.held.now c.in-Some-get_mut.held.now _ refl (found_by c.args.service.0 _ _ c.in-Some-get_mut.ensures.value))
     ∙ c.self.view_is)
 
 pub move_all-requires-clause-stands : goal.move_all-requires-clause-stands
 move_all-requires-clause-stands c =
     rw (c.items-5.ensures.items, c.of.ensures.place, c.service-now.ensures.service)
-    (stands c.self.inside.index.classes c.args.service.0 c.in-Some-get_mut.held.now c.self.inside.services.entries c.self.invariant.index (sym c.in-Some-get_mut.ensures.value))
+    (stands c.self.inside.index.classes c.args.service.0 c.in-Some-get_mut.held.now c.self.inside.services.entries c.self.invariant.index (found_by c.args.service.0 _ _ c.in-Some-get_mut.ensures.value))
 
 pub move_all-requires-clause-fresh : goal.move_all-requires-clause-fresh
 move_all-requires-clause-fresh c =
-    let found : lookup (nat_eq c.args.service.0) c.self.inside.services.entries ≡ Some c.in-Some-get_mut.held.now = sym c.in-Some-get_mut.ensures.value in
+    let found : lookup (nat_eq c.args.service.0) c.self.inside.services.entries ≡ Some c.in-Some-get_mut.held.now = found_by c.args.service.0 _ _ c.in-Some-get_mut.ensures.value in
     let is : c.new-place.result.service ≡ c.args.service.0
     = ap (λ p. p.service) c.new-place.ensures.place ∙ ap (λ s. s.service.0) c.service-now.ensures.service ∙ sym (found_under _ _ _ _ c.self.invariant.rows.under found).key in
     rw (c.of.ensures.place, c.service-now.ensures.service)
@@ -51,7 +52,7 @@ move_all-requires-clause-fresh c =
 
 pub invariant_of-self-in_err-move_all : goal.invariant_of-self-in_err-move_all
 invariant_of-self-in_err-move_all c =
-    rw ((c.get_mut.follows.holds c.in-Some-get_mut.held.now).0, set_same c.args.service.0 c.in-Some-get_mut.held.now c.in-Some-get_mut.held.now _ refl (sym c.in-Some-get_mut.ensures.value))
+    rw (set_by c.args.service.0 _ _ _ (c.get_mut.follows.holds c.in-Some-get_mut.held.now).0, set_same c.args.service.0 c.in-Some-get_mut.held.now c.in-Some-get_mut.held.now _ refl (found_by c.args.service.0 _ _ c.in-Some-get_mut.ensures.value))
     (record {
       rows = c.self.invariant.rows;
       index = index_same c.self.inside.index.classes c.move_all.new.self.classes (values_of c.self.inside.services.entries) c.self.invariant.index c.in_err-move_all.ensures.unchanged;
@@ -62,7 +63,7 @@ returns-in_err-move_all-clause-unchanged c =
     let p = err_from_is_err_and c.from_residual-in_err-move_all.result c.from_residual-in_err-move_all.ensures.1 in
     rw p.1
     (ap (λ es. record { rows = values_of es; given = c.self.inside.given })
-    ((c.get_mut.follows.holds c.in-Some-get_mut.held.now).0 ∙ set_same c.args.service.0 c.in-Some-get_mut.held.now c.in-Some-get_mut.held.now _ refl (sym c.in-Some-get_mut.ensures.value))
+    (set_by c.args.service.0 _ _ _ (c.get_mut.follows.holds c.in-Some-get_mut.held.now).0 ∙ set_same c.args.service.0 c.in-Some-get_mut.held.now c.in-Some-get_mut.held.now _ refl (found_by c.args.service.0 _ _ c.in-Some-get_mut.ensures.value))
     ∙ c.self.view_is)
 
 pub invariant_of-self-2 : goal.invariant_of-self-2
@@ -70,7 +71,7 @@ invariant_of-self-2 c =
     let old = c.self.inside.index.classes in
     let new = c.move_all.new.self.classes in
     let row = c.in-Some-get_mut.held.now in
-    let found : lookup (nat_eq c.args.service.0) c.self.inside.services.entries ≡ Some row = sym c.in-Some-get_mut.ensures.value in
+    let found : lookup (nat_eq c.args.service.0) c.self.inside.services.entries ≡ Some row = found_by c.args.service.0 _ _ c.in-Some-get_mut.ensures.value in
     let key : c.args.service.0 ≡ id_of row = (found_under _ _ _ _ c.self.invariant.rows.under found).key in
     let is : with_properties c.args.properties row ≡ c.set_properties.new.self
     = rw (c.set_properties.ensures.set, c.in_ok-all.ensures.all, c.items-2.ensures.items, c.items-3.ensures.items, c.service-now.ensures.service) refl in
@@ -85,7 +86,7 @@ invariant_of-self-2 c =
     (subst (λ q. Moves old new c.items-5.result.now q (place_of (with_properties c.args.properties row).service)) from
     (subst (λ q. Moves old new c.items-5.result.now c.of.result q) to c.in_ok-move_all.ensures.moved)) in
     let rows = c.self.invariant.rows in
-    rw (c.get_mut.follows.holds c.set_properties.new.self).0
+    rw (set_by c.args.service.0 _ _ _ (c.get_mut.follows.holds c.set_properties.new.self).0)
     (record {
       rows = kept_set _ c.args.service.0 _ _ rows (ap (λ r. r.service.service.0) c.set_properties.ensures.set ∙ sym key);
       index =
@@ -99,8 +100,8 @@ pub returns-clause-rows : goal.returns-clause-rows
 returns-clause-rows c =
     let is : with_properties c.args.properties c.in-Some-get_mut.held.now ≡ c.set_properties.new.self
     = rw (c.set_properties.ensures.set, c.in_ok-all.ensures.all, c.items-2.ensures.items, c.items-3.ensures.items, c.service-now.ensures.service) refl in
-    rw ((c.get_mut.follows.holds c.set_properties.new.self).0, ← c.self.view_is)
-    (rows_set _ c.args.service c.in-Some-get_mut.held.now c.set_properties.new.self (with_properties c.args.properties) _ c.self.invariant.rows.under c.self.invariant.rows.rising is (sym c.in-Some-get_mut.ensures.value))
+    rw (set_by c.args.service.0 _ _ _ (c.get_mut.follows.holds c.set_properties.new.self).0, ← c.self.view_is)
+    (rows_set _ c.args.service c.in-Some-get_mut.held.now c.set_properties.new.self (with_properties c.args.properties) _ c.self.invariant.rows.under c.self.invariant.rows.rising is (found_by c.args.service.0 _ _ c.in-Some-get_mut.ensures.value))
 
 pub returns-clause-stands : goal.returns-clause-stands
 returns-clause-stands c = λ history tag stands. stands_modified history c.args.self.now _ tag c.args.owner c.args.service c.args.properties stands (returns-clause-rows c) (ap (λ r. r.given) c.self.view_is)

@@ -4,29 +4,30 @@ use Rattle.std.specs.Prelude.{None, Some}
 use Rattle.std.specs.Map.{lookup, values_of}
 use Rattle.osgi_registry.proofs.Changed.{kept_remove, rows_remove}
 use Rattle.osgi_registry.proofs.Entries.{found_under, row_absent}
+use Rattle.osgi_registry.proofs.Keys.{found_by, removed_by}
 use Rattle.osgi_registry.proofs.Placed.{only_one, placed_remove}
 use Rattle.osgi_registry.specs.Places.{place_of, Takes}
 use Rattle.osgi_registry.specs.Rows.{row_at}
 use Rattle.osgi_registry.proofs.Standing.{stands_taken}
 use Rattle.osgi_registry.proofs.registry.Registry.unregister.Goals as goal
 
-pub returns-in_default-shift_remove-clause-refusal : goal.returns-in_default-shift_remove-clause-refusal
-returns-in_default-shift_remove-clause-refusal c =
+pub returns-in_default-remove-clause-refusal : goal.returns-in_default-remove-clause-refusal
+returns-in_default-remove-clause-refusal c =
     let none : row_at c.args.service c.args.self.now.rows ≡ None
-    = row_absent _ c.args.service _ _ (ap (λ r. r.rows) c.self.view_is) c.self.invariant.rows.under (sym c.in_default-shift_remove.ensures.value) in
+    = row_absent _ c.args.service _ _ (ap (λ r. r.rows) c.self.view_is) c.self.invariant.rows.under (found_by c.args.service.0 _ _ c.in_default-remove.ensures.value) in
     rw none refl
 
 pub invariant_of-self-2 : goal.invariant_of-self-2
 invariant_of-self-2 c =
     let rows = c.self.invariant.rows in
-    let row = c.in-Some-shift_remove.held in
-    let found : lookup (nat_eq c.args.service.0) c.self.inside.services.entries ≡ Some row = sym c.in-Some-shift_remove.ensures.value in
+    let row = c.in-Some-remove.held in
+    let found : lookup (nat_eq c.args.service.0) c.self.inside.services.entries ≡ Some row = found_by c.args.service.0 _ _ c.in-Some-remove.ensures.value in
     let at : c.of.result ≡ place_of row.service = c.of.ensures.place ∙ ap place_of c.service-service.ensures.service in
     let among : c.items.result.now ≡ row.service.classes = c.items.ensures.items ∙ ap (λ s. s.classes) c.service-service.ensures.service in
     let taken : Takes c.self.inside.index.classes c.take_all.new.self.classes row.service.classes (place_of row.service)
     = subst (λ l. Takes c.self.inside.index.classes c.take_all.new.self.classes l (place_of row.service)) among
     (subst (λ q. Takes c.self.inside.index.classes c.take_all.new.self.classes c.items.result.now q) at c.take_all.ensures.taken) in
-    rw c.in-Some-shift_remove.ensures.entries
+    rw (removed_by c.args.service.0 _ _ c.in-Some-remove.ensures.entries)
     (record {
       rows = kept_remove _ _ _ rows;
       index =
@@ -37,7 +38,7 @@ invariant_of-self-2 c =
 
 pub returns-clause-rows : goal.returns-clause-rows
 returns-clause-rows c =
-    rw (c.in-Some-shift_remove.ensures.entries, ← c.self.view_is) (rows_remove c.self.inside.given c.args.service c.self.inside.services.entries c.self.invariant.rows.under c.self.invariant.rows.rising)
+    rw (removed_by c.args.service.0 _ _ c.in-Some-remove.ensures.entries, ← c.self.view_is) (rows_remove c.self.inside.given c.args.service c.self.inside.services.entries c.self.invariant.rows.under c.self.invariant.rows.rising)
 
 pub returns-clause-stands : goal.returns-clause-stands
 returns-clause-stands c = λ history tag stands. stands_taken history c.args.self.now _ tag c.args.owner c.args.service stands (returns-clause-rows c) (ap (λ r. r.given) c.self.view_is)
