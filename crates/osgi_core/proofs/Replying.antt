@@ -1,11 +1,8 @@
 -- What the registry answers is what is due after each history that it stands for.
-use Rattle.std.proofs.Common.{◌≡◌, ◌≢◌, ◌+◌, ◌≤◌, ◌<◌, ℕ, inl, inr, List, [], ◌∷◌, ◌++◌, length, map, drop, take, ap, sym, subst, ◌∙◌, refl, arith}
+use Rattle.std.proofs.Common.{◌≡◌, ◌≢◌, ◌+◌, ◌≤◌, ◌<◌, ℕ, inl, inr, List, [], ◌∷◌, ◌++◌, length, map, drop, ap, sym, subst, ◌∙◌, refl, arith}
 use Rattle.std.specs.Prelude.{Bool, true, false, cond, ◌==◌, nat_le, nat_lt, Option, None, Some, Result, Ok, Err, IfNone, IfOk, IfSome, IsSomeAnd, All}
-use Rattle.std.specs.List.{slice_get}
 use Rattle.std.specs.Option.{option_map_or, option_or}
 use Rattle.std.proofs.lemmas.Bool.{eqb-false, eqb-true, leb-false, leb-true}
-use Rattle.std.proofs.lemmas.List.{length-map, map-append, take_all, take_more}
-use Rattle.std.proofs.lemmas.Option.{get_or_from_slice_get, slice_get_within}
 use Rattle.osgi_base.specs.declared.ids.BundleId.{BundleId}
 use Rattle.osgi_base.specs.declared.ids.ServiceId.{ServiceId}
 use Rattle.osgi_ops.proofs.Verdicts.{gives_first, gives_rest}
@@ -299,16 +296,3 @@ replied_listed registry rows are = record {
 pub by_refused : {E : Type 0} (r : Result (Reply × Reply) E) (P : Reply → Type 0) (refusal : Refusal) → IfOk r (λ x. (x.0 ≡ answer.Refused refusal) × (x.1 ≡ answer.Refused refusal)) → P (answer.Refused refusal) → IfOk r (λ x. P x.0)
 by_refused (Ok x) P refusal is p = subst P (sym is.0) p
 by_refused (Err e) P refusal is p = tt
-
--- one row more
-pub rows_more : (rows : List Row) (so_far : List ServiceRow) (place : ℕ) (service : Service) (row : ServiceRow) → so_far ≡ map row_of (take place (services_of rows)) → row ≡ row_of service → slice_get (services_of rows) place ≡ Some service →
-    so_far ++ row ∷ [] ≡ map row_of (take (place + 1) (services_of rows))
-rows_more rows so_far place service row are is at =
-    let within = slice_get_within (services_of rows) place service at in
-    let more : take (place + 1) (services_of rows) ≡ take place (services_of rows) ++ service ∷ []
-    = take_more (services_of rows) place service within ∙ ap (λ s. take place (services_of rows) ++ s ∷ []) (get_or_from_slice_get (services_of rows) place service service at) in
-    (λ i. are i ++ is i ∷ []) ∙ sym (map-append row_of (take place (services_of rows)) (service ∷ [])) ∙ ap (map row_of) (sym more)
-
--- all of them
-pub rows_all : (rows : List Row) (all : List ServiceRow) (place : ℕ) → all ≡ map row_of (take place (services_of rows)) → length rows ≤ place → all ≡ map row_of (services_of rows)
-rows_all rows all place are past = are ∙ ap (map row_of) (take_all place (services_of rows) (omega (arith, length-map rows (λ (row : Row). row.service), past)))

@@ -202,8 +202,8 @@ fn rows(alloc: Global, registry: &Registry) -> Result<List<ServiceRow>, AllocErr
     ensures rows { IfOk result (λ rows. rows ≡ map row_of (services_of registry.now.rows)) }
 {
     let mut rows = List::new(alloc)?;
-    for place in 0..registry.count() {
-        rows.push(row(alloc, registry.at(place))?)?;
+    for service in registry.services() {
+        rows.push(row(alloc, service)?)?;
     }
     Ok(rows)
 }
