@@ -51,8 +51,7 @@ fn expect(holds: bool, what: &'static str) -> Result<(), Fail> {
 
 /// The service's row, if it is live.
 fn row_of(registry: &Registry, service: ServiceId) -> Option<&Service> {
-    for place in 0..registry.count() {
-        let row = registry.at(place);
+    for row in registry.services() {
         if row.service == service {
             return Some(row);
         }
@@ -93,8 +92,7 @@ fn has_class(service: &Service, class: &Text) -> bool {
 /// The ids of the services of a class, the best first, found by sorting all rows.
 fn sorted(alloc: Global, registry: &Registry, class: &Text) -> Result<List<ServiceId>, Fail> {
     let mut places = Vec::new(alloc);
-    for place in 0..registry.count() {
-        let row = registry.at(place);
+    for row in registry.services() {
         if has_class(row, class) {
             places.push((Reverse(ranking_of(row)), row.service.0))?;
         }
@@ -305,8 +303,7 @@ impl Trial {
     {
         let bundle = self.bundle();
         let mut want = List::new(self.alloc)?;
-        for place in 0..self.registry.count() {
-            let row = self.registry.at(place);
+        for row in self.registry.services() {
             if row.owner == bundle {
                 want.push(row.service)?;
             }
