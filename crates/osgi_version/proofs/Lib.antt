@@ -1,0 +1,17 @@
+-- Lemmas on machines that read byte by byte, on versions and on ranges.
+pub mod Classes
+pub mod Cutting
+pub mod Faults
+pub mod PrintReads
+pub mod RangeAlive
+pub mod RangeCut
+pub mod RangeReader
+pub mod RangeRuns
+pub mod RangeSeen
+pub mod RangeStrict
+pub mod Running
+pub mod Unique
+pub mod VersionAlive
+pub mod VersionReader
+pub mod VersionRuns
+pub mod VersionSeen

@@ -1,0 +1,19 @@
+//! Versions and ranges of versions, read exactly by their grammar.
+//!
+//! `version` and `range` are the public types with their calls, `qualifier` and `fault` what they hold and answer.
+//! `reader` and `examine` read a text by any machine that keeps the laws of a reader, `version_state` and `range_state`
+//! are the two machines.
+#![tactic(auto)]
+
+mod bounds;
+mod bytes;
+pub mod examine;
+pub mod fault;
+mod printing;
+pub mod qualifier;
+pub mod range;
+mod range_state;
+mod read;
+pub mod reader;
+pub mod version;
+mod version_state;

@@ -1,0 +1,95 @@
+//! Versions: three numbers and a qualifier.
+
+ghost use Rattle.std.specs.Prelude.{◌≤◌};
+
+use crate::fault::VersionFault;
+use crate::printing::printed;
+use crate::qualifier::Qualifier;
+use crate::read::{Found, read};
+use osgi_base::copied::Copied;
+use std::alloc::{AllocError, Global};
+use std::cmp::Ordering;
+
+/// A version. Versions are ordered by their numbers, then by the qualifiers' bytes.
+#[derive(Debug, Drop, PartialEq, Eq, PartialOrd, Ord)]
+pub struct Version {
+    pub major: u32,
+    pub minor: u32,
+    pub micro: u32,
+    pub qualifier: Qualifier,
+    pub ghost in_range: { (major ≤ 2147483647) × (minor ≤ 2147483647) × (micro ≤ 2147483647) },
+}
+
+impl Version {
+    ghost use Rattle.std.specs.Prelude.{◌≡◌, ◌++◌, ◌↔◌, IfOk, IsNone, IsOkAnd, MatchResult, Some};
+    ghost use Rattle.osgi_version.specs.Faults.{IsFault};
+    ghost use Rattle.osgi_version.specs.FoundParts.{found_parts};
+    ghost use Rattle.osgi_version.specs.VersionValues.{order, parts, text_of};
+    ghost use Rattle.osgi_version.specs.Versions.{Parts, ReadsVersion, IsReadableVersion, IsSpelledVersion};
+
+    /// The version that the bytes read as, or why they are none.
+    pub fn parse(alloc: Global, bytes: &[u8]) -> Result<Result<Version, VersionFault>, AllocError>
+        ensures reads { IfOk result (λ r. MatchResult r (λ v. ReadsVersion bytes.now (parts v)) (IsFault IsSpelledVersion IsReadableVersion bytes.now)) }
+        ensures only { (v : Parts) → ReadsVersion bytes.now v → IfOk result (λ r. IsOkAnd r (λ w. parts w ≡ v)) }
+    {
+        match read(bytes) {
+            Ok(found) => Ok(Ok(Version {
+                major: found.major,
+                minor: found.minor,
+                micro: found.micro,
+                qualifier: Qualifier::of(alloc, found.qualifier)?,
+            })),
+            Err(fault) => Ok(Err(fault)),
+        }
+    }
+
+    /// Three numbers, and the qualifier unless it is empty, with dots between. It reads as this version again.
+    pub fn print(&self, alloc: Global) -> Result<Vec<u8>, AllocError>
+        ensures text { IfOk result (λ t. t.items ≡ text_of (parts self.now)) }
+        ensures back { IfOk result (λ t. ReadsVersion t.items (parts self.now)) }
+    {
+        let qualifier = self.qualifier.bytes();
+        let out = printed(alloc, self.major, self.minor, self.micro, qualifier)?;
+        Ok(out)
+    }
+
+    /// The order against the version that the bytes read as; nothing where they are no version.
+    pub fn compare_text(&self, bytes: &[u8]) -> Option<Ordering>
+        ensures order { (v : Parts) → ReadsVersion bytes.now v → result ≡ Some (order (parts self.now) v) }
+        ensures no_version { IsNone result ↔ ¬ IsReadableVersion bytes.now }
+    {
+        match read(bytes) {
+            Ok(found) => Some(self.order(&found)),
+            Err(_) => None,
+        }
+    }
+
+    fn order(&self, other: &Found) -> Ordering
+        ensures order { result ≡ order (parts self.now) (found_parts other.now) }
+    {
+        let by_micro = self.micro.cmp(&other.micro);
+        let by_qualifier = self.qualifier.bytes().cmp(other.qualifier);
+        let rest = self
+            .minor
+            .cmp(&other.minor)
+            .then(by_micro.then(by_qualifier));
+        self.major.cmp(&other.major).then(rest)
+    }
+
+    pub fn copy(&self, alloc: Global) -> Result<Version, AllocError>
+        ensures same { IfOk result (λ copy. copy ≡ self.now) }
+    {
+        Ok(Version {
+            major: self.major,
+            minor: self.minor,
+            micro: self.micro,
+            qualifier: self.qualifier.copy(alloc)?,
+        })
+    }
+}
+
+impl Copied for Version {
+    fn copied(&self, alloc: Global) -> Result<Version, AllocError> {
+        self.copy(alloc)
+    }
+}
