@@ -1,0 +1,14 @@
+//! The text of a manifest: the headers of its main section, and the clauses of a header's value.
+#![tactic(auto)]
+
+mod blanks;
+pub mod clause;
+pub mod fault;
+pub mod header;
+mod lines;
+mod parameters;
+mod parts;
+mod quoted;
+pub mod reading;
+mod repeated;
+pub mod unfolding;
