@@ -1,0 +1,4 @@
+//! The data of the module layer.
+#![tactic(auto)]
+
+pub mod value;
