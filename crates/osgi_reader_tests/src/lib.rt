@@ -1,0 +1,13 @@
+//! Tests of the readers of texts: versions, ranges, header values, manifests and the values of attributes.
+#![tactic(auto)]
+
+#[cfg(test)]
+mod clauses;
+#[cfg(test)]
+mod lines;
+#[cfg(test)]
+mod ranges;
+#[cfg(test)]
+mod values;
+#[cfg(test)]
+mod versions;
