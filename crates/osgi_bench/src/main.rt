@@ -1,9 +1,10 @@
 //! Runs many operations on the machine, for the measurements under `bench/`.
 //!
-//!     osgi_bench COUNT PHASES
+//!     osgi_bench COUNT ROUNDS
 //!
-//! The first phase registers COUNT services; the next ones find, get, unget, modify and unregister COUNT times each. PHASES,
-//! from 0 to 6, says how many phases are run. What is printed is how many operations were accepted.
+//! Each round begins with a new machine and has six phases: it registers COUNT services, and then finds, gets, ungets, modifies
+//! and unregisters COUNT times each. A line is printed when a round begins, and one as each phase ends, with its name and how
+//! many operations were accepted: the clock is whoever reads them.
 #![tactic(auto)]
 
 use anyhow::{Result, ensure};
@@ -30,6 +31,19 @@ enum Phase {
     Unget,
     Modify,
     Unregister,
+}
+
+impl Phase {
+    fn name(self) -> &'static str {
+        match self {
+            Phase::Register => "register",
+            Phase::Find => "find",
+            Phase::Get => "get",
+            Phase::Unget => "unget",
+            Phase::Modify => "modify",
+            Phase::Unregister => "unregister",
+        }
+    }
 }
 
 const PHASES: [Phase; 6] = [
@@ -99,23 +113,24 @@ fn run_phase(alloc: Global, core: &mut Core, phase: Phase, count: u32) -> Result
     Ok(accepted)
 }
 
-/// Runs the first phases on a new machine, and answers how many operations were accepted.
-fn run(alloc: Global, count: u32, phases: usize) -> Result<u64, AllocError> {
-    let mut core = Core::new(alloc, Limits::standard())?;
-    let mut accepted: u64 = 0;
-    for phase in PHASES.iter().take(phases) {
-        let more = run_phase(alloc, &mut core, *phase, count)?;
-        accepted = accepted.saturating_add(more);
+/// Runs a round on a new machine, and prints a line as it begins and as each phase ends.
+fn run_round(rt: &HostRuntime, count: u32) -> Result<()> {
+    let mut core = Core::new(rt.alloc(), Limits::standard())?;
+    println!(rt; "begin")?;
+    for phase in PHASES {
+        let accepted = run_phase(rt.alloc(), &mut core, phase, count)?;
+        println!(rt; "{} {accepted}", phase.name())?;
     }
-    Ok(accepted)
+    Ok(())
 }
 
 fn main(rt: HostRuntime) -> Result<()> {
     let words: Vec<_> = env::args(&rt)?.skip(1).collect(rt.alloc())?;
-    ensure!(words.len() == 2, "takes two words, COUNT and PHASES");
+    ensure!(words.len() == 2, "takes two words, COUNT and ROUNDS");
     let count: u32 = words[0].parse()?;
-    let phases: usize = words[1].parse()?;
-    let accepted = run(rt.alloc(), count, phases)?;
-    println!(rt; "{accepted} accepted")?;
+    let rounds: u32 = words[1].parse()?;
+    for _ in 0..rounds {
+        run_round(&rt, count)?;
+    }
     Ok(())
 }

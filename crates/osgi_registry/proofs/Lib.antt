@@ -1,5 +1,6 @@
 -- Lemmas on the registry.
 pub mod Changed
+pub mod Counting
 pub mod Entries
 pub mod Exact
 pub mod Holds
@@ -9,4 +10,3 @@ pub mod Pushes
 pub mod Ranked
 pub mod Released
 pub mod Standing
-pub mod Uses

@@ -3,3 +3,4 @@ pub mod Kept
 pub mod Places
 pub mod Rows
 pub mod Stands
+pub mod Uses

@@ -1,10 +1,10 @@
 //! A live service with the counts of its uses.
 
-ghost use Rattle.std.specs.Prelude.{◌≡◌, ◌+◌, ◌<◌, ◌^◌, ◌-◌, nat_lt, [], OnOk, OnErr};
+ghost use Rattle.std.specs.Prelude.{◌≡◌, ◌+◌, ◌<◌, ◌^◌, ◌-◌, nat_lt, [], IfOk, OnOk, OnErr};
 ghost use Rattle.std.specs.Bool.{OnTrue, OnFalse};
 ghost use Rattle.osgi_registry.specs.Rows.{count_of, used_less, used_more, without_user};
 
-use indexmap::IndexMap;
+use crate::uses::Uses;
 use osgi_base::ids::BundleId;
 use osgi_ops::service::Service;
 use osgi_ops::value::Attributes;
@@ -12,10 +12,12 @@ use std::alloc::{AllocError, Global};
 use std::marker::Model;
 
 /// A service, and how often each user holds it.
+///
+/// The service stands behind a pointer, so that the nodes of a tree of these stay small.
 #[derive(Drop)]
 pub struct Held {
-    service: Service,
-    uses: IndexMap<u32, u64>,
+    service: Box<Service>,
+    uses: Uses,
 }
 
 impl Model for Held {
@@ -27,18 +29,18 @@ impl Model for Held {
 
     ghost coded = { Prim.hlevel (codes, value.the_row.coded) };
 
-    ghost view = { λ h. record { service = h.service; uses = h.uses.entries } };
+    ghost view = { λ h. record { service = h.service.value; uses = h.uses } };
 }
 
 impl Held {
     /// A service that nobody uses yet.
-    pub fn new(alloc: Global, service: Service) -> Held
-        ensures service { result ≡ record { service = service; uses = [] } }
+    pub fn new(alloc: Global, service: Service) -> Result<Held, AllocError>
+        ensures service { IfOk result (λ held. held ≡ record { service = service; uses = [] }) }
     {
-        Held {
-            service,
-            uses: IndexMap::new(alloc),
-        }
+        Ok(Held {
+            service: Box::new(alloc, service)?,
+            uses: Uses::new(alloc),
+        })
     }
 
     pub fn service(&self) -> &Service
@@ -61,9 +63,7 @@ impl Held {
         ensures used { OnOk result (self.new ≡ used_more user self.old) }
         ensures unchanged { OnErr result (self.new ≡ self.old) }
     {
-        let count = self.uses.get(&user.0).copied().unwrap_or(0);
-        self.uses.insert(user.0, count + 1)?;
-        Ok(())
+        self.uses.add(user)
     }
 
     /// Counts one use less by the user, and answers whether there was one.
@@ -73,20 +73,13 @@ impl Held {
         ensures used { OnTrue result (self.new ≡ used_less user self.old) }
         ensures unchanged { OnFalse result (self.new ≡ self.old) }
     {
-        let Some(count) = self.uses.get_mut(&user.0) else {
-            return false;
-        };
-        if *count == 0 {
-            return false;
-        }
-        *count -= 1;
-        true
+        self.uses.take(user)
     }
 
     /// Forgets the uses by the user.
     pub fn forget(&mut self, user: BundleId)
         ensures forgotten { self.new ≡ without_user user self.old }
     {
-        self.uses.shift_remove(&user.0);
+        self.uses.forget(user);
     }
 }

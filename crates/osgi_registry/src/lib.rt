@@ -7,5 +7,6 @@ pub mod place;
 pub mod properties;
 pub mod registry;
 pub mod services;
+pub mod uses;
 
 pub use osgi_ops::service::Service;

@@ -150,8 +150,8 @@ impl Registry {
     {
         let id = service.service.0;
         let place = Place::of(&service);
-        self.index.add_all(service.classes.items(), place)?;
-        let held = Held::new(self.alloc, service);
+        let held = Held::new(self.alloc, service)?;
+        self.index.add_all(held.service().classes.items(), place)?;
         if let Err(wanting) = self.services.insert(id, held) {
             let (_, held) = wanting.value;
             self.index.take_all(held.service().classes.items(), place);

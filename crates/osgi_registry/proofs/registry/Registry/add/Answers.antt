@@ -34,11 +34,11 @@ invariant_of-self-in-Err c =
     let place = place_of c.args.service in
     let next : c.args.service.service.0 ≡ c.self.inside.given + 1 = rw (← c.self.view_is) at c.requires.next in
     let fresh : IsFresh old place = fresh_place old rows place c.self.invariant.index (fresh_id c.self.inside.given c.self.inside.services.entries place c.self.invariant.rows.under (omega (arith, next))) in
-    let given_back : c.in-Err.wanting.value.1 ≡ c.new-held.result = ap (λ p. p.1) c.in-Err.ensures.value_returned in
+    let given_back : c.in-Err.wanting.value.1 ≡ c.in_ok-held.held = ap (λ p. p.1) c.in-Err.ensures.value_returned in
     let among : c.items-in-Err.result.now ≡ c.args.service.classes
-    = c.items-in-Err.ensures.items ∙ ap (λ s. s.classes) (c.service.ensures.service ∙ ap (λ r. r.service) (given_back ∙ c.new-held.ensures.service)) in
+    = c.items-in-Err.ensures.items ∙ ap (λ s. s.classes) (c.service-in-Err.ensures.service ∙ ap (λ r. r.service) (given_back ∙ c.in_ok-held.ensures.service)) in
     let added : Adds old mid c.args.service.classes place
-    = subst (λ l. Adds old mid l place) c.items.ensures.items (subst (λ q. Adds old mid c.items.result.now q) c.of-place.ensures.place c.in_ok-add_all.ensures.added) in
+    = subst (λ l. Adds old mid l place) (c.items.ensures.items ∙ ap (λ s. s.classes) (c.service.ensures.service ∙ ap (λ r. r.service) c.in_ok-held.ensures.service)) (subst (λ q. Adds old mid c.items.result.now q) c.of-place.ensures.place c.in_ok-add_all.ensures.added) in
     let taken : Takes mid new c.args.service.classes place
     = subst (λ l. Takes mid new l place) among (subst (λ q. Takes mid new c.items-in-Err.result.now q) c.of-place.ensures.place c.take_all.ensures.taken) in
     rw c.in-Err.ensures.err
@@ -49,25 +49,25 @@ invariant_of-self-2 c =
     let next : c.args.service.service.0 ≡ c.self.inside.given + 1 = rw (← c.self.view_is) at c.requires.next in
     let fits : c.self.inside.given < 4294967295 = rw (← c.self.view_is) at c.requires.fits in
     let room : length (values_of c.self.inside.services.entries) < most_services = rw (← c.self.view_is) at c.requires.room in
-    let entries : c.insert.new.self.entries ≡ c.self.inside.services.entries ++ (c.self.inside.given + 1, c.new-held.result) ∷ []
-    = c.in_default.ensures.entries ∙ ap (λ id. insert_entry nat_cmp c.self.inside.services.entries id c.new-held.result) next ∙ inserted c.self.inside.given c.self.inside.services.entries c.new-held.result c.self.invariant.rows.under in
-    let added : Adds c.self.inside.index.classes c.add_all.new.self.classes c.new-held.result.service.classes (place_of c.new-held.result.service)
-    = subst (λ r. Adds c.self.inside.index.classes c.add_all.new.self.classes r.service.classes (place_of r.service)) (sym c.new-held.ensures.service)
-    (subst (λ l. Adds c.self.inside.index.classes c.add_all.new.self.classes l (place_of c.args.service)) c.items.ensures.items
+    let entries : c.insert.new.self.entries ≡ c.self.inside.services.entries ++ (c.self.inside.given + 1, c.in_ok-held.held) ∷ []
+    = c.in_default.ensures.entries ∙ ap (λ id. insert_entry nat_cmp c.self.inside.services.entries id c.in_ok-held.held) next ∙ inserted c.self.inside.given c.self.inside.services.entries c.in_ok-held.held c.self.invariant.rows.under in
+    let added : Adds c.self.inside.index.classes c.add_all.new.self.classes c.in_ok-held.held.service.classes (place_of c.in_ok-held.held.service)
+    = subst (λ r. Adds c.self.inside.index.classes c.add_all.new.self.classes r.service.classes (place_of r.service)) (sym c.in_ok-held.ensures.service)
+    (subst (λ l. Adds c.self.inside.index.classes c.add_all.new.self.classes l (place_of c.args.service)) (c.items.ensures.items ∙ ap (λ s. s.classes) (c.service.ensures.service ∙ ap (λ r. r.service) c.in_ok-held.ensures.service))
     (subst (λ q. Adds c.self.inside.index.classes c.add_all.new.self.classes c.items.result.now q) c.of-place.ensures.place c.in_ok-add_all.ensures.added)) in
     rw (entries, next)
     (record {
       rows =
-          kept_push c.self.inside.given c.self.inside.services.entries c.new-held.result c.self.invariant.rows (ap id_of c.new-held.ensures.service ∙ next)
+          kept_push c.self.inside.given c.self.inside.services.entries c.in_ok-held.held c.self.invariant.rows (ap id_of c.in_ok-held.ensures.service ∙ next)
           (omega (arith, room, length-values_of c.self.inside.services.entries)) fits;
       index =
-          rw (values-push c.self.inside.services.entries (c.self.inside.given + 1) c.new-held.result)
-          (placed_push c.self.inside.index.classes c.add_all.new.self.classes (values_of c.self.inside.services.entries) c.new-held.result c.self.invariant.index added);
+          rw (values-push c.self.inside.services.entries (c.self.inside.given + 1) c.in_ok-held.held)
+          (placed_push c.self.inside.index.classes c.add_all.new.self.classes (values_of c.self.inside.services.entries) c.in_ok-held.held c.self.invariant.index added);
     })
 
 pub returns-clause-rows : goal.returns-clause-rows
 returns-clause-rows c =
     let next : c.args.service.service.0 ≡ c.self.inside.given + 1 = rw (← c.self.view_is) at c.requires.next in
-    let entries : c.insert.new.self.entries ≡ c.self.inside.services.entries ++ (c.self.inside.given + 1, c.new-held.result) ∷ []
-    = c.in_default.ensures.entries ∙ ap (λ id. insert_entry nat_cmp c.self.inside.services.entries id c.new-held.result) next ∙ inserted c.self.inside.given c.self.inside.services.entries c.new-held.result c.self.invariant.rows.under in
-    rw (entries, values-push c.self.inside.services.entries (c.self.inside.given + 1) c.new-held.result, c.new-held.ensures.service, ← c.self.view_is) refl
+    let entries : c.insert.new.self.entries ≡ c.self.inside.services.entries ++ (c.self.inside.given + 1, c.in_ok-held.held) ∷ []
+    = c.in_default.ensures.entries ∙ ap (λ id. insert_entry nat_cmp c.self.inside.services.entries id c.in_ok-held.held) next ∙ inserted c.self.inside.given c.self.inside.services.entries c.in_ok-held.held c.self.invariant.rows.under in
+    rw (entries, values-push c.self.inside.services.entries (c.self.inside.given + 1) c.in_ok-held.held, c.in_ok-held.ensures.service, ← c.self.view_is) refl

@@ -1,10 +1,12 @@
 -- The counts of uses after one more or one less.
-use Rattle.std.proofs.Common.{◌≡◌, ℕ, List, [], ◌∷◌, ap, refl, nat_eq}
-use Rattle.std.specs.Prelude.{Bool, true, false, cond, Some}
+use Rattle.std.proofs.Common.{◌≡◌, ℕ, List, [], ◌∷◌, ◌++◌, ap, ◌∙◌, refl, sym, nat_eq}
+use Rattle.std.specs.Prelude.{Bool, true, false, cond, filter, Option, None, Some}
 use Rattle.std.specs.Map.{lookup, set_value}
+use Rattle.std.proofs.lemmas.List.Elements.{filter-append}
 use Rattle.indexmap.specs.IndexMap.{insert_entry}
 use Rattle.osgi_base.specs.declared.ids.BundleId.{BundleId}
 use Rattle.osgi_registry.specs.Rows.{with_count}
+use Rattle.osgi_registry.specs.Uses.{uses_of}
 
 -- an insert puts the user's count
 pub counted_by_insert : (user : BundleId) (count : ℕ) (uses : List (ℕ × ℕ)) → insert_entry nat_eq uses user.0 count ≡ with_count user count uses
@@ -20,3 +22,13 @@ set_by user old count first rest false more found = ap (λ l. first ∷ l) (more
 pub counted_by_set : (user : BundleId) (old count : ℕ) (uses : List (ℕ × ℕ)) → lookup (nat_eq user.0) uses ≡ Some old → set_value (nat_eq user.0) uses count ≡ with_count user count uses
 counted_by_set user old count [] found = absurd (cc found)
 counted_by_set user old count (first ∷ rest) found = set_by user old count first rest (nat_eq user.0 first.0) (counted_by_set user old count rest) found
+
+apart : (first : Option (ℕ × ℕ)) (others : List (ℕ × ℕ)) → uses_of first others ≡ uses_of first [] ++ others
+apart None others = refl
+apart (Some one) others = refl
+
+-- where the first and the others are left apart, all are
+pub left_apart : (keep : ℕ × ℕ → Bool) (first now : Option (ℕ × ℕ)) (others left : List (ℕ × ℕ)) → uses_of now [] ≡ filter keep (uses_of first []) → left ≡ filter keep others →
+    uses_of now left ≡ filter keep (uses_of first others)
+left_apart keep first now others left one rest =
+    apart now left ∙ ap (λ l. l ++ left) one ∙ ap (λ l. filter keep (uses_of first []) ++ l) rest ∙ sym (ap (filter keep) (apart first others) ∙ filter-append keep (uses_of first []) others)
