@@ -11,9 +11,9 @@ use Rattle.std.proofs.lemmas.List.Elements.{All-head}
 use Rattle.std.proofs.lemmas.List.Sums.{AllPass-from_list_all, list_all-from_AllPass}
 use Rattle.std.proofs.lemmas.Option.{cond_some, option_and_then_some}
 use Rattle.std.proofs.lemmas.Slice.Eq.{slice_eq-Decides}
-use Rattle.osgi_ops.specs.declared.value.Attribute.{Attribute}
-use Rattle.osgi_ops.specs.declared.value.Value.{Value}
-use Rattle.osgi_ops.specs.declared.value.Value.TheVariants.{Long, Text}
+use Rattle.osgi_model.specs.declared.value.Attribute.{Attribute}
+use Rattle.osgi_model.specs.declared.value.Value.{Value}
+use Rattle.osgi_model.specs.declared.value.Value.TheVariants.{Long, Text}
 use Rattle.osgi_console.proofs.Longs.{long_read, long_sound}
 use Rattle.osgi_console.proofs.Places.{Fails, Found, found, nowhere, position-front, position-none, somewhere}
 use Rattle.osgi_console.proofs.Quoting.{quoted_read, quoted_sound}

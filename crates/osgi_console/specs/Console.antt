@@ -2,12 +2,12 @@
 use Rattle.std.specs.Prelude.{ℕ, ◌≡◌, ◌+◌, List, [], ◌∷◌, ◌++◌, codes}
 use Rattle.std.specs.Str.Lines.{lines}
 use Rattle.osgi_base.specs.declared.ids.ServiceId.{ServiceId}
+use Rattle.osgi_model.specs.declared.value.Attribute.{Attribute}
 use Rattle.osgi_ops.specs.declared.command.Command.{Command}
 use Rattle.osgi_ops.specs.declared.command.Command.TheVariants as command
 use Rattle.osgi_ops.specs.declared.line.Content.{Content}
 use Rattle.osgi_ops.specs.declared.line.Content.TheVariants.{Empty, Join, Bad, Run}
 use Rattle.osgi_ops.specs.declared.line.Line.{Line}
-use Rattle.osgi_ops.specs.declared.value.Attribute.{Attribute}
 use Rattle.osgi_console.specs.Values.{AreProperties}
 use Rattle.osgi_console.specs.Words.{AreClasses, AreSpaces, IsClass, IsId, IsParted, IsQuoted}
 

@@ -6,9 +6,9 @@ use Rattle.std.specs.List.{list_all, position, prefix_len, suffix_len}
 use Rattle.std.specs.Option.{option_map}
 use Rattle.std.specs.Str.{bytes_eq}
 use Rattle.std.specs.Str.Parse.{signed_digits_value, without_leading_sign}
-use Rattle.osgi_ops.specs.declared.value.Attribute.{Attribute}
-use Rattle.osgi_ops.specs.declared.value.Value.{Value}
-use Rattle.osgi_ops.specs.declared.value.Value.TheVariants.{Long, Text}
+use Rattle.osgi_model.specs.declared.value.Attribute.{Attribute}
+use Rattle.osgi_model.specs.declared.value.Value.{Value}
+use Rattle.osgi_model.specs.declared.value.Value.TheVariants.{Long, Text}
 use Rattle.osgi_console.specs.Values.{is_bare_byte, is_key_byte}
 use Rattle.osgi_console.specs.WordReader.{is_numeral, quoted_of}
 

@@ -3,9 +3,9 @@ use Rattle.std.specs.Prelude.{ℕ, ◌≡◌, ◌<◌, ◌≤ℤ◌, ◌==◌, �
 use Rattle.std.specs.Char.{is_ascii_whitespace}
 use Rattle.std.specs.List.{AllPass}
 use Rattle.std.specs.Str.Parse.{IsNumeral, digits_value}
-use Rattle.osgi_ops.specs.declared.value.Attribute.{Attribute}
-use Rattle.osgi_ops.specs.declared.value.Value.{Value}
-use Rattle.osgi_ops.specs.declared.value.Value.TheVariants.{Long, Text}
+use Rattle.osgi_model.specs.declared.value.Attribute.{Attribute}
+use Rattle.osgi_model.specs.declared.value.Value.{Value}
+use Rattle.osgi_model.specs.declared.value.Value.TheVariants.{Long, Text}
 use Rattle.osgi_console.specs.Words.{IsQuoted}
 
 -- one or more bytes other than space, `:`, `=` and `"`

@@ -8,7 +8,7 @@ ghost use Rattle.osgi_console.specs.Splitting.{texts_of};
 use crate::values::{value, value_text};
 use osgi_base::list::List;
 use osgi_base::text::Text;
-use osgi_ops::value::{Attribute, Attributes};
+use osgi_model::value::{Attribute, Attributes};
 use std::alloc::{AllocError, Global};
 
 fn key_end(word: &[u8]) -> Option<usize>

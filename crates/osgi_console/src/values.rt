@@ -7,7 +7,7 @@ ghost use Rattle.osgi_console.specs.Values.{is_bare_byte};
 
 use crate::quoted::quoted;
 use osgi_base::text::Text;
-use osgi_ops::value::Value;
+use osgi_model::value::Value;
 use std::alloc::{AllocError, Global};
 use std::str;
 

@@ -5,6 +5,7 @@ use Rattle.std.specs.Option.{option_map_or, option_or}
 use Rattle.std.proofs.lemmas.Bool.{eqb-false, eqb-true, leb-false, leb-true}
 use Rattle.osgi_base.specs.declared.ids.BundleId.{BundleId}
 use Rattle.osgi_base.specs.declared.ids.ServiceId.{ServiceId}
+use Rattle.osgi_model.specs.declared.value.Attribute.{Attribute}
 use Rattle.osgi_ops.proofs.Verdicts.{gives_first, gives_rest}
 use Rattle.osgi_ops.specs.Bundles.{IsLive, system}
 use Rattle.osgi_ops.specs.Classes.{AreRanked, has_class, IsBest, IsFound}
@@ -23,7 +24,6 @@ use Rattle.osgi_ops.specs.declared.reply.Reply.{Reply}
 use Rattle.osgi_ops.specs.declared.reply.Reply.TheVariants as answer
 use Rattle.osgi_ops.specs.declared.service.Service.{Service}
 use Rattle.osgi_ops.specs.declared.service.ServiceRow.{ServiceRow}
-use Rattle.osgi_ops.specs.declared.value.Attribute.{Attribute}
 use Rattle.osgi_registry.proofs.Standing.{Found, nowhere, quiet_find, quiet_find_all, quiet_list, quiet_refused, rows_found, rows_length, rows_services, stands_quiet, there}
 use Rattle.osgi_registry.specs.Rows.{count_of, modify_refusal, object_at, refusal_at, register_refusal, RegistryRows, Row, row_at, services_of, twins_refusal, use_count}
 use Rattle.osgi_registry.specs.Stands.{IsRowOf, StandsAfter, StandsFor}

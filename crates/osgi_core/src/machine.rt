@@ -32,7 +32,7 @@ impl Model for Core {
     ghost use Rattle.osgi_core.specs.Kept.{IsKept};
     ghost use Rattle.osgi_core.specs.Machine.{Machine};
     ghost use Rattle.std.specs.Coded.{codes};
-    ghost use Rattle.osgi_ops.specs.contracts.value.Value as value;
+    ghost use Rattle.osgi_model.specs.contracts.value.Value as value;
 
     ghost Value = { Machine };
 

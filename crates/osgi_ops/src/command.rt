@@ -2,11 +2,11 @@
 
 ghost use Rattle.std.specs.Prelude.{◌≡◌, IfOk};
 
-use crate::value::Attributes;
 use osgi_base::copied::Copied;
 use osgi_base::ids::ServiceId;
 use osgi_base::list::List;
 use osgi_base::text::Text;
+use osgi_model::value::Attributes;
 use std::alloc::{AllocError, Global};
 
 #[derive(Debug, Drop, PartialEq, Eq)]

@@ -9,4 +9,3 @@ pub mod op;
 pub mod refusal;
 pub mod reply;
 pub mod service;
-pub mod value;

@@ -5,13 +5,13 @@ use osgi_base::copied::Copied;
 use osgi_base::ids::{BundleId, ServiceId};
 use osgi_base::list::List;
 use osgi_base::text::Text;
+use osgi_model::value::{Attribute, Attributes, Value};
 use osgi_ops::command::Command;
 use osgi_ops::line::Content;
 use osgi_ops::op::Op;
 use osgi_ops::refusal::{Many, Refusal};
 use osgi_ops::reply::Reply;
 use osgi_ops::service::{Service, ServiceRow};
-use osgi_ops::value::{Attribute, Attributes, Value};
 use std::alloc::{AllocError, Global};
 use std::test::Fail;
 

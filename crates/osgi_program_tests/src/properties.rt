@@ -3,9 +3,9 @@
 use crate::fixtures::run;
 use osgi_base::list::List;
 use osgi_base::text::Text;
+use osgi_model::value::{Attribute, Value};
 use osgi_ops::command::Command;
 use osgi_ops::line::Content;
-use osgi_ops::value::{Attribute, Value};
 use std::alloc::{AllocError, Global};
 use std::test::Fail;
 

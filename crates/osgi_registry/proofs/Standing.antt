@@ -10,6 +10,7 @@ use Rattle.std.proofs.lemmas.List.Elements.{All-head, All-tail}
 use Rattle.osgi_base.specs.declared.ids.BundleId.{BundleId}
 use Rattle.osgi_base.specs.declared.ids.ServiceId.{ServiceId}
 use Rattle.osgi_base.specs.declared.ids.Tag.{Tag}
+use Rattle.osgi_model.specs.declared.value.Attribute.{Attribute}
 use Rattle.osgi_ops.proofs.Services.{gets-push, later, left_by, live-push, one_where, registered-push, service-push, ungets-push}
 use Rattle.osgi_ops.specs.Properties.{with_framework}
 use Rattle.osgi_ops.specs.Services.{gets, given_by, given_last, is_get, is_service, is_unget, live, Registered, registered, registered_by, service_now, takes_out, ungets, uses_of}
@@ -20,7 +21,6 @@ use Rattle.osgi_ops.specs.declared.reply.Reply.TheVariants as answer
 use Rattle.osgi_ops.specs.declared.refusal.Refusal.{Refusal}
 use Rattle.osgi_ops.specs.declared.service.Service.{Service}
 use Rattle.osgi_ops.specs.declared.service.ServiceRow.{ServiceRow}
-use Rattle.osgi_ops.specs.declared.value.Attribute.{Attribute}
 use Rattle.osgi_registry.specs.Rows.{change, count_of, is_service as is_row_of, new_row, object_at, RegistryRows, Row, row_at, services_of, use_count, used_less, used_more, with_count, with_properties, without}
 use Rattle.osgi_registry.specs.Stands.{AreRowsOf, IsRowOf, StandsFor}
 

@@ -8,9 +8,9 @@ use Rattle.std.specs.Option.{option_map_or}
 use Rattle.std.specs.Ordering.{int_cmp, is_eq, nat_cmp, ordering_then}
 use Rattle.std.specs.declared.cmp.Ordering.{Ordering}
 use Rattle.osgi_base.specs.declared.ids.ServiceId.{ServiceId}
+use Rattle.osgi_model.specs.declared.value.Attribute.{Attribute}
 use Rattle.osgi_ops.specs.Classes.{has_class, is_among}
 use Rattle.osgi_ops.specs.Properties.{ranking}
-use Rattle.osgi_ops.specs.declared.value.Attribute.{Attribute}
 use Rattle.osgi_registry.specs.declared.place.Place.{Place}
 use Rattle.osgi_ops.specs.declared.service.Service.{Service}
 use Rattle.osgi_registry.specs.Rows.{Row}

@@ -5,12 +5,12 @@ use Rattle.std.specs.Map.{lookup}
 use Rattle.std.specs.Option.{option_map_or, option_or}
 use Rattle.osgi_base.specs.declared.ids.BundleId.{BundleId}
 use Rattle.osgi_base.specs.declared.ids.ServiceId.{ServiceId}
+use Rattle.osgi_model.specs.declared.value.Attribute.{Attribute}
 use Rattle.osgi_ops.specs.Properties.{has_twins, with_framework}
 use Rattle.osgi_ops.specs.Settings.{most_services}
 use Rattle.osgi_ops.specs.declared.refusal.Many.TheVariants.{Services}
 use Rattle.osgi_ops.specs.declared.refusal.Refusal.{Refusal}
 use Rattle.osgi_ops.specs.declared.refusal.Refusal.TheVariants.{NoSuchService, BadProperties, NotOwner, TooMany}
-use Rattle.osgi_ops.specs.declared.value.Attribute.{Attribute}
 use Rattle.osgi_ops.specs.declared.service.Service.{Service}
 
 -- a live service, and how often each user holds it, by the user's id

@@ -6,8 +6,8 @@ ghost use Rattle.osgi_registry.specs.Rows.{count_of, used_less, used_more, witho
 
 use crate::uses::Uses;
 use osgi_base::ids::BundleId;
+use osgi_model::value::Attributes;
 use osgi_ops::service::Service;
-use osgi_ops::value::Attributes;
 use std::alloc::{AllocError, Global};
 use std::marker::Model;
 
@@ -23,7 +23,7 @@ pub struct Held {
 impl Model for Held {
     ghost use Rattle.osgi_registry.specs.Rows.{Row};
     ghost use Rattle.std.specs.Coded.{codes};
-    ghost use Rattle.osgi_ops.specs.contracts.value.Value as value;
+    ghost use Rattle.osgi_model.specs.contracts.value.Value as value;
 
     ghost Value = { Row };
 

@@ -4,8 +4,8 @@ ghost use Rattle.std.specs.Prelude.{◌≡◌};
 
 use crate::properties::ranking;
 use osgi_base::ids::ServiceId;
+use osgi_model::value::Attribute;
 use osgi_ops::service::Service;
-use osgi_ops::value::Attribute;
 use std::cmp::Reverse;
 
 /// A place among the services of a class: higher rankings come first, then lower ids.

@@ -8,7 +8,7 @@ ghost use Rattle.osgi_ops.specs.Properties as spec;
 use osgi_base::ids::{BundleId, ServiceId};
 use osgi_base::list::List;
 use osgi_base::text::Text;
-use osgi_ops::value::{Attribute, Attributes, Value};
+use osgi_model::value::{Attribute, Attributes, Value};
 use std::alloc::{AllocError, Global};
 
 /// Whether the property has the name, which is compared without ASCII case.

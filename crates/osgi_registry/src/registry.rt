@@ -20,9 +20,9 @@ use crate::services::Services;
 use osgi_base::ids::{BundleId, ServiceId};
 use osgi_base::list::List;
 use osgi_base::text::Text;
+use osgi_model::value::Attributes;
 use osgi_ops::refusal::{Many, Refusal};
 use osgi_ops::service::Service;
-use osgi_ops::value::Attributes;
 use std::alloc::{AllocError, Global};
 use std::collections::BTreeMap;
 use std::marker::Model;
@@ -44,7 +44,7 @@ impl Model for Registry {
     ghost use Rattle.osgi_registry.specs.Kept.{IsKept};
     ghost use Rattle.osgi_registry.specs.Rows.{RegistryRows};
     ghost use Rattle.std.specs.Coded.{codes};
-    ghost use Rattle.osgi_ops.specs.contracts.value.Value as value;
+    ghost use Rattle.osgi_model.specs.contracts.value.Value as value;
 
     ghost Value = { RegistryRows };
 

@@ -22,7 +22,7 @@ impl<'a> Model for Services<'a> {
     ghost use Rattle.osgi_ops.specs.declared.service.Service.{Service};
     ghost use Rattle.osgi_registry.specs.Rows.{services_of};
     ghost use Rattle.std.specs.Coded.{codes};
-    ghost use Rattle.osgi_ops.specs.contracts.value.Value as value;
+    ghost use Rattle.osgi_model.specs.contracts.value.Value as value;
 
     ghost Value = { List Service };
 

@@ -2,7 +2,7 @@
 
 use osgi_base::list::List;
 use osgi_base::text::Text;
-use osgi_ops::value::{Attribute, Attributes, Value};
+use osgi_model::value::{Attribute, Attributes, Value};
 use std::alloc::{AllocError, Global};
 
 /// One class name.

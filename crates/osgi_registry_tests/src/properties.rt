@@ -6,7 +6,7 @@ use crate::made::{class, long, text};
 use osgi_base::ids::{BundleId, ServiceId};
 use osgi_base::list::List;
 use osgi_base::text::Text;
-use osgi_ops::value::{Attribute, Attributes, Value};
+use osgi_model::value::{Attribute, Attributes, Value};
 use osgi_registry::registry::Registry;
 use std::alloc::{AllocError, Global};
 use std::test::Fail;
