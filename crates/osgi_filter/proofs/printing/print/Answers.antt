@@ -1,0 +1,6 @@
+-- The text that is printed reads as the filter.
+use Rattle.osgi_filter.proofs.Prints.{printed}
+use Rattle.osgi_filter.proofs.printing.print.Goals as goal
+
+pub returns-clause-again : goal.returns-clause-again
+returns-clause-again c = λ text r. rw (c.from.ensures, c.in_ok-print_filter.ensures.text, c.new-out.ensures.items) (printed text c.args.filter.now r)

@@ -1,0 +1,76 @@
+//! Bytes, white space and names.
+
+ghost use Rattle.std.specs.Prelude.{◌≡◌, []};
+ghost use Rattle.osgi_version.specs.Bytes.{is_blank};
+ghost use Rattle.osgi_model.specs.Filters.{is_name_byte, is_plain};
+ghost use Rattle.osgi_filter.specs.Given.{Gives};
+ghost use Rattle.osgi_filter.specs.Reader.{skip, name_at, after};
+
+use crate::stop::Stop;
+use osgi_base::text::Text;
+use std::alloc::Global;
+
+/// White space.
+fn is_blank(b: u8) -> bool
+    ensures blank { result ≡ is_blank b }
+{
+    matches!(b, b'\t' | b'\n' | 12 | b'\r' | b' ')
+}
+
+/// A byte of a name.
+fn is_name_byte(b: u8) -> bool
+    ensures name { result ≡ is_name_byte b }
+{
+    !matches!(b, b'=' | b'<' | b'>' | b'~' | b'(' | b')')
+}
+
+/// A byte of a value that stands for itself, where stars cut or do not.
+pub fn is_plain(stars: bool, b: u8) -> bool
+    ensures plain { result ≡ is_plain stars b }
+{
+    match b {
+        b'(' | b')' | b'\\' => false,
+        b'*' => !stars,
+        _ => true,
+    }
+}
+
+/// What is left behind the white space at the front.
+pub fn skip(bytes: &[u8]) -> &[u8]
+    ensures rest { result.now ≡ skip bytes.now }
+{
+    let mut rest = bytes;
+    while let [b, behind @ ..] = rest {
+        if !is_blank(*b) {
+            return rest;
+        }
+        rest = behind;
+    }
+    rest
+}
+
+/// What is left behind the wanted byte.
+pub fn after(wanted: u8, bytes: &[u8]) -> Result<&[u8], Stop>
+    ensures rest { Gives (λ rest. rest.now) result (after wanted bytes.now) }
+{
+    match bytes {
+        [b, rest @ ..] if *b == wanted => Ok(rest),
+        _ => Err(Stop::Left(bytes.len())),
+    }
+}
+
+/// The bytes of a name without the white space behind it, and what is left behind that.
+pub fn name_at(alloc: Global, bytes: &[u8]) -> Result<(Text, &[u8]), Stop>
+    ensures name { Gives (λ x. (x.0, x.1.now)) result (name_at [] [] bytes.now) }
+{
+    let mut end = 0;
+    for (at, b) in bytes.iter().enumerate() {
+        if !is_name_byte(*b) {
+            return Ok((Text::of(alloc, &bytes[..end])?, &bytes[at..]));
+        }
+        if !is_blank(*b) {
+            end = at + 1;
+        }
+    }
+    Err(Stop::Left(0))
+}
