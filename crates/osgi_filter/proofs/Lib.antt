@@ -1,4 +1,4 @@
--- Lemmas on the reader of filters, from bytes to whole texts, on the places where it stops, and on printing.
+-- Lemmas on the reader of filters, from bytes to whole texts, on the places where it stops, on printing, and on matching.
 pub mod Steps
 pub mod Bounded
 pub mod NameSteps
@@ -10,3 +10,5 @@ pub mod Operands
 pub mod Prints
 pub mod Stopping
 pub mod Places
+pub mod Orders
+pub mod PiecePlaces

@@ -1,3 +1,6 @@
--- What the code computes of a text. No public promise speaks of this.
+-- How names are compared, and what the code computes of texts and of attributes.
+pub mod Names
 pub mod Given
 pub mod Reader
+pub mod Between
+pub mod Orders
