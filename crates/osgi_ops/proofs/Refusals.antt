@@ -40,8 +40,8 @@ unfolding NoneCalls
 none_full now (Register owner classes object properties) = ((λ c. cc c.0), ((λ c. cc c.0), ((λ c. cc c.0), tt)))
 none_full now (Modify owner service properties) = ((λ c. cc c.0), ((λ c. cc c.0), (no_owner owner (live_at service now.before), ((λ c. cc c.0), tt))))
 none_full now (Unregister owner service) = ((λ c. cc c.0), ((λ c. cc c.0), (no_owner owner (live_at service now.before), tt)))
-none_full now (Find asker class) = ((λ c. cc c.0), tt)
-none_full now (FindAll asker class) = ((λ c. cc c.0), tt)
+none_full now (Find asker class filter) = ((λ c. cc c.0), tt)
+none_full now (FindAll asker class filter) = ((λ c. cc c.0), tt)
 none_full now (Get user service) = ((λ c. cc c.0), ((λ c. cc c.0), tt))
 none_full now (Unget user service) = ((λ c. cc c.0), tt)
 none_full now ListServices = tt

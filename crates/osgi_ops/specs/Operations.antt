@@ -4,7 +4,7 @@ use Rattle.osgi_base.specs.declared.ids.BundleId.{BundleId}
 use Rattle.osgi_base.specs.declared.ids.ServiceId.{ServiceId}
 use Rattle.osgi_base.specs.declared.ids.Tag.{Tag}
 use Rattle.osgi_ops.specs.Bundles.{IsLive}
-use Rattle.osgi_ops.specs.Classes.{AreRanked, IsFound}
+use Rattle.osgi_ops.specs.Classes.{AreRanked, IsFound, IsOf, IsOpenTo}
 use Rattle.osgi_ops.specs.Properties.{has_twins, ranking}
 use Rattle.osgi_ops.specs.Replies.{verdict}
 use Rattle.osgi_ops.specs.Services.{live, live_at, registered, services, uses}
@@ -54,8 +54,8 @@ conditions now (op.Register owner classes object properties) =
 conditions now (op.Modify owner service properties) =
     no_such_bundle now owner ∷ no_such_service now service ∷ not_owner now owner service ∷ Where BadProperties (has_twins properties ≡ true) ∷ []
 conditions now (op.Unregister owner service) = no_such_bundle now owner ∷ no_such_service now service ∷ not_owner now owner service ∷ []
-conditions now (op.Find asker class) = no_such_bundle now asker ∷ []
-conditions now (op.FindAll asker class) = no_such_bundle now asker ∷ []
+conditions now (op.Find asker class filter) = no_such_bundle now asker ∷ []
+conditions now (op.FindAll asker class filter) = no_such_bundle now asker ∷ []
 conditions now (op.Get user service) = no_such_bundle now user ∷ no_such_service now service ∷ []
 conditions now (op.Unget user service) = no_such_bundle now user ∷ []
 conditions now op.ListServices = []
@@ -77,8 +77,8 @@ abbrev pub Answers : Moment → Op → Reply → Type 0
 Answers now (op.Register owner classes object properties) reply = reply ≡ answer.Service (record { 0 = length (registered now.before) + 1 })
 Answers now (op.Modify owner service properties) reply = reply ≡ answer.Done
 Answers now (op.Unregister owner service) reply = reply ≡ answer.Done
-Answers now (op.Find asker class) reply = (found : Option ServiceId) × (reply ≡ answer.Best found) × IsFound class (services now.before) found
-Answers now (op.FindAll asker class) reply = (found : List ServiceId) × (reply ≡ answer.Services found) × AreRanked class (services now.before) found
+Answers now (op.Find asker class filter) reply = (found : Option ServiceId) × (reply ≡ answer.Best found) × IsFound (IsOpenTo asker class filter) (services now.before) found
+Answers now (op.FindAll asker class filter) reply = (found : List ServiceId) × (reply ≡ answer.Services found) × AreRanked (IsOf class filter) (services now.before) found
 Answers now (op.Get user service) reply = IsSomeAnd (live_at service now.before) (λ r. reply ≡ answer.Object r.object)
 Answers now (op.Unget user service) reply = reply ≡ answer.Flag (nat_lt 0 (uses user service now.before))
 Answers now op.ListServices reply = reply ≡ answer.ServiceRows (map row_of (services now.before))

@@ -29,8 +29,8 @@ abbrev pub op_of : BundleId → Command → Op
 op_of owner (command.Register classes object properties) = op.Register owner classes object properties
 op_of owner (command.Modify service properties) = op.Modify owner service properties
 op_of owner (command.Unregister service) = op.Unregister owner service
-op_of owner (command.Find class) = op.Find owner class
-op_of owner (command.FindAll class) = op.FindAll owner class
+op_of owner (command.Find class filter) = op.Find owner class filter
+op_of owner (command.FindAll class filter) = op.FindAll owner class filter
 op_of owner (command.Get service) = op.Get owner service
 op_of owner (command.Unget service) = op.Unget owner service
 op_of owner command.Services = op.ListServices

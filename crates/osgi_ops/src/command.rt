@@ -2,10 +2,12 @@
 
 ghost use Rattle.std.specs.Prelude.{◌≡◌, IfOk};
 
+use crate::given::copy_given;
 use osgi_base::copied::Copied;
 use osgi_base::ids::ServiceId;
 use osgi_base::list::List;
 use osgi_base::text::Text;
+use osgi_model::filter::Filter;
 use osgi_model::value::Attributes;
 use std::alloc::{AllocError, Global};
 
@@ -26,13 +28,15 @@ pub enum Command {
     Unregister {
         service: ServiceId,
     },
-    /// `find CLASS`
+    /// `find CLASS [FILTER]`
     Find {
         class: Text,
+        filter: Option<Filter>,
     },
-    /// `findall CLASS`
+    /// `findall CLASS [FILTER]`
     FindAll {
         class: Text,
+        filter: Option<Filter>,
     },
     /// `get ID`
     Get {
@@ -68,11 +72,13 @@ impl Command {
                 properties: properties.copy(alloc)?,
             }),
             Command::Unregister { service } => Ok(Command::Unregister { service: *service }),
-            Command::Find { class } => Ok(Command::Find {
+            Command::Find { class, filter } => Ok(Command::Find {
                 class: class.copy(alloc)?,
+                filter: copy_given(filter, alloc)?,
             }),
-            Command::FindAll { class } => Ok(Command::FindAll {
+            Command::FindAll { class, filter } => Ok(Command::FindAll {
                 class: class.copy(alloc)?,
+                filter: copy_given(filter, alloc)?,
             }),
             Command::Get { service } => Ok(Command::Get { service: *service }),
             Command::Unget { service } => Ok(Command::Unget { service: *service }),

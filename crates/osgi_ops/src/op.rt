@@ -2,10 +2,12 @@
 
 ghost use Rattle.std.specs.Prelude.{◌≡◌, IfOk};
 
+use crate::given::copy_given;
 use osgi_base::copied::Copied;
 use osgi_base::ids::{BundleId, ServiceId};
 use osgi_base::list::List;
 use osgi_base::text::Text;
+use osgi_model::filter::Filter;
 use osgi_model::value::Attributes;
 use std::alloc::{AllocError, Global};
 
@@ -29,15 +31,17 @@ pub enum Op {
         owner: BundleId,
         service: ServiceId,
     },
-    /// Asks for the best service of a class.
+    /// Asks for the best service of a class that the filter, if there is one, matches.
     Find {
         asker: BundleId,
         class: Text,
+        filter: Option<Filter>,
     },
-    /// Asks for all services of a class.
+    /// Asks for all of them.
     FindAll {
         asker: BundleId,
         class: Text,
+        filter: Option<Filter>,
     },
     /// Asks for a service's object, and counts one more use of the service by the user.
     Get {
@@ -82,13 +86,23 @@ impl Op {
                 owner: *owner,
                 service: *service,
             }),
-            Op::Find { asker, class } => Ok(Op::Find {
+            Op::Find {
+                asker,
+                class,
+                filter,
+            } => Ok(Op::Find {
                 asker: *asker,
                 class: class.copy(alloc)?,
+                filter: copy_given(filter, alloc)?,
             }),
-            Op::FindAll { asker, class } => Ok(Op::FindAll {
+            Op::FindAll {
+                asker,
+                class,
+                filter,
+            } => Ok(Op::FindAll {
                 asker: *asker,
                 class: class.copy(alloc)?,
+                filter: copy_given(filter, alloc)?,
             }),
             Op::Get { user, service } => Ok(Op::Get {
                 user: *user,
