@@ -3,6 +3,7 @@ pub mod Changed
 pub mod Counting
 pub mod Entries
 pub mod Exact
+pub mod Found
 pub mod Holds
 pub mod Keys
 pub mod Placed

@@ -3,7 +3,6 @@ use Rattle.std.proofs.Common.{◌≡◌, ◌≢◌, ◌<◌, ℕ, List, [], ◌�
 use Rattle.std.specs.Prelude.{Bool, true, false, cond, ◌||◌, ◌&&◌, not, Some, All, AllPairs, Contains}
 use Rattle.std.specs.List.{list_any}
 use Rattle.std.specs.Map.{lookup, set_value, values_of}
-use Rattle.std.specs.Ordering.{is_gt}
 use Rattle.std.proofs.lemmas.Bool.{and_from, and_parts, and_right, eq-eqb, eqb-true, or_left, or_right}
 use Rattle.std.proofs.lemmas.List.{get_or-map, length-map}
 use Rattle.std.proofs.lemmas.List.Elements.{All-cons, All-head, All-map, All-tail}
@@ -11,8 +10,8 @@ use Rattle.std.proofs.lemmas.List.Folds.{Any-from_list_any, list_any-append, lis
 use Rattle.osgi_base.specs.declared.ids.ServiceId.{ServiceId}
 use Rattle.osgi_registry.specs.declared.place.Place.{Place}
 use Rattle.osgi_registry.specs.Kept.{AreKept, IsBefore, IsUnder}
-use Rattle.osgi_registry.specs.Places.{Adds, Classes, holds, HoldsSame, is_placed, IsFresh, IsIndexOf, Moves, place_cmp, place_of, same_place, StandsUnder, Takes}
-use Rattle.osgi_ops.specs.Classes.{has_class, is_among, IsBest}
+use Rattle.osgi_registry.specs.Places.{Adds, Classes, holds, HoldsSame, is_placed, IsFresh, IsIndexOf, Moves, place_of, same_place, StandsUnder, Takes}
+use Rattle.osgi_ops.specs.Classes.{has_class, is_among}
 use Rattle.osgi_registry.specs.Rows.{change, id_of, is_service, Row, services_of, without}
 use Rattle.osgi_registry.proofs.Changed.{others_differ, rows_set}
 use Rattle.osgi_registry.proofs.Entries.{pairs_head, pairs_tail}
@@ -205,23 +204,13 @@ index_kept given service old new entries classes kept index same found =
     rw (rows_set given service old new f entries kept.under kept.rising is found)
     (λ c p. index c p ∙ sym (placed_alike service f c p (values_of entries) (λ k d within. refl)))
 
--- ---- the first place
+-- ---- services at places
 
 -- a service of the class is held at its place
 pub held_at : (classes : Classes) (c : List ℕ) (rows : List Row) (k : ℕ) (d : Row) → IsIndexOf classes rows → k < length rows → has_class c (get_or rows k d).service ≡ true → holds classes c (place_of (get_or rows k d).service) ≡ true
 held_at classes c rows k d index within has =
     index c (place_of (get_or rows k d).service)
     ∙ list_any_at (is_placed c (place_of (get_or rows k d).service)) rows k d within (and_from (has_class c (get_or rows k d).service) _ has (place_itself (place_of (get_or rows k d).service)))
-
-none_by : (test held : Bool) → held ≡ false → (test ≡ true → held ≡ true) → test ≡ false
-none_by true held none held_if = absurd (true≢false (sym (held_if refl) ∙ none))
-none_by false held none held_if = refl
-
--- where no place is held, no service has the class
-pub none_has : (classes : Classes) (c : List ℕ) (rows : List Row) → IsIndexOf classes rows → ((p : Place) → holds classes c p ≡ false) → All (λ service. has_class c service ≡ false) (services_of rows)
-none_has classes c rows index none =
-    All-map (λ service. has_class c service ≡ false) (λ row. row.service) rows
-    (λ k d within. none_by (has_class c (get_or rows k d).service) (holds classes c (place_of (get_or rows k d).service)) (none (place_of (get_or rows k d).service)) (held_at classes c rows k d index within))
 
 -- a service of the class that stands at the place
 pub record IsAt (c : List ℕ) (rows : List Row) (place : Place) : Type 0 where
@@ -239,18 +228,3 @@ row_held classes c rows place index held =
 pub Contains-services : (rows : List Row) (row : Row) → Contains rows row → Contains (services_of rows) row.service
 Contains-services rows row (k, within, is) =
     (k, omega (arith, length-map rows (λ r. r.service), within), get_or-map (λ r. r.service) rows k row row.service within ∙ ap (λ r. r.service) is)
-
--- the first place is that of the best
-pub best_at : (classes : Classes) (c : List ℕ) (rows : List Row) (place : Place) (service : ServiceId) → IsIndexOf classes rows → holds classes c place ≡ true →
-    ((p : Place) → holds classes c p ≡ true → is_gt (place_cmp place p) ≡ false) → service.0 ≡ place.service → IsBest c (services_of rows) service
-best_at classes c rows place service index held first is =
-    let some = row_held classes c rows place index held in
-    record {
-      service = some.row.service;
-      there = Contains-services rows some.row some.live;
-      is = ap (λ n. record { 0 = n }) (is ∙ sym (ap (λ (q : Place). q.service) some.is));
-      has = some.has;
-      best =
-          All-map (λ other. has_class c other ≡ true → is_gt (place_cmp (place_of some.row.service) (place_of other)) ≡ false) (λ row. row.service) rows
-          (λ k d within has. rw (← some.is) at (first (place_of (get_or rows k d).service) (held_at classes c rows k d index within has)));
-    }

@@ -1,35 +1,31 @@
 -- The rows at the places of a class, in their order.
 use Rattle.std.proofs.Common.{◌≡◌, ◌<◌, ℕ, List, [], ◌∷◌, ap, sym, ◌∙◌, refl, arith, get_or, length, map, inl, inr, ◌⊎◌, ⊎_elim, subst}
-use Rattle.std.specs.Prelude.{true, All, AllPairs, Contains, IfOk, OnOk, Result, Ok, Err}
+use Rattle.std.specs.Prelude.{true, All, AllPairs, Contains}
 use Rattle.std.specs.declared.cmp.Ordering.TheVariants.{Less}
 use Rattle.std.specs.BTreeMap.{is_at}
 use Rattle.std.specs.List.{list_any}
-use Rattle.std.specs.List.Sorted.{IsStrictlySortedBy}
 use Rattle.std.specs.Map.{values_of}
 use Rattle.std.proofs.lemmas.Bool.{cases_eq, cases_lt, or_cases}
 use Rattle.std.proofs.lemmas.List.{get_or-map, get_or_default, length-map}
-use Rattle.std.proofs.lemmas.List.Elements.{All-cons, All-head, All-map, All-nil, All-tail, Contains-append_right, Contains-get_or}
-use Rattle.std.proofs.lemmas.List.Folds.{list_any_at}
+use Rattle.std.proofs.lemmas.List.Elements.{All-cons, All-head, All-nil, All-tail, Contains-append_right, Contains-get_or}
 use Rattle.std.proofs.lemmas.List.Kept.{AllPairs-cons}
-use Rattle.std.proofs.lemmas.Map.Keys.{Less-from_sorted}
-use Rattle.osgi_base.specs.declared.ids.ServiceId.{ServiceId}
 use Rattle.osgi_registry.specs.declared.place.Place.{Place}
 use Rattle.osgi_registry.specs.Kept.{AreKept}
-use Rattle.osgi_registry.specs.Places.{Classes, IsIndexOf, place_cmp, place_of, places_at, service_at}
-use Rattle.osgi_ops.specs.Classes.{AreRanked, has_class, ids_of, rank_cmp}
+use Rattle.osgi_registry.specs.Places.{place_cmp, place_of, service_at}
+use Rattle.osgi_ops.specs.Classes.{has_class, ids_of, rank_cmp}
 use Rattle.osgi_ops.specs.declared.service.Service.{Service}
 use Rattle.osgi_registry.specs.Rows.{id_of, Row, services_of}
 use Rattle.osgi_registry.proofs.Entries.{pairs_head, pairs_tail, rising_ids}
-use Rattle.osgi_registry.proofs.Exact.{place_exact, place_itself}
-use Rattle.osgi_registry.proofs.Placed.{Contains-services, held_at, IsAt, row_held}
+use Rattle.osgi_registry.proofs.Exact.{place_exact}
+use Rattle.osgi_registry.proofs.Placed.{Contains-services, IsAt}
 
 module _ (c : List ℕ) (rows : List Row) where
   -- the service at each place
-  abbrev at_places : (places : List Place) → All (IsAt c rows) places → List Service
+  abbrev pub at_places : (places : List Place) → All (IsAt c rows) places → List Service
   at_places [] at = []
   at_places (p ∷ rest) at = (All-head (IsAt c rows) p rest at).row.service ∷ at_places rest (All-tail (IsAt c rows) p rest at)
 
-  ids_are : (places : List Place) (at : All (IsAt c rows) places) → map service_at places ≡ ids_of (at_places places at)
+  pub ids_are : (places : List Place) (at : All (IsAt c rows) places) → map service_at places ≡ ids_of (at_places places at)
   ids_are [] at = refl
   ids_are (p ∷ rest) at =
       let here = All-head (IsAt c rows) p rest at in
@@ -51,7 +47,7 @@ module _ (c : List ℕ) (rows : List Row) where
       All-cons (λ s. rank_cmp service s ≡ Less) here.row.service (at_places rest (All-tail (IsAt c rows) p rest at)) first
       (after service rest (All-tail (IsAt c rows) p rest at) (All-tail (λ q. place_cmp (place_of service) q ≡ Less) p rest less))
 
-  ordered : (places : List Place) (at : All (IsAt c rows) places) → AllPairs (λ p q. place_cmp p q ≡ Less) places → AllPairs (λ a b. rank_cmp a b ≡ Less) (at_places places at)
+  pub ordered : (places : List Place) (at : All (IsAt c rows) places) → AllPairs (λ p q. place_cmp p q ≡ Less) places → AllPairs (λ a b. rank_cmp a b ≡ Less) (at_places places at)
   ordered [] at pairs = λ i j d before within. absurd (omega arith)
   ordered (p ∷ rest) at pairs =
       let here = All-head (IsAt c rows) p rest at in
@@ -60,7 +56,7 @@ module _ (c : List ℕ) (rows : List Row) where
       (after here.row.service rest others (subst (λ q. All (λ r. place_cmp q r ≡ Less) rest) (sym here.is) (pairs_head (λ q r. place_cmp q r ≡ Less) p rest pairs)))
       (ordered rest others (pairs_tail (λ q r. place_cmp q r ≡ Less) p rest pairs))
 
-  every : (row : Row) (places : List Place) (at : All (IsAt c rows) places) → ((r : Row) → Contains rows r → id_of r ≡ id_of row → r ≡ row) → list_any (is_at (place_cmp (place_of row.service))) places ≡ true →
+  pub every : (row : Row) (places : List Place) (at : All (IsAt c rows) places) → ((r : Row) → Contains rows r → id_of r ≡ id_of row → r ≡ row) → list_any (is_at (place_cmp (place_of row.service))) places ≡ true →
       Contains (at_places places at) row.service
   every row [] at unique some = absurd (cc some)
   every row (p ∷ rest) at unique some =
@@ -91,28 +87,5 @@ same_by given entries a b k l kept within_a within_b at_a at_b same (inr differ)
     (cases_lt k l)
 
 -- no two rows have one id
-same_row : (given : ℕ) (entries : List (ℕ × Row)) (a b : Row) → AreKept given entries → Contains (values_of entries) a → Contains (values_of entries) b → id_of a ≡ id_of b → a ≡ b
+pub same_row : (given : ℕ) (entries : List (ℕ × Row)) (a b : Row) → AreKept given entries → Contains (values_of entries) a → Contains (values_of entries) b → id_of a ≡ id_of b → a ≡ b
 same_row given entries a b kept in_a in_b same = same_by given entries a b in_a.0 in_b.0 kept in_a.1 in_b.1 in_a.2 in_b.2 same (cases_eq in_a.0 in_b.0)
-
-pub ranked_at : (given : ℕ) (classes : Classes) (c : List ℕ) (entries : List (ℕ × Row)) → AreKept given entries → IsIndexOf classes (values_of entries) → IsStrictlySortedBy place_cmp (places_at classes c) →
-    AreRanked c (services_of (values_of entries)) (map service_at (places_at classes c))
-ranked_at given classes c entries kept index sorted =
-    let rows = values_of entries in
-    let places = places_at classes c in
-    let at : All (IsAt c rows) places
-    = λ k d within. row_held classes c rows (get_or places k d) index (list_any_at (is_at (place_cmp (get_or places k d))) places k d within (place_itself (get_or places k d))) in
-    record {
-      ranked = at_places c rows places at;
-      are = ids_are c rows places at;
-      in_order = ordered c rows places at (λ i j d before within. Less-from_sorted place_cmp places i j d sorted before within);
-      only = only_those c rows places at;
-      every =
-          All-map (λ service. has_class c service ≡ true → Contains (at_places c rows places at) service) (λ row. row.service) rows
-          (λ k d within has.
-          every c rows (get_or rows k d) places at (λ r live same. same_row given entries r (get_or rows k d) kept live (Contains-get_or rows k d within) same) (held_at classes c rows k d index within has));
-    }
-
-pub ranked_result : {E : Type 0} (r : Result (List ServiceId) E) (c : List ℕ) (rows : List Row) (services : List ServiceId) (sorted : Type 0) → IfOk r (λ given. given ≡ services) → OnOk r sorted → (sorted → AreRanked c (services_of rows) services) →
-    IfOk r (AreRanked c (services_of rows))
-ranked_result (Ok given) c rows services sorted are order ranked = subst (λ s. AreRanked c (services_of rows) s) (sym are) (ranked order)
-ranked_result (Err e) c rows services sorted are order ranked = tt

@@ -10,6 +10,7 @@ use Rattle.std.proofs.lemmas.List.Elements.{All-head, All-tail}
 use Rattle.osgi_base.specs.declared.ids.BundleId.{BundleId}
 use Rattle.osgi_base.specs.declared.ids.ServiceId.{ServiceId}
 use Rattle.osgi_base.specs.declared.ids.Tag.{Tag}
+use Rattle.osgi_model.specs.declared.filter.Filter.{Filter}
 use Rattle.osgi_model.specs.declared.value.Attribute.{Attribute}
 use Rattle.osgi_ops.proofs.Services.{gets-push, later, left_by, live-push, one_where, registered-push, service-push, ungets-push}
 use Rattle.osgi_ops.specs.Properties.{with_framework}
@@ -366,17 +367,17 @@ pub quiet_refused : (tag : Tag) (o : Op) (refusal : Refusal) → IsQuiet (record
 quiet_refused tag (op.Register owner classes object properties) refusal = record { registers = λ n. refl; takes = λ s. refl; gives = λ s. refl; gets = λ u s. refl; ungets = λ u s. refl }
 quiet_refused tag (op.Modify owner service properties) refusal = record { registers = λ n. refl; takes = λ s. refl; gives = λ s. refl; gets = λ u s. refl; ungets = λ u s. refl }
 quiet_refused tag (op.Unregister owner service) refusal = record { registers = λ n. refl; takes = λ s. refl; gives = λ s. refl; gets = λ u s. refl; ungets = λ u s. refl }
-quiet_refused tag (op.Find asker class) refusal = record { registers = λ n. refl; takes = λ s. refl; gives = λ s. refl; gets = λ u s. refl; ungets = λ u s. refl }
-quiet_refused tag (op.FindAll asker class) refusal = record { registers = λ n. refl; takes = λ s. refl; gives = λ s. refl; gets = λ u s. refl; ungets = λ u s. refl }
+quiet_refused tag (op.Find asker class filter) refusal = record { registers = λ n. refl; takes = λ s. refl; gives = λ s. refl; gets = λ u s. refl; ungets = λ u s. refl }
+quiet_refused tag (op.FindAll asker class filter) refusal = record { registers = λ n. refl; takes = λ s. refl; gives = λ s. refl; gets = λ u s. refl; ungets = λ u s. refl }
 quiet_refused tag (op.Get user service) refusal = record { registers = λ n. refl; takes = λ s. refl; gives = λ s. refl; gets = λ u s. refl; ungets = λ u s. refl }
 quiet_refused tag (op.Unget user service) refusal = record { registers = λ n. refl; takes = λ s. refl; gives = λ s. refl; gets = λ u s. refl; ungets = λ u s. refl }
 quiet_refused tag op.ListServices refusal = record { registers = λ n. refl; takes = λ s. refl; gives = λ s. refl; gets = λ u s. refl; ungets = λ u s. refl }
 
-pub quiet_find : (tag : Tag) (asker : BundleId) (class : List ℕ) (found : Option ServiceId) → IsQuiet (record { tag = tag; op = op.Find asker class; reply = answer.Best found })
-quiet_find tag asker class found = record { registers = λ n. refl; takes = λ s. refl; gives = λ s. refl; gets = λ u s. refl; ungets = λ u s. refl }
+pub quiet_find : (tag : Tag) (asker : BundleId) (class : List ℕ) (filter : Option Filter) (found : Option ServiceId) → IsQuiet (record { tag = tag; op = op.Find asker class filter; reply = answer.Best found })
+quiet_find tag asker class filter found = record { registers = λ n. refl; takes = λ s. refl; gives = λ s. refl; gets = λ u s. refl; ungets = λ u s. refl }
 
-pub quiet_find_all : (tag : Tag) (asker : BundleId) (class : List ℕ) (found : List ServiceId) → IsQuiet (record { tag = tag; op = op.FindAll asker class; reply = answer.Services found })
-quiet_find_all tag asker class found = record { registers = λ n. refl; takes = λ s. refl; gives = λ s. refl; gets = λ u s. refl; ungets = λ u s. refl }
+pub quiet_find_all : (tag : Tag) (asker : BundleId) (class : List ℕ) (filter : Option Filter) (found : List ServiceId) → IsQuiet (record { tag = tag; op = op.FindAll asker class filter; reply = answer.Services found })
+quiet_find_all tag asker class filter found = record { registers = λ n. refl; takes = λ s. refl; gives = λ s. refl; gets = λ u s. refl; ungets = λ u s. refl }
 
 pub quiet_list : (tag : Tag) (rows : List ServiceRow) → IsQuiet (record { tag = tag; op = op.ListServices; reply = answer.ServiceRows rows })
 quiet_list tag rows = record { registers = λ n. refl; takes = λ s. refl; gives = λ s. refl; gets = λ u s. refl; ungets = λ u s. refl }

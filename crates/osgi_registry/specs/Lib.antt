@@ -1,4 +1,5 @@
 -- The registry as contracts see it.
+pub mod Finding
 pub mod Kept
 pub mod Places
 pub mod Rows

@@ -1,11 +1,13 @@
 -- The registry as contracts see it: the live services in rows, and what calls answer and change by them.
-use Rattle.std.specs.Prelude.{ℕ, ◌==◌, ◌+◌, ◌-◌, ◌<◌, ◌≤◌, nat_le, Bool, not, if◌then◌else◌, List, [], ◌∷◌, Option, None, Some, Result, Ok, Err, All, find, filter, map, length, unwrap_or}
+use Rattle.std.specs.Prelude.{ℕ, ◌≡◌, ◌==◌, ◌+◌, ◌-◌, ◌<◌, ◌≤◌, nat_le, Bool, true, not, if◌then◌else◌, List, [], ◌∷◌, Option, None, Some, Result, Ok, Err, All, find, filter, map, length, unwrap_or}
 use Rattle.std.specs.List.Sorted.{IsStrictlyIncreasing}
 use Rattle.std.specs.Map.{lookup}
 use Rattle.std.specs.Option.{option_map_or, option_or}
 use Rattle.osgi_base.specs.declared.ids.BundleId.{BundleId}
 use Rattle.osgi_base.specs.declared.ids.ServiceId.{ServiceId}
+use Rattle.osgi_model.specs.declared.filter.Filter.{Filter}
 use Rattle.osgi_model.specs.declared.value.Attribute.{Attribute}
+use Rattle.osgi_ops.specs.Classes.{IsOf}
 use Rattle.osgi_ops.specs.Properties.{has_twins, with_framework}
 use Rattle.osgi_ops.specs.Settings.{most_services}
 use Rattle.osgi_ops.specs.declared.refusal.Many.TheVariants.{Services}
@@ -53,6 +55,11 @@ services_of rows = map (λ row. row.service) rows
 
 abbrev pub ids_of : List Row → List ServiceId
 ids_of rows = map (λ row. row.service.service) rows
+
+-- a service of the class that fits the filter and is assignable for each of its classes, where `is_assignable` says so of
+-- its registrant and the class
+abbrev pub IsOpenBy : (BundleId → List ℕ → Bool) → List ℕ → Option Filter → Service → Type 0
+IsOpenBy is_assignable class filter service = IsOf class filter service × All (λ c. is_assignable service.owner c ≡ true) service.classes
 
 -- ---- uses
 

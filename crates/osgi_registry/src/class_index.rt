@@ -1,14 +1,11 @@
 //! The services of each class, best first.
 
-ghost use Rattle.std.specs.Prelude.{◌≡◌, true, false, List, ℕ, [], ◌∷◌, OnOk, OnErr, IfSome, IfNone, IfOk, map};
-ghost use Rattle.std.specs.List.Sorted.{IsStrictlySortedBy};
-ghost use Rattle.std.specs.Ordering.{is_gt};
-ghost use Rattle.osgi_registry.specs.Places.{Adds, HoldsSame, holds, IsFresh, Moves, place_cmp, places_at, same_place, service_at, StandsUnder, Takes};
+ghost use Rattle.std.specs.Prelude.{◌≡◌, true, false, List, ℕ, [], ◌∷◌, OnOk, OnErr};
+ghost use Rattle.std.specs.Option.{option_map_or};
+ghost use Rattle.osgi_registry.specs.Places.{Adds, HoldsSame, holds, IsFresh, Moves, places_at, same_place, StandsUnder, Takes};
 ghost use Rattle.osgi_registry.specs.declared.place.Place.{Place};
 
 use crate::place::Place;
-use osgi_base::ids::ServiceId;
-use osgi_base::list::List;
 use osgi_base::text::Text;
 use std::alloc::{AllocError, Global};
 use std::collections::{BTreeMap, BTreeSet};
@@ -97,37 +94,10 @@ impl ClassIndex {
         Ok(())
     }
 
-    /// The first place of the class.
-    pub fn first(&self, class: &Text) -> Option<Place>
-        ensures none { IfNone result ((p : Place) → holds self.now.classes class.now p ≡ false) }
-        ensures held { IfSome result (λ place. holds self.now.classes class.now place ≡ true) }
-        ensures first { IfSome result (λ place. (p : Place) → holds self.now.classes class.now p ≡ true → is_gt (place_cmp place p) ≡ false) }
+    /// The places of the class, in order.
+    pub fn places(&self, class: &Text) -> Option<&BTreeSet<Place>>
+        ensures places { option_map_or (λ places. places.now.keys) result [] ≡ places_at self.now.classes class.now }
     {
-        let places = self.classes.get(class)?;
-        let place = places.first()?;
-        Some(*place)
+        self.classes.get(class)
     }
-
-    /// The services of the class in the order of their places.
-    pub fn all(&self, class: &Text) -> Result<List<ServiceId>, AllocError>
-        ensures services { IfOk result (λ services. services ≡ map service_at (places_at self.now.classes class.now)) }
-        ensures ordered { OnOk result (IsStrictlySortedBy place_cmp (places_at self.now.classes class.now)) }
-    {
-        match self.classes.get(class) {
-            Some(places) => services_at(self.alloc, places),
-            None => List::new(self.alloc),
-        }
-    }
-}
-
-/// The services at the places.
-fn services_at(alloc: Global, places: &BTreeSet<Place>) -> Result<List<ServiceId>, AllocError>
-    ensures services { IfOk result (λ services. services ≡ map service_at places.now.keys) }
-    ensures ordered { OnOk result (IsStrictlySortedBy place_cmp places.now.keys) }
-{
-    let mut services = List::new(alloc)?;
-    for place in places.iter() {
-        services.push(place.service())?;
-    }
-    Ok(services)
 }

@@ -2,6 +2,7 @@
 #![tactic(auto)]
 
 pub mod class_index;
+mod finding;
 pub mod held;
 pub mod place;
 pub mod properties;

@@ -1,18 +1,21 @@
 //! The registry.
 
-ghost use Rattle.std.specs.Prelude.{◌≡◌, ◌≢◌, AllPairs, filter, not, ◌+◌, ◌<◌, [], ◌∷◌, ◌++◌, nat_lt, length, slice_get, None, Some, false, All, IfNone, IfOk, IfSome, OnOk, OnErr};
-ghost use Rattle.osgi_ops.specs.Classes.{AreRanked, has_class, IsBest};
+ghost use Rattle.std.specs.Prelude.{◌≡◌, ◌≢◌, ℕ, Bool, List, AllPairs, filter, not, ◌+◌, ◌<◌, [], ◌∷◌, ◌++◌, nat_lt, length, slice_get, None, Some, false, All, IfNone, IfOk, IfSome, OnOk, OnErr};
+ghost use Rattle.osgi_base.specs.declared.ids.BundleId.{BundleId};
+ghost use Rattle.osgi_ops.specs.Classes.{AreRanked, IsFound, IsOf};
 ghost use Rattle.osgi_ops.specs.Settings.{most_services};
 ghost use Rattle.std.specs.Bool.{OnTrue, OnFalse};
+ghost use Rattle.std.specs.Option.{option_copied};
 ghost use Rattle.std.specs.Result.{result_err};
 ghost use Rattle.std.specs.BTreeMap.{values};
 ghost use Rattle.osgi_ops.specs.declared.op.Op.TheVariants as op;
 ghost use Rattle.osgi_ops.specs.declared.reply.Reply.TheVariants as answers;
 ghost use Rattle.osgi_registry.specs.Places.{IsIndexOf};
-ghost use Rattle.osgi_registry.specs.Rows.{AreInOrder, change, change_refusal, id_of, ids_of, is_owned, modify_refusal, new_row, object_at, others, register_refusal, released, row_at, services_of, use_count, used_less, used_more, with_properties, without, without_user};
+ghost use Rattle.osgi_registry.specs.Rows.{AreInOrder, change, change_refusal, id_of, ids_of, is_owned, modify_refusal, IsOpenBy, new_row, object_at, others, register_refusal, released, row_at, services_of, use_count, used_less, used_more, with_properties, without, without_user};
 ghost use Rattle.osgi_registry.specs.Stands.{StandsAfter, StandsFor};
 
 use crate::class_index::ClassIndex;
+use crate::finding::{all_fit, all_of, first_open};
 use crate::held::Held;
 use crate::place::Place;
 use crate::properties::{has_twins, with_framework};
@@ -20,6 +23,7 @@ use crate::services::Services;
 use osgi_base::ids::{BundleId, ServiceId};
 use osgi_base::list::List;
 use osgi_base::text::Text;
+use osgi_model::filter::Filter;
 use osgi_model::value::Attributes;
 use osgi_ops::refusal::{Many, Refusal};
 use osgi_ops::service::Service;
@@ -269,20 +273,38 @@ impl Registry {
         held.take_use(user)
     }
 
-    /// The best live service of the class: that of the highest ranking, and of these that of the lowest id.
-    pub fn find(&self, class: &Text) -> Option<ServiceId>
-        ensures none { IfNone result (All (λ service. has_class class.now service ≡ false) (services_of self.now.rows)) }
-        ensures best { IfSome result (IsBest class.now (services_of self.now.rows)) }
+    /// The best of the live services of the class that the filter, if there is one, matches, and that are assignable for each
+    /// of their classes: that of the highest ranking, and of these that of the lowest id. `assignable` is asked for a
+    /// registrant and a class.
+    pub fn find<F: Fn(BundleId, &Text) -> bool + Drop>(
+        &self,
+        class: &Text,
+        filter: Option<&Filter>,
+        assignable: F,
+    ) -> Option<ServiceId>
+        requires callable { F.IsAlwaysCallable assignable }
+        ensures found { (test : BundleId → List ℕ → Bool) → ((registrant : BundleId) (class : _) (answer : Bool) → F.post assignable registrant class answer → answer ≡ test registrant class.now) →
+            IsFound (IsOpenBy test class.now (option_copied filter.entry)) (services_of self.now.rows) result }
     {
-        let place = self.index.first(class)?;
-        Some(place.service())
+        let places = self.index.places(class)?;
+        first_open(&self.services, places, filter, &assignable)
     }
 
-    /// All live services of the class, the best first.
-    pub fn find_all(&self, class: &Text) -> Result<List<ServiceId>, AllocError>
-        ensures ranked { IfOk result (AreRanked class.now (services_of self.now.rows)) }
+    /// All live services of the class that the filter, if there is one, matches, the best first.
+    pub fn find_all(
+        &self,
+        class: &Text,
+        filter: Option<&Filter>,
+    ) -> Result<List<ServiceId>, AllocError>
+        ensures ranked { IfOk result (AreRanked (IsOf class.now (option_copied filter.entry)) (services_of self.now.rows)) }
     {
-        self.index.all(class)
+        let Some(places) = self.index.places(class) else {
+            return List::new(self.alloc);
+        };
+        match filter {
+            Some(asked) => all_fit(self.alloc, &self.services, places, asked),
+            None => all_of(self.alloc, places),
+        }
     }
 
     /// Takes out all services of the bundle and all its uses, and gives the ids of these services, rising.
