@@ -1,8 +1,10 @@
-//! Tests of the readers of texts: versions, ranges, header values, manifests and the values of attributes.
+//! Tests of the readers of texts: versions, ranges, filters, header values, manifests and the values of attributes.
 #![tactic(auto)]
 
 #[cfg(test)]
 mod clauses;
+#[cfg(test)]
+mod filters;
 #[cfg(test)]
 mod lines;
 #[cfg(test)]
