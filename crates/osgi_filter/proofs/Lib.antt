@@ -10,5 +10,5 @@ pub mod Operands
 pub mod Prints
 pub mod Stopping
 pub mod Places
+pub mod Between
 pub mod Orders
-pub mod PiecePlaces

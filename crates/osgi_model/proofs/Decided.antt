@@ -4,16 +4,14 @@ use Rattle.std.specs.Bool.{Decides, ⊤}
 use Rattle.std.specs.declared.cmp.Ordering.{Ordering}
 use Rattle.std.specs.List.{AllByRecursion}
 use Rattle.std.specs.Option.{option_and_then}
-use Rattle.std.specs.Ordering.{int_cmp, is_eq, is_ge, is_le}
+use Rattle.std.specs.Ordering.{is_eq, is_ge, is_le}
 use Rattle.std.proofs.lemmas.Bool.{false≢true}
 use Rattle.std.proofs.lemmas.Bool.Decides.{Decides-and, Decides-not, Decides-or}
 use Rattle.std.proofs.lemmas.Option.{none-some, same_Some}
 use Rattle.std.proofs.lemmas.Slice.Eq.{bytes_eq-Decides}
-use Rattle.osgi_version.specs.VersionValues.{order, parts}
-use Rattle.osgi_version.specs.Versions.{ReadsVersion}
+use Rattle.osgi_version.specs.VersionValues.{parts}
 use Rattle.osgi_model.specs.LongReader.{long_of}
-use Rattle.osgi_model.specs.Longs.{IsLong}
-use Rattle.osgi_model.specs.Matching.{OneOf, squeezed, TextPasses, Kind, Compares, KindPasses, PassesBy, Passes, ItemPasses, value_of, MatchesBy, Matches}
+use Rattle.osgi_model.specs.Matching.{OneOf, squeezed, TextPasses, Kind, Compares, KindPasses, PassesBy, Passes, ItemPasses, numbers, value_of, versions, MatchesBy, Matches}
 use Rattle.osgi_model.specs.MatchReader.{all_of, is_asked, item_passes, matches, matches_by, one_of, order_passes, passes, passes_by, text_passes, version_of}
 use Rattle.osgi_model.specs.declared.filter.Filter.{Filter, roll-Filter}
 use Rattle.osgi_model.specs.declared.filter.Filter.TheFolds.{fold-roll-Filter, ind-Filter, map-Filter, rec-roll-Filter}
@@ -107,8 +105,8 @@ module _ (test : Test) where
 
   made : (y : value.Value-F ((v : Value) × Decides (passes test v) (Passes test v))) → Decides (passes test (roll-Value (map-Value _ Value (λ e. e.0) y))) (Passes test (roll-Value (map-Value _ Value (λ e. e.0) y)))
   made (value.Text given) = rolled (value.Text given) (text_decides test given)
-  made (value.Long given) = rolled (value.Long given) (kind_decides (record { Reads = IsLong; order = int_cmp }) long_of long_sound long_read given test)
-  made (value.Version given) = rolled (value.Version given) (kind_decides (record { Reads = ReadsVersion; order = order }) version_of version_sound version_read (parts given) test)
+  made (value.Long given) = rolled (value.Long given) (kind_decides numbers long_of long_sound long_read given test)
+  made (value.Version given) = rolled (value.Version given) (kind_decides versions version_of version_sound version_read (parts given) test)
   made (value.List given) = rolled (value.List (map (λ e. e.0) given)) (one_decides (passes test) (Passes test) given)
 
   pub passes_decides : (v : Value) → Decides (passes test v) (Passes test v)

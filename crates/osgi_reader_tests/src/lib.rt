@@ -8,6 +8,8 @@ mod filters;
 #[cfg(test)]
 mod lines;
 #[cfg(test)]
+mod matching;
+#[cfg(test)]
 mod ranges;
 #[cfg(test)]
 mod values;

@@ -8,5 +8,5 @@ use Rattle.osgi_filter.proofs.matching.matches.Goals as goal
 
 pub returns : goal.returns
 returns c =
-    let same = c.matches_items.ensures.matches ∙ ap (λ attributes. matches (same_name c.args.case) attributes c.args.filter.now) c.items.ensures.items in
+    let same = c.is_match.ensures.matches ∙ ap (λ attributes. matches (same_name c.args.case) attributes c.args.filter.now) c.items.ensures.items in
     record { matches = Decides-at _ _ same (matches_decides (same_name c.args.case) c.args.attributes.now c.args.filter.now) }

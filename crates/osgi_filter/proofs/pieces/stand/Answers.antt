@@ -3,7 +3,7 @@ use Rattle.std.proofs.Common.{◌∙◌, ap, subst, List, [], ◌∷◌, ◌++�
 use Rattle.std.specs.Prelude.{nat_eq, IsTrue, ◌↔◌}
 use Rattle.std.specs.Cmp.Lexicographic.{pointwise}
 use Rattle.osgi_model.specs.Matching.{Stand}
-use Rattle.osgi_filter.proofs.PiecePlaces.{joined, only}
+use Rattle.osgi_filter.proofs.Between.{joined, only}
 use Rattle.osgi_filter.proofs.pieces.stand.Goals as goal
 
 pub returns-in-None : goal.returns-in-None

@@ -2,7 +2,7 @@
 use Rattle.std.proofs.Common.{◌+◌, List, ℕ, length, drop, arith, subst, ap, sym, ◌∙◌, Some, None}
 use Rattle.std.proofs.lemmas.Bool.{false≢true}
 use Rattle.memchr.specs.Find.{FindsNeedle}
-use Rattle.osgi_filter.proofs.PiecePlaces.{never, passed}
+use Rattle.osgi_filter.proofs.Between.{never, passed}
 use Rattle.osgi_filter.proofs.pieces.stand_between.Goals as goal
 
 pub returns-in_default : goal.returns-in_default

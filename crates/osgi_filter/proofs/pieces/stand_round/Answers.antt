@@ -1,7 +1,7 @@
 -- The text is its first piece, what is between, and its last piece.
 use Rattle.std.proofs.Common.{List, ◌++◌, ℕ, ap, sym, ◌∙◌}
 use Rattle.std.proofs.lemmas.Bool.{false≢true}
-use Rattle.osgi_filter.proofs.PiecePlaces.{end, front, no_end, no_front, round}
+use Rattle.osgi_filter.proofs.Between.{end, front, no_end, no_front, round}
 use Rattle.osgi_filter.proofs.pieces.stand_round.Goals as goal
 
 pub returns-in_default : goal.returns-in_default

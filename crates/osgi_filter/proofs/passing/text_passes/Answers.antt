@@ -3,7 +3,7 @@ use Rattle.std.proofs.Common.{◌≡◌}
 use Rattle.std.proofs.lemmas.Bool.Decides.{same_from_decides}
 use Rattle.osgi_model.specs.MatchReader.{stand}
 use Rattle.osgi_model.proofs.Standing.{stand_decides}
-use Rattle.osgi_filter.proofs.matching.text_passes.Goals as goal
+use Rattle.osgi_filter.proofs.passing.text_passes.Goals as goal
 
 pub returns-in-Pieces : goal.returns-in-Pieces
 returns-in-Pieces c =

@@ -2,7 +2,7 @@
 use Rattle.std.proofs.Common.{◌≡◌, drop}
 use Rattle.osgi_model.specs.Matching.{value_of}
 use Rattle.osgi_filter.specs.Names.{same_name}
-use Rattle.osgi_filter.proofs.matching.item_passes.Given as goal
+use Rattle.osgi_filter.proofs.matching.value_of.Given as goal
 
 abbrev pub invariant-loop-attribute : goal.invariant-loop-attribute
 invariant-loop-attribute l = value_of (same_name l.case) l.name l.attributes ≡ value_of (same_name l.case) l.name (drop l.attribute-index l.attributes)
