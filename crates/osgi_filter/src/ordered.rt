@@ -5,9 +5,9 @@ ghost use Rattle.osgi_model.specs.MatchReader.{long_order, order_passes, version
 ghost use Rattle.osgi_version.specs.VersionValues.{parts};
 ghost use Rattle.osgi_filter.specs.Orders.{order_of};
 
-use crate::long::long;
 use osgi_base::text::Text;
 use osgi_model::filter::Test;
+use osgi_model::reading::read_long;
 use osgi_version::version::Version;
 use std::cmp::Ordering;
 
@@ -21,7 +21,7 @@ pub enum Ordered<'a> {
 fn compare_long(given: i64, text: &[u8]) -> Option<Ordering>
     ensures order { result ≡ long_order given text.now }
 {
-    let number = long(text)?;
+    let number = read_long(text)?;
     Some(given.cmp(&number))
 }
 

@@ -12,7 +12,8 @@ use Rattle.std.proofs.lemmas.Slice.Eq.{bytes_eq-Decides}
 use Rattle.osgi_version.specs.VersionValues.{parts}
 use Rattle.osgi_model.specs.LongReader.{long_of}
 use Rattle.osgi_model.specs.Matching.{OneOf, squeezed, TextPasses, Kind, Compares, KindPasses, PassesBy, Passes, ItemPasses, numbers, value_of, versions, MatchesBy, Matches}
-use Rattle.osgi_model.specs.MatchReader.{all_of, is_asked, item_passes, matches, matches_by, one_of, order_passes, passes, passes_by, text_passes, version_of}
+use Rattle.osgi_model.specs.VersionReader.{parts_of}
+use Rattle.osgi_model.specs.MatchReader.{all_of, is_asked, item_passes, matches, matches_by, one_of, order_passes, passes, passes_by, text_passes}
 use Rattle.osgi_model.specs.declared.filter.Filter.{Filter, roll-Filter}
 use Rattle.osgi_model.specs.declared.filter.Filter.TheFolds.{fold-roll-Filter, ind-Filter, map-Filter, rec-roll-Filter}
 use Rattle.osgi_model.specs.declared.filter.Filter.TheOpen as filter
@@ -24,7 +25,7 @@ use Rattle.osgi_model.specs.declared.value.Value.TheFolds.{fold-roll-Value, ind-
 use Rattle.osgi_model.specs.declared.value.Value.TheOpen as value
 use Rattle.osgi_model.proofs.Longs.{long_read, long_sound}
 use Rattle.osgi_model.proofs.Standing.{nothing, stand_decides}
-use Rattle.osgi_model.proofs.VersionTexts.{version_read, version_sound}
+use Rattle.osgi_model.proofs.VersionTexts.{parts_read, parts_sound}
 
 itself : (b : Bool) → Decides b (b ≡ true)
 itself b = (λ h. h, λ h. h)
@@ -106,7 +107,7 @@ module _ (test : Test) where
   made : (y : value.Value-F ((v : Value) × Decides (passes test v) (Passes test v))) → Decides (passes test (roll-Value (map-Value _ Value (λ e. e.0) y))) (Passes test (roll-Value (map-Value _ Value (λ e. e.0) y)))
   made (value.Text given) = rolled (value.Text given) (text_decides test given)
   made (value.Long given) = rolled (value.Long given) (kind_decides numbers long_of long_sound long_read given test)
-  made (value.Version given) = rolled (value.Version given) (kind_decides versions version_of version_sound version_read (parts given) test)
+  made (value.Version given) = rolled (value.Version given) (kind_decides versions parts_of parts_sound parts_read (parts given) test)
   made (value.List given) = rolled (value.List (map (λ e. e.0) given)) (one_decides (passes test) (Passes test) given)
 
   pub passes_decides : (v : Value) → Decides (passes test v) (Passes test v)

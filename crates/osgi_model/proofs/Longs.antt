@@ -1,6 +1,6 @@
 -- A text is read as the number of 64 bits that it writes, and only as that.
-use Rattle.std.proofs.Common.{◌≡◌, ◌≢◌, ℕ, suc, ◌-◌, ◌⊎◌, inl, inr, List, [], ◌∷◌, length, get_or, ap, sym, ◌∙◌, refl, arith, w64}
-use Rattle.std.specs.Prelude.{Bool, true, false, ◌==◌, ◌&&◌, ◌≤ℤ◌, ℤ, pos, negsuc, FitsSigned, None, Some, Result, Ok, Err}
+use Rattle.std.proofs.Common.{◌≡◌, ◌≢◌, ◌↔◌, ℕ, suc, ◌-◌, ◌⊎◌, inl, inr, List, [], ◌∷◌, length, get_or, ap, sym, ◌∙◌, refl, arith, w64}
+use Rattle.std.specs.Prelude.{Bool, true, false, ◌==◌, ◌&&◌, ◌≤ℤ◌, ℤ, pos, negsuc, FitsSigned, Option, None, Some, Result, Ok, Err}
 use Rattle.std.specs.Char.{digit_value, is_ascii_whitespace}
 use Rattle.std.specs.Int.{IsInRange}
 use Rattle.std.specs.Result.{result_ok}
@@ -10,14 +10,13 @@ use Rattle.std.proofs.lemmas.Bool.{and_from, and_parts, cond-false, cond-true, f
 use Rattle.std.proofs.lemmas.Bool.Decides.{eqb_tells, nat_tests}
 use Rattle.std.proofs.lemmas.Fmt.{IsAscii-from_digits}
 use Rattle.std.proofs.lemmas.Int.{ints}
-use Rattle.std.proofs.lemmas.Option.{cond_some}
+use Rattle.std.proofs.lemmas.Option.{cond_some, none-some}
 use Rattle.std.proofs.lemmas.Str.{IsUtf8-from_ascii}
 use Rattle.std.proofs.lemmas.Str.Ascii.{IsAscii-cons}
 use Rattle.std.proofs.lemmas.Str.Parse.{digit_at}
 use Rattle.osgi_model.proofs.Numerals.{is_numeral-from, numeral_from}
 use Rattle.osgi_model.proofs.Trimming.{IsTight, trimmed-tight, trims}
-use Rattle.osgi_model.specs.LongReader.{fits, long_of, number_of, trimmed}
-use Rattle.osgi_model.specs.LongReader.{is_numeral}
+use Rattle.osgi_model.specs.LongReader.{fits, is_numeral, long_of, number_of, trimmed}
 use Rattle.osgi_model.specs.Longs.{IsLong, negative, positive, unsigned, Writes}
 
 -- ---- what digits with a sign write
@@ -172,3 +171,12 @@ long_read text number long =
     ap long_of long.is
     ∙ ap number_of (trimmed-tight long.before long.written long.behind tight long.white_before long.white_behind)
     ∙ number_read long.written number (number_written long.written number long.writes) (fits_within number long.least long.greatest)
+
+-- what gives just the numbers that a text writes is what is computed
+read_by : (text : List ℕ) (o : Option ℤ) → long_of text ≡ o → ((number : ℤ) → IsLong text number → ⊥) → None ≡ o
+read_by text None e no_long = refl
+read_by text (Some number) e no_long = absurd (no_long number (long_sound text number e))
+
+pub read_is : (text : List ℕ) (r : Option ℤ) → ((number : ℤ) → (r ≡ Some number) ↔ IsLong text number) → r ≡ long_of text
+read_is text None reads = read_by text (long_of text) refl (λ number long. absurd (none-some number ((reads number).1 long)))
+read_is text (Some number) reads = sym (long_read text number ((reads number).0 refl))

@@ -1,24 +1,63 @@
--- What is computed of a text that may be a version is the version that it reads as.
-use Rattle.std.proofs.Common.{◌≡◌, true, ℕ, List, Option, Some, None, sym, ap, refl, ◌∙◌}
-use Rattle.std.proofs.lemmas.Option.{none-some, same_Some}
-use Rattle.std.specs.Option.{option_and_then}
-use Rattle.osgi_version.specs.Run.{run, advance}
-use Rattle.osgi_version.specs.VersionMachine.{step, is_fine, finish}
-use Rattle.osgi_version.specs.Versions.{Parts, ReadsVersion}
-use Rattle.osgi_version.specs.declared.version_state.VersionState.{VersionState}
-use Rattle.osgi_version.specs.declared.version_state.VersionState.TheVariants.{Lead}
+-- A text is read as the version that it reads as, and only as that.
+use Rattle.std.proofs.Common.{◌≡◌, ◌≤◌, ℕ, List, ap, sym, ◌∙◌, refl, subst}
+use Rattle.std.specs.Prelude.{Bool, true, false, Option, None, Some, option_and_then, Result, Ok, Err, nat_le, ◌&&◌}
+use Rattle.std.specs.Result.{result_ok, IsOkAnd, MatchResult}
+use Rattle.std.proofs.Math.Bridge.{le_prop}
+use Rattle.std.proofs.lemmas.Bool.{and_from, le-leb}
+use Rattle.std.proofs.lemmas.Option.{option_and_then_some, same_Some}
 use Rattle.osgi_version.proofs.VersionAlive.{reads_runs}
 use Rattle.osgi_version.proofs.VersionReader.{accepted, finish_last}
-use Rattle.osgi_model.specs.MatchReader.{version_of}
+use Rattle.osgi_version.specs.Run.{advance, run}
+use Rattle.osgi_version.specs.VersionMachine.{finish, is_fine, step}
+use Rattle.osgi_version.specs.VersionValues.{parts}
+use Rattle.osgi_version.specs.Versions.{Parts, ReadsVersion}
+use Rattle.osgi_version.specs.declared.version.Version.{Version}
+use Rattle.osgi_version.specs.declared.version_state.VersionState.TheVariants.{Lead}
+use Rattle.osgi_model.specs.VersionReader.{is_within, parts_of, version_by, version_of, version_with}
 
-pub version_read : (text : List ℕ) (v : Parts) → ReadsVersion text v → version_of text ≡ Some v
-version_read text v reads = let r = reads_runs text v reads in ap (option_and_then (finish text)) r.1 ∙ r.2
+pub parts_sound : (text : List ℕ) (v : Parts) → parts_of text ≡ Some v → ReadsVersion text v
+parts_sound text v e =
+    option_and_then_some (finish text) (run (advance is_fine step true) Lead text) v e
+    (λ s ran finished.
+    let is = accepted text s ran (finish_last text s v finished) in
+    subst (ReadsVersion text) (same_Some _ _ (sym is.1 ∙ finished)) is.2)
 
-sound_by : (text : List ℕ) (v : Parts) (o : Option VersionState) → run (advance is_fine step true) Lead text ≡ o → option_and_then (finish text) o ≡ Some v → ReadsVersion text v
-sound_by text v None runs e = absurd (none-some v e)
-sound_by text v (Some s) runs e =
-    let r = accepted text s runs (finish_last text s v e) in
-    rw (← same_Some r.0 v (sym r.1 ∙ e)) r.2
+pub parts_read : (text : List ℕ) (v : Parts) → ReadsVersion text v → parts_of text ≡ Some v
+parts_read text v reads =
+    let ran = reads_runs text v reads in
+    ap (option_and_then (finish text)) ran.1 ∙ ran.2
 
-pub version_sound : (text : List ℕ) (v : Parts) → version_of text ≡ Some v → ReadsVersion text v
-version_sound text v e = sound_by text v (run (advance is_fine step true) Lead text) refl e
+with_by : (v : Parts) (test : Bool) (e : is_within v ≡ test) (w : Version) → version_by v test e ≡ Some w → parts w ≡ v
+with_by v true e w made = ap parts (sym (same_Some _ _ made))
+with_by v false e w made = absurd (cc made)
+
+pub version_sound : (text : List ℕ) (w : Version) → version_of text ≡ Some w → ReadsVersion text (parts w)
+version_sound text w e =
+    option_and_then_some version_with (parts_of text) w e
+    (λ v read made. subst (ReadsVersion text) (sym (with_by v (is_within v) refl w made)) (parts_sound text v read))
+
+within_one : {a b c n : ℕ} (x y : (a ≤ n) × (b ≤ n) × (c ≤ n)) → x ≡ y
+within_one x y = λ i. (le_prop x.0 y.0 i, le_prop x.1 y.1 i, le_prop x.2 y.2 i)
+
+is_within-from : (w : Version) → is_within (parts w) ≡ true
+is_within-from w =
+    and_from (nat_le w.major 2147483647) (nat_le w.minor 2147483647 && nat_le w.micro 2147483647) (le-leb w.major 2147483647 w.in_range.0)
+    (and_from (nat_le w.minor 2147483647) (nat_le w.micro 2147483647) (le-leb w.minor 2147483647 w.in_range.1) (le-leb w.micro 2147483647 w.in_range.2))
+
+with_read : (w : Version) (test : Bool) (e : is_within (parts w) ≡ test) → version_by (parts w) test e ≡ Some w
+with_read w true e =
+    ap (λ within. Some (record { major = w.major; minor = w.minor; micro = w.micro; qualifier = w.qualifier; in_range = within })) (within_one _ w.in_range)
+with_read w false e = absurd (cc (e, is_within-from w))
+
+pub version_read : (text : List ℕ) (w : Version) → ReadsVersion text (parts w) → version_of text ≡ Some w
+version_read text w reads = ap (option_and_then version_with) (parts_read text (parts w) reads) ∙ with_read w (is_within (parts w)) refl
+
+-- what is parsed is what is computed here
+no_version : (text : List ℕ) (o : Option Version) → version_of text ≡ o → ((v : Parts) → ReadsVersion text v → ⊥) → None ≡ o
+no_version text None e none = refl
+no_version text (Some w) e none = absurd (none (parts w) (version_sound text w e))
+
+pub version_parsed : {E : Type 0} (Fault : E → Type 0) (text : List ℕ) (r : Result Version E) → MatchResult r (λ w. ReadsVersion text (parts w)) Fault →
+    ((v : Parts) → ReadsVersion text v → IsOkAnd r (λ w. parts w ≡ v)) → result_ok r ≡ version_of text
+version_parsed Fault text (Ok w) reads only = sym (version_read text w reads)
+version_parsed Fault text (Err fault) reads only = no_version text (version_of text) refl only

@@ -8,13 +8,11 @@ use Rattle.std.specs.declared.cmp.Ordering.{Ordering}
 use Rattle.std.specs.Ordering.{nat_cmp, int_cmp, is_eq, is_ge, is_le}
 use Rattle.std.specs.Str.{bytes_eq}
 use Rattle.std.specs.Prelude.{nat_eq}
-use Rattle.osgi_version.specs.Run.{run, advance}
-use Rattle.osgi_version.specs.VersionMachine.{step, is_fine, finish}
 use Rattle.osgi_version.specs.VersionValues.{order, parts}
 use Rattle.osgi_version.specs.Versions.{Parts}
-use Rattle.osgi_version.specs.declared.version_state.VersionState.TheVariants.{Lead}
 use Rattle.osgi_model.specs.LongReader.{long_of}
 use Rattle.osgi_model.specs.Matching.{squeezed, value_of}
+use Rattle.osgi_model.specs.VersionReader.{parts_of}
 use Rattle.osgi_model.specs.declared.filter.Test.{Test}
 use Rattle.osgi_model.specs.declared.filter.Test.TheVariants.{Equal, Approx, AtLeast, AtMost, Present, Pieces}
 use Rattle.osgi_model.specs.declared.filter.Filter.{Filter}
@@ -52,12 +50,8 @@ text_passes (Pieces pieces) given = stand pieces given
 abbrev pub long_order : ℤ → List ℕ → Option Ordering
 long_order given text = option_and_then (λ n. Some (int_cmp given n)) (long_of text)
 
--- the version that a text reads as
-abbrev pub version_of : List ℕ → Option Parts
-version_of text = option_and_then (finish text) (run (advance is_fine step true) Lead text)
-
 abbrev pub version_order : Parts → List ℕ → Option Ordering
-version_order given text = option_and_then (λ v. Some (order given v)) (version_of text)
+version_order given text = option_and_then (λ v. Some (order given v)) (parts_of text)
 
 abbrev pub is_asked : (Ordering → Bool) → Option Ordering → Bool
 is_asked asked None = false

@@ -1,5 +1,9 @@
-//! The data of the module layer.
+//! The data of the module layer, and the values that texts stand for.
 #![tactic(auto)]
 
+mod elements;
 pub mod filter;
+pub mod kind;
+mod long;
+pub mod reading;
 pub mod value;
