@@ -1,40 +1,30 @@
 -- A word is read as the property that it spells, and only as that.
 use Rattle.std.proofs.Common.{◌≡◌, ◌≢◌, ℕ, ◌+◌, List, [], ◌∷◌, ◌++◌, length, take, drop, ap, sym, ◌∙◌, refl, arith, length-append}
-use Rattle.std.specs.Prelude.{Bool, true, false, ◌==◌, Option, None, Some, option_and_then, codes}
+use Rattle.std.specs.Prelude.{Bool, true, false, ◌==◌, IfOk, Option, None, Some, option_and_then, Result, Ok, Err, codes}
 use Rattle.std.specs.List.{AllPass, list_all}
-use Rattle.std.specs.Option.{option_map}
-use Rattle.std.specs.Str.{bytes_eq}
+use Rattle.std.specs.Option.{IfSome, option_map}
 use Rattle.std.proofs.Math.Seq.{drop-append-add, drop-append_seam, take-append_seam}
 use Rattle.std.proofs.lemmas.Bool.{cond-false, cond-true, eqb-false, eqb-true, ne_eqb, not_from_true, not-false}
-use Rattle.std.proofs.lemmas.Bool.Decides.{Decides-eqb}
 use Rattle.std.proofs.lemmas.List.Elements.{All-head}
 use Rattle.std.proofs.lemmas.List.Sums.{AllPass-from_list_all, list_all-from_AllPass}
 use Rattle.std.proofs.lemmas.Option.{cond_some, option_and_then_some}
-use Rattle.std.proofs.lemmas.Slice.Eq.{slice_eq-Decides}
+use Rattle.osgi_model.proofs.KindNames.{kind_read, kind_sound}
+use Rattle.osgi_model.proofs.Made.{mapped}
+use Rattle.osgi_model.proofs.ValueTexts.{result_is, value_read as kind_value_read, value_sound as kind_value_sound}
+use Rattle.osgi_model.specs.ValueReader.{kind_named, value_of}
+use Rattle.osgi_model.specs.Values.{full, IsOfKind, Names, strings}
+use Rattle.osgi_model.specs.declared.kind.Kind.{Kind}
+use Rattle.osgi_model.specs.declared.kind.Kind.TheVariants as kind
+use Rattle.osgi_model.specs.declared.kind.Scalar.TheVariants as scalar
 use Rattle.osgi_model.specs.declared.value.Attribute.{Attribute}
 use Rattle.osgi_model.specs.declared.value.Value.{Value}
-use Rattle.osgi_model.specs.declared.value.Value.TheVariants.{Long, Text}
-use Rattle.osgi_console.proofs.Longs.{long_read, long_sound}
+use Rattle.osgi_model.specs.declared.value.Value.TheVariants.{Text}
 use Rattle.osgi_console.proofs.Places.{Fails, Found, found, nowhere, position-front, position-none, somewhere}
 use Rattle.osgi_console.proofs.Quoting.{quoted_read, quoted_sound}
 use Rattle.osgi_console.proofs.Whole.{AreWhole, bare_by, IsWhole, other_byte, scan, scan-bare, scan_bare, scan_quoted}
 use Rattle.osgi_console.specs.declared.words.Place.TheVariants.{Bare}
-use Rattle.osgi_console.specs.PropertyReader.{attribute_of, begins_with_quote, ends_key, is_equals, long_of, properties_of, property_by, property_from, property_of, typed_of, value_of, value_text_of}
-use Rattle.osgi_console.specs.Values.{AreProperties, bare, is_bare_byte, is_key_byte, IsKey, IsOfType, IsProperty, IsValueText, long, quoted, string, typed, untyped}
-
--- what an answer was made from
-pub record WasMapped {A B : Type 0} (f : A → B) (o : Option A) (y : B) : Type 0 where
-  pub value : A
-  pub was : o ≡ Some value
-  pub is : f value ≡ y
-
-pub mapped : {A B : Type 0} (f : A → B) (o : Option A) (y : B) → option_map f o ≡ Some y → WasMapped f o y
-mapped f None y e = absurd (cc e)
-mapped f (Some x) y e = record { value = x; was = refl; is = cc e }
-
--- the texts are the same where the test says so
-pub same_text : (text name : List ℕ) → bytes_eq text name ≡ true → text ≡ name
-same_text text name e = (slice_eq-Decides Decides-eqb text name true (sym e)).0 refl
+use Rattle.osgi_console.specs.PropertyReader.{attribute_of, begins_with_quote, ends_key, is_equals, properties_of, property_by, property_from, property_of, typed_of, value_named, value_text_of}
+use Rattle.osgi_console.specs.Values.{AreProperties, bare, is_bare_byte, is_key_byte, IsKey, IsProperty, IsValueText, quoted, typed, untyped}
 
 -- ---- texts of values
 
@@ -63,33 +53,37 @@ scan_value_text spelled text (bare all) = scan_bare text all
 
 -- ---- values by their types
 
-long_by : (text : List ℕ) (value : Value) → option_map Long (long_of text) ≡ Some value → IsOfType (codes "Long") text value
-long_by text value e =
-    let read = mapped Long (long_of text) value e in
-    rw (← read.is) (long (long_sound text read.value read.was))
+record IsValue (type text : List ℕ) (value : Value) : Type 0 where
+  kind : Kind
+  named : Names type kind
+  of_kind : IsOfKind kind text value
 
-value_by : (type text : List ℕ) (value : Value) (strings longs : Bool) → bytes_eq type (codes "String") ≡ strings → bytes_eq type (codes "Long") ≡ longs →
-    value_of type text ≡ Some value → IsOfType type text value
-value_by type text value true longs is_string is_long e =
-    let same : Some (Text text) ≡ Some value = sym (cond-true (bytes_eq type (codes "String")) _ _ is_string) ∙ e in
-    let is : Text text ≡ value = cc same in
-    rw (same_text type (codes "String") is_string, ← is) string
-value_by type text value false true is_string is_long e =
-    rw (same_text type (codes "Long") is_long)
-    (long_by text value (sym (cond-true (bytes_eq type (codes "Long")) _ _ is_long) ∙ sym (cond-false (bytes_eq type (codes "String")) _ _ is_string) ∙ e))
-value_by type text value false false is_string is_long e =
-    absurd (cc (e, cond-false (bytes_eq type (codes "String")) (Some (Text text)) _ is_string ∙ cond-false (bytes_eq type (codes "Long")) (option_map Long (long_of text)) None is_long))
+value_sound : (type text : List ℕ) (value : Value) → value_named type text ≡ Some value → IsValue type text value
+value_sound type text value e =
+    option_and_then_some (λ kind. value_of kind text) (kind_named type) value e
+    (λ kind named is. record { kind = kind; named = kind_sound type kind named; of_kind = kind_value_sound kind text value is })
 
-value_sound : (type text : List ℕ) (value : Value) → value_of type text ≡ Some value → IsOfType type text value
-value_sound type text value e = value_by type text value _ _ refl refl e
+value_read : (type text : List ℕ) (kind : Kind) (value : Value) → Names type kind → IsOfKind kind text value → value_named type text ≡ Some value
+value_read type text kind value named is = ap (option_and_then (λ k. value_of k text)) (kind_read type kind named) ∙ kind_value_read kind text value is
 
-value_read : (type text : List ℕ) (value : Value) → IsOfType type text value → value_of type text ≡ Some value
-value_read type text value string = refl
-value_read type text value (long is) = ap (option_map Long) (long_read text _ is)
+named_by : {E : Type 0} (type text : List ℕ) (k : Kind) (r : Result (Option Value) E) → Some k ≡ kind_named type → IfOk r (λ read. read ≡ value_of k text) →
+    IfOk r (λ read. read ≡ value_named type text)
+named_by type text k (Ok read) named is = is ∙ ap (option_and_then (λ k. value_of k text)) named
+named_by type text k (Err e) named is = tt
 
-type_bytes : (type text : List ℕ) (value : Value) → IsOfType type text value → AllPass is_key_byte type
-type_bytes type text value string = AllPass-from_list_all is_key_byte (codes "String") refl
-type_bytes type text value (long is) = AllPass-from_list_all is_key_byte (codes "Long") refl
+-- what the type of a name reads of a text is the value of the type of this name
+pub result_named : {E : Type 0} (type text : List ℕ) (k : Kind) (r : Result (Option Value) E) → Some k ≡ kind_named type → IfOk r (λ read. IfSome read (IsOfKind k text)) →
+    ((value : Value) → IsOfKind k text value → IfOk r (λ read. read ≡ Some value)) → IfOk r (λ read. read ≡ value_named type text)
+result_named type text k r named is only = named_by type text k r named (result_is k text r is only)
+
+type_bytes : (type : List ℕ) (k : Kind) → Names type k → AllPass is_key_byte type
+type_bytes type k (full {kind = kind.One scalar.String}) = AllPass-from_list_all is_key_byte (codes "String") refl
+type_bytes type k (full {kind = kind.One scalar.Version}) = AllPass-from_list_all is_key_byte (codes "Version") refl
+type_bytes type k (full {kind = kind.One scalar.Long}) = AllPass-from_list_all is_key_byte (codes "Long") refl
+type_bytes type k (full {kind = kind.List scalar.String}) = AllPass-from_list_all is_key_byte (codes "List<String>") refl
+type_bytes type k (full {kind = kind.List scalar.Version}) = AllPass-from_list_all is_key_byte (codes "List<Version>") refl
+type_bytes type k (full {kind = kind.List scalar.Long}) = AllPass-from_list_all is_key_byte (codes "List<Long>") refl
+type_bytes type k strings = AllPass-from_list_all is_key_byte (codes "List") refl
 
 -- ---- properties
 
@@ -100,15 +94,15 @@ record IsAttribute (key type spelled : List ℕ) (property : Attribute) : Type 0
   text : List ℕ
   value : Value
   spells : IsValueText spelled text
-  of_type : IsOfType type text value
+  of_type : IsValue type text value
   is : attribute key value ≡ property
 
 attribute_sound : (key type spelled : List ℕ) (property : Attribute) → attribute_of key type spelled ≡ Some property → IsAttribute key type spelled property
 unfolding attribute
 attribute_sound key type spelled property e =
-    option_and_then_some (λ text. option_map (attribute key) (value_of type text)) (value_text_of spelled) property e
+    option_and_then_some (λ text. option_map (attribute key) (value_named type text)) (value_text_of spelled) property e
     (λ text was made.
-    let read = mapped (attribute key) (value_of type text) property made in
+    let read = mapped (attribute key) (value_named type text) property made in
     record {
       text = text;
       value = read.value;
@@ -117,11 +111,11 @@ attribute_sound key type spelled property e =
       is = read.is;
     })
 
-attribute_read : (key type spelled text : List ℕ) (value : Value) → IsValueText spelled text → IsOfType type text value → attribute_of key type spelled ≡ Some (attribute key value)
+attribute_read : (key type spelled text : List ℕ) (value : Value) → IsValueText spelled text → value_named type text ≡ Some value → attribute_of key type spelled ≡ Some (attribute key value)
 unfolding attribute
-attribute_read key type spelled text value spells of_type =
-    ap (option_and_then (λ t. option_map (attribute key) (value_of type t))) (value_text_read spelled text spells)
-    ∙ ap (option_map (attribute key)) (value_read type text value of_type)
+attribute_read key type spelled text value spells is =
+    ap (option_and_then (λ t. option_map (attribute key) (value_named type t))) (value_text_read spelled text spells)
+    ∙ ap (option_map (attribute key)) is
 
 -- a text split at its first `=`
 record IsTyped (key rest : List ℕ) (property : Attribute) : Type 0 where
@@ -154,26 +148,25 @@ property_rest key b rest is passes =
 pub property_read : (word : List ℕ) (property : Attribute) → IsProperty word property → property_of word ≡ Some property
 unfolding attribute
 property_read word property (untyped {key = key} {spelled = spelled} {text = text} is spells) =
-    property_rest key 61 spelled is refl ∙ attribute_read key (codes "String") spelled text (Text text) spells string
-property_read word property (typed {key = key} {type = type} {spelled = spelled} {text = text} {value = value} is spells of_type) =
+    property_rest key 61 spelled is refl ∙ attribute_read key (codes "String") spelled text (Text text) spells refl
+property_read word property (typed {key = key} {type = type} {spelled = spelled} {text = text} {kind = kind} {value = value} is named spells of_kind) =
     property_rest key 58 (type ++ 61 ∷ spelled) is refl
-    ∙ typed_read key type spelled (λ k d below. other_byte is_key_byte 61 _ refl (type_bytes type text value of_type k d below))
-    ∙ attribute_read key type spelled text value spells of_type
+    ∙ typed_read key type spelled (λ k d below. other_byte is_key_byte 61 _ refl (type_bytes type kind named k d below))
+    ∙ attribute_read key type spelled text value spells (value_read type text kind value named of_kind)
 
-string_is : (type text : List ℕ) (value : Value) → IsOfType type text value → type ≡ codes "String" → value ≡ Text text
-string_is type text value string e = refl
-string_is type text value (long is) e = absurd (cc e)
+string_is : (text : List ℕ) (value : Value) → IsValue (codes "String") text value → value ≡ Text text
+string_is text value is = cc (value_read (codes "String") text is.kind value is.named is.of_kind)
 
 property_untyped : (key spelled : List ℕ) (property : Attribute) → IsKey key → IsAttribute key (codes "String") spelled property → IsProperty (key ++ 61 ∷ spelled) property
 unfolding attribute
 property_untyped key spelled property key_is is =
-    rw (← is.is, string_is (codes "String") is.text is.value is.of_type refl) (untyped {key = key} {spelled = spelled} key_is is.spells)
+    rw (← is.is, string_is is.text is.value is.of_type) (untyped {key = key} {spelled = spelled} key_is is.spells)
 
 property_typed : (key rest : List ℕ) (property : Attribute) → IsKey key → IsTyped key rest property → IsProperty (key ++ 58 ∷ rest) property
 unfolding attribute
 property_typed key rest property key_is is =
     let made = attribute_sound key is.type is.spelled property is.read in
-    rw (is.is, ← made.is) (typed {key = key} {type = is.type} {spelled = is.spelled} key_is made.spells made.of_type)
+    rw (is.is, ← made.is) (typed {key = key} {type = is.type} {spelled = is.spelled} key_is made.of_type.named made.spells made.of_type.of_kind)
 
 property_by_byte : (key : List ℕ) (b : ℕ) (rest : List ℕ) (property : Attribute) (equal colons : Bool) → (b == 61) ≡ equal → (b == 58) ≡ colons → IsKey key →
     property_from key (b ∷ rest) ≡ Some property → IsProperty (key ++ b ∷ rest) property
@@ -209,11 +202,11 @@ whole_property word property (untyped {key = key} {spelled = spelled} {text = te
   some = omega (arith, is.0, length-append key (61 ∷ spelled));
   scanned = scan-bare key (61 ∷ spelled) (bare_by is_key_byte key refl refl is.1) ∙ scan_value_text spelled text spells;
 }
-whole_property word property (typed {key = key} {type = type} {spelled = spelled} {text = text} {value = value} is spells of_type) = record {
+whole_property word property (typed {key = key} {type = type} {spelled = spelled} {text = text} {kind = kind} is named spells of_kind) = record {
   some = omega (arith, is.0, length-append key (58 ∷ type ++ 61 ∷ spelled));
   scanned =
       scan-bare key (58 ∷ type ++ 61 ∷ spelled) (bare_by is_key_byte key refl refl is.1)
-      ∙ scan-bare type (61 ∷ spelled) (bare_by is_key_byte type refl refl (type_bytes type text value of_type))
+      ∙ scan-bare type (61 ∷ spelled) (bare_by is_key_byte type refl refl (type_bytes type kind named))
       ∙ scan_value_text spelled text spells;
 }
 

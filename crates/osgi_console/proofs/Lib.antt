@@ -3,7 +3,6 @@ pub mod Attributes
 pub mod Classes
 pub mod Contents
 pub mod Lines
-pub mod Longs
 pub mod Numbers
 pub mod Parting
 pub mod Parts
@@ -12,6 +11,5 @@ pub mod Quoting
 pub mod Spaces
 pub mod Splitting
 pub mod TextMap
-pub mod Trimming
 pub mod Verbs
 pub mod Whole

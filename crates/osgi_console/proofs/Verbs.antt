@@ -1,17 +1,16 @@
 -- Words are read as the command that they say, and only as that.
-use Rattle.std.proofs.Common.{◌≡◌, ℕ, List, [], ◌∷◌, ap, sym, ◌∙◌, refl, arith, subst}
-use Rattle.std.specs.Prelude.{Bool, true, false, Some, option_and_then, codes}
-use Rattle.std.specs.List.{find}
+use Rattle.std.proofs.Common.{◌≡◌, ℕ, List, [], ◌∷◌, ap, sym, refl, arith, subst}
+use Rattle.std.specs.Prelude.{Some, option_and_then, codes}
 use Rattle.std.specs.Option.{option_map}
 use Rattle.std.specs.Str.{bytes_eq}
-use Rattle.std.proofs.lemmas.Bool.{cond-false, cond-true}
 use Rattle.std.proofs.lemmas.Option.{option_and_then_some}
 use Rattle.osgi_base.specs.declared.ids.ServiceId.{ServiceId}
 use Rattle.osgi_ops.specs.declared.command.Command.{Command}
 use Rattle.osgi_ops.specs.declared.command.Command.TheVariants as command
 use Rattle.osgi_console.specs.declared.commands.Verb.{Verb}
 use Rattle.osgi_console.specs.declared.commands.Verb.TheVariants as verb
-use Rattle.osgi_console.proofs.Attributes.{mapped, properties_read, properties_sound, same_text, whole_properties}
+use Rattle.osgi_model.proofs.Made.{mapped, passes_found, same_text}
+use Rattle.osgi_console.proofs.Attributes.{properties_read, properties_sound, whole_properties}
 use Rattle.osgi_console.proofs.Classes.{class_read, class_sound, classes_read, classes_sound, whole_class, whole_classes}
 use Rattle.osgi_console.proofs.Numbers.{id_read, id_sound, whole_id}
 use Rattle.osgi_console.proofs.Quoting.{quoted_read, quoted_sound}
@@ -23,17 +22,6 @@ use Rattle.osgi_console.specs.WordReader.{classes_of, id_of, quoted_of}
 use Rattle.osgi_console.specs.Words.{IsClass, IsId}
 
 -- ---- the first word
-
-found_by : {X : Type 0} (p : X → Bool) (x : X) (xs : List X) (y : X) (test : Bool) → p x ≡ test → find p (x ∷ xs) ≡ Some y → (find p xs ≡ Some y → p y ≡ true) → p y ≡ true
-found_by p x xs y true e found more =
-    let same : Some x ≡ Some y = sym (cond-true (p x) (Some x) (find p xs) e) ∙ found in
-    let is : x ≡ y = cc same in
-    ap p (sym is) ∙ e
-found_by p x xs y false e found more = more (sym (cond-false (p x) (Some x) (find p xs) e) ∙ found)
-
-passes_found : {X : Type 0} (p : X → Bool) (xs : List X) (y : X) → find p xs ≡ Some y → p y ≡ true
-passes_found p [] y found = absurd (cc found)
-passes_found p (x ∷ xs) y found = found_by p x xs y (p x) refl found (passes_found p xs y)
 
 verb_sound : (word : List ℕ) (v : Verb) → verb_of word ≡ Some v → name_of v ≡ word
 verb_sound word v e = same_text (name_of v) word (passes_found (λ v. bytes_eq (name_of v) word) verbs v e)

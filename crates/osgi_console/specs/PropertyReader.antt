@@ -1,16 +1,13 @@
 -- What the reader computes of words that are properties. No public promise speaks of this: it is proved to give the readings
 -- of the grammar.
-use Rattle.std.specs.Prelude.{ℕ, ◌+◌, ◌-◌, ◌==◌, ◌&&◌, int_le, ℤ, negsuc, pos, if◌then◌else◌, not, Bool, false, List, [], ◌∷◌, length, codes, Option, None, Some, option_and_then, take, drop}
-use Rattle.std.specs.Char.{is_ascii_whitespace}
-use Rattle.std.specs.List.{list_all, position, prefix_len, suffix_len}
+use Rattle.std.specs.Prelude.{ℕ, ◌+◌, ◌==◌, if◌then◌else◌, not, Bool, false, List, [], ◌∷◌, length, codes, Option, None, Some, option_and_then, take, drop}
+use Rattle.std.specs.List.{list_all, position}
 use Rattle.std.specs.Option.{option_map}
-use Rattle.std.specs.Str.{bytes_eq}
-use Rattle.std.specs.Str.Parse.{signed_digits_value, without_leading_sign}
+use Rattle.osgi_model.specs.ValueReader.{kind_named, value_of}
 use Rattle.osgi_model.specs.declared.value.Attribute.{Attribute}
 use Rattle.osgi_model.specs.declared.value.Value.{Value}
-use Rattle.osgi_model.specs.declared.value.Value.TheVariants.{Long, Text}
 use Rattle.osgi_console.specs.Values.{is_bare_byte, is_key_byte}
-use Rattle.osgi_console.specs.WordReader.{is_numeral, quoted_of}
+use Rattle.osgi_console.specs.WordReader.{quoted_of}
 
 abbrev pub begins_with_quote : List ℕ → Bool
 begins_with_quote [] = false
@@ -19,32 +16,14 @@ begins_with_quote (b ∷ rest) = b == 34
 abbrev pub value_text_of : List ℕ → Option (List ℕ)
 value_text_of spelled = if begins_with_quote spelled then quoted_of spelled else (if list_all is_bare_byte spelled then Some spelled else None)
 
--- a text without the white space round it
-abbrev pub trimmed : List ℕ → List ℕ
-trimmed text =
-    let begun : List ℕ = drop (prefix_len is_ascii_whitespace text) text in
-    take (length begun - suffix_len is_ascii_whitespace begun) begun
-
--- a number of 64 bits
-abbrev pub fits : ℤ → Bool
-fits number = int_le (negsuc 9223372036854775807) number && int_le number (pos 9223372036854775807)
-
-abbrev pub number_of : List ℕ → Option ℤ
-number_of text = if is_numeral (without_leading_sign text) && fits (signed_digits_value 10 text) then Some (signed_digits_value 10 text) else None
-
-abbrev pub long_of : List ℕ → Option ℤ
-long_of text = number_of (trimmed text)
-
--- what a text stands for as a value of a type
-abbrev pub value_of : List ℕ → List ℕ → Option Value
-value_of type text =
-    if bytes_eq type (codes "String") then Some (Text text)
-    else (if bytes_eq type (codes "Long") then option_map Long (long_of text) else None)
+-- what a text stands for as a value of the type of this name
+abbrev pub value_named : List ℕ → List ℕ → Option Value
+value_named type text = option_and_then (λ kind. value_of kind text) (kind_named type)
 
 -- the property of a key and a type whose value is spelled like this
 abbrev pub attribute_of : List ℕ → List ℕ → List ℕ → Option Attribute
 attribute_of key type spelled =
-    option_and_then (λ text. option_map (λ value. record { name = key; value = value }) (value_of type text)) (value_text_of spelled)
+    option_and_then (λ text. option_map (λ value. record { name = key; value = value }) (value_named type text)) (value_text_of spelled)
 
 abbrev pub is_equals : ℕ → Bool
 is_equals b = b == 61

@@ -2,10 +2,10 @@
 -- proved to give the readings of the grammar.
 use Rattle.std.specs.Prelude.{ℕ, ◌==◌, ◌||◌, ◌&&◌, nat_le, if◌then◌else◌, Bool, true, false, List, [], ◌∷◌, ◌++◌, length, Option, None, Some, option_and_then}
 use Rattle.std.specs.Borrow.{Bor}
-use Rattle.std.specs.Char.{is_digit}
 use Rattle.std.specs.List.{list_all, slice_split}
 use Rattle.std.specs.Str.Parse.{digits_value}
 use Rattle.osgi_base.specs.declared.ids.ServiceId.{ServiceId}
+use Rattle.osgi_model.specs.ValueReader.{is_numeral}
 use Rattle.osgi_console.specs.Words.{is_class_byte}
 
 -- ---- class names and ids
@@ -22,13 +22,6 @@ is_comma b = b == 44
 -- the class names of a word, where it is a list of such
 abbrev pub classes_of : List ℕ → Option (List (List ℕ))
 classes_of word = if list_all is_class (slice_split is_comma word) then Some (slice_split is_comma word) else None
-
-abbrev pub is_decimal : ℕ → Bool
-is_decimal b = is_digit b 10
-
--- one decimal digit or more, and nothing else
-abbrev pub is_numeral : List ℕ → Bool
-is_numeral digits = if length digits == 0 then false else list_all is_decimal digits
 
 abbrev pub id_of : List ℕ → Option ServiceId
 id_of word = if nat_le (length word) 10 && is_numeral word then Some (record { 0 = digits_value 10 word }) else None

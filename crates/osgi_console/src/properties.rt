@@ -36,7 +36,7 @@ fn attribute(
     let Some(text) = value_text(alloc, spelled)? else {
         return Ok(None);
     };
-    let Some(value) = value(kind, text) else {
+    let Some(value) = value(alloc, kind, text.bytes())? else {
         return Ok(None);
     };
     Ok(Some(Attribute {

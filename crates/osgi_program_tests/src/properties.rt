@@ -6,6 +6,7 @@ use osgi_base::text::Text;
 use osgi_model::value::{Attribute, Value};
 use osgi_ops::command::Command;
 use osgi_ops::line::Content;
+use osgi_version::version::Version;
 use std::alloc::{AllocError, Global};
 use std::test::Fail;
 
@@ -74,6 +75,74 @@ fn longs_are_numbers_of_64_bits(rt: HostRuntime) -> Result<(), Fail> {
     Ok(())
 }
 
+fn version(alloc: Global, text: &[u8]) -> Result<Value, Fail> {
+    let version = Version::parse(alloc, text)?;
+    Ok(Value::Version(version.map_err(|_| "no version")?))
+}
+
+#[test]
+fn versions_are_read_by_their_grammar(rt: HostRuntime) -> Result<(), Fail> {
+    let rows = [
+        (b"a:Version=1.2".as_slice(), b"1.2.0".as_slice()),
+        (b"a:Version=1.2.3.q-1_Z", b"1.2.3.q-1_Z"),
+        (b"a:Version=\" \t01.2 \"", b"1.2"),
+        (b"a:Version=2147483647", b"2147483647"),
+        (b"a:Version=", b"0"),
+    ];
+    for (word, text) in rows {
+        let wanted = attribute(rt.alloc(), b"a", version(rt.alloc(), text)?)?;
+        assert!(rt; property(rt.alloc(), word)? == wanted, "at {word:?}");
+    }
+    Ok(())
+}
+
+fn texts(alloc: Global, texts: &[&[u8]]) -> Result<Value, AllocError> {
+    let mut values = List::new(alloc)?;
+    for text in texts {
+        values.push(Value::Text(Text::of(alloc, text)?))?;
+    }
+    Ok(Value::List(values))
+}
+
+#[test]
+fn commas_part_the_elements_of_a_list(rt: HostRuntime) -> Result<(), Fail> {
+    let rows: [(&[u8], &[&[u8]]); 11] = [
+        (b"a:List=q,r", &[b"q", b"r"]),
+        (b"a:List<String>=q,r", &[b"q", b"r"]),
+        (b"a:List=", &[b""]),
+        (b"a:List=,", &[b"", b""]),
+        (b"a:List=q\\,r,s", &[b"q,r", b"s"]),
+        (b"a:List=q\\\\,r", &[b"q\\", b"r"]),
+        (b"a:List=\\q\\r", &[b"\\q\\r"]),
+        (b"a:List=q,r\\", &[b"q", b"r\\"]),
+        (b"a:List=\" q , r \"", &[b" q ", b" r "]),
+        (b"a:List=\"q\\\\,r\"", &[b"q,r"]),
+        (b"a:List=\"q\\\"\\,r\"", &[b"q\",r"]),
+    ];
+    for (word, elements) in rows {
+        let wanted = attribute(rt.alloc(), b"a", texts(rt.alloc(), elements)?)?;
+        assert!(rt; property(rt.alloc(), word)? == wanted, "at {word:?}");
+    }
+    Ok(())
+}
+
+#[test]
+fn elements_are_read_by_the_type_of_the_list(rt: HostRuntime) -> Result<(), Fail> {
+    let mut longs = List::new(rt.alloc())?;
+    for number in [7, -1, 0] {
+        longs.push(Value::Long(number))?;
+    }
+    let wanted = attribute(rt.alloc(), b"a", Value::List(longs))?;
+    assert!(rt; property(rt.alloc(), b"a:List<Long>=\"7, -1 ,+0\"")? == wanted);
+    let mut versions = List::new(rt.alloc())?;
+    for text in [b"1.2".as_slice(), b"0", b"3.0.0.q"] {
+        versions.push(version(rt.alloc(), text)?)?;
+    }
+    let wanted = attribute(rt.alloc(), b"a", Value::List(versions))?;
+    assert!(rt; property(rt.alloc(), b"a:List<Version>=1.2,,3.0.0.q")? == wanted);
+    Ok(())
+}
+
 #[test]
 fn other_words_are_no_properties(rt: HostRuntime) -> Result<(), Fail> {
     let words = [
@@ -82,7 +151,13 @@ fn other_words_are_no_properties(rt: HostRuntime) -> Result<(), Fail> {
         b":Long=1",
         b"a:Long",
         b"a:long=1",
-        b"a:Version=1",
+        b"a:version=1",
+        b"a:Double=1",
+        b"a:List<Double>=1",
+        b"a:List<string>=x",
+        b"a:List<List>=x",
+        b"a:List<Long=1",
+        b"a:List <Long>=1",
         b"a:=1",
         b"a:Long=",
         b"a:Long=1x",
@@ -91,6 +166,14 @@ fn other_words_are_no_properties(rt: HostRuntime) -> Result<(), Fail> {
         b"a:Long=1.0",
         b"a:Long=9223372036854775808",
         b"a:Long=-9223372036854775809",
+        b"a:Version=1.x",
+        b"a:Version=1.2147483648",
+        b"a:Version=1,2",
+        b"a:List<Long>=",
+        b"a:List<Long>=1,",
+        b"a:List<Long>=1,x",
+        b"a:List<Long>=1\\,2",
+        b"a:List<Version>=1,1.x",
         b"a=\"x",
         b"a=\"x\"y",
         b"a=x\"y\"",

@@ -12,6 +12,8 @@ mod matching;
 #[cfg(test)]
 mod ranges;
 #[cfg(test)]
+mod typed;
+#[cfg(test)]
 mod values;
 #[cfg(test)]
 mod versions;
