@@ -7,7 +7,7 @@ use Rattle.std.proofs.lemmas.Option.{cond_some}
 use Rattle.std.proofs.lemmas.Str.Parse.{digits_value_short, IsNumeralModel, numerals_by_value, parse_gives, tells_digits}
 use Rattle.osgi_base.specs.declared.ids.ServiceId.{ServiceId}
 use Rattle.osgi_model.proofs.Numerals.{digits_pass, is_numeral-from, numeral_from}
-use Rattle.osgi_model.specs.ValueReader.{is_decimal, is_numeral}
+use Rattle.osgi_model.specs.LongReader.{is_decimal, is_numeral}
 use Rattle.osgi_console.proofs.Whole.{bare_by, IsWhole, whole_bare}
 use Rattle.osgi_console.specs.WordReader.{id_of}
 use Rattle.osgi_console.specs.Words.{IsId}

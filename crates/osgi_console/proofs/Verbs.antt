@@ -1,6 +1,6 @@
 -- Words are read as the command that they say, and only as that.
 use Rattle.std.proofs.Common.{◌≡◌, ℕ, List, [], ◌∷◌, ap, sym, refl, arith, subst}
-use Rattle.std.specs.Prelude.{Some, option_and_then, codes}
+use Rattle.std.specs.Prelude.{None, Some, option_and_then, codes}
 use Rattle.std.specs.Option.{option_map}
 use Rattle.std.specs.Str.{bytes_eq}
 use Rattle.std.proofs.lemmas.Option.{option_and_then_some}
@@ -98,8 +98,8 @@ says_by : (v : Verb) (arguments : List (List ℕ)) (c : Command) → command_by 
 says_by verb.Register arguments c e = register_sound arguments c e
 says_by verb.Modify arguments c e = modify_sound arguments c e
 says_by verb.Unregister arguments c e = id_command (codes "unregister") command.Unregister arguments c e (λ word service id. says.unregister id)
-says_by verb.Find arguments c e = class_command (codes "find") command.Find arguments c e (λ name class. says.find class)
-says_by verb.FindAll arguments c e = class_command (codes "findall") command.FindAll arguments c e (λ name class. says.findall class)
+says_by verb.Find arguments c e = class_command (codes "find") (λ class. command.Find class None) arguments c e (λ name class. says.find class)
+says_by verb.FindAll arguments c e = class_command (codes "findall") (λ class. command.FindAll class None) arguments c e (λ name class. says.findall class)
 says_by verb.Get arguments c e = id_command (codes "get") command.Get arguments c e (λ word service id. says.get id)
 says_by verb.Unget arguments c e = id_command (codes "unget") command.Unget arguments c e (λ word service id. says.unget id)
 says_by verb.Services arguments c e = services_sound arguments c e
@@ -118,8 +118,8 @@ command_read words c (says.register {names = names} {quoted = quoted} {words = r
 command_read words c (says.modify {id = id} {words = rest} {service = service} {properties = properties} is own) =
     rw (id_read id service is, properties_read rest properties own) refl
 command_read words c (says.unregister {id = id} {service = service} is) = ap (option_map command.Unregister) (id_read id service is)
-command_read words c (says.find {class = class} is) = ap (option_map command.Find) (class_read class is)
-command_read words c (says.findall {class = class} is) = ap (option_map command.FindAll) (class_read class is)
+command_read words c (says.find {class = class} is) = ap (option_map (λ class. command.Find class None)) (class_read class is)
+command_read words c (says.findall {class = class} is) = ap (option_map (λ class. command.FindAll class None)) (class_read class is)
 command_read words c (says.get {id = id} {service = service} is) = ap (option_map command.Get) (id_read id service is)
 command_read words c (says.unget {id = id} {service = service} is) = ap (option_map command.Unget) (id_read id service is)
 command_read words c says.services = refl

@@ -1,5 +1,5 @@
 -- The text of the console: which lines the input has, and what each of them says.
-use Rattle.std.specs.Prelude.{ℕ, ◌≡◌, ◌+◌, List, [], ◌∷◌, ◌++◌, codes}
+use Rattle.std.specs.Prelude.{ℕ, ◌≡◌, ◌+◌, List, [], ◌∷◌, ◌++◌, codes, None}
 use Rattle.std.specs.Str.Lines.{lines}
 use Rattle.osgi_base.specs.declared.ids.ServiceId.{ServiceId}
 use Rattle.osgi_model.specs.declared.value.Attribute.{Attribute}
@@ -28,9 +28,9 @@ pub data AreWordsOf : List (List ℕ) → Command → Type 0 where
   -- `unregister ID`
   unregister : {id : List ℕ} {service : ServiceId} → IsId id service → AreWordsOf (codes "unregister" ∷ id ∷ []) (command.Unregister service)
   -- `find CLASS`
-  find : {class : List ℕ} → IsClass class → AreWordsOf (codes "find" ∷ class ∷ []) (command.Find class)
+  find : {class : List ℕ} → IsClass class → AreWordsOf (codes "find" ∷ class ∷ []) (command.Find class None)
   -- `findall CLASS`
-  findall : {class : List ℕ} → IsClass class → AreWordsOf (codes "findall" ∷ class ∷ []) (command.FindAll class)
+  findall : {class : List ℕ} → IsClass class → AreWordsOf (codes "findall" ∷ class ∷ []) (command.FindAll class None)
   -- `get ID`
   get : {id : List ℕ} {service : ServiceId} → IsId id service → AreWordsOf (codes "get" ∷ id ∷ []) (command.Get service)
   -- `unget ID`

@@ -60,8 +60,8 @@ abbrev pub command_by : Verb → List (List ℕ) → Option Command
 command_by verb.Register arguments = register_of arguments
 command_by verb.Modify arguments = modify_of arguments
 command_by verb.Unregister arguments = option_map command.Unregister (only_id_of arguments)
-command_by verb.Find arguments = option_map command.Find (only_class_of arguments)
-command_by verb.FindAll arguments = option_map command.FindAll (only_class_of arguments)
+command_by verb.Find arguments = option_map (λ class. command.Find class None) (only_class_of arguments)
+command_by verb.FindAll arguments = option_map (λ class. command.FindAll class None) (only_class_of arguments)
 command_by verb.Get arguments = option_map command.Get (only_id_of arguments)
 command_by verb.Unget arguments = option_map command.Unget (only_id_of arguments)
 command_by verb.Services arguments = services_of arguments

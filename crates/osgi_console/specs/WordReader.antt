@@ -5,7 +5,7 @@ use Rattle.std.specs.Borrow.{Bor}
 use Rattle.std.specs.List.{list_all, slice_split}
 use Rattle.std.specs.Str.Parse.{digits_value}
 use Rattle.osgi_base.specs.declared.ids.ServiceId.{ServiceId}
-use Rattle.osgi_model.specs.ValueReader.{is_numeral}
+use Rattle.osgi_model.specs.LongReader.{is_numeral}
 use Rattle.osgi_console.specs.Words.{is_class_byte}
 
 -- ---- class names and ids

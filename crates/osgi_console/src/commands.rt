@@ -138,8 +138,14 @@ fn command_by(alloc: Global, verb: Verb, arguments: &[&[u8]]) -> Result<Option<C
         Verb::Register => register(alloc, arguments),
         Verb::Modify => modify(alloc, arguments),
         Verb::Unregister => Ok(only_id(arguments).map(|service| Command::Unregister { service })),
-        Verb::Find => Ok(only_class(alloc, arguments)?.map(|class| Command::Find { class })),
-        Verb::FindAll => Ok(only_class(alloc, arguments)?.map(|class| Command::FindAll { class })),
+        Verb::Find => Ok(only_class(alloc, arguments)?.map(|class| Command::Find {
+            class,
+            filter: None,
+        })),
+        Verb::FindAll => Ok(only_class(alloc, arguments)?.map(|class| Command::FindAll {
+            class,
+            filter: None,
+        })),
         Verb::Get => Ok(only_id(arguments).map(|service| Command::Get { service })),
         Verb::Unget => Ok(only_id(arguments).map(|service| Command::Unget { service })),
         Verb::Services => Ok(services(arguments)),

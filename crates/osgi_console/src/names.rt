@@ -2,7 +2,7 @@
 
 ghost use Rattle.std.specs.Prelude.{◌≡◌, IfOk};
 ghost use Rattle.std.specs.List.{list_all, slice_split};
-ghost use Rattle.osgi_model.specs.ValueReader.{is_decimal, is_numeral};
+ghost use Rattle.osgi_model.specs.LongReader.{is_decimal, is_numeral};
 ghost use Rattle.osgi_console.specs.WordReader.{class_of, classes_of, id_of, is_class, is_comma};
 ghost use Rattle.osgi_console.specs.Splitting.{texts_of};
 ghost use Rattle.osgi_console.specs.Words.{is_class_byte};

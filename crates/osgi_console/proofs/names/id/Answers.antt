@@ -4,7 +4,7 @@ use Rattle.std.specs.Prelude.{true, nat_le, length, Some}
 use Rattle.std.specs.Result.{result_ok}
 use Rattle.std.specs.Str.Parse.{digits_value}
 use Rattle.std.proofs.lemmas.Bool.{le-leb}
-use Rattle.osgi_model.specs.ValueReader.{is_numeral}
+use Rattle.osgi_model.specs.LongReader.{is_numeral}
 use Rattle.osgi_model.proofs.Numerals.{numeral_from, numeral_utf8}
 use Rattle.osgi_console.proofs.Numbers.{id_of-digits, id_parsed}
 use Rattle.osgi_console.proofs.names.id.Goals as goal
