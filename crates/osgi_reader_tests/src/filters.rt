@@ -42,6 +42,24 @@ fn item(alloc: Global, name: &str, test: Test) -> Result<Filter, AllocError> {
     })
 }
 
+fn two_pieces(alloc: Global, first: &str, second: &str) -> Result<Test, AllocError> {
+    let mut pieces = List::new(alloc)?;
+    pieces.push(Text::of(alloc, first.as_bytes())?)?;
+    pieces.push(Text::of(alloc, second.as_bytes())?)?;
+    Ok(Test::Pieces(pieces))
+}
+
+fn not(alloc: Global, filter: Filter) -> Result<Filter, AllocError> {
+    Ok(Filter::Not(Boxed::new(alloc, filter)?))
+}
+
+fn either(alloc: Global, first: Filter, second: Filter) -> Result<Filter, AllocError> {
+    let mut filters = List::new(alloc)?;
+    filters.push(first)?;
+    filters.push(second)?;
+    Ok(Filter::Or(filters))
+}
+
 /// An item within so many negations.
 fn negated(alloc: Global, count: usize) -> Result<Vec<u8>, AllocError> {
     let mut text = Vec::new(alloc);
@@ -92,17 +110,11 @@ fn a_text_reads_as_the_filter_that_is_printed(rt: HostRuntime) -> Result<(), Fai
 
 #[test]
 fn a_text_reads_as_a_tree(rt: HostRuntime) -> Result<(), Fail> {
-    let alloc = rt.alloc();
-    let mut pieces = List::new(alloc)?;
-    pieces.push(Text::of(alloc, b"x*")?)?;
-    pieces.push(Text::of(alloc, b"")?)?;
-    let mut operands = List::new(alloc)?;
-    operands.push(item(alloc, "a", Test::Pieces(pieces))?)?;
-    operands.push(item(alloc, "b", Test::Present)?)?;
-    let negated = item(alloc, "c", Test::AtMost(Text::of(alloc, b"3")?))?;
-    operands.push(Filter::Not(Boxed::new(alloc, negated)?))?;
-    let read = filter(alloc, "(|(a=x\\**)(b=*)(!(c<=3)))")?;
-    assert_eq!(rt; read, Some(Filter::Or(operands)));
+    let starred = item(rt.alloc(), "a", two_pieces(rt.alloc(), "x*", "")?)?;
+    let present = item(rt.alloc(), "b", Test::Present)?;
+    let tree = either(rt.alloc(), starred, not(rt.alloc(), present)?)?;
+    let read = filter(rt.alloc(), "(|(a=x\\**)(!(b=*)))")?;
+    assert!(rt; read == Some(tree));
     Ok(())
 }
 
