@@ -1,14 +1,15 @@
 -- What the registry answers is what is due after each history that it stands for.
 use Rattle.std.proofs.Common.{◌≡◌, ◌≢◌, ◌+◌, ◌≤◌, ◌<◌, ℕ, inl, inr, List, [], ◌∷◌, ◌++◌, length, map, drop, ap, sym, subst, ◌∙◌, refl, arith}
-use Rattle.std.specs.Prelude.{Bool, true, false, cond, ◌==◌, nat_le, nat_lt, Option, None, Some, Result, Ok, Err, IfNone, IfOk, IfSome, IsSomeAnd, All}
+use Rattle.std.specs.Prelude.{Bool, true, false, cond, ◌==◌, nat_le, nat_lt, Option, None, Some, Result, Ok, Err, IfOk, IsSomeAnd}
 use Rattle.std.specs.Option.{option_map_or, option_or}
-use Rattle.std.proofs.lemmas.Bool.{eqb-false, eqb-true, leb-false, leb-true}
+use Rattle.std.proofs.lemmas.Bool.{eq-eqb, eqb-false, eqb-true, leb-false, leb-true}
 use Rattle.osgi_base.specs.declared.ids.BundleId.{BundleId}
 use Rattle.osgi_base.specs.declared.ids.ServiceId.{ServiceId}
+use Rattle.osgi_model.specs.declared.filter.Filter.{Filter}
 use Rattle.osgi_model.specs.declared.value.Attribute.{Attribute}
 use Rattle.osgi_ops.proofs.Verdicts.{gives_first, gives_rest}
 use Rattle.osgi_ops.specs.Bundles.{IsLive, system}
-use Rattle.osgi_ops.specs.Classes.{AreRanked, has_class, IsBest, IsFound}
+use Rattle.osgi_ops.specs.Classes.{AreRanked, IsFound, IsOf, IsOpenTo}
 use Rattle.osgi_ops.specs.Operations.{Answers, conditions, IsReply, moment, Moment, no_such_bundle, row_of}
 use Rattle.osgi_ops.specs.Properties.{has_twins}
 use Rattle.osgi_ops.specs.Services.{live, live_at, Registered, registered, services, uses, uses_of}
@@ -25,7 +26,7 @@ use Rattle.osgi_ops.specs.declared.reply.Reply.TheVariants as answer
 use Rattle.osgi_ops.specs.declared.service.Service.{Service}
 use Rattle.osgi_ops.specs.declared.service.ServiceRow.{ServiceRow}
 use Rattle.osgi_registry.proofs.Standing.{Found, nowhere, quiet_find, quiet_find_all, quiet_list, quiet_refused, rows_found, rows_length, rows_services, stands_quiet, there}
-use Rattle.osgi_registry.specs.Rows.{count_of, modify_refusal, object_at, refusal_at, register_refusal, RegistryRows, Row, row_at, services_of, twins_refusal, use_count}
+use Rattle.osgi_registry.specs.Rows.{count_of, IsOpenBy, modify_refusal, object_at, refusal_at, register_refusal, RegistryRows, Row, row_at, services_of, twins_refusal, use_count}
 use Rattle.osgi_registry.specs.Stands.{IsRowOf, StandsAfter, StandsFor}
 use Rattle.osgi_core.specs.Replied.{IsReplied}
 
@@ -208,29 +209,54 @@ replied_untaken owner service old new refusal asked some same = record {
 }
 
 -- Find
-found_is : (class : List ℕ) (list : List Service) (found : Option ServiceId) → IfNone found (All (λ service. has_class class service ≡ false) list) → IfSome found (IsBest class list) → IsFound class list found
-found_is class list None none best = none
-found_is class list (Some service) none best = best
-
 services_now : (history : List Entry) (registry : RegistryRows) → StandsFor history registry → services_of registry.rows ≡ services history
 services_now history registry stands = rows_services registry.rows (live history) stands.rows
 
-pub replied_found : (asker : BundleId) (class : List ℕ) (registry : RegistryRows) (found : Option ServiceId) → (asker.0 == 0) ≡ true → IfNone found (All (λ service. has_class class service ≡ false) (services_of registry.rows)) →
-    IfSome found (IsBest class (services_of registry.rows)) → IsReplied (op.Find asker class) registry registry (answer.Best found)
-replied_found asker class registry found asked none best = record {
+-- what is found of services, where others say the same of what is asked
+found_alike : (P Q : Service → Type 0) (list : List Service) (found : Option ServiceId) → ((s : Service) → P s → Q s) → ((s : Service) → Q s → P s) → IsFound P list found → IsFound Q list found
+found_alike P Q list None to back none = λ k d within asked. none k d within (back _ asked)
+found_alike P Q list (Some id) to back best = record {
+  service = best.service;
+  there = best.there;
+  is = best.is;
+  asked = to best.service best.asked;
+  best = λ k d within asked. best.best k d within (back _ asked);
+}
+
+own : BundleId → BundleId → List ℕ → Bool
+own asker registrant class = registrant.0 == asker.0
+
+-- a bundle's own services are those that are assignable to it
+open_there : (asker : BundleId) (class : List ℕ) (filter : Option Filter) (s : Service) → IsOpenBy (own asker) class filter s → IsOpenTo asker class filter s
+unfolding own
+open_there asker class filter s is = (is.0, λ k d within. λ i. record { 0 = eqb-true s.owner.0 asker.0 (is.1 k d within) i })
+
+open_back : (asker : BundleId) (class : List ℕ) (filter : Option Filter) (s : Service) → IsOpenTo asker class filter s → IsOpenBy (own asker) class filter s
+unfolding own
+open_back asker class filter s is = (is.0, λ k d within. eq-eqb s.owner.0 asker.0 (ap (λ (b : BundleId). b.0) (is.1 k d within)))
+
+pub replied_found : (asker : BundleId) (class : List ℕ) (filter : Option Filter) (registry : RegistryRows) (found : Option ServiceId) → (asker.0 == 0) ≡ true →
+    IsFound (IsOpenBy (λ registrant class. registrant.0 == asker.0) class filter) (services_of registry.rows) found → IsReplied (op.Find asker class filter) registry registry (answer.Best found)
+unfolding own
+replied_found asker class filter registry found asked is = record {
   due = λ setting history tag stood.
-      some_bundle (op.Find asker class) asker (moment setting history tag) (answers (answer.Best found)) (λ now. refl) asked
-      (found, refl, subst (λ list. IsFound class list found) (services_now history registry stood) (found_is class (services_of registry.rows) found none best));
-  stands = λ history tag stood. stands_quiet history registry _ stood (quiet_find tag asker class found);
+      some_bundle (op.Find asker class filter) asker (moment setting history tag) (answers (answer.Best found)) (λ now. refl) asked (
+        found,
+        refl,
+        subst (λ list. IsFound (IsOpenTo asker class filter) list found) (services_now history registry stood)
+            (found_alike (IsOpenBy (own asker) class filter) (IsOpenTo asker class filter) (services_of registry.rows) found (open_there asker class filter) (open_back asker class filter) is),
+      );
+  stands = λ history tag stood. stands_quiet history registry _ stood (quiet_find tag asker class filter found);
 }
 
 -- FindAll
-pub replied_found_all : (asker : BundleId) (class : List ℕ) (registry : RegistryRows) (found : List ServiceId) → (asker.0 == 0) ≡ true → AreRanked class (services_of registry.rows) found →
-    IsReplied (op.FindAll asker class) registry registry (answer.Services found)
-replied_found_all asker class registry found asked ranked = record {
+pub replied_found_all : (asker : BundleId) (class : List ℕ) (filter : Option Filter) (registry : RegistryRows) (found : List ServiceId) → (asker.0 == 0) ≡ true → AreRanked (IsOf class filter) (services_of registry.rows) found →
+    IsReplied (op.FindAll asker class filter) registry registry (answer.Services found)
+replied_found_all asker class filter registry found asked ranked = record {
   due = λ setting history tag stood.
-      some_bundle (op.FindAll asker class) asker (moment setting history tag) (answers (answer.Services found)) (λ now. refl) asked (found, refl, subst (λ list. AreRanked class list found) (services_now history registry stood) ranked);
-  stands = λ history tag stood. stands_quiet history registry _ stood (quiet_find_all tag asker class found);
+      some_bundle (op.FindAll asker class filter) asker (moment setting history tag) (answers (answer.Services found)) (λ now. refl) asked
+      (found, refl, subst (λ list. AreRanked (IsOf class filter) list found) (services_now history registry stood) ranked);
+  stands = λ history tag stood. stands_quiet history registry _ stood (quiet_find_all tag asker class filter found);
 }
 
 -- Get

@@ -32,11 +32,12 @@ impl Model for Core {
     ghost use Rattle.osgi_core.specs.Kept.{IsKept};
     ghost use Rattle.osgi_core.specs.Machine.{Machine};
     ghost use Rattle.std.specs.Coded.{codes};
+    ghost use Rattle.osgi_model.specs.contracts.filter.Filter as filter;
     ghost use Rattle.osgi_model.specs.contracts.value.Value as value;
 
     ghost Value = { Machine };
 
-    ghost coded = { Prim.hlevel (codes, value.the_row.coded) };
+    ghost coded = { Prim.hlevel (codes, filter.the_row.coded, value.the_row.coded) };
 
     ghost view = { λ c. record { setting = setting_of c.limits; entries = c.entries.items } };
 

@@ -12,6 +12,7 @@ ghost use Rattle.osgi_core.specs.Replied.{HasRoom, IsReplied, StandsStill};
 use osgi_base::ids::{BundleId, ServiceId};
 use osgi_base::list::List;
 use osgi_base::text::Text;
+use osgi_model::filter::Filter;
 use osgi_model::value::Attributes;
 use osgi_ops::op::Op;
 use osgi_ops::refusal::Refusal;
@@ -108,14 +109,22 @@ fn find(
     registry: &Registry,
     asker: BundleId,
     class: &Text,
+    filter: &Option<Filter>,
 ) -> Result<(Reply, Reply), AllocError>
     ensures twice { IfOk result (λ r. r.1 ≡ r.0) }
-    ensures replied { IfOk result (λ r. IsReplied (op.Find asker class.now) registry.now registry.now r.0) }
+    ensures replied { IfOk result (λ r. IsReplied (op.Find asker class.now filter.now) registry.now registry.now r.0) }
 {
     if !is_live(asker) {
         return refused(alloc, Refusal::NoSuchBundle);
     }
-    let service = registry.find(class);
+    // So far no bundle has a source of any package, so that a service is assignable to its registrant alone.
+    let service = registry.find(
+        class,
+        filter.as_ref(),
+        |registrant: BundleId, _class: &Text| -> bool
+            ensures own { result ≡ (registrant.0 == asker.0) }
+        { registrant.0 == asker.0 },
+    );
     Ok((Reply::Best { service }, Reply::Best { service }))
 }
 
@@ -124,14 +133,15 @@ fn find_all(
     registry: &Registry,
     asker: BundleId,
     class: &Text,
+    filter: &Option<Filter>,
 ) -> Result<(Reply, Reply), AllocError>
     ensures twice { IfOk result (λ r. r.1 ≡ r.0) }
-    ensures replied { IfOk result (λ r. IsReplied (op.FindAll asker class.now) registry.now registry.now r.0) }
+    ensures replied { IfOk result (λ r. IsReplied (op.FindAll asker class.now filter.now) registry.now registry.now r.0) }
 {
     if !is_live(asker) {
         return refused(alloc, Refusal::NoSuchBundle);
     }
-    let services = registry.find_all(class)?;
+    let services = registry.find_all(class, filter.as_ref())?;
     let kept = services.copy(alloc)?;
     Ok((
         Reply::Services { services },
@@ -244,8 +254,16 @@ pub fn reply_to(
             properties,
         } => modify(alloc, registry, *owner, *service, properties),
         Op::Unregister { owner, service } => unregister(alloc, registry, *owner, *service),
-        Op::Find { asker, class } => find(alloc, registry, *asker, class),
-        Op::FindAll { asker, class } => find_all(alloc, registry, *asker, class),
+        Op::Find {
+            asker,
+            class,
+            filter,
+        } => find(alloc, registry, *asker, class, filter),
+        Op::FindAll {
+            asker,
+            class,
+            filter,
+        } => find_all(alloc, registry, *asker, class, filter),
         Op::Get { user, service } => get(alloc, registry, *user, *service),
         Op::Unget { user, service } => unget(alloc, registry, *user, *service),
         Op::ListServices => list_services(alloc, registry),

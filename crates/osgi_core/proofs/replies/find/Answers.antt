@@ -1,5 +1,9 @@
 -- The best of a class.
-use Rattle.std.proofs.Common.{sym, ◌∙◌, refl}
+use Rattle.std.proofs.Common.{◌≡◌, sym, ◌∙◌, refl, subst}
+use Rattle.std.specs.Prelude.{◌==◌}
+use Rattle.std.specs.Option.{option_copied}
+use Rattle.osgi_ops.specs.Classes.{IsFound}
+use Rattle.osgi_registry.specs.Rows.{IsOpenBy, services_of}
 use Rattle.osgi_core.proofs.Replying.{by_refused, replied_found, replied_no_bundle}
 use Rattle.osgi_core.specs.Replied.{IsReplied}
 use Rattle.osgi_ops.specs.declared.op.Op.TheVariants as op
@@ -8,7 +12,11 @@ use Rattle.osgi_core.proofs.replies.find.Goals as goal
 
 pub returns-then-not-is_live-clause-replied : goal.returns-then-not-is_live-clause-replied
 returns-then-not-is_live-clause-replied c =
-    by_refused c.refused.result (IsReplied (op.Find c.args.asker c.args.class.now) c.args.registry.now c.args.registry.now) NoSuchBundle c.refused.ensures.refused (replied_no_bundle (op.Find c.args.asker c.args.class.now) c.args.asker c.args.registry.now (λ now. refl) (sym c.is_live.ensures.live ∙ c.if-not-is_live.true))
+    by_refused c.refused.result (IsReplied (op.Find c.args.asker c.args.class.now c.args.filter.now) c.args.registry.now c.args.registry.now) NoSuchBundle c.refused.ensures.refused (replied_no_bundle (op.Find c.args.asker c.args.class.now c.args.filter.now) c.args.asker c.args.registry.now (λ now. refl) (sym c.is_live.ensures.live ∙ c.if-not-is_live.true))
 
 pub returns-clause-replied : goal.returns-clause-replied
-returns-clause-replied c = replied_found c.args.asker c.args.class.now c.args.registry.now c.find-service.result (sym c.is_live.ensures.live ∙ c.if-not-is_live.false) c.find-service.ensures.none c.find-service.ensures.best
+returns-clause-replied c =
+    let given : option_copied c.as_ref.result ≡ c.args.filter.now = c.as_ref.ensures.value in
+    replied_found c.args.asker c.args.class.now c.args.filter.now c.args.registry.now c.find-service.result (sym c.is_live.ensures.live ∙ c.if-not-is_live.false)
+    (subst (λ f. IsFound (IsOpenBy (λ registrant class. registrant.0 == c.args.asker.0) c.args.class.now f) (services_of c.args.registry.now.rows) c.find-service.result) given
+    (c.find-service.ensures.found (λ registrant class. registrant.0 == c.args.asker.0) (λ registrant class answer is. is.1)))
