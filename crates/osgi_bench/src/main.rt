@@ -76,6 +76,7 @@ fn operation(alloc: Global, phase: Phase, number: u32) -> Result<Op, AllocError>
         Phase::Find => Ok(Op::Find {
             asker: SYSTEM,
             class: class(alloc, number)?,
+            filter: None,
         }),
         Phase::Get => Ok(Op::Get {
             user: SYSTEM,

@@ -117,7 +117,7 @@ fn find(
     if !is_live(asker) {
         return refused(alloc, Refusal::NoSuchBundle);
     }
-    // So far no bundle has a source of any package, so that a service is assignable to its registrant alone.
+    // So far the system bundle alone is there, to which its own services are assignable.
     let service = registry.find(
         class,
         filter.as_ref(),

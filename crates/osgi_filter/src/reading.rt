@@ -15,6 +15,7 @@ use std::alloc::{AllocError, Global};
 pub fn parse(alloc: Global, bytes: &[u8]) -> Result<Result<Filter, FilterFault>, AllocError>
     ensures reads { IfOk result (λ r. IfOk r (ReadsFilter bytes.now)) }
     ensures only { (filter : Filter) → ReadsFilter bytes.now filter → IfOk result (λ r. IsOkAnd r (λ f. f ≡ filter)) }
+    ensures one_tree { (one other : Filter) → ReadsFilter bytes.now one → ReadsFilter bytes.now other → one ≡ other }
     ensures unread { IfOk result (λ r. IfErr r (λ _. ¬ IsReadableFilter bytes.now)) }
     ensures place { IfOk result (λ r. IfErr r (λ fault. IsLongestFront IsReadableFilter bytes.now fault.at)) }
 {

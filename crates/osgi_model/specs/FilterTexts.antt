@@ -1,4 +1,4 @@
--- The text that is printed of a filter: no white space, and a `\` before `(`, `)`, `*` and `\` in values.
+-- The text that is printed of a filter: no white space but that inside names and values, and a `\` before `(`, `)`, `*` and `\` in values.
 use Rattle.std.specs.Prelude.{ℕ, true, List, [], ◌∷◌, ◌++◌, if◌then◌else◌}
 use Rattle.osgi_model.specs.Filters.{is_plain}
 use Rattle.osgi_model.specs.declared.filter.Test.{Test}

@@ -3,7 +3,7 @@
 
 pub mod command;
 pub mod entry;
-mod given;
+pub mod given;
 pub mod limits;
 pub mod line;
 pub mod op;

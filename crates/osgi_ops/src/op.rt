@@ -31,13 +31,14 @@ pub enum Op {
         owner: BundleId,
         service: ServiceId,
     },
-    /// Asks for the best service of a class that the filter, if there is one, matches.
+    /// Asks for the best of a class's services that the filter, if there is one, matches, and that are assignable to the
+    /// asker for each of their classes.
     Find {
         asker: BundleId,
         class: Text,
         filter: Option<Filter>,
     },
-    /// Asks for all of them.
+    /// Asks for all services of a class that the filter, if there is one, matches, assignable or not.
     FindAll {
         asker: BundleId,
         class: Text,

@@ -8,6 +8,7 @@ ghost use Rattle.osgi_program.specs.Running.{IsAsked, RunsLine, RunsLines, tag_o
 use osgi_base::ids::{BundleId, Tag};
 use osgi_core::machine::Core;
 use osgi_ops::command::Command;
+use osgi_ops::given::copy_given;
 use osgi_ops::line::{Content, Line};
 use osgi_ops::op::Op;
 use osgi_ops::refusal::Refusal;
@@ -55,13 +56,15 @@ fn operation(alloc: Global, command: &Command) -> Result<Op, AllocError>
             owner: SYSTEM,
             service: *service,
         }),
-        Command::Find { class } => Ok(Op::Find {
+        Command::Find { class, filter } => Ok(Op::Find {
             asker: SYSTEM,
             class: class.copy(alloc)?,
+            filter: copy_given(filter, alloc)?,
         }),
-        Command::FindAll { class } => Ok(Op::FindAll {
+        Command::FindAll { class, filter } => Ok(Op::FindAll {
             asker: SYSTEM,
             class: class.copy(alloc)?,
+            filter: copy_given(filter, alloc)?,
         }),
         Command::Get { service } => Ok(Op::Get {
             user: SYSTEM,

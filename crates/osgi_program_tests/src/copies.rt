@@ -5,6 +5,7 @@ use osgi_base::copied::Copied;
 use osgi_base::ids::{BundleId, ServiceId};
 use osgi_base::list::List;
 use osgi_base::text::Text;
+use osgi_model::filter::{Filter, Test};
 use osgi_model::value::{Attribute, Attributes, Value};
 use osgi_ops::command::Command;
 use osgi_ops::line::Content;
@@ -31,6 +32,14 @@ fn properties(alloc: Global) -> Result<Attributes, AllocError> {
     Ok(properties)
 }
 
+/// The filter `(b=*)`.
+fn present(alloc: Global) -> Result<Filter, AllocError> {
+    Ok(Filter::Item {
+        name: Text::of(alloc, b"b")?,
+        test: Test::Present,
+    })
+}
+
 #[test]
 fn an_operation_equals_its_copy(rt: HostRuntime) -> Result<(), Fail> {
     let (bundle, service) = (BundleId(3), ServiceId(4));
@@ -48,10 +57,12 @@ fn an_operation_equals_its_copy(rt: HostRuntime) -> Result<(), Fail> {
         Op::Find {
             asker: bundle,
             class: Text::of(rt.alloc(), b"a")?,
+            filter: None,
         },
         Op::FindAll {
             asker: bundle,
             class: Text::of(rt.alloc(), b"a")?,
+            filter: Some(present(rt.alloc())?),
         },
         Op::Get {
             user: bundle,
@@ -162,9 +173,11 @@ fn a_command_equals_its_copy(rt: HostRuntime) -> Result<(), Fail> {
         Command::Unregister { service },
         Command::Find {
             class: Text::of(rt.alloc(), b"a")?,
+            filter: Some(present(rt.alloc())?),
         },
         Command::FindAll {
             class: Text::of(rt.alloc(), b"a")?,
+            filter: None,
         },
         Command::Get { service },
         Command::Unget { service },

@@ -80,10 +80,12 @@ fn a_bundle_that_is_not_there_is_refused_whatever_it_asks(rt: HostRuntime) -> Re
         Op::Find {
             asker: bundle,
             class: Text::of(rt.alloc(), b"a")?,
+            filter: None,
         },
         Op::FindAll {
             asker: bundle,
             class: Text::of(rt.alloc(), b"a")?,
+            filter: None,
         },
         Op::Get {
             user: bundle,

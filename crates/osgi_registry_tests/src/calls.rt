@@ -44,12 +44,14 @@ fn registry_of_three(alloc: Global) -> Result<Registry, Fail>
 
 fn all_of(alloc: Global, registry: &Registry, name: &[u8]) -> Result<List<ServiceId>, Fail> {
     let name = Text::of(alloc, name)?;
-    Ok(registry.find_all(&name)?)
+    Ok(registry.find_all(&name, None)?)
 }
 
 fn best_of(alloc: Global, registry: &Registry, name: &[u8]) -> Result<Option<ServiceId>, Fail> {
     let name = Text::of(alloc, name)?;
-    Ok(registry.find(&name))
+    Ok(registry.find(&name, None, |_owner: BundleId, _class: &Text| -> bool {
+        true
+    }))
 }
 
 #[test]

@@ -390,8 +390,13 @@ impl Trial {
             let name = Text::of(self.alloc, name_of(class))?;
             let want = sorted(self.alloc, &self.registry, &name)?;
             let first = want.items().first().copied();
-            expect(self.registry.find(&name) == first, "find")?;
-            expect(self.registry.find_all(&name)? == want, "find_all")?;
+            let found = self
+                .registry
+                .find(&name, None, |_owner: BundleId, _class: &Text| -> bool {
+                    true
+                });
+            expect(found == first, "find")?;
+            expect(self.registry.find_all(&name, None)? == want, "find_all")?;
         }
         Ok(())
     }

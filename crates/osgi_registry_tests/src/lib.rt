@@ -6,6 +6,8 @@ mod calls;
 #[cfg(test)]
 mod compared;
 #[cfg(test)]
+mod found;
+#[cfg(test)]
 mod made;
 #[cfg(test)]
 mod properties;

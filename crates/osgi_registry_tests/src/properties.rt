@@ -94,7 +94,7 @@ fn a_ranking_counts_where_it_is_a_long_of_32_bits(rt: HostRuntime) -> Result<(),
     )?;
     register(alloc, &mut registry, text(alloc, b"service.ranking", b"5")?)?;
     register(alloc, &mut registry, long(alloc, b"service.ranking", -1)?)?;
-    let all = registry.find_all(&Text::of(alloc, b"a.A")?)?;
+    let all = registry.find_all(&Text::of(alloc, b"a.A")?, None)?;
     let want = [3, 2, 4, 5, 6, 1].map(ServiceId);
     assert!(rt; all.items() == want.as_slice());
     Ok(())

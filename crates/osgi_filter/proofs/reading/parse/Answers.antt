@@ -9,7 +9,7 @@ overflow_sub-result c = fault_within c.args.bytes.now c.in-Err-Left.left (rw c.i
 pub returns-in-Ok : goal.returns-in-Ok
 returns-in-Ok c =
     let read = whole_sound c.args.bytes.now c.in-Ok.filter c.in-Ok.ensures.filter in
-    record { reads = read; only = λ f r. one_tree c.args.bytes.now c.in-Ok.filter f read r; unread = tt; place = tt }
+    record { reads = read; only = λ f r. one_tree c.args.bytes.now c.in-Ok.filter f read r; one_tree = one_tree c.args.bytes.now; unread = tt; place = tt }
 
 pub returns-in-Err-Left : goal.returns-in-Err-Left
 returns-in-Err-Left c =
@@ -17,6 +17,10 @@ returns-in-Err-Left c =
     record {
       reads = tt;
       only = λ f r. unread c.args.bytes.now c.in-Err-Left.left stops f r;
+      one_tree = one_tree c.args.bytes.now;
       unread = λ some. unread c.args.bytes.now c.in-Err-Left.left stops some.0 some.1;
       place = fault_is c.args.bytes.now c.in-Err-Left.left stops;
     }
+
+pub returns-in-Err-Memory : goal.returns-in-Err-Memory
+returns-in-Err-Memory c = record { reads = tt; only = λ f r. tt; one_tree = one_tree c.args.bytes.now; unread = tt; place = tt }
