@@ -1,7 +1,6 @@
 -- The reader's content of a line is its reading by the grammar, and the only one.
-use Rattle.std.proofs.Common.{◌≡◌, ℕ, ◌+◌, List, [], ◌∷◌, ◌++◌, ap, sym, ◌∙◌, refl, append-nil, subst}
-use Rattle.std.specs.Prelude.{Bool, true, false, ◌==◌, Option, None, Some, Result, Ok, Err, IfOk}
-use Rattle.std.specs.List.{onto_first}
+use Rattle.std.proofs.Common.{◌≡◌, ℕ, ◌+◌, List, [], ◌∷◌, ◌++◌, take, add-one, ap, sym, ◌∙◌, refl, append-nil, subst}
+use Rattle.std.specs.Prelude.{Bool, true, false, Option, None, Some, option_and_then, Result, Ok, Err, IfOk}
 use Rattle.std.specs.Str.Lines.{lines}
 use Rattle.std.proofs.lemmas.Bool.{cond-false, cond-true, eqb-true}
 use Rattle.osgi_ops.specs.declared.command.Command.{Command}
@@ -9,14 +8,11 @@ use Rattle.osgi_ops.specs.declared.line.Content.{Content}
 use Rattle.osgi_ops.specs.declared.line.Content.TheVariants.{Empty, Join, Bad, Run}
 use Rattle.osgi_ops.specs.declared.line.Line.{Line}
 use Rattle.osgi_console.specs.declared.words.Place.TheVariants.{Bare}
-use Rattle.osgi_console.proofs.Parting.{words_part}
 use Rattle.osgi_console.proofs.Spaces.{after_spaces-all, after_spaces-front, spaced}
-use Rattle.osgi_console.proofs.Splitting.{words_of-after_spaces}
-use Rattle.osgi_console.proofs.Verbs.{command_read, command_sound, whole_words}
-use Rattle.osgi_console.proofs.Whole.{words_only}
+use Rattle.osgi_console.proofs.Verbs.{command_read, command_sound}
 use Rattle.osgi_console.specs.Console.{AreLinesOf, AreReadFrom, blank, comment, Reads, Says, SaysNothing}
-use Rattle.osgi_console.specs.LineReader.{command_of, content_from, content_of, numbered, run_or_bad}
-use Rattle.osgi_console.specs.Splitting.{after_spaces, words_from, words_of}
+use Rattle.osgi_console.specs.LineReader.{command_by, command_of, content_of, is_silent, numbered, run_or_bad, verb_of}
+use Rattle.osgi_console.specs.Splitting.{after_spaces, behind_word, first_word, word_len}
 use Rattle.osgi_console.specs.Words.{AreSpaces}
 
 -- ---- what the grammar says is read
@@ -25,24 +21,30 @@ nothing_read : (line : List ℕ) → SaysNothing line → content_of line ≡ Em
 nothing_read line (blank are) = rw (after_spaces-all line are) refl
 nothing_read line (comment spaces rest are e) = rw (e, after_spaces-front spaces (35 ∷ rest) are) refl
 
--- words of which the first begins with `#` say no command
-no_comment : (words : List (List ℕ)) → command_of (onto_first 35 words) ≡ None
-no_comment [] = refl
-no_comment (word ∷ words) = refl
+-- a comment says no command
+no_comment : (rest : List ℕ) → verb_of (take (word_len Bare (35 ∷ rest)) (35 ∷ rest)) ≡ None
+no_comment rest = rw add-one refl
 
--- the words behind the spaces say the command: so the line is neither empty nor a comment
-run_by : (b : ℕ) (rest : List ℕ) (c : Command) (test : Bool) → (b == 35) ≡ test → command_of (words_of (b ∷ rest)) ≡ Some c → content_from (b ∷ rest) ≡ Run c
-run_by b rest c true hash e = absurd (cc (e, ap (λ x. command_of (words_of (x ∷ rest))) (eqb-true b 35 hash), no_comment (words_from (Some Bare) rest)))
-run_by b rest c false other e = cond-false (b == 35) _ _ other ∙ ap run_or_bad e
+some_none : (c : Command) → Some c ≡ None → ⊥
+some_none c e = absurd (cc e)
 
-run_from : (behind : List ℕ) (c : Command) → command_of (words_of behind) ≡ Some c → content_from behind ≡ Run c
-run_from [] c e = absurd (cc e)
-run_from (b ∷ rest) c e = run_by b rest c (b == 35) refl e
+-- a line whose first word is no verb says none
+unnamed : (line : List ℕ) (c : Command) → verb_of (first_word line) ≡ None → command_of line ≡ Some c → ⊥
+unnamed line c none e = some_none c (sym e ∙ ap (option_and_then (λ v. command_by v (behind_word line))) none)
+
+-- a line that says a command is neither empty nor a comment
+loud_by : (line behind : List ℕ) (c : Command) (test : Bool) → after_spaces line ≡ behind → is_silent behind ≡ test → command_of line ≡ Some c → test ≡ false
+loud_by line [] c true is silent e =
+    absurd (unnamed line c (ap (λ l. verb_of (take (word_len Bare l) l)) is) e)
+loud_by line (b ∷ rest) c true is silent e =
+    let hash : after_spaces line ≡ 35 ∷ rest = is ∙ ap (λ x. x ∷ rest) (eqb-true b 35 silent) in
+    absurd (unnamed line c (ap (λ l. verb_of (take (word_len Bare l) l)) hash ∙ no_comment rest) e)
+loud_by line behind c false is silent e = refl
 
 says_read : (line : List ℕ) (c : Command) → Says line c → content_of line ≡ Run c
 says_read line c says =
-    let words : words_of line ≡ says.words = words_only says.words line (whole_words says.words c says.are) says.parted in
-    run_from (after_spaces line) c (ap command_of (words_of-after_spaces line ∙ words) ∙ command_read says.words c says.are)
+    let read = command_read line c says in
+    cond-false (is_silent (after_spaces line)) _ _ (loud_by line (after_spaces line) c (is_silent (after_spaces line)) refl refl read) ∙ ap run_or_bad read
 
 -- ---- what is read is said by the grammar
 
@@ -53,28 +55,24 @@ IsSo line Join = ⊥
 IsSo line Bad = Unit {0}
 IsSo line (Run c) = Says line c
 
-so_words : (line : List ℕ) (read : Option Command) → command_of (words_of line) ≡ read → IsSo line (run_or_bad read)
-unfolding IsSo
-so_words line None e = tt
-so_words line (Some c) e = record { words = words_of line; are = command_sound (words_of line) c e; parted = words_part line }
+so_silent : (line spaces behind : List ℕ) → AreSpaces spaces → line ≡ spaces ++ behind → is_silent behind ≡ true → SaysNothing line
+so_silent line spaces [] are is silent = blank (subst AreSpaces (sym (is ∙ append-nil spaces)) are)
+so_silent line spaces (b ∷ rest) are is silent = comment spaces rest are (is ∙ ap (λ x. spaces ++ x ∷ rest) (eqb-true b 35 silent))
 
-so_by : (line spaces : List ℕ) (b : ℕ) (rest : List ℕ) (test : Bool) → (b == 35) ≡ test → AreSpaces spaces → line ≡ spaces ++ b ∷ rest →
-    words_of (b ∷ rest) ≡ words_of line → IsSo line (content_from (b ∷ rest))
+so_said : (line : List ℕ) (read : Option Command) → command_of line ≡ read → IsSo line (run_or_bad read)
 unfolding IsSo
-so_by line spaces b rest true hash are is words =
-    subst (IsSo line) (sym (cond-true (b == 35) _ _ hash)) (comment spaces rest are (is ∙ ap (λ x. spaces ++ x ∷ rest) (eqb-true b 35 hash)))
-so_by line spaces b rest false other are is words =
-    subst (IsSo line) (sym (cond-false (b == 35) _ _ other)) (so_words line (command_of (words_of (b ∷ rest))) (ap command_of (sym words)))
+so_said line None e = tt
+so_said line (Some c) e = command_sound line c e
 
-so_from : (line spaces behind : List ℕ) → AreSpaces spaces → line ≡ spaces ++ behind → words_of behind ≡ words_of line → IsSo line (content_from behind)
+so_by : (line : List ℕ) (test : Bool) → is_silent (after_spaces line) ≡ test → IsSo line (content_of line)
 unfolding IsSo
-so_from line spaces [] are is words = blank (subst AreSpaces (sym (is ∙ append-nil spaces)) are)
-so_from line spaces (b ∷ rest) are is words = so_by line spaces b rest (b == 35) refl are is words
+so_by line true silent =
+    let front = spaced line in
+    subst (IsSo line) (sym (cond-true (is_silent (after_spaces line)) _ _ silent)) (so_silent line front.spaces (after_spaces line) front.are front.is silent)
+so_by line false loud = subst (IsSo line) (sym (cond-false (is_silent (after_spaces line)) _ _ loud)) (so_said line (command_of line) refl)
 
 so : (line : List ℕ) → IsSo line (content_of line)
-so line =
-    let front = spaced line in
-    so_from line front.spaces (after_spaces line) front.are front.is (words_of-after_spaces line)
+so line = so_by line (is_silent (after_spaces line)) refl
 
 -- ---- both
 

@@ -2,6 +2,7 @@
 pub mod Attributes
 pub mod Classes
 pub mod Contents
+pub mod Filters
 pub mod Lines
 pub mod Numbers
 pub mod Parting

@@ -1,14 +1,15 @@
 -- The words of a line part it.
-use Rattle.std.proofs.Common.{◌≡◌, ◌≢◌, ℕ, ◌<◌, List, [], ◌∷◌, ◌++◌, length, ap, ◌∙◌, refl, arith, append-nil, append_assoc, length-append}
+use Rattle.std.proofs.Common.{◌≡◌, ◌≢◌, ℕ, ◌<◌, List, [], ◌∷◌, ◌++◌, length, ap, sym, ◌∙◌, refl, arith, append-nil, append_assoc, length-append}
 use Rattle.std.specs.Prelude.{Bool, true, false, ◌==◌, Some}
 use Rattle.std.specs.List.{onto_first}
 use Rattle.std.proofs.lemmas.Bool.{cond-false, cond-true, eqb-false, eqb-true, ne_eqb}
+use Rattle.std.proofs.lemmas.List.{take-append-drop}
 use Rattle.std.proofs.lemmas.List.Elements.{All-append, All-cons}
 use Rattle.osgi_console.specs.declared.words.Place.{Place}
 use Rattle.osgi_console.specs.declared.words.Place.TheVariants.{Bare}
-use Rattle.osgi_console.proofs.Spaces.{no_spaces}
+use Rattle.osgi_console.proofs.Spaces.{no_spaces, spaced}
 use Rattle.osgi_console.proofs.Splitting.{ends_at_space, words_of-space}
-use Rattle.osgi_console.specs.Splitting.{ends_word, place_after, words_from, words_of}
+use Rattle.osgi_console.specs.Splitting.{after_spaces, behind_word, ends_word, first_word, place_after, word_len, words_from, words_of}
 use Rattle.osgi_console.specs.Words.{AreSpaces, IsParted}
 
 -- a text that begins at a place of a word: the rest of the word, and the words behind it
@@ -18,17 +19,17 @@ pub record PartsFrom (place : Place) (text : List ℕ) : Type 0 where
   pub rest : List ℕ
   pub are : words_from (Some place) text ≡ word ∷ words
   pub is : text ≡ word ++ rest
-  pub parted : IsParted words rest
+  pub parted : IsParted AreSpaces words rest
 
 -- spaces, and the words of a text behind them
 Parts : List ℕ → Type 0
-Parts text = (spaces : List ℕ) → AreSpaces spaces → 0 < length spaces → IsParted (words_of text) (spaces ++ text)
+Parts text = (spaces : List ℕ) → AreSpaces spaces → 0 < length spaces → IsParted AreSpaces (words_of text) (spaces ++ text)
 
 parts_space : (b : ℕ) (rest : List ℕ) → b ≡ 32 → Parts rest → Parts (b ∷ rest)
 unfolding Parts
 parts_space b rest is more spaces are some =
     let all : AreSpaces (spaces ++ b ∷ []) = All-append (λ x. x ≡ 32) spaces (b ∷ []) are (All-cons (λ x. x ≡ 32) b [] is no_spaces) in
-    let parted : IsParted (words_of rest) ((spaces ++ b ∷ []) ++ rest)
+    let parted : IsParted AreSpaces (words_of rest) ((spaces ++ b ∷ []) ++ rest)
     = more (spaces ++ b ∷ []) all (omega (arith, length-append spaces (b ∷ []))) in
     rw (words_of-space b rest is, ← append_assoc spaces (b ∷ []) rest) parted
 
@@ -86,6 +87,19 @@ parts_both (b ∷ rest) =
     record { between = between_by b rest (b == 32) refl more; within = λ place. within_by place b rest (ends_word place b) refl more }
 
 -- the words of a line part it
-pub words_part : (line : List ℕ) → IsParted (words_of line) (32 ∷ line)
+pub words_part : (line : List ℕ) → IsParted AreSpaces (words_of line) (32 ∷ line)
 unfolding Parts
 words_part line = (parts_both line).between (32 ∷ []) (All-cons (λ x. x ≡ 32) 32 [] refl no_spaces) (omega arith)
+
+-- the first word of a text, behind a space, and what parts the rest
+pub front_parts : (IsEnd : List ℕ → Type 0) (words : List (List ℕ)) (text : List ℕ) → IsParted IsEnd words (behind_word text) →
+    IsParted IsEnd (first_word text ∷ words) (32 ∷ text)
+front_parts IsEnd words text parted =
+    let front = spaced text in (
+      32 ∷ front.spaces,
+      behind_word text,
+      All-cons (λ x. x ≡ 32) 32 front.spaces refl front.are,
+      omega arith,
+      ap (λ l. 32 ∷ l) (front.is ∙ ap (λ l. front.spaces ++ l) (sym (take-append-drop (word_len Bare (after_spaces text)) (after_spaces text)))),
+      parted,
+    )

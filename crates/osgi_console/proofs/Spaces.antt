@@ -1,5 +1,5 @@
 -- Spaces, and the words between them.
-use Rattle.std.proofs.Common.{◌≡◌, ◌≢◌, ℕ, List, [], ◌∷◌, ◌++◌, length, ◌≤◌, ap, sym, ◌∙◌, refl, arith, append-nil, length-append}
+use Rattle.std.proofs.Common.{◌≡◌, ◌≢◌, ℕ, List, [], ◌∷◌, ◌++◌, length, ◌≤◌, ap, sym, ◌∙◌, refl, arith, append-nil, length-append, subst}
 use Rattle.std.specs.Prelude.{Bool, true, false, ◌==◌}
 use Rattle.std.proofs.lemmas.Bool.{cond-false, cond-true, eq-eqb, eqb-false, eqb-true}
 use Rattle.std.proofs.lemmas.List.Elements.{All-cons, All-head, All-tail}
@@ -37,8 +37,8 @@ after_spaces-all spaces are = ap after_spaces (sym (append-nil spaces)) ∙ afte
 
 -- what may stand behind a word
 pub data EndsWord : List ℕ → Type 0 where
-  at_end : EndsWord []
-  at_space : (rest : List ℕ) → EndsWord (32 ∷ rest)
+  with_nothing : EndsWord []
+  with_space : (b : ℕ) (rest : List ℕ) → b ≡ 32 → EndsWord (b ∷ rest)
 
 -- what stands behind spaces is nothing, or begins with another byte
 pub data Stops : List ℕ → Type 0 where
@@ -52,6 +52,12 @@ stops_by b rest false e more = rw (cond-false (b == 32) (after_spaces rest) (b �
 pub stops : (text : List ℕ) → Stops (after_spaces text)
 stops [] = at_end
 stops (b ∷ rest) = stops_by b rest (b == 32) refl (stops rest)
+
+-- where nothing stands behind the spaces at the front, all are spaces
+pub all_spaces : (text : List ℕ) → after_spaces text ≡ [] → AreSpaces text
+all_spaces text none =
+    let front = spaced text in
+    subst AreSpaces (sym (front.is ∙ ap (λ l. front.spaces ++ l) none ∙ append-nil front.spaces)) front.are
 
 pub after_spaces-within : (text : List ℕ) → length (after_spaces text) ≤ length text
 after_spaces-within text =

@@ -5,8 +5,8 @@ use Rattle.std.specs.List.{onto_first}
 use Rattle.std.proofs.lemmas.Bool.{cond-false, cond-true, eq-eqb, eqb-true, ne_eqb}
 use Rattle.osgi_console.specs.declared.words.Place.{Place}
 use Rattle.osgi_console.specs.declared.words.Place.TheVariants.{Bare, Quoted, Escaped}
-use Rattle.osgi_console.proofs.Spaces.{after_spaces-within, at_byte, at_end, no_items, Stops, stops}
-use Rattle.osgi_console.specs.Splitting.{after_spaces, BeginsWithWord, ends_word, place_after, word_len, words_from, words_of}
+use Rattle.osgi_console.proofs.Spaces.{after_spaces-within, at_byte, at_end, EndsWord, no_items, Stops, stops, with_nothing, with_space}
+use Rattle.osgi_console.specs.Splitting.{after_spaces, behind_word, BeginsWithWord, ends_word, first_word, HasNoWord, place_after, word_len, words_from, words_of}
 
 pub words_of-space : (b : ℕ) (rest : List ℕ) → b ≡ 32 → words_of (b ∷ rest) ≡ words_of rest
 words_of-space b rest is = cond-true (b == 32) _ _ (eq-eqb b 32 is)
@@ -59,24 +59,45 @@ pub word_len-within : (place : Place) (text : List ℕ) → word_len place text 
 word_len-within place [] = omega arith
 word_len-within place (b ∷ rest) = word_len_by b rest _ (ends_word place b) (word_len-within (place_after place b) rest)
 
-first_word_by : (text behind : List ℕ) → after_spaces text ≡ behind → Stops behind → 0 < length behind →
+begins_by : (text behind : List ℕ) → after_spaces text ≡ behind → Stops behind → 0 < length behind →
     BeginsWithWord text (take (word_len Bare behind) behind) (drop (word_len Bare behind) behind)
 unfolding Split
-first_word_by text [] is at_end some = absurd (omega (arith, some))
-first_word_by text (b ∷ rest) is (at_byte _ _ other) some =
+begins_by text [] is at_end some = absurd (omega (arith, some))
+begins_by text (b ∷ rest) is (at_byte _ _ other) some =
     let n : ℕ = word_len (place_after Bare b) rest in
     let len : word_len Bare (b ∷ rest) ≡ n + 1 = cond-false (b == 32) _ _ (ne_eqb b 32 other) in
     let within : length (b ∷ rest) ≤ length text = omega (arith, after_spaces-within text, ap length is) in
     record {
       words = sym (words_of-after_spaces text) ∙ ap words_of is ∙ words_of-plain b rest other ∙ split Bare (b ∷ rest);
+      first = ap (λ l. take (word_len Bare l) l) (sym is);
+      behind = ap (λ l. drop (word_len Bare l) l) (sym is);
       shorter = omega (arith, within, len, length-drop (word_len Bare (b ∷ rest)) (b ∷ rest));
     }
 
 -- where a word is left, it stands behind the spaces at the front
-pub first_word : (text : List ℕ) → 0 < length (after_spaces text) →
-    BeginsWithWord text (take (word_len Bare (after_spaces text)) (after_spaces text)) (drop (word_len Bare (after_spaces text)) (after_spaces text))
-first_word text some = first_word_by text (after_spaces text) refl (stops text) some
+pub begins : (text : List ℕ) → 0 < length (after_spaces text) → BeginsWithWord text (first_word text) (behind_word text)
+begins text some = begins_by text (after_spaces text) refl (stops text) some
 
 -- and where nothing is left behind these, no word is
-pub no_word : (text : List ℕ) → length (after_spaces text) ≡ 0 → words_of text ≡ []
-no_word text none = sym (words_of-after_spaces text) ∙ ap words_of (no_items (after_spaces text) none)
+pub no_word : (text : List ℕ) → length (after_spaces text) ≡ 0 → HasNoWord text
+no_word text none =
+    let nothing : after_spaces text ≡ [] = no_items (after_spaces text) none in
+    record { words = sym (words_of-after_spaces text) ∙ ap words_of nothing; first = ap (λ l. take (word_len Bare l) l) nothing }
+
+-- ---- what stands behind the first word
+
+ends_by : (place : Place) (b : ℕ) (rest : List ℕ) (test : Bool) → ends_word place b ≡ test → EndsWord (drop (word_len (place_after place b) rest) rest) →
+    EndsWord (drop (word_len place (b ∷ rest)) (b ∷ rest))
+ends_by place b rest true e more =
+    let here : word_len place (b ∷ rest) ≡ 0 = cond-true (ends_word place b) _ _ e in
+    rw here (with_space b rest (ends_at_space place b e))
+ends_by place b rest false e more =
+    let here : word_len place (b ∷ rest) ≡ word_len (place_after place b) rest + 1 = cond-false (ends_word place b) _ _ e in
+    rw (here, add-one) more
+
+ends : (place : Place) (text : List ℕ) → EndsWord (drop (word_len place text) text)
+ends place [] = with_nothing
+ends place (b ∷ rest) = ends_by place b rest (ends_word place b) refl (ends (place_after place b) rest)
+
+pub behind_word-ends : (text : List ℕ) → EndsWord (behind_word text)
+behind_word-ends text = ends Bare (after_spaces text)

@@ -1,30 +1,60 @@
--- Words are read as the command that they say, and only as that.
-use Rattle.std.proofs.Common.{◌≡◌, ℕ, List, [], ◌∷◌, ap, sym, refl, arith, subst}
-use Rattle.std.specs.Prelude.{None, Some, option_and_then, codes}
+-- Lines are read as the command that they say, and only as that.
+use Rattle.std.proofs.Common.{◌≡◌, ℕ, ◌<◌, List, [], ◌∷◌, length, ap, sym, ◌∙◌, refl, arith, subst, length-take}
+use Rattle.std.specs.Prelude.{Option, Some, option_and_then, codes}
 use Rattle.std.specs.Option.{option_map}
 use Rattle.std.specs.Str.{bytes_eq}
 use Rattle.std.proofs.lemmas.Option.{option_and_then_some}
 use Rattle.osgi_base.specs.declared.ids.ServiceId.{ServiceId}
+use Rattle.osgi_model.specs.declared.filter.Filter.{Filter}
 use Rattle.osgi_ops.specs.declared.command.Command.{Command}
 use Rattle.osgi_ops.specs.declared.command.Command.TheVariants as command
+use Rattle.osgi_console.specs.declared.commands.Wanted.{Wanted}
+use Rattle.osgi_console.specs.declared.words.Place.TheVariants.{Bare}
 use Rattle.osgi_console.specs.declared.commands.Verb.{Verb}
 use Rattle.osgi_console.specs.declared.commands.Verb.TheVariants as verb
 use Rattle.osgi_model.proofs.Made.{mapped, passes_found, same_text}
 use Rattle.osgi_console.proofs.Attributes.{properties_read, properties_sound, whole_properties}
-use Rattle.osgi_console.proofs.Classes.{class_read, class_sound, classes_read, classes_sound, whole_class, whole_classes}
+use Rattle.osgi_console.proofs.Classes.{classes_read, classes_sound, whole_classes}
+use Rattle.osgi_console.proofs.Filters.{filter_ends, wanted_read, wanted_sound}
 use Rattle.osgi_console.proofs.Numbers.{id_read, id_sound, whole_id}
+use Rattle.osgi_console.proofs.Parting.{front_parts, words_part}
 use Rattle.osgi_console.proofs.Quoting.{quoted_read, quoted_sound}
-use Rattle.osgi_console.proofs.Whole.{AreWhole, IsWhole, whole_quoted}
+use Rattle.osgi_console.proofs.Spaces.{EndsWord}
+use Rattle.osgi_console.proofs.Splitting.{begins, behind_word-ends}
+use Rattle.osgi_console.proofs.Whole.{AreWhole, ends_all, HasFront, IsWhole, parted_front, parted_words, whole_quoted}
 use Rattle.osgi_console.specs.Console as says
-use Rattle.osgi_console.specs.LineReader.{command_by, command_of, name_of, only_class_of, only_id_of, register_of, services_of, verb_of, verbs}
+use Rattle.osgi_console.specs.LineReader.{command_by, command_of, modify_of, name_of, only_id_of, register_of, services_of, verb_of, verbs, wanted_of}
 use Rattle.osgi_console.specs.PropertyReader.{properties_of}
+use Rattle.osgi_console.specs.Splitting.{after_spaces, behind_word, first_word, word_len, words_of}
 use Rattle.osgi_console.specs.WordReader.{classes_of, id_of, quoted_of}
-use Rattle.osgi_console.specs.Words.{IsClass, IsId}
+use Rattle.osgi_console.specs.Words.{AreSpaces, IsClass, IsFilterEnd, IsId, IsParted}
 
 -- ---- the first word
 
 verb_sound : (word : List ℕ) (v : Verb) → verb_of word ≡ Some v → name_of v ≡ word
 verb_sound word v e = same_text (name_of v) word (passes_found (λ v. bytes_eq (name_of v) word) verbs v e)
+
+whole_name : (v : Verb) → IsWhole (name_of v)
+whole_name verb.Register = record { some = omega arith; scanned = refl }
+whole_name verb.Modify = record { some = omega arith; scanned = refl }
+whole_name verb.Unregister = record { some = omega arith; scanned = refl }
+whole_name verb.Find = record { some = omega arith; scanned = refl }
+whole_name verb.FindAll = record { some = omega arith; scanned = refl }
+whole_name verb.Get = record { some = omega arith; scanned = refl }
+whole_name verb.Unget = record { some = omega arith; scanned = refl }
+whole_name verb.Services = record { some = omega arith; scanned = refl }
+
+-- a line with such a first word has one
+has_word : (v : Verb) (line : List ℕ) → name_of v ≡ first_word line → 0 < length (after_spaces line)
+has_word v line named =
+    omega (arith, (whole_name v).some, ap length named, length-take (word_len Bare (after_spaces line)) (after_spaces line))
+
+-- where a verb's name and other words part a line, it is the line's first word
+named_front : (IsEnd : List ℕ → Type 0) (v : Verb) (words : List (List ℕ)) (line : List ℕ) → ((end : List ℕ) → IsEnd end → EndsWord end) →
+    (parted : IsParted IsEnd (name_of v ∷ words) (32 ∷ line)) → HasFront line (name_of v) parted.1
+named_front IsEnd v words line end parted =
+    let front = parted_front IsEnd (name_of v) words (32 ∷ line) end (whole_name v) parted in
+    record { some = front.some; first = front.first; behind = front.behind }
 
 -- ---- the arguments
 
@@ -38,17 +68,6 @@ only_id [] service e = absurd (cc e)
 only_id (word ∷ []) service e = record { word = word; is = refl; id = id_sound word service e }
 only_id (word ∷ second ∷ rest) service e = absurd (cc e)
 
-record IsOnlyClass (arguments : List (List ℕ)) (name : List ℕ) : Type 0 where
-  is : arguments ≡ name ∷ []
-  class : IsClass name
-
-only_class : (arguments : List (List ℕ)) (name : List ℕ) → only_class_of arguments ≡ Some name → IsOnlyClass arguments name
-only_class [] name e = absurd (cc e)
-only_class (word ∷ []) name e =
-    let read = class_sound word name e in
-    record { is = ap (λ w. w ∷ []) read.1; class = read.0 }
-only_class (word ∷ second ∷ rest) name e = absurd (cc e)
-
 -- a command that is made from an id alone, and one from a class alone
 id_command : (name : List ℕ) (make : ServiceId → Command) (arguments : List (List ℕ)) (c : Command) → option_map make (only_id_of arguments) ≡ Some c →
     ((word : List ℕ) (service : ServiceId) → IsId word service → says.AreWordsOf (name ∷ word ∷ []) (make service)) → says.AreWordsOf (name ∷ arguments) c
@@ -57,14 +76,6 @@ id_command name make arguments c e said =
     let only = only_id arguments read.value read.was in
     subst (λ l. says.AreWordsOf (name ∷ l) c) (sym only.is)
     (subst (says.AreWordsOf (name ∷ only.word ∷ [])) read.is (said only.word read.value only.id))
-
-class_command : (name : List ℕ) (make : List ℕ → Command) (arguments : List (List ℕ)) (c : Command) → option_map make (only_class_of arguments) ≡ Some c →
-    ((class : List ℕ) → IsClass class → says.AreWordsOf (name ∷ class ∷ []) (make class)) → says.AreWordsOf (name ∷ arguments) c
-class_command name make arguments c e said =
-    let read = mapped make (only_class_of arguments) c e in
-    let only = only_class arguments read.value read.was in
-    subst (λ l. says.AreWordsOf (name ∷ l) c) (sym only.is)
-    (subst (says.AreWordsOf (name ∷ read.value ∷ [])) read.is (said read.value only.class))
 
 -- ---- what is read says the command
 
@@ -80,7 +91,7 @@ register_sound (names ∷ quoted ∷ words) c e =
     rw (← read.is)
     (says.register (classes_sound names classes are) (quoted_sound quoted object is) (properties_sound words read.value read.was))))
 
-modify_sound : (arguments : List (List ℕ)) (c : Command) → command_by verb.Modify arguments ≡ Some c → says.AreWordsOf (codes "modify" ∷ arguments) c
+modify_sound : (arguments : List (List ℕ)) (c : Command) → modify_of arguments ≡ Some c → says.AreWordsOf (codes "modify" ∷ arguments) c
 modify_sound [] c e = absurd (cc e)
 modify_sound (id ∷ words) c e =
     option_and_then_some (λ service. option_map (command.Modify service) (properties_of words)) (id_of id) c e
@@ -94,56 +105,117 @@ services_sound [] c e =
     rw (← is) says.services
 services_sound (word ∷ rest) c e = absurd (cc e)
 
-says_by : (v : Verb) (arguments : List (List ℕ)) (c : Command) → command_by v arguments ≡ Some c → says.AreWordsOf (name_of v ∷ arguments) c
-says_by verb.Register arguments c e = register_sound arguments c e
-says_by verb.Modify arguments c e = modify_sound arguments c e
-says_by verb.Unregister arguments c e = id_command (codes "unregister") command.Unregister arguments c e (λ word service id. says.unregister id)
-says_by verb.Find arguments c e = class_command (codes "find") (λ class. command.Find class None) arguments c e (λ name class. says.find class)
-says_by verb.FindAll arguments c e = class_command (codes "findall") (λ class. command.FindAll class None) arguments c e (λ name class. says.findall class)
-says_by verb.Get arguments c e = id_command (codes "get") command.Get arguments c e (λ word service id. says.get id)
-says_by verb.Unget arguments c e = id_command (codes "unget") command.Unget arguments c e (λ word service id. says.unget id)
-says_by verb.Services arguments c e = services_sound arguments c e
+-- a command in words alone
+said_in_words : (v : Verb) (line : List ℕ) (c : Command) → name_of v ≡ first_word line → says.AreWordsOf (name_of v ∷ words_of (behind_word line)) c → says.Says line c
+said_in_words v line c named are =
+    let some : 0 < length (after_spaces line) = has_word v line named in
+    let words : words_of line ≡ name_of v ∷ words_of (behind_word line) = (begins line some).words ∙ ap (λ l. l ∷ words_of (behind_word line)) (sym named) in
+    says.in_words are (subst (λ l. IsParted AreSpaces l (32 ∷ line)) words (words_part line))
 
-pub command_sound : (words : List (List ℕ)) (c : Command) → command_of words ≡ Some c → says.AreWordsOf words c
-command_sound [] c e = absurd (cc e)
-command_sound (name ∷ arguments) c e =
-    option_and_then_some (λ v. command_by v arguments) (verb_of name) c e
-    (λ v named by. rw (← verb_sound name v named) (says_by v arguments c by))
+-- a command with a class, and a filter or none
+said_of_class : (v : Verb) (make : List ℕ → Option Filter → Command) (line : List ℕ) (c : Command) → name_of v ≡ first_word line →
+    option_map (λ w. make w.class w.filter) (wanted_of (behind_word line)) ≡ Some c →
+    ((class : List ℕ) (filter : Option Filter) → IsClass class → IsParted (IsFilterEnd filter) (name_of v ∷ class ∷ []) (32 ∷ line) → says.Says line (make class filter)) → says.Says line c
+said_of_class v make line c named e said =
+    let read = mapped (λ (w : Wanted). make w.class w.filter) (wanted_of (behind_word line)) c e in
+    let wanted = wanted_sound (behind_word line) read.value (behind_word-ends line) read.was in
+    let parted : IsParted (IsFilterEnd read.value.filter) (name_of v ∷ read.value.class ∷ []) (32 ∷ line)
+    = subst (λ l. IsParted (IsFilterEnd read.value.filter) (l ∷ read.value.class ∷ []) (32 ∷ line)) (sym named)
+    (front_parts (IsFilterEnd read.value.filter) (read.value.class ∷ []) line wanted.parted) in
+    subst (says.Says line) read.is (said read.value.class read.value.filter wanted.class parted)
+
+says_by : (v : Verb) (line : List ℕ) (c : Command) → name_of v ≡ first_word line → command_by v (behind_word line) ≡ Some c → says.Says line c
+says_by verb.Register line c named e = said_in_words verb.Register line c named (register_sound (words_of (behind_word line)) c e)
+says_by verb.Modify line c named e = said_in_words verb.Modify line c named (modify_sound (words_of (behind_word line)) c e)
+says_by verb.Unregister line c named e =
+    said_in_words verb.Unregister line c named
+    (id_command (codes "unregister") command.Unregister (words_of (behind_word line)) c e (λ word service id. says.unregister id))
+says_by verb.Find line c named e = said_of_class verb.Find command.Find line c named e (λ class filter is parted. says.find is parted)
+says_by verb.FindAll line c named e = said_of_class verb.FindAll command.FindAll line c named e (λ class filter is parted. says.findall is parted)
+says_by verb.Get line c named e =
+    said_in_words verb.Get line c named (id_command (codes "get") command.Get (words_of (behind_word line)) c e (λ word service id. says.get id))
+says_by verb.Unget line c named e =
+    said_in_words verb.Unget line c named (id_command (codes "unget") command.Unget (words_of (behind_word line)) c e (λ word service id. says.unget id))
+says_by verb.Services line c named e = said_in_words verb.Services line c named (services_sound (words_of (behind_word line)) c e)
+
+pub command_sound : (line : List ℕ) (c : Command) → command_of line ≡ Some c → says.Says line c
+command_sound line c e =
+    option_and_then_some (λ v. command_by v (behind_word line)) (verb_of (first_word line)) c e
+    (λ v named by. says_by v line c (verb_sound (first_word line) v named) by)
 
 -- ---- what says a command is read
 
-pub command_read : (words : List (List ℕ)) (c : Command) → says.AreWordsOf words c → command_of words ≡ Some c
-command_read words c (says.register {names = names} {quoted = quoted} {words = rest} {classes = classes} {object = object} {properties = properties} are is own) =
-    rw (classes_read names classes are, quoted_read quoted object is, properties_read rest properties own) refl
-command_read words c (says.modify {id = id} {words = rest} {service = service} {properties = properties} is own) =
-    rw (id_read id service is, properties_read rest properties own) refl
-command_read words c (says.unregister {id = id} {service = service} is) = ap (option_map command.Unregister) (id_read id service is)
-command_read words c (says.find {class = class} is) = ap (option_map (λ class. command.Find class None)) (class_read class is)
-command_read words c (says.findall {class = class} is) = ap (option_map (λ class. command.FindAll class None)) (class_read class is)
-command_read words c (says.get {id = id} {service = service} is) = ap (option_map command.Get) (id_read id service is)
-command_read words c (says.unget {id = id} {service = service} is) = ap (option_map command.Unget) (id_read id service is)
-command_read words c says.services = refl
+verb_read : (v : Verb) → verb_of (name_of v) ≡ Some v
+verb_read verb.Register = refl
+verb_read verb.Modify = refl
+verb_read verb.Unregister = refl
+verb_read verb.Find = refl
+verb_read verb.FindAll = refl
+verb_read verb.Get = refl
+verb_read verb.Unget = refl
+verb_read verb.Services = refl
 
--- ---- such words are whole
+-- a line's first word is this one, and so the command is read from behind it
+read_by : (v : Verb) (line rest : List ℕ) (c : Command) → HasFront line (name_of v) rest → command_by v rest ≡ Some c → command_of line ≡ Some c
+read_by v line rest c front by = rw (front.first, front.behind, verb_read v) by
 
-whole_name : (v : Verb) → IsWhole (name_of v)
-whole_name verb.Register = record { some = omega arith; scanned = refl }
-whole_name verb.Modify = record { some = omega arith; scanned = refl }
-whole_name verb.Unregister = record { some = omega arith; scanned = refl }
-whole_name verb.Find = record { some = omega arith; scanned = refl }
-whole_name verb.FindAll = record { some = omega arith; scanned = refl }
-whole_name verb.Get = record { some = omega arith; scanned = refl }
-whole_name verb.Unget = record { some = omega arith; scanned = refl }
-whole_name verb.Services = record { some = omega arith; scanned = refl }
+-- words of a command: the name, and arguments from which the command is read
+record HasVerb (words : List (List ℕ)) (c : Command) : Type 0 where
+  verb : Verb
+  arguments : List (List ℕ)
+  is : words ≡ name_of verb ∷ arguments
+  whole : AreWhole arguments
+  read : (text : List ℕ) → words_of text ≡ arguments → command_by verb text ≡ Some c
 
-pub whole_words : (words : List (List ℕ)) (c : Command) → says.AreWordsOf words c → AreWhole words
-whole_words words c (says.register {names = names} {quoted = quoted} {words = rest} {classes = classes} {object = object} {properties = properties} are is own) =
-    (whole_name verb.Register, (whole_classes names classes are, (whole_quoted quoted object is, whole_properties rest properties own)))
-whole_words words c (says.modify {id = id} {words = rest} {service = service} {properties = properties} is own) =
-    (whole_name verb.Modify, (whole_id id service is, whole_properties rest properties own))
-whole_words words c (says.unregister {id = id} {service = service} is) = (whole_name verb.Unregister, (whole_id id service is, tt))
-whole_words words c (says.find {class = class} is) = (whole_name verb.Find, (whole_class class is, tt))
-whole_words words c (says.findall {class = class} is) = (whole_name verb.FindAll, (whole_class class is, tt))
-whole_words words c (says.get {id = id} {service = service} is) = (whole_name verb.Get, (whole_id id service is, tt))
-whole_words words c (says.unget {id = id} {service = service} is) = (whole_name verb.Unget, (whole_id id service is, tt))
-whole_words words c says.services = (whole_name verb.Services, tt)
+has_verb : (words : List (List ℕ)) (c : Command) → says.AreWordsOf words c → HasVerb words c
+has_verb words c (says.register {names = names} {quoted = quoted} {words = rest} {classes = classes} {object = object} {properties = properties} are is own) = record {
+  verb = verb.Register;
+  arguments = names ∷ quoted ∷ rest;
+  is = refl;
+  whole = (whole_classes names classes are, (whole_quoted quoted object is, whole_properties rest properties own));
+  read = λ text e. ap register_of e ∙ rw (classes_read names classes are, quoted_read quoted object is, properties_read rest properties own) refl;
+}
+has_verb words c (says.modify {id = id} {words = rest} {service = service} {properties = properties} is own) = record {
+  verb = verb.Modify;
+  arguments = id ∷ rest;
+  is = refl;
+  whole = (whole_id id service is, whole_properties rest properties own);
+  read = λ text e. ap modify_of e ∙ rw (id_read id service is, properties_read rest properties own) refl;
+}
+has_verb words c (says.unregister {id = id} {service = service} is) = record {
+  verb = verb.Unregister;
+  arguments = id ∷ [];
+  is = refl;
+  whole = (whole_id id service is, tt);
+  read = λ text e. ap (λ l. option_map command.Unregister (only_id_of l)) e ∙ ap (option_map command.Unregister) (id_read id service is);
+}
+has_verb words c (says.get {id = id} {service = service} is) = record {
+  verb = verb.Get;
+  arguments = id ∷ [];
+  is = refl;
+  whole = (whole_id id service is, tt);
+  read = λ text e. ap (λ l. option_map command.Get (only_id_of l)) e ∙ ap (option_map command.Get) (id_read id service is);
+}
+has_verb words c (says.unget {id = id} {service = service} is) = record {
+  verb = verb.Unget;
+  arguments = id ∷ [];
+  is = refl;
+  whole = (whole_id id service is, tt);
+  read = λ text e. ap (λ l. option_map command.Unget (only_id_of l)) e ∙ ap (option_map command.Unget) (id_read id service is);
+}
+has_verb words c says.services = record { verb = verb.Services; arguments = []; is = refl; whole = tt; read = λ text e. ap services_of e }
+
+words_read : (words : List (List ℕ)) (line : List ℕ) (c : Command) → HasVerb words c → IsParted AreSpaces words (32 ∷ line) → command_of line ≡ Some c
+words_read words line c has parted =
+    let named : IsParted AreSpaces (name_of has.verb ∷ has.arguments) (32 ∷ line) = subst (λ l. IsParted AreSpaces l (32 ∷ line)) has.is parted in
+    read_by has.verb line named.1 c (named_front AreSpaces has.verb has.arguments line ends_all named)
+    (has.read named.1 (parted_words has.arguments named.1 has.whole named.5))
+
+pub command_read : (line : List ℕ) (c : Command) → says.Says line c → command_of line ≡ Some c
+command_read line c (says.in_words {words = words} are parted) = words_read words line c (has_verb words c are) parted
+command_read line c (says.find {class = class} {filter = filter} is parted) =
+    read_by verb.Find line parted.1 c (named_front (IsFilterEnd filter) verb.Find (class ∷ []) line (filter_ends filter) parted)
+    (ap (option_map (λ (w : Wanted). command.Find w.class w.filter)) (wanted_read class filter parted.1 is parted.5))
+command_read line c (says.findall {class = class} {filter = filter} is parted) =
+    read_by verb.FindAll line parted.1 c (named_front (IsFilterEnd filter) verb.FindAll (class ∷ []) line (filter_ends filter) parted)
+    (ap (option_map (λ (w : Wanted). command.FindAll w.class w.filter)) (wanted_read class filter parted.1 is parted.5))

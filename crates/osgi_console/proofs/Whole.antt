@@ -1,13 +1,15 @@
 -- Words that stand as wholes: where such words part a line, they are its words.
-use Rattle.std.proofs.Common.{◌≡◌, ◌≢◌, ℕ, ◌<◌, List, [], ◌∷◌, ◌++◌, length, ap, sym, ◌∙◌, refl, arith, append-nil}
+use Rattle.std.proofs.Common.{◌≡◌, ◌≢◌, ℕ, ◌+◌, ◌<◌, List, [], ◌∷◌, ◌++◌, length, add-one, ap, sym, ◌∙◌, refl, arith, append-nil, length-append, subst}
 use Rattle.std.specs.Prelude.{Bool, true, false, if◌then◌else◌, ◌==◌, Option, None, Some}
-use Rattle.std.specs.List.{AllPass, onto_first}
+use Rattle.std.specs.List.{AllPass}
+use Rattle.std.proofs.Math.Seq.{drop-append_seam, take-append_seam}
 use Rattle.std.proofs.lemmas.Bool.{cond-false, cond-true, eq-eqb, ne_eqb, not_from_false, or_from}
 use Rattle.std.proofs.lemmas.List.Elements.{All-head, All-tail}
 use Rattle.osgi_console.specs.declared.words.Place.{Place}
 use Rattle.osgi_console.specs.declared.words.Place.TheVariants.{Bare, Quoted, Escaped}
-use Rattle.osgi_console.proofs.Splitting.{words_of-plain, words_of-space}
-use Rattle.osgi_console.specs.Splitting.{ends_word, place_after, words_from, words_of}
+use Rattle.osgi_console.proofs.Spaces.{after_spaces-all, after_spaces-front, EndsWord, with_nothing, with_space}
+use Rattle.osgi_console.proofs.Splitting.{begins, words_of-after_spaces}
+use Rattle.osgi_console.specs.Splitting.{after_spaces, behind_word, ends_word, first_word, place_after, word_len, words_of}
 use Rattle.osgi_console.specs.Values.{is_bare_byte}
 use Rattle.osgi_console.specs.Words.{AreSpaces, backslash, escaped, IsParted, IsQuoted, nothing, plain, Spells}
 
@@ -25,64 +27,72 @@ abbrev pub AreWhole : List (List ℕ) → Type 0
 AreWhole [] = Unit {0}
 AreWhole (word ∷ words) = IsWhole word × AreWhole words
 
--- what may stand behind a word
-pub data EndsWord : List ℕ → Type 0 where
-  with_nothing : EndsWord []
-  with_space : (b : ℕ) (rest : List ℕ) → b ≡ 32 → EndsWord (b ∷ rest)
+len_end : (rest : List ℕ) → EndsWord rest → word_len Bare rest ≡ 0
+len_end [] with_nothing = refl
+len_end (b ∷ rest) (with_space _ _ is) = cond-true (b == 32) _ _ (eq-eqb b 32 is)
 
-word_ends : (rest : List ℕ) → EndsWord rest → words_from (Some Bare) rest ≡ [] ∷ words_of rest
-word_ends [] with_nothing = refl
-word_ends (b ∷ rest) (with_space _ _ is) = cond-true (b == 32) _ _ (eq-eqb b 32 is) ∙ ap (λ l. [] ∷ l) (sym (words_of-space b rest is))
+len_by : (place : Place) (b : ℕ) (word rest : List ℕ) (test : Bool) → ends_word place b ≡ test → scan place (b ∷ word) ≡ Some Bare →
+    (scan (place_after place b) word ≡ Some Bare → word_len (place_after place b) (word ++ rest) ≡ length word) →
+    word_len place (b ∷ word ++ rest) ≡ length (b ∷ word)
+len_by place b word rest true e scanned more = absurd (cc (scanned, cond-true (ends_word place b) None (scan (place_after place b) word) e))
+len_by place b word rest false e scanned more =
+    cond-false (ends_word place b) _ _ e ∙ ap (λ n. n + 1) (more (sym (cond-false (ends_word place b) _ _ e) ∙ scanned)) ∙ add-one (length word)
 
-word_by : (place : Place) (b : ℕ) (word rest : List ℕ) (test : Bool) → ends_word place b ≡ test → scan place (b ∷ word) ≡ Some Bare →
-    (scan (place_after place b) word ≡ Some Bare → words_from (Some (place_after place b)) (word ++ rest) ≡ word ∷ words_of rest) →
-    words_from (Some place) (b ∷ word ++ rest) ≡ (b ∷ word) ∷ words_of rest
-word_by place b word rest true e scanned more = absurd (cc (scanned, cond-true (ends_word place b) None (scan (place_after place b) word) e))
-word_by place b word rest false e scanned more =
-    cond-false (ends_word place b) _ _ e ∙ ap (onto_first b) (more (sym (cond-false (ends_word place b) _ _ e) ∙ scanned))
-
-word_then : (place : Place) (word rest : List ℕ) → scan place word ≡ Some Bare → EndsWord rest → words_from (Some place) (word ++ rest) ≡ word ∷ words_of rest
-word_then place [] rest scanned ends =
+len_whole : (place : Place) (word rest : List ℕ) → scan place word ≡ Some Bare → EndsWord rest → word_len place (word ++ rest) ≡ length word
+len_whole place [] rest scanned ends =
     let here : place ≡ Bare = cc scanned in
-    rw here (word_ends rest ends)
-word_then place (b ∷ word) rest scanned ends =
-    word_by place b word rest (ends_word place b) refl scanned (λ more. word_then (place_after place b) word rest more ends)
-
-words_of-front : (spaces rest : List ℕ) → AreSpaces spaces → words_of (spaces ++ rest) ≡ words_of rest
-words_of-front [] rest are = refl
-words_of-front (b ∷ spaces) rest are =
-    words_of-space b (spaces ++ rest) (All-head (λ x. x ≡ 32) b spaces are) ∙ words_of-front spaces rest (All-tail (λ x. x ≡ 32) b spaces are)
+    rw here (len_end rest ends)
+len_whole place (b ∷ word) rest scanned ends =
+    len_by place b word rest (ends_word place b) refl scanned (λ more. len_whole (place_after place b) word rest more ends)
 
 plain_start : (b : ℕ) (word : List ℕ) → scan Bare (b ∷ word) ≡ Some Bare → b ≢ 32
 plain_start b word scanned is = cc (scanned, cond-true (b == 32) None (scan (place_after Bare b) word) (eq-eqb b 32 is))
 
-whole_first : (word rest : List ℕ) → IsWhole word → EndsWord rest → words_of (word ++ rest) ≡ word ∷ words_of rest
-whole_first [] rest whole ends = absurd (omega (arith, whole.some))
-whole_first (b ∷ word) rest whole ends =
-    words_of-plain b (word ++ rest) (plain_start b word whole.scanned) ∙ word_then Bare (b ∷ word) rest whole.scanned ends
+plain_front : (word rest : List ℕ) → IsWhole word → after_spaces (word ++ rest) ≡ word ++ rest
+plain_front [] rest whole = absurd (omega (arith, whole.some))
+plain_front (b ∷ word) rest whole = cond-false (b == 32) _ _ (ne_eqb b 32 (plain_start b word whole.scanned))
+
+-- the first word of a text, and what is left behind it
+pub record HasFront (text word rest : List ℕ) : Type 0 where
+  pub some : 0 < length (after_spaces text)
+  pub first : first_word text ≡ word
+  pub behind : behind_word text ≡ rest
+
+whole_front : (spaces word rest : List ℕ) → AreSpaces spaces → IsWhole word → EndsWord rest → HasFront (spaces ++ (word ++ rest)) word rest
+whole_front spaces word rest are whole ends =
+    let front : after_spaces (spaces ++ (word ++ rest)) ≡ word ++ rest = after_spaces-front spaces (word ++ rest) are ∙ plain_front word rest whole in
+    let len : word_len Bare (word ++ rest) ≡ length word = len_whole Bare word rest whole.scanned ends in
+    record {
+      some = rw front (omega (arith, length-append word rest, whole.some));
+      first = rw (front, len) (take-append_seam word rest);
+      behind = rw (front, len) (drop-append_seam word rest);
+    }
 
 ends_spaces : (spaces rest : List ℕ) → AreSpaces spaces → 0 < length spaces → EndsWord (spaces ++ rest)
 ends_spaces [] rest are some = absurd (omega (arith, some))
 ends_spaces (b ∷ spaces) rest are some = with_space b (spaces ++ rest) (All-head (λ x. x ≡ 32) b spaces are)
 
-ends_all : (spaces : List ℕ) → AreSpaces spaces → EndsWord spaces
+pub ends_all : (spaces : List ℕ) → AreSpaces spaces → EndsWord spaces
 ends_all [] are = with_nothing
 ends_all (b ∷ spaces) are = with_space b spaces (All-head (λ x. x ≡ 32) b spaces are)
 
-ends_parted : (words : List (List ℕ)) (rest : List ℕ) → IsParted words rest → EndsWord rest
-ends_parted [] rest parted = ends_all rest parted
-ends_parted (word ∷ words) rest parted = rw parted.4 (ends_spaces parted.0 (word ++ parted.1) parted.2 parted.3)
+ends_parted : (IsEnd : List ℕ → Type 0) (words : List (List ℕ)) (rest : List ℕ) → ((end : List ℕ) → IsEnd end → EndsWord end) → IsParted IsEnd words rest → EndsWord rest
+ends_parted IsEnd [] rest end parted = end rest parted
+ends_parted IsEnd (word ∷ words) rest end parted = rw parted.4 (ends_spaces parted.0 (word ++ parted.1) parted.2 parted.3)
 
-parted_words : (words : List (List ℕ)) (text : List ℕ) → AreWhole words → IsParted words text → words_of text ≡ words
-parted_words [] text whole are = ap words_of (sym (append-nil text)) ∙ words_of-front text [] are
+-- where whole words part a text, the first of them is its first word
+pub parted_front : (IsEnd : List ℕ → Type 0) (word : List ℕ) (words : List (List ℕ)) (text : List ℕ) → ((end : List ℕ) → IsEnd end → EndsWord end) → IsWhole word →
+    (parted : IsParted IsEnd (word ∷ words) text) → HasFront text word parted.1
+parted_front IsEnd word words text end whole parted =
+    subst (λ t. HasFront t word parted.1) (sym parted.4) (whole_front parted.0 word parted.1 parted.2 whole (ends_parted IsEnd words parted.1 end parted.5))
+
+-- and all of them are its words
+pub parted_words : (words : List (List ℕ)) (text : List ℕ) → AreWhole words → IsParted AreSpaces words text → words_of text ≡ words
+parted_words [] text whole are = sym (words_of-after_spaces text) ∙ ap words_of (after_spaces-all text are)
 parted_words (word ∷ words) text whole parted =
-    ap words_of parted.4 ∙ words_of-front parted.0 (word ++ parted.1) parted.2
-    ∙ whole_first word parted.1 whole.0 (ends_parted words parted.1 parted.5)
-    ∙ ap (λ l. word ∷ l) (parted_words words parted.1 whole.1 parted.5)
-
--- words that part a line are its words
-pub words_only : (words : List (List ℕ)) (line : List ℕ) → AreWhole words → IsParted words (32 ∷ line) → words_of line ≡ words
-words_only words line whole parted = parted_words words (32 ∷ line) whole parted
+    let front = parted_front AreSpaces word words text ends_all whole.0 parted in
+    (begins text front.some).words
+    ∙ rw (front.first, front.behind) (ap (λ l. word ∷ l) (parted_words words parted.1 whole.1 parted.5))
 
 -- ---- whole words
 

@@ -1,7 +1,8 @@
 -- The text of the console: which lines the input has, and what each of them says.
-use Rattle.std.specs.Prelude.{ℕ, ◌≡◌, ◌+◌, List, [], ◌∷◌, ◌++◌, codes, None}
+use Rattle.std.specs.Prelude.{ℕ, ◌≡◌, ◌+◌, List, [], ◌∷◌, ◌++◌, codes, Option}
 use Rattle.std.specs.Str.Lines.{lines}
 use Rattle.osgi_base.specs.declared.ids.ServiceId.{ServiceId}
+use Rattle.osgi_model.specs.declared.filter.Filter.{Filter}
 use Rattle.osgi_model.specs.declared.value.Attribute.{Attribute}
 use Rattle.osgi_ops.specs.declared.command.Command.{Command}
 use Rattle.osgi_ops.specs.declared.command.Command.TheVariants as command
@@ -9,14 +10,14 @@ use Rattle.osgi_ops.specs.declared.line.Content.{Content}
 use Rattle.osgi_ops.specs.declared.line.Content.TheVariants.{Empty, Join, Bad, Run}
 use Rattle.osgi_ops.specs.declared.line.Line.{Line}
 use Rattle.osgi_console.specs.Values.{AreProperties}
-use Rattle.osgi_console.specs.Words.{AreClasses, AreSpaces, IsClass, IsId, IsParted, IsQuoted}
+use Rattle.osgi_console.specs.Words.{AreClasses, AreSpaces, IsClass, IsFilterEnd, IsId, IsParted, IsQuoted}
 
 -- a line that says nothing: spaces, or a comment, whose first byte besides spaces is `#`
 pub data SaysNothing : List ℕ → Type 0 where
   blank : {text : List ℕ} → AreSpaces text → SaysNothing text
   comment : {text : List ℕ} (spaces rest : List ℕ) → AreSpaces spaces → text ≡ spaces ++ 35 ∷ rest → SaysNothing text
 
--- the words of a command
+-- the words of a command that is words alone
 pub data AreWordsOf : List (List ℕ) → Command → Type 0 where
   -- `register CLASS[,CLASS].. "TEXT" [PROP]..`
   register : {names quoted : List ℕ} {words classes : List (List ℕ)} {object : List ℕ} {properties : List Attribute} →
@@ -27,10 +28,6 @@ pub data AreWordsOf : List (List ℕ) → Command → Type 0 where
       IsId id service → AreProperties words properties → AreWordsOf (codes "modify" ∷ id ∷ words) (command.Modify service properties)
   -- `unregister ID`
   unregister : {id : List ℕ} {service : ServiceId} → IsId id service → AreWordsOf (codes "unregister" ∷ id ∷ []) (command.Unregister service)
-  -- `find CLASS`
-  find : {class : List ℕ} → IsClass class → AreWordsOf (codes "find" ∷ class ∷ []) (command.Find class None)
-  -- `findall CLASS`
-  findall : {class : List ℕ} → IsClass class → AreWordsOf (codes "findall" ∷ class ∷ []) (command.FindAll class None)
   -- `get ID`
   get : {id : List ℕ} {service : ServiceId} → IsId id service → AreWordsOf (codes "get" ∷ id ∷ []) (command.Get service)
   -- `unget ID`
@@ -38,12 +35,17 @@ pub data AreWordsOf : List (List ℕ) → Command → Type 0 where
   -- `services`
   services : AreWordsOf (codes "services" ∷ []) command.Services
 
--- the line says this command: it is the command's words, with spaces at both ends too. Each word wants spaces before it,
--- and the first word of a line needs none: so a space is put before the line
-pub record Says (line : List ℕ) (command : Command) : Type 0 where
-  pub words : List (List ℕ)
-  pub are : AreWordsOf words command
-  pub parted : IsParted words (32 ∷ line)
+-- the line says this command: it is the command's words, with spaces at both ends too, and may end with a filter where the
+-- command has one. Each word wants spaces before it, and the first word of a line needs none: so a space is put before the
+-- line
+pub data Says (line : List ℕ) : Command → Type 0 where
+  in_words : {words : List (List ℕ)} {c : Command} → AreWordsOf words c → IsParted AreSpaces words (32 ∷ line) → Says line c
+  -- `find CLASS [FILTER]`
+  find : {class : List ℕ} {filter : Option Filter} → IsClass class →
+      IsParted (IsFilterEnd filter) (codes "find" ∷ class ∷ []) (32 ∷ line) → Says line (command.Find class filter)
+  -- `findall CLASS [FILTER]`
+  findall : {class : List ℕ} {filter : Option Filter} → IsClass class →
+      IsParted (IsFilterEnd filter) (codes "findall" ∷ class ∷ []) (32 ∷ line) → Says line (command.FindAll class filter)
 
 -- what a line is read as: it is bad where it says neither nothing nor a command
 abbrev pub Reads : List ℕ → Content → Type 0

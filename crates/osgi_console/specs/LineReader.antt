@@ -1,17 +1,21 @@
 -- What the reader computes of the words of a line, and of lines. No public promise speaks of this: it is proved to give the
 -- readings of the grammar.
-use Rattle.std.specs.Prelude.{ℕ, ◌+◌, ◌==◌, if◌then◌else◌, List, [], ◌∷◌, codes, Option, None, Some, option_and_then, find}
+use Rattle.std.specs.Prelude.{ℕ, ◌+◌, ◌==◌, if◌then◌else◌, Bool, true, List, [], ◌∷◌, length, codes, Option, None, Some, option_and_then, find}
 use Rattle.std.specs.Option.{option_map}
+use Rattle.std.specs.Result.{result_ok}
 use Rattle.std.specs.Str.{bytes_eq}
 use Rattle.osgi_base.specs.declared.ids.ServiceId.{ServiceId}
+use Rattle.osgi_filter.specs.Reader.{whole_at}
+use Rattle.osgi_model.specs.declared.filter.Filter.{Filter}
 use Rattle.osgi_ops.specs.declared.command.Command.{Command}
 use Rattle.osgi_ops.specs.declared.command.Command.TheVariants as command
 use Rattle.osgi_ops.specs.declared.line.Content.{Content}
 use Rattle.osgi_ops.specs.declared.line.Content.TheVariants.{Empty, Bad, Run}
 use Rattle.osgi_ops.specs.declared.line.Line.{Line}
+use Rattle.osgi_console.specs.declared.commands.Wanted.{Wanted}
 use Rattle.osgi_console.specs.declared.commands.Verb.{Verb}
 use Rattle.osgi_console.specs.declared.commands.Verb.TheVariants as verb
-use Rattle.osgi_console.specs.Splitting.{after_spaces, words_of}
+use Rattle.osgi_console.specs.Splitting.{after_spaces, behind_word, first_word, words_of}
 use Rattle.osgi_console.specs.WordReader.{class_of, classes_of, id_of, quoted_of}
 use Rattle.osgi_console.specs.PropertyReader.{properties_of}
 
@@ -48,27 +52,35 @@ abbrev pub only_id_of : List (List ℕ) → Option ServiceId
 only_id_of (id ∷ []) = id_of id
 only_id_of _ = None
 
-abbrev pub only_class_of : List (List ℕ) → Option (List ℕ)
-only_class_of (class ∷ []) = class_of class
-only_class_of _ = None
-
 abbrev pub services_of : List (List ℕ) → Option Command
 services_of [] = Some command.Services
 services_of _ = None
 
-abbrev pub command_by : Verb → List (List ℕ) → Option Command
-command_by verb.Register arguments = register_of arguments
-command_by verb.Modify arguments = modify_of arguments
-command_by verb.Unregister arguments = option_map command.Unregister (only_id_of arguments)
-command_by verb.Find arguments = option_map (λ class. command.Find class None) (only_class_of arguments)
-command_by verb.FindAll arguments = option_map (λ class. command.FindAll class None) (only_class_of arguments)
-command_by verb.Get arguments = option_map command.Get (only_id_of arguments)
-command_by verb.Unget arguments = option_map command.Unget (only_id_of arguments)
-command_by verb.Services arguments = services_of arguments
+abbrev pub filter_of : List ℕ → Option Filter
+filter_of text = result_ok (whole_at text)
 
-abbrev pub command_of : List (List ℕ) → Option Command
-command_of [] = None
-command_of (name ∷ arguments) = option_and_then (λ verb. command_by verb arguments) (verb_of name)
+-- what is wanted of a class, by what stands behind its name
+abbrev pub wanted_from : List ℕ → List ℕ → Option Wanted
+wanted_from class behind =
+    if length (after_spaces behind) == 0 then Some (record { class = class; filter = None })
+    else option_map (λ filter. record { class = class; filter = Some filter }) (filter_of behind)
+
+abbrev pub wanted_of : List ℕ → Option Wanted
+wanted_of text = option_and_then (λ class. wanted_from class (behind_word text)) (class_of (first_word text))
+
+-- the command by what stands behind its first word
+abbrev pub command_by : Verb → List ℕ → Option Command
+command_by verb.Register text = register_of (words_of text)
+command_by verb.Modify text = modify_of (words_of text)
+command_by verb.Unregister text = option_map command.Unregister (only_id_of (words_of text))
+command_by verb.Find text = option_map (λ wanted. command.Find wanted.class wanted.filter) (wanted_of text)
+command_by verb.FindAll text = option_map (λ wanted. command.FindAll wanted.class wanted.filter) (wanted_of text)
+command_by verb.Get text = option_map command.Get (only_id_of (words_of text))
+command_by verb.Unget text = option_map command.Unget (only_id_of (words_of text))
+command_by verb.Services text = services_of (words_of text)
+
+abbrev pub command_of : List ℕ → Option Command
+command_of text = option_and_then (λ verb. command_by verb (behind_word text)) (verb_of (first_word text))
 
 -- ---- lines
 
@@ -76,13 +88,13 @@ abbrev pub run_or_bad : Option Command → Content
 run_or_bad None = Bad
 run_or_bad (Some command) = Run command
 
--- the content of a line by what stands behind the spaces at its front
-abbrev pub content_from : List ℕ → Content
-content_from [] = Empty
-content_from (b ∷ rest) = if b == 35 then Empty else run_or_bad (command_of (words_of (b ∷ rest)))
+-- whether nothing stands behind the spaces at the front, or a comment
+abbrev pub is_silent : List ℕ → Bool
+is_silent [] = true
+is_silent (b ∷ rest) = b == 35
 
 abbrev pub content_of : List ℕ → Content
-content_of text = content_from (after_spaces text)
+content_of text = if is_silent (after_spaces text) then Empty else run_or_bad (command_of text)
 
 -- the lines of these texts, numbered from here on
 abbrev pub numbered : ℕ → List (List ℕ) → List Line

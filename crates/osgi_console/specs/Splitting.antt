@@ -1,5 +1,5 @@
 -- What the reader computes of lines and words, before it looks at what a word says. No public promise speaks of this.
-use Rattle.std.specs.Prelude.{ℕ, ◌≡◌, ◌+◌, ◌<◌, ◌==◌, if◌then◌else◌, Bool, false, List, [], ◌∷◌, length, Option, None, Some, map}
+use Rattle.std.specs.Prelude.{ℕ, ◌≡◌, ◌+◌, ◌<◌, ◌==◌, if◌then◌else◌, Bool, false, List, [], ◌∷◌, length, take, drop, Option, None, Some, map}
 use Rattle.std.specs.Borrow.{Bor}
 use Rattle.std.specs.List.{onto_first}
 use Rattle.std.specs.Str.Lines.{lines}
@@ -46,9 +46,23 @@ words_from (Some place) (b ∷ rest) =
 abbrev pub words_of : List ℕ → List (List ℕ)
 words_of line = words_from None line
 
+-- the first word of a text, and what is left behind it
+abbrev pub first_word : List ℕ → List ℕ
+first_word text = take (word_len Bare (after_spaces text)) (after_spaces text)
+
+abbrev pub behind_word : List ℕ → List ℕ
+behind_word text = drop (word_len Bare (after_spaces text)) (after_spaces text)
+
+-- the text has no word
+pub record HasNoWord (text : List ℕ) : Type 0 where
+  pub words : words_of text ≡ []
+  pub first : first_word text ≡ []
+
 -- the text begins with this word, and what is left behind that is shorter
 pub record BeginsWithWord (text word left : List ℕ) : Type 0 where
   pub words : words_of text ≡ word ∷ words_of left
+  pub first : word ≡ first_word text
+  pub behind : left ≡ behind_word text
   pub shorter : length left < length text
 
 -- the texts behind references

@@ -1,17 +1,25 @@
 -- The words of a line: how they are parted, and what each kind of them stands for.
-use Rattle.std.specs.Prelude.{ℕ, ◌≡◌, ◌≢◌, ◌<◌, ◌≤◌, ◌⊎◌, ◌==◌, ◌||◌, ◌&&◌, nat_le, Bool, List, [], ◌∷◌, ◌++◌, length, All}
+use Rattle.std.specs.Prelude.{ℕ, ◌≡◌, ◌≢◌, ◌<◌, ◌≤◌, ◌⊎◌, ◌==◌, ◌||◌, ◌&&◌, nat_le, Bool, List, [], ◌∷◌, ◌++◌, length, All, Option, None, Some}
 use Rattle.std.specs.List.{AllPass, join_with_byte}
 use Rattle.std.specs.Str.Parse.{IsNumeral, digits_value}
 use Rattle.osgi_base.specs.declared.ids.ServiceId.{ServiceId}
+use Rattle.osgi_model.specs.Filters.{ReadsFilter}
+use Rattle.osgi_model.specs.declared.filter.Filter.{Filter}
 
 abbrev pub AreSpaces : List ℕ → Type 0
 AreSpaces text = All (λ b. b ≡ 32) text
 
--- the text is these words, one or more spaces before each of them, and spaces at its end
-abbrev pub IsParted : List (List ℕ) → List ℕ → Type 0
-IsParted [] text = AreSpaces text
-IsParted (word ∷ words) text =
-    (spaces rest : List ℕ) × AreSpaces spaces × (0 < length spaces) × (text ≡ spaces ++ (word ++ rest)) × IsParted words rest
+-- the text is these words, one or more spaces before each of them, and behind the last such an end
+abbrev pub IsParted : (List ℕ → Type 0) → List (List ℕ) → List ℕ → Type 0
+IsParted IsEnd [] text = IsEnd text
+IsParted IsEnd (word ∷ words) text =
+    (spaces rest : List ℕ) × AreSpaces spaces × (0 < length spaces) × (text ≡ spaces ++ (word ++ rest)) × IsParted IsEnd words rest
+
+-- the end of a line that may have a filter there: without one it is spaces; with one it begins with a space and reads as
+-- the filter, round which white space may stand
+abbrev pub IsFilterEnd : Option Filter → List ℕ → Type 0
+IsFilterEnd None text = AreSpaces text
+IsFilterEnd (Some filter) text = (rest : List ℕ) × (text ≡ 32 ∷ rest) × ReadsFilter text filter
 
 -- a letter, a digit, `_`, `$` or `.`
 abbrev pub is_class_byte : ℕ → Bool

@@ -1,14 +1,17 @@
-//! The commands, read from the words of a line.
+//! The commands, read from lines: the first word says how the rest is read.
 
 ghost use Rattle.std.specs.Prelude.{◌≡◌, IfOk};
-ghost use Rattle.osgi_console.specs.LineReader.{command_by, command_of, modify_of, name_of, only_class_of, only_id_of, register_of, services_of, verb_of};
+ghost use Rattle.osgi_console.specs.LineReader.{command_by, command_of, filter_of, modify_of, name_of, only_id_of, register_of, services_of, verb_of, wanted_of};
 ghost use Rattle.osgi_console.specs.Splitting.{texts_of};
 
 use crate::names::{class, classes, id};
 use crate::properties::properties;
 use crate::quoted::quoted;
+use crate::words::{skip_spaces, split_word, split_words};
 use osgi_base::ids::ServiceId;
 use osgi_base::text::Text;
+use osgi_filter::reading::parse;
+use osgi_model::filter::Filter;
 use osgi_ops::command::Command;
 use std::alloc::{AllocError, Global};
 
@@ -51,6 +54,13 @@ impl Verb {
             Verb::Services => b"services",
         }
     }
+}
+
+/// What a `find` or `findall` looks for.
+#[derive(Drop)]
+struct Wanted {
+    class: Text,
+    filter: Option<Filter>,
 }
 
 fn verb_named(word: &[u8]) -> Option<Verb>
@@ -111,16 +121,6 @@ fn only_id(arguments: &[&[u8]]) -> Option<ServiceId>
     id(service)
 }
 
-/// The one argument, which is a class name.
-fn only_class(alloc: Global, arguments: &[&[u8]]) -> Result<Option<Text>, AllocError>
-    ensures class { IfOk result (λ class. class ≡ only_class_of (texts_of arguments.now)) }
-{
-    let [name] = arguments else {
-        return Ok(None);
-    };
-    class(alloc, name)
-}
-
 /// `services`, from behind its first word.
 fn services(arguments: &[&[u8]]) -> Option<Command>
     ensures command { result ≡ services_of (texts_of arguments.now) }
@@ -131,36 +131,72 @@ fn services(arguments: &[&[u8]]) -> Option<Command>
     Some(Command::Services)
 }
 
-fn command_by(alloc: Global, verb: Verb, arguments: &[&[u8]]) -> Result<Option<Command>, AllocError>
-    ensures command { IfOk result (λ command. command ≡ command_by verb (texts_of arguments.now)) }
+/// The filter that a text reads as; none where it is none.
+#[tactic(auto, using(crate::proofs::Filters::filter_is))]
+fn filter(alloc: Global, text: &[u8]) -> Result<Option<Filter>, AllocError>
+    ensures filter { IfOk result (λ filter. filter ≡ filter_of text.now) }
+{
+    Ok(parse(alloc, text)?.ok())
+}
+
+/// `CLASS [FILTER]`. The filter is what is left behind the class and is not split into words: quotes mean nothing in it.
+fn class_and_filter(alloc: Global, text: &[u8]) -> Result<Option<Wanted>, AllocError>
+    ensures wanted { IfOk result (λ wanted. wanted ≡ wanted_of text.now) }
+{
+    let Some((name, behind)) = split_word(text) else {
+        return Ok(None);
+    };
+    let Some(class) = class(alloc, name)? else {
+        return Ok(None);
+    };
+    if skip_spaces(behind).is_empty() {
+        return Ok(Some(Wanted {
+            class,
+            filter: None,
+        }));
+    }
+    Ok(filter(alloc, behind)?.map(|filter| Wanted {
+        class,
+        filter: Some(filter),
+    }))
+}
+
+fn command_by(alloc: Global, verb: Verb, text: &[u8]) -> Result<Option<Command>, AllocError>
+    ensures command { IfOk result (λ command. command ≡ command_by verb text.now) }
 {
     match verb {
-        Verb::Register => register(alloc, arguments),
-        Verb::Modify => modify(alloc, arguments),
-        Verb::Unregister => Ok(only_id(arguments).map(|service| Command::Unregister { service })),
-        Verb::Find => Ok(only_class(alloc, arguments)?.map(|class| Command::Find {
-            class,
-            filter: None,
+        Verb::Register => register(alloc, split_words(alloc, text)?.as_slice()),
+        Verb::Modify => modify(alloc, split_words(alloc, text)?.as_slice()),
+        Verb::Unregister => Ok(only_id(split_words(alloc, text)?.as_slice()).map(
+            |service| Command::Unregister { service },
+        )),
+        Verb::Find => Ok(class_and_filter(alloc, text)?.map(|wanted| Command::Find {
+            class: wanted.class,
+            filter: wanted.filter,
         })),
-        Verb::FindAll => Ok(only_class(alloc, arguments)?.map(|class| Command::FindAll {
-            class,
-            filter: None,
+        Verb::FindAll => Ok(class_and_filter(alloc, text)?.map(|wanted| Command::FindAll {
+            class: wanted.class,
+            filter: wanted.filter,
         })),
-        Verb::Get => Ok(only_id(arguments).map(|service| Command::Get { service })),
-        Verb::Unget => Ok(only_id(arguments).map(|service| Command::Unget { service })),
-        Verb::Services => Ok(services(arguments)),
+        Verb::Get => Ok(only_id(split_words(alloc, text)?.as_slice()).map(|service| Command::Get {
+            service,
+        })),
+        Verb::Unget => Ok(only_id(split_words(alloc, text)?.as_slice()).map(
+            |service| Command::Unget { service },
+        )),
+        Verb::Services => Ok(services(split_words(alloc, text)?.as_slice())),
     }
 }
 
-/// The command that these words say; none where they say none.
-pub fn command(alloc: Global, words: &[&[u8]]) -> Result<Option<Command>, AllocError>
-    ensures command { IfOk result (λ command. command ≡ command_of (texts_of words.now)) }
+/// The command that a line says; none where it says none.
+pub fn command(alloc: Global, line: &[u8]) -> Result<Option<Command>, AllocError>
+    ensures command { IfOk result (λ command. command ≡ command_of line.now) }
 {
-    let [name, arguments @ ..] = words else {
+    let Some((name, behind)) = split_word(line) else {
         return Ok(None);
     };
     match verb_named(name) {
-        Some(verb) => command_by(alloc, verb, arguments),
+        Some(verb) => command_by(alloc, verb, behind),
         None => Ok(None),
     }
 }

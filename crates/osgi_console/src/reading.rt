@@ -9,7 +9,7 @@ ghost use Rattle.osgi_console.specs.LineReader.{content_of, numbered};
 ghost use Rattle.osgi_console.specs.Splitting.{is_line_feed, BeginsWithLine};
 
 use crate::commands::command;
-use crate::words::{skip_spaces, split_words};
+use crate::words::skip_spaces;
 use osgi_base::list::List;
 use osgi_ops::line::{Content, Line};
 use std::alloc::{AllocError, Global};
@@ -18,12 +18,10 @@ use std::alloc::{AllocError, Global};
 fn content(alloc: Global, text: &[u8]) -> Result<Content, AllocError>
     ensures content { IfOk result (λ content. content ≡ content_of text.now) }
 {
-    let text = skip_spaces(text);
-    if let [] | [b'#', ..] = text {
+    if let [] | [b'#', ..] = skip_spaces(text) {
         return Ok(Content::Empty);
     }
-    let words = split_words(alloc, text)?;
-    match command(alloc, words.as_slice())? {
+    match command(alloc, text)? {
         Some(command) => Ok(Content::Run(command)),
         None => Ok(Content::Bad),
     }

@@ -1,7 +1,7 @@
 //! The words of a line: spaces part them, except between quotes.
 
-ghost use Rattle.std.specs.Prelude.{◌≡◌, [], IfOk, MatchOption};
-ghost use Rattle.osgi_console.specs.Splitting.{after_spaces, ends_word, place_after, texts_of, word_len, words_of, BeginsWithWord};
+ghost use Rattle.std.specs.Prelude.{◌≡◌, IfOk, MatchOption};
+ghost use Rattle.osgi_console.specs.Splitting.{after_spaces, ends_word, place_after, texts_of, word_len, words_of, BeginsWithWord, HasNoWord};
 
 use std::alloc::{AllocError, Global};
 
@@ -67,8 +67,8 @@ fn word_len(text: &[u8]) -> usize
 }
 
 /// Splits off the first word: the word, and what is left behind it. None where no word is left.
-fn split_word(text: &[u8]) -> Option<(&[u8], &[u8])>
-    ensures words { MatchOption result (words_of text.now ≡ []) (λ split. BeginsWithWord text.now split.0.now split.1.now) }
+pub fn split_word(text: &[u8]) -> Option<(&[u8], &[u8])>
+    ensures words { MatchOption result (HasNoWord text.now) (λ split. BeginsWithWord text.now split.0.now split.1.now) }
 {
     let text = skip_spaces(text);
     if text.is_empty() {
@@ -77,12 +77,12 @@ fn split_word(text: &[u8]) -> Option<(&[u8], &[u8])>
     Some(text.split_at(word_len(text)))
 }
 
-/// All words of a line, in order.
-pub fn split_words<'a>(alloc: Global, line: &'a [u8]) -> Result<Vec<&'a [u8]>, AllocError>
-    ensures words { IfOk result (λ words. texts_of words.items ≡ words_of line.now) }
+/// All words of a text, in order.
+pub fn split_words<'a>(alloc: Global, text: &'a [u8]) -> Result<Vec<&'a [u8]>, AllocError>
+    ensures words { IfOk result (λ words. texts_of words.items ≡ words_of text.now) }
 {
     let mut words = Vec::new(alloc);
-    let mut rest = line;
+    let mut rest = text;
     while let Some((word, behind)) = split_word(rest) {
         words.push(word)?;
         rest = behind;

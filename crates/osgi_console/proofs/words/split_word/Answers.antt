@@ -3,7 +3,7 @@ use Rattle.std.proofs.Common.{◌≢◌, ◌<◌, length, ◌∙◌, sym, ap, ar
 use Rattle.std.proofs.lemmas.Bool.{eqb-false, eqb-true}
 use Rattle.osgi_console.specs.declared.words.Place.TheVariants.{Bare}
 use Rattle.osgi_console.specs.Splitting.{after_spaces}
-use Rattle.osgi_console.proofs.Splitting.{first_word, no_word, word_len-within}
+use Rattle.osgi_console.proofs.Splitting.{begins, no_word, word_len-within}
 use Rattle.osgi_console.proofs.words.split_word.Goals as goal
 
 pub returns-then-is_empty : goal.returns-then-is_empty
@@ -21,5 +21,5 @@ returns c =
     let some : 0 < length (after_spaces c.args.text.now) = omega (arith, other, ap length c.skip_spaces-text.ensures.rest) in
     record {
       words = rw (c.split_at.ensures.front, c.split_at.ensures.back, c.word_len.ensures.len, c.skip_spaces-text.ensures.rest)
-          (first_word c.args.text.now some);
+          (begins c.args.text.now some);
     }

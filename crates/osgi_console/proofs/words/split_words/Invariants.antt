@@ -4,7 +4,7 @@ use Rattle.osgi_console.specs.Splitting.{texts_of, words_of}
 use Rattle.osgi_console.proofs.words.split_words.Given as goal
 
 abbrev pub invariant-loop-word : goal.invariant-loop-word
-invariant-loop-word l = texts_of l.words.items ++ words_of l.rest ≡ words_of l.line
+invariant-loop-word l = texts_of l.words.items ++ words_of l.rest ≡ words_of l.text
 
 abbrev pub decreases-loop-word : goal.decreases-loop-word
 decreases-loop-word l = length l.rest
