@@ -1,13 +1,17 @@
-//! Reads many versions and ranges, or one long text, for the measurements under `bench/`.
+//! Reads many versions, ranges and filters, or one long text, for the measurements under `bench/`.
 //!
 //!     osgi_reader_bench WHAT COUNT
+//!     osgi_reader_bench filter|match FILTER COUNT
 //!
 //! WHAT is `version` or `range`, and COUNT how often one is read; or it is `manifest` or `clauses`, which make a text of COUNT
-//! headers or clauses and read it, `manifest-text` or `clauses-text`, which only make it. What is printed is how many were read
-//! and how many bytes the text has.
+//! headers or clauses and read it, `manifest-text` or `clauses-text`, which only make it. Of a FILTER (`mixed`, `nested`,
+//! `any-50`, `any-5000`) the text is read COUNT times, or is read once and the filter matched COUNT times. What is printed is
+//! how many were read, or matched, and how many bytes the text has.
 #![tactic(auto)]
 
-use anyhow::{Result, bail, ensure};
+mod filters;
+
+use anyhow::{Result, bail};
 use osgi_header::reading::clauses;
 use osgi_header::unfolding::unfold;
 use osgi_version::range::VersionRange;
@@ -95,12 +99,9 @@ fn read_clauses(alloc: Global, text: &[u8]) -> Result<usize, AllocError> {
     })
 }
 
-fn main(rt: HostRuntime) -> Result<()> {
-    let words: Vec<_> = env::args(&rt)?.skip(1).collect(rt.alloc())?;
-    ensure!(words.len() == 2, "takes two words, WHAT and COUNT");
-    let count: u32 = words[1].parse()?;
-    let alloc = rt.alloc();
-    let (read, len) = match &*words[0] {
+/// Reads what is asked for, and answers how many were read and how many bytes a text of it has.
+fn read_text(alloc: Global, what: &str, count: u32) -> Result<(usize, usize)> {
+    Ok(match what {
         "version" => (read_versions(alloc, count)? as usize, VERSION.len()),
         "range" => (read_ranges(alloc, count)? as usize, RANGE.len()),
         "manifest" => {
@@ -114,6 +115,26 @@ fn main(rt: HostRuntime) -> Result<()> {
         }
         "clauses-text" => (0, value(alloc, count)?.len()),
         _ => bail!("WHAT is version, range, manifest, manifest-text, clauses or clauses-text"),
+    })
+}
+
+/// As `read_text`, of a filter.
+fn read_filter(alloc: Global, what: &str, name: &str, count: u32) -> Result<(usize, usize)> {
+    let sample = filters::sample_of(alloc, name)?;
+    let read = match what {
+        "filter" => filters::read(alloc, &sample, count)?,
+        "match" => filters::matched(alloc, &sample, count)?,
+        _ => bail!("a filter is for filter or match"),
+    };
+    Ok((read as usize, sample.text.len()))
+}
+
+fn main(rt: HostRuntime) -> Result<()> {
+    let words: Vec<_> = env::args(&rt)?.skip(1).collect(rt.alloc())?;
+    let (read, len) = match words.as_slice() {
+        [what, count] => read_text(rt.alloc(), what, count.parse()?)?,
+        [what, name, count] => read_filter(rt.alloc(), what, name, count.parse()?)?,
+        _ => bail!("takes the words WHAT COUNT, or filter or match, FILTER and COUNT"),
     };
     println!(rt; "{read} read of {len} bytes")?;
     Ok(())
