@@ -2,8 +2,7 @@
 
 ghost use Rattle.std.specs.Prelude.{◌≡◌, IfOk};
 
-use crate::given::copy_given;
-use osgi_base::copied::Copied;
+use osgi_base::copied::{Copied, copy_option};
 use osgi_base::ids::ServiceId;
 use osgi_base::list::List;
 use osgi_base::text::Text;
@@ -74,11 +73,11 @@ impl Command {
             Command::Unregister { service } => Ok(Command::Unregister { service: *service }),
             Command::Find { class, filter } => Ok(Command::Find {
                 class: class.copy(alloc)?,
-                filter: copy_given(filter, alloc)?,
+                filter: copy_option(filter, alloc)?,
             }),
             Command::FindAll { class, filter } => Ok(Command::FindAll {
                 class: class.copy(alloc)?,
-                filter: copy_given(filter, alloc)?,
+                filter: copy_option(filter, alloc)?,
             }),
             Command::Get { service } => Ok(Command::Get { service: *service }),
             Command::Unget { service } => Ok(Command::Unget { service: *service }),

@@ -3,7 +3,6 @@
 
 pub mod command;
 pub mod entry;
-pub mod given;
 pub mod limits;
 pub mod line;
 pub mod op;

@@ -2,8 +2,7 @@
 
 ghost use Rattle.std.specs.Prelude.{◌≡◌, IfOk};
 
-use crate::given::copy_given;
-use osgi_base::copied::Copied;
+use osgi_base::copied::{Copied, copy_option};
 use osgi_base::ids::{BundleId, ServiceId};
 use osgi_base::list::List;
 use osgi_base::text::Text;
@@ -94,7 +93,7 @@ impl Op {
             } => Ok(Op::Find {
                 asker: *asker,
                 class: class.copy(alloc)?,
-                filter: copy_given(filter, alloc)?,
+                filter: copy_option(filter, alloc)?,
             }),
             Op::FindAll {
                 asker,
@@ -103,7 +102,7 @@ impl Op {
             } => Ok(Op::FindAll {
                 asker: *asker,
                 class: class.copy(alloc)?,
-                filter: copy_given(filter, alloc)?,
+                filter: copy_option(filter, alloc)?,
             }),
             Op::Get { user, service } => Ok(Op::Get {
                 user: *user,

@@ -5,10 +5,10 @@ ghost use Rattle.osgi_ops.specs.Bundles.{system};
 ghost use Rattle.osgi_ops.specs.Plans.{op_of};
 ghost use Rattle.osgi_program.specs.Running.{IsAsked, RunsLine, RunsLines, tag_of};
 
+use osgi_base::copied::copy_option;
 use osgi_base::ids::{BundleId, Tag};
 use osgi_core::machine::Core;
 use osgi_ops::command::Command;
-use osgi_ops::given::copy_given;
 use osgi_ops::line::{Content, Line};
 use osgi_ops::op::Op;
 use osgi_ops::refusal::Refusal;
@@ -59,12 +59,12 @@ fn operation(alloc: Global, command: &Command) -> Result<Op, AllocError>
         Command::Find { class, filter } => Ok(Op::Find {
             asker: SYSTEM,
             class: class.copy(alloc)?,
-            filter: copy_given(filter, alloc)?,
+            filter: copy_option(filter, alloc)?,
         }),
         Command::FindAll { class, filter } => Ok(Op::FindAll {
             asker: SYSTEM,
             class: class.copy(alloc)?,
-            filter: copy_given(filter, alloc)?,
+            filter: copy_option(filter, alloc)?,
         }),
         Command::Get { service } => Ok(Op::Get {
             user: SYSTEM,
