@@ -1,4 +1,4 @@
--- What the reader computes of the words of a line, and of lines. No public promise speaks of this: it is proved to give the
+-- What the reader computes of commands and of lines. No public promise speaks of this: it is proved to give the
 -- readings of the grammar.
 use Rattle.std.specs.Prelude.{ℕ, ◌+◌, ◌==◌, if◌then◌else◌, Bool, true, List, [], ◌∷◌, length, codes, Option, None, Some, option_and_then, find}
 use Rattle.std.specs.Option.{option_map}
@@ -88,7 +88,7 @@ abbrev pub run_or_bad : Option Command → Content
 run_or_bad None = Bad
 run_or_bad (Some command) = Run command
 
--- whether nothing stands behind the spaces at the front, or a comment
+-- whether this, which stands behind the spaces at the front, is nothing or a comment
 abbrev pub is_silent : List ℕ → Bool
 is_silent [] = true
 is_silent (b ∷ rest) = b == 35

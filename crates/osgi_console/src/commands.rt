@@ -2,7 +2,7 @@
 
 ghost use Rattle.std.specs.Prelude.{◌≡◌, IfOk};
 ghost use Rattle.osgi_console.specs.LineReader.{command_by, command_of, filter_of, modify_of, name_of, only_id_of, register_of, services_of, verb_of, wanted_of};
-ghost use Rattle.osgi_console.specs.Splitting.{texts_of};
+ghost use Rattle.osgi_console.specs.Splitting.{words_of};
 
 use crate::names::{class, classes, id};
 use crate::properties::properties;
@@ -70,10 +70,13 @@ fn verb_named(word: &[u8]) -> Option<Verb>
 }
 
 /// `register CLASS[,CLASS].. "TEXT" [PROP]..`, from behind its first word.
-fn register(alloc: Global, arguments: &[&[u8]]) -> Result<Option<Command>, AllocError>
-    ensures command { IfOk result (λ command. command ≡ register_of (texts_of arguments.now)) }
+fn register(alloc: Global, text: &[u8]) -> Result<Option<Command>, AllocError>
+    ensures command { IfOk result (λ command. command ≡ register_of (words_of text.now)) }
 {
-    let [names, object, words @ ..] = arguments else {
+    let Some((names, rest)) = split_word(text) else {
+        return Ok(None);
+    };
+    let Some((object, rest)) = split_word(rest) else {
         return Ok(None);
     };
     let Some(classes) = classes(alloc, names)? else {
@@ -82,7 +85,7 @@ fn register(alloc: Global, arguments: &[&[u8]]) -> Result<Option<Command>, Alloc
     let Some(object) = quoted(alloc, object)? else {
         return Ok(None);
     };
-    let Some(properties) = properties(alloc, words)? else {
+    let Some(properties) = properties(alloc, split_words(alloc, rest)?.as_slice())? else {
         return Ok(None);
     };
     Ok(Some(Command::Register {
@@ -93,16 +96,16 @@ fn register(alloc: Global, arguments: &[&[u8]]) -> Result<Option<Command>, Alloc
 }
 
 /// `modify ID [PROP]..`, from behind its first word.
-fn modify(alloc: Global, arguments: &[&[u8]]) -> Result<Option<Command>, AllocError>
-    ensures command { IfOk result (λ command. command ≡ modify_of (texts_of arguments.now)) }
+fn modify(alloc: Global, text: &[u8]) -> Result<Option<Command>, AllocError>
+    ensures command { IfOk result (λ command. command ≡ modify_of (words_of text.now)) }
 {
-    let [service, words @ ..] = arguments else {
+    let Some((service, rest)) = split_word(text) else {
         return Ok(None);
     };
     let Some(service) = id(service) else {
         return Ok(None);
     };
-    let Some(properties) = properties(alloc, words)? else {
+    let Some(properties) = properties(alloc, split_words(alloc, rest)?.as_slice())? else {
         return Ok(None);
     };
     Ok(Some(Command::Modify {
@@ -112,23 +115,24 @@ fn modify(alloc: Global, arguments: &[&[u8]]) -> Result<Option<Command>, AllocEr
 }
 
 /// The one argument, which is the id of a service.
-fn only_id(arguments: &[&[u8]]) -> Option<ServiceId>
-    ensures id { result ≡ only_id_of (texts_of arguments.now) }
+fn only_id(text: &[u8]) -> Option<ServiceId>
+    ensures id { result ≡ only_id_of (words_of text.now) }
 {
-    let [service] = arguments else {
-        return None;
-    };
-    id(service)
+    let (service, rest) = split_word(text)?;
+    match split_word(rest) {
+        Some(_) => None,
+        None => id(service),
+    }
 }
 
 /// `services`, from behind its first word.
-fn services(arguments: &[&[u8]]) -> Option<Command>
-    ensures command { result ≡ services_of (texts_of arguments.now) }
+fn services(text: &[u8]) -> Option<Command>
+    ensures command { result ≡ services_of (words_of text.now) }
 {
-    if !arguments.is_empty() {
-        return None;
+    match split_word(text) {
+        Some(_) => None,
+        None => Some(Command::Services),
     }
-    Some(Command::Services)
 }
 
 /// The filter that a text reads as; none where it is none.
@@ -165,11 +169,9 @@ fn command_by(alloc: Global, verb: Verb, text: &[u8]) -> Result<Option<Command>,
     ensures command { IfOk result (λ command. command ≡ command_by verb text.now) }
 {
     match verb {
-        Verb::Register => register(alloc, split_words(alloc, text)?.as_slice()),
-        Verb::Modify => modify(alloc, split_words(alloc, text)?.as_slice()),
-        Verb::Unregister => Ok(only_id(split_words(alloc, text)?.as_slice()).map(
-            |service| Command::Unregister { service },
-        )),
+        Verb::Register => register(alloc, text),
+        Verb::Modify => modify(alloc, text),
+        Verb::Unregister => Ok(only_id(text).map(|service| Command::Unregister { service })),
         Verb::Find => Ok(class_and_filter(alloc, text)?.map(|wanted| Command::Find {
             class: wanted.class,
             filter: wanted.filter,
@@ -178,13 +180,9 @@ fn command_by(alloc: Global, verb: Verb, text: &[u8]) -> Result<Option<Command>,
             class: wanted.class,
             filter: wanted.filter,
         })),
-        Verb::Get => Ok(only_id(split_words(alloc, text)?.as_slice()).map(|service| Command::Get {
-            service,
-        })),
-        Verb::Unget => Ok(only_id(split_words(alloc, text)?.as_slice()).map(
-            |service| Command::Unget { service },
-        )),
-        Verb::Services => Ok(services(split_words(alloc, text)?.as_slice())),
+        Verb::Get => Ok(only_id(text).map(|service| Command::Get { service })),
+        Verb::Unget => Ok(only_id(text).map(|service| Command::Unget { service })),
+        Verb::Services => Ok(services(text)),
     }
 }
 

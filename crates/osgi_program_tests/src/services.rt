@@ -52,6 +52,35 @@ fn commands_are_answered_as_the_examples_say(rt: HostRuntime) -> Result<(), Fail
 }
 
 #[test]
+fn a_search_finds_what_its_filter_matches(rt: HostRuntime) -> Result<(), Fail> {
+    let rows = [
+        (
+            "find a.A (v>=1.10)\nfind a.A (v>=1.1)\nfind a.A (T=r)\nfind a.A (t=\n",
+            "found none\nfound 1\nfound 1\nsyntax\n",
+            1,
+        ),
+        (
+            "register a.A \"y\" n=\"a \\\"b\"\nfindall a.A (n=a \"b)\nfind a.A (n=a  \"b)\nfindall a.A   (& (t=q) (!(n=*)) ) \t \n",
+            "service 2\nfound 2\nfound none\nfound 1\n",
+            0,
+        ),
+        (
+            "register a.A \"y\"\nfind a.A \nfindall a.A  \n",
+            "service 2\nfound 1\nfound 1 2\n",
+            0,
+        ),
+    ];
+    for (more, replies, status) in rows {
+        let input = format!(in rt.alloc(); "register a.A \"x\" v:Version=1.2 t:List=q,r\n{more}")?;
+        let wanted = format!(in rt.alloc(); "service 1\n{replies}")?;
+        let outcome = run(rt.alloc(), input.as_bytes())?;
+        assert_eq!(rt; outcome.sink.written(), wanted.as_bytes(), "at {more}");
+        assert_eq!(rt; outcome.finished.status, status, "at {more}");
+    }
+    Ok(())
+}
+
+#[test]
 fn services_are_listed_without_an_entry_more_than_may_be(rt: HostRuntime) -> Result<(), Fail> {
     let limits = Limits {
         budget: 0,
