@@ -1,19 +1,25 @@
 //! Runs many operations on the machine, for the measurements under `bench/`.
 //!
 //!     osgi_bench COUNT ROUNDS
+//!     osgi_bench findall COUNT TIMES
 //!
 //! Each round begins with a new machine and has six phases: it registers COUNT services, and then finds, gets, ungets, modifies
-//! and unregisters COUNT times each. A line is printed when a round begins, and one as each phase ends, with its name and how
-//! many operations were accepted: the clock is whoever reads them.
+//! and unregisters COUNT times each. The second form registers COUNT services of one class and finds all of them that match a
+//! filter, TIMES over; the filter matches the first alone. A line is printed when a round begins, and one as each phase ends,
+//! with its name and how many operations were accepted: the clock is whoever reads them.
 #![tactic(auto)]
 
-use anyhow::{Result, ensure};
+use anyhow::{Result, bail};
 use osgi_base::ids::{BundleId, ServiceId, Tag};
 use osgi_base::list::List;
 use osgi_base::text::Text;
 use osgi_core::machine::Core;
+use osgi_filter::reading::parse;
+use osgi_model::filter::Filter;
+use osgi_model::value::{Attribute, Value};
 use osgi_ops::limits::Limits;
 use osgi_ops::op::Op;
+use osgi_ops::reply::Reply;
 use std::alloc::{AllocError, Global};
 use std::env;
 
@@ -98,16 +104,16 @@ fn operation(alloc: Global, phase: Phase, number: u32) -> Result<Op, AllocError>
     }
 }
 
+fn tag(command: u32) -> Tag {
+    Tag { caller: 0, command }
+}
+
 /// Runs the operations of a phase, and answers how many were accepted.
 fn run_phase(alloc: Global, core: &mut Core, phase: Phase, count: u32) -> Result<u64, AllocError> {
     let mut accepted: u64 = 0;
     for number in 0..count {
         let op = operation(alloc, phase, number.saturating_add(1))?;
-        let tag = Tag {
-            caller: 0,
-            command: number,
-        };
-        if !core.apply(tag, op)?.is_refusal() {
+        if !core.apply(tag(number), op)?.is_refusal() {
             accepted = accepted.saturating_add(1);
         }
     }
@@ -125,13 +131,73 @@ fn run_round(rt: &HostRuntime, count: u32) -> Result<()> {
     Ok(())
 }
 
+/// Registers services of one class, each of another size.
+fn register_sizes(alloc: Global, core: &mut Core, count: u32) -> Result<u64> {
+    let mut accepted: u64 = 0;
+    for number in 0..count {
+        let mut classes = List::new(alloc)?;
+        classes.push(class(alloc, 0)?)?;
+        let mut properties = List::new(alloc)?;
+        properties.push(Attribute {
+            name: Text::of(alloc, b"size")?,
+            value: Value::Long(i64::from(number)),
+        })?;
+        let op = Op::Register {
+            owner: SYSTEM,
+            classes,
+            object: Text::of(alloc, b"x")?,
+            properties,
+        };
+        if !core.apply(tag(number), op)?.is_refusal() {
+            accepted = accepted.saturating_add(1);
+        }
+    }
+    Ok(accepted)
+}
+
+/// Finds all services of the class that match the filter, so many times, and answers how many were found.
+fn find_all(alloc: Global, core: &mut Core, filter: &Filter, times: u32) -> Result<usize> {
+    let mut found: usize = 0;
+    for number in 0..times {
+        let op = Op::FindAll {
+            asker: SYSTEM,
+            class: class(alloc, 0)?,
+            filter: Some(filter.copy(alloc)?),
+        };
+        if let Reply::Services { services } = core.apply(tag(number), op)? {
+            found = found.saturating_add(services.items().len());
+        }
+    }
+    Ok(found)
+}
+
+fn run_find_all(rt: &HostRuntime, count: u32, times: u32) -> Result<()> {
+    let Ok(filter) = parse(rt.alloc(), b"(&(size>=0)(size<=0))")? else {
+        bail!("the filter cannot be read");
+    };
+    let mut core = Core::new(rt.alloc(), Limits::standard())?;
+    println!(rt; "begin")?;
+    let accepted = register_sizes(rt.alloc(), &mut core, count)?;
+    println!(rt; "register {accepted}")?;
+    let found = find_all(rt.alloc(), &mut core, &filter, times)?;
+    println!(rt; "findall {found}")?;
+    Ok(())
+}
+
 fn main(rt: HostRuntime) -> Result<()> {
     let words: Vec<_> = env::args(&rt)?.skip(1).collect(rt.alloc())?;
-    ensure!(words.len() == 2, "takes two words, COUNT and ROUNDS");
-    let count: u32 = words[0].parse()?;
-    let rounds: u32 = words[1].parse()?;
-    for _ in 0..rounds {
-        run_round(&rt, count)?;
+    match words.as_slice() {
+        [count, rounds] => {
+            let count: u32 = count.parse()?;
+            let rounds: u32 = rounds.parse()?;
+            for _ in 0..rounds {
+                run_round(&rt, count)?;
+            }
+            Ok(())
+        }
+        [mode, count, times] if mode.as_str() == "findall" => {
+            run_find_all(&rt, count.parse()?, times.parse()?)
+        }
+        _ => bail!("takes COUNT and ROUNDS, or findall, COUNT and TIMES"),
     }
-    Ok(())
 }
