@@ -4,13 +4,19 @@
 #[cfg(test)]
 mod clauses;
 #[cfg(test)]
+mod filter_vectors;
+#[cfg(test)]
 mod filters;
+#[cfg(test)]
+mod generated_filters;
 #[cfg(test)]
 mod lines;
 #[cfg(test)]
 mod matching;
 #[cfg(test)]
 mod ranges;
+#[cfg(test)]
+mod slow_matching;
 #[cfg(test)]
 mod typed;
 #[cfg(test)]
