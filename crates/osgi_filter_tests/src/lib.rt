@@ -1,4 +1,6 @@
 //! Tests of filters: texts read, refused and printed, and what filters match.
+//!
+//! `slow_matching` matches once more, plainly and slowly, and `generated_filters` compares.
 #![tactic(auto)]
 
 #[cfg(test)]
@@ -11,5 +13,4 @@ mod generated_filters;
 mod manual;
 #[cfg(test)]
 mod matching;
-#[cfg(test)]
-mod slow_matching;
+pub mod slow_matching;

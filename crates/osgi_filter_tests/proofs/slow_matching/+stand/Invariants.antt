@@ -1,9 +1,16 @@
--- Fewer pieces are left behind the first one.
-use Rattle.std.proofs.Common.{length, ◌<◌}
+-- Fewer pieces are left behind the first one, and the pieces stand in the ends that are left.
+use Rattle.std.proofs.Common.{◌≡◌, ◌+◌, ◌*◌, length}
+use Rattle.osgi_model.specs.MatchReader.{somewhere, stand}
 use Rattle.osgi_filter_tests.proofs.slow_matching.+stand.Given as goal
 
 abbrev pub decreases-stand : goal.decreases-stand
-decreases-stand l = length l.pieces.now
+decreases-stand l = 2 * length l.pieces.now
 
-abbrev pub invariant-loop-gap : goal.invariant-loop-gap
-invariant-loop-gap l = length l.more < length l.pieces
+abbrev pub decreases-stand_somewhere : goal.decreases-stand_somewhere
+decreases-stand_somewhere l = 2 * length l.pieces.now + 1
+
+abbrev pub invariant-stand_somewhere-loop-rest : goal.invariant-stand_somewhere-loop-rest
+invariant-stand_somewhere-loop-rest l = somewhere (stand l.pieces) l.rest ≡ somewhere (stand l.pieces) l.text
+
+abbrev pub decreases-stand_somewhere-loop-rest : goal.decreases-stand_somewhere-loop-rest
+decreases-stand_somewhere-loop-rest l = length l.rest
