@@ -1,0 +1,104 @@
+//! Console lines run on a machine, block by block.
+
+use anyhow::{Result, ensure};
+use osgi_base::ids::{BundleId, Tag};
+use osgi_base::list::List;
+use osgi_console::reading::parse;
+use osgi_core::machine::Core;
+use osgi_ops::command::Command;
+use osgi_ops::limits::Limits;
+use osgi_ops::line::{Content, Line};
+use osgi_ops::op::Op;
+use std::alloc::{AllocError, Global};
+
+/// The bundle that asks for everything.
+const SYSTEM: BundleId = BundleId(0);
+
+/// The operation that a command asks for.
+fn operation(command: Command) -> Op {
+    match command {
+        Command::Register {
+            classes,
+            object,
+            properties,
+        } => Op::Register {
+            owner: SYSTEM,
+            classes,
+            object,
+            properties,
+        },
+        Command::Modify {
+            service,
+            properties,
+        } => Op::Modify {
+            owner: SYSTEM,
+            service,
+            properties,
+        },
+        Command::Unregister { service } => Op::Unregister {
+            owner: SYSTEM,
+            service,
+        },
+        Command::Find { class, filter } => Op::Find {
+            asker: SYSTEM,
+            class,
+            filter,
+        },
+        Command::FindAll { class, filter } => Op::FindAll {
+            asker: SYSTEM,
+            class,
+            filter,
+        },
+        Command::Get { service } => Op::Get {
+            user: SYSTEM,
+            service,
+        },
+        Command::Unget { service } => Op::Unget {
+            user: SYSTEM,
+            service,
+        },
+        Command::Services => Op::ListServices,
+    }
+}
+
+/// The lines of a text, which may have as many bytes as lines can be counted.
+pub fn lines_of(alloc: Global, text: &[u8]) -> Result<List<Line>> {
+    ensure!(text.len() < u32::MAX as usize, "the text is too long");
+    Ok(parse(alloc, text)?)
+}
+
+/// Runs a line, and answers whether it has a command that was accepted.
+fn run_line(alloc: Global, core: &mut Core, line: &Line) -> Result<bool, AllocError> {
+    let Content::Run(command) = &line.content else {
+        return Ok(false);
+    };
+    let tag = Tag {
+        caller: 0,
+        command: line.number,
+    };
+    let reply = core.apply(tag, operation(command.copy(alloc)?))?;
+    Ok(!reply.is_refusal())
+}
+
+/// Runs the lines of a block, and answers how many commands were accepted.
+fn run_lines(alloc: Global, core: &mut Core, lines: &[Line]) -> Result<u64, AllocError> {
+    let mut accepted: u64 = 0;
+    for line in lines {
+        if run_line(alloc, core, line)? {
+            accepted = accepted.saturating_add(1);
+        }
+    }
+    Ok(accepted)
+}
+
+/// Runs the blocks of a text, and prints a line when each is read and when it has run.
+pub fn run(rt: &HostRuntime, text: &str) -> Result<()> {
+    let mut core = Core::new(rt.alloc(), Limits::standard())?;
+    for block in text.split("\n.\n") {
+        let lines = lines_of(rt.alloc(), block.as_bytes())?;
+        println!(rt; "read {}", lines.items().len())?;
+        let accepted = run_lines(rt.alloc(), &mut core, lines.items())?;
+        println!(rt; "accepted {accepted}")?;
+    }
+    Ok(())
+}
