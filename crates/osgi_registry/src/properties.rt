@@ -1,6 +1,6 @@
 //! What the framework reads in the properties of services, and what it sets in them.
 
-ghost use Rattle.std.specs.Prelude.{◌≡◌, ◌≤◌, IfOk, OnOk, ◌++◌, filter, map, not, pos};
+ghost use Rattle.std.specs.Prelude.{◌≡◌, ◌≤◌, IfOk, OnOk, [], ◌∷◌, ◌++◌, filter, map, not, pos};
 ghost use Rattle.std.specs.List.{list_any};
 ghost use Rattle.std.specs.Option.{option_copied};
 ghost use Rattle.osgi_ops.specs.Properties as spec;
@@ -98,12 +98,25 @@ pub fn with_framework(
     ensures all { IfOk result (λ all. all ≡ spec.with_framework given.now classes.now service owner) }
 {
     let mut all = others(alloc, given)?;
-    all.push(property(alloc, b"objectClass", class_names(alloc, classes)?)?)?;
-    all.push(property(alloc, b"service.id", id_value(service.0))?)?;
-    all.push(property(alloc, b"service.bundleid", id_value(owner.0 as u64))?)?;
+    let names = class_names(alloc, classes)?;
+    add(&mut all, alloc, b"objectClass", names)?;
+    add(&mut all, alloc, b"service.id", id_value(service.0))?;
+    add(
+        &mut all,
+        alloc,
+        b"service.bundleid",
+        id_value(owner.0 as u64),
+    )?;
     let scope = Value::Text(Text::of(alloc, b"singleton")?);
-    all.push(property(alloc, b"service.scope", scope)?)?;
+    add(&mut all, alloc, b"service.scope", scope)?;
     Ok(all)
+}
+
+/// Adds a property.
+fn add(all: &mut Attributes, alloc: Global, name: &[u8], value: Value) -> Result<(), AllocError>
+    ensures added { OnOk result (all.new ≡ all.old ++ spec.property name.now value ∷ []) }
+{
+    all.push(property(alloc, name, value)?)
 }
 
 /// Copies of the properties whose names are not the framework's.

@@ -6,18 +6,14 @@ pub returns : goal.returns
 returns c = record {
   all =
       rw (
-        c.in_ok-push-4.ensures.added,
-        c.in_ok-push-3.ensures.added,
-        c.in_ok-push-2.ensures.added,
-        c.in_ok-push.ensures.added,
-        c.in_ok-property-4.ensures.property,
-        c.in_ok-property-3.ensures.property,
-        c.in_ok-property-2.ensures.property,
-        c.in_ok-property.ensures.property,
+        c.in_ok-add-4.ensures.added,
+        c.in_ok-add-3.ensures.added,
+        c.in_ok-add-2.ensures.added,
+        c.in_ok-add.ensures.added,
         c.in_ok-of.ensures.bytes,
         c.id_value.ensures.value,
         c.id_value-2.ensures.value,
-        c.in_ok-class_names.ensures.names,
+        c.in_ok-names.ensures.names,
         c.in_ok-all.ensures.others,
       )
       (four_pushes _ _ _ _ _);
