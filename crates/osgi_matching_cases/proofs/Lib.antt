@@ -1,0 +1,2 @@
+-- Lemmas for the slow program.
+pub mod Pieces

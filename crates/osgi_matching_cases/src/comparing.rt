@@ -1,0 +1,130 @@
+//! What matching and the slow program say of generated filters.
+
+use crate::generated::Generator;
+use crate::slow_matching::matches_slowly;
+use osgi_filter::case::Case;
+use osgi_filter::matching::matches;
+use osgi_model::filter::Filter;
+use osgi_model::value::Attributes;
+use std::alloc::{AllocError, Global};
+
+/// What is generated, with its attributes.
+#[derive(Clone, Copy)]
+enum Generated {
+    Filters,
+    /// Items that ask for pieces of a text.
+    Pieces,
+}
+
+impl Generated {
+    /// One in so many has to match, and one in so many not, lest the comparison say little.
+    fn share(self) -> u32 {
+        match self {
+            Generated::Filters => 8,
+            Generated::Pieces => 20,
+        }
+    }
+}
+
+/// How often both were asked, and how often they say that a filter matches.
+#[derive(Clone, Copy)]
+struct Tally {
+    asked: u32,
+    matched: u32,
+}
+
+impl Tally {
+    fn add(&mut self, is_match: bool) {
+        self.asked = self.asked.saturating_add(1);
+        self.matched = self.matched.saturating_add(u32::from(is_match));
+    }
+
+    /// Whether more than one in so many match, and more than one in so many do not.
+    fn is_mixed(self, share: u32) -> bool {
+        let others = self.asked.saturating_sub(self.matched);
+        self.asked < self.matched.saturating_mul(share) && self.asked < others.saturating_mul(share)
+    }
+}
+
+/// Asks both, and answers whether they agree.
+fn agree(
+    alloc: Global,
+    filter: &Filter,
+    attributes: &Attributes,
+    case: Case,
+    tally: &mut Tally,
+) -> Result<bool, AllocError> {
+    let wanted = matches_slowly(alloc, filter, attributes.items(), case)?;
+    tally.add(wanted);
+    Ok(matches(filter, attributes, case) == wanted)
+}
+
+/// Whether both agree on the next filter, by names with case and without.
+fn agree_on_filter(
+    generator: &mut Generator,
+    alloc: Global,
+    tally: &mut Tally,
+) -> Result<bool, AllocError> {
+    let filter = generator.filter()?;
+    let attributes = generator.attributes()?;
+    Ok(
+        agree(alloc, &filter, &attributes, Case::Keep, tally)?
+            && agree(alloc, &filter, &attributes, Case::Fold, tally)?,
+    )
+}
+
+/// Whether both agree on the next pieces.
+fn agree_on_pieces(
+    generator: &mut Generator,
+    alloc: Global,
+    tally: &mut Tally,
+) -> Result<bool, AllocError> {
+    let item = generator.pieces_item()?;
+    let attributes = generator.one_text()?;
+    agree(alloc, &item, &attributes, Case::Keep, tally)
+}
+
+fn agree_on(
+    what: Generated,
+    generator: &mut Generator,
+    alloc: Global,
+    tally: &mut Tally,
+) -> Result<bool, AllocError> {
+    match what {
+        Generated::Filters => agree_on_filter(generator, alloc, tally),
+        Generated::Pieces => agree_on_pieces(generator, alloc, tally),
+    }
+}
+
+/// Compares so many, and says how it went.
+fn compare(alloc: Global, what: Generated, seed: u64, count: u32) -> Result<String, AllocError> {
+    let mut generator = Generator::new(alloc, seed);
+    let mut tally = Tally {
+        asked: 0,
+        matched: 0,
+    };
+    for number in 0..count {
+        if !agree_on(what, &mut generator, alloc, &mut tally)? {
+            return format!(in alloc; "number {number} differs");
+        }
+    }
+    if tally.is_mixed(what.share()) {
+        format!(in alloc; "{count} agree")
+    } else {
+        format!(in alloc; "{count} agree, but too few match or too few do not")
+    }
+}
+
+/// What a line is answered.
+pub fn compared(alloc: Global, line: &str) -> Result<String, AllocError> {
+    let (word, numbers) = line.split_once(' ').unwrap_or((line, ""));
+    let (seed, count) = numbers.split_once(' ').unwrap_or((numbers, ""));
+    let (Ok(seed), Ok(count)) = (seed.parse::<u64>(), count.parse::<u32>()) else {
+        return String::from_str(alloc, "no seed and count");
+    };
+    match word {
+        "filters" => compare(alloc, Generated::Filters, seed, count),
+        "pieces" => compare(alloc, Generated::Pieces, seed, count),
+        _ => String::from_str(alloc, "no such word"),
+    }
+}

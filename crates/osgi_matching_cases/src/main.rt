@@ -1,0 +1,27 @@
+//! Compares matching with the slow program on generated filters and attributes.
+//!
+//! A line of standard input is `filters SEED COUNT` or `pieces SEED COUNT`, and is printed with ` => ` and its answer after it;
+//! one that begins with `#` is printed alone. Numbers from the seed make so many filters with their attributes, or so many items
+//! that ask for pieces of a text. The answer is how many agree, where all do, and else which is the first that does not.
+#![tactic(auto)]
+
+mod comparing;
+mod generated;
+mod slow_matching;
+
+use crate::comparing::compared;
+use std::io;
+
+fn main(rt: HostRuntime) -> io::Result<()> {
+    for line in rt.lines(rt.alloc()) {
+        let line = line?;
+        let line = line.as_str();
+        if line.starts_with('#') {
+            println!(rt; "{line}")?;
+        } else {
+            let answer = compared(rt.alloc(), line)?;
+            println!(rt; "{line} => {answer}")?;
+        }
+    }
+    Ok(())
+}

@@ -1,0 +1,54 @@
+//! Reads texts that standard input has a line each, and prints how each line is answered.
+//!
+//! A line is a word and a text, and is printed with ` => ` and its answer after it; the empty line and one that begins with
+//! `#` are printed alone. In a text `\n`, `\r`, `\t` and `\xHH` stand for bytes, and `\\` for a backslash, and in an answer
+//! too. Of whatever is read, it is also seen whether its copies equal it, and whether what is printed of it reads as it again:
+//! an answer says so where they do not.
+//!
+//! | Line | What is answered |
+//! |---|---|
+//! | `version TEXT`, `range TEXT` | what the text reads as |
+//! | `order VERSION\|VERSION` | how they are ordered, by every comparison that there is |
+//! | `within RANGE\|VERSION` | whether the range contains the version |
+//! | `qualifier VERSION` | the version's qualifier |
+//! | `headers TEXT` | the headers of a manifest, `NAME=VALUE\|` each |
+//! | `long-lines FIRST MORE` | whether a manifest of two lines that have so many bytes is read |
+//! | `clauses TEXT` | the clauses of a header's value: paths `[PATH]`, directives `{NAME:=VALUE}`, attributes `{NAME:TYPE=VALUE}` |
+//! | `type TEXT` | the type of the name |
+//! | `long TEXT` | the number that the text writes |
+//! | `value TYPE TEXT` | what the text stands for as a value of the type |
+//! | `filter TEXT`, `tree TEXT` | what is printed of the filter; the filter as a tree |
+//! | `nested OPERATOR COUNT` | whether `(a=1)` is a filter within so many of the operator |
+//! | `attributes NAME:TYPE=TEXT;..` | the attributes, which the lines below are asked about. The type `[]` is the empty list's |
+//! | `match-fold FILTER`, `match-keep FILTER` | whether the filter matches the attributes, by names without case or with it |
+//! | `passes NAME:TYPE=TEXT;..\|FILTER` | whether the filter matches these attributes, by names with case |
+#![tactic(auto)]
+
+mod cases;
+mod clauses;
+mod escapes;
+mod filters;
+mod headers;
+mod matching;
+mod ranges;
+mod trees;
+mod values;
+mod versions;
+
+use crate::cases::Cases;
+use std::io;
+
+fn main(rt: HostRuntime) -> io::Result<()> {
+    let mut cases = Cases::new(rt.alloc())?;
+    for line in rt.lines(rt.alloc()) {
+        let line = line?;
+        let line = line.as_str();
+        if line.is_empty() || line.starts_with('#') {
+            println!(rt; "{line}")?;
+        } else {
+            let answer = cases.answer(line)?;
+            println!(rt; "{line} => {answer}")?;
+        }
+    }
+    Ok(())
+}

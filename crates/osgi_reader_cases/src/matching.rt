@@ -1,0 +1,87 @@
+//! Attributes, and filters matched against them.
+
+use crate::escapes::{bytes_of, push_bytes};
+use crate::values::{push_value, value_of};
+use osgi_base::copied::Copied;
+use osgi_base::list::List;
+use osgi_base::text::Text;
+use osgi_filter::case::Case;
+use osgi_filter::matching::matches;
+use osgi_filter::reading::parse;
+use osgi_model::value::{Attribute, Attributes};
+use std::alloc::{AllocError, Global};
+
+/// The attribute that is written `NAME:TYPE=TEXT`.
+fn attribute(alloc: Global, text: &str) -> Result<Option<Attribute>, AllocError> {
+    let (name, typed) = text.split_once(':').unwrap_or((text, ""));
+    let (kind, text) = typed.split_once('=').unwrap_or((typed, ""));
+    let Some(value) = value_of(alloc, kind, text)? else {
+        return Ok(None);
+    };
+    let name = Text::from(bytes_of(alloc, name)?);
+    Ok(Some(Attribute { name, value }))
+}
+
+/// The attributes that are written with `;` between; none where one of them is none.
+pub fn attributes_of(alloc: Global, text: &str) -> Result<Option<Attributes>, AllocError> {
+    let mut attributes = List::new(alloc)?;
+    for part in text.split(';') {
+        let Some(attribute) = attribute(alloc, part)? else {
+            return Ok(None);
+        };
+        attributes.push(attribute)?;
+    }
+    Ok(Some(attributes))
+}
+
+fn push_attribute(
+    out: &mut String,
+    attribute: &Attribute,
+    alloc: Global,
+) -> Result<(), AllocError> {
+    if !out.is_empty() {
+        out.push_str(", ")?;
+    }
+    push_bytes(out, attribute.name.bytes())?;
+    out.push('=')?;
+    push_value(out, &attribute.value, alloc)
+}
+
+fn equals_copies(alloc: Global, attributes: &Attributes) -> Result<bool, AllocError> {
+    Ok(attributes.copy(alloc)? == *attributes && attributes.copied(alloc)? == *attributes)
+}
+
+/// Attributes, name by name.
+pub fn spelled(alloc: Global, attributes: &Attributes) -> Result<String, AllocError> {
+    let mut answer = String::new(alloc);
+    for attribute in attributes.items() {
+        push_attribute(&mut answer, attribute, alloc)?;
+    }
+    if !equals_copies(alloc, attributes)? {
+        answer.push_str(", copy differs")?;
+    }
+    Ok(answer)
+}
+
+/// Whether the filter that a text reads as matches the attributes.
+pub fn is_match(
+    alloc: Global,
+    attributes: &Attributes,
+    case: Case,
+    text: &str,
+) -> Result<String, AllocError> {
+    let text = bytes_of(alloc, text)?;
+    match parse(alloc, text.as_slice())? {
+        Ok(filter) => matches(&filter, attributes, case).to_string(alloc),
+        Err(fault) => fault.to_string(alloc),
+    }
+}
+
+/// Whether the filter after a `|` matches the attributes before it.
+pub fn passes(alloc: Global, text: &str) -> Result<String, AllocError> {
+    let (attributes, filter) = text.split_once('|').unwrap_or((text, ""));
+    match attributes_of(alloc, attributes)? {
+        Some(attributes) => is_match(alloc, &attributes, Case::Keep, filter),
+        None => String::from_str(alloc, "no attributes"),
+    }
+}
