@@ -4,17 +4,11 @@
 #[cfg(test)]
 mod bounds;
 #[cfg(test)]
-mod copies;
-#[cfg(test)]
 mod failures;
 #[cfg(test)]
 mod fixtures;
 #[cfg(test)]
 mod grammar;
-#[cfg(test)]
-mod machine;
-#[cfg(test)]
-mod names;
 #[cfg(test)]
 mod properties;
 #[cfg(test)]

@@ -1,6 +1,6 @@
-//! Gets, with the uses of each user counted before, so that they are known to stay below the most that there can be.
+//! Gets, with the uses of the user counted before, so that they are known to stay below the most that there can be.
 
-ghost use Rattle.std.specs.Prelude.{◌≡◌, ◌+◌, ◌<◌, ◌≤◌, IfSome, OnOk};
+ghost use Rattle.std.specs.Prelude.{◌≡◌, ◌+◌, ◌<◌, ◌≤◌, IfSome, IfOk, OnOk};
 ghost use Rattle.osgi_registry.specs.Rows.{use_count};
 
 use osgi_base::ids::{BundleId, ServiceId};
@@ -8,12 +8,11 @@ use osgi_base::text::Text;
 use osgi_ops::refusal::Refusal;
 use osgi_registry::registry::Registry;
 use std::alloc::AllocError;
-use std::test::Fail;
 
-/// No test takes as many uses of one service by one user.
+/// No user holds a service as often.
 const MANY: u64 = 1000;
 
-/// Takes back all uses of the service by the user, and tells how many there were.
+/// Takes back all uses of the service by the user, and tells how many there were; none where there are too many.
 fn take_back(registry: &mut Registry, user: BundleId, service: ServiceId) -> Option<u64>
     ensures none { IfSome result (λ uses. use_count user service registry.new.rows ≡ 0) }
     ensures few { IfSome result (λ uses. uses < 1000) }
@@ -41,36 +40,49 @@ fn take_one(
 }
 
 /// Takes so many uses.
-fn take(registry: &mut Registry, user: BundleId, service: ServiceId, uses: u64) -> Result<(), Fail>
+fn take(
+    registry: &mut Registry,
+    user: BundleId,
+    service: ServiceId,
+    uses: u64,
+) -> Result<(), AllocError>
     requires none { use_count user service registry.old.rows ≡ 0 }
     requires few { uses < 1000 }
     ensures few { OnOk result (use_count user service registry.new.rows < 1000) }
     ensures given { registry.new.given ≡ registry.old.given }
 {
     for _ in 0..uses {
-        take_one(registry, user, service)??;
+        let _ = take_one(registry, user, service)?;
     }
     Ok(())
 }
 
-/// How often the user holds the service: the uses are taken back one by one, and taken again.
-pub fn count(registry: &mut Registry, user: BundleId, service: ServiceId) -> Result<u64, Fail>
-    ensures few { OnOk result (use_count user service registry.new.rows < 1000) }
+/// How often the user holds the service: the uses are taken back one by one, and taken again. None where there are too many.
+pub fn count(
+    registry: &mut Registry,
+    user: BundleId,
+    service: ServiceId,
+) -> Result<Option<u64>, AllocError>
+    ensures few { IfOk result (λ count. IfSome count (λ _. use_count user service registry.new.rows < 1000)) }
     ensures given { registry.new.given ≡ registry.old.given }
 {
-    let uses = take_back(registry, user, service).ok_or("too many uses")?;
+    let Some(uses) = take_back(registry, user, service) else {
+        return Ok(None);
+    };
     take(registry, user, service, uses)?;
-    Ok(uses)
+    Ok(Some(uses))
 }
 
-/// Counts one more use, and tells what the registry answered.
+/// Counts one more use, and tells what the registry answered; out of memory where there are too many.
 pub fn get(
     registry: &mut Registry,
     user: BundleId,
     service: ServiceId,
-) -> Result<Result<Text, Refusal>, Fail>
+) -> Result<Result<Text, Refusal>, AllocError>
     ensures given { registry.new.given ≡ registry.old.given }
 {
-    count(registry, user, service)?;
-    Ok(take_one(registry, user, service)?)
+    match count(registry, user, service)? {
+        Some(_) => take_one(registry, user, service),
+        None => Err(AllocError),
+    }
 }

@@ -1,6 +1,6 @@
 -- No service is registered.
 use Rattle.std.proofs.Common.{◌≡◌}
-use Rattle.osgi_registry_tests.proofs.uses.take_back.Given as goal
+use Rattle.osgi_machine_cases.proofs.uses.take_back.Given as goal
 
 abbrev pub invariant-loop-uses : goal.invariant-loop-uses
 invariant-loop-uses l = l.registry.given ≡ l.fn.registry.given

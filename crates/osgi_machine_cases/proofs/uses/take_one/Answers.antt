@@ -1,6 +1,6 @@
 -- A get counts one use more at most, whatever it answers.
-use Rattle.osgi_registry_tests.proofs.Counts.{got_more}
-use Rattle.osgi_registry_tests.proofs.uses.take_one.Goals as goal
+use Rattle.osgi_machine_cases.proofs.Counts.{got_more}
+use Rattle.osgi_machine_cases.proofs.uses.take_one.Goals as goal
 
 pub returns-clause-more : goal.returns-clause-more
 returns-clause-more c =

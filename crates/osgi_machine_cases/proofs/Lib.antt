@@ -1,0 +1,2 @@
+-- Lemmas on counts of uses.
+pub mod Counts

@@ -1,0 +1,140 @@
+//! The calls of the registry that operations come to.
+
+ghost use Rattle.std.specs.Prelude.{◌≡◌, ◌+◌, ◌<◌, ◌≤◌};
+
+use crate::assignable::Assignable;
+use crate::uses::get;
+use osgi_base::ids::{BundleId, ServiceId};
+use osgi_base::list::List;
+use osgi_base::text::Text;
+use osgi_model::filter::Filter;
+use osgi_model::value::Attributes;
+use osgi_ops::op::Op;
+use osgi_ops::refusal::Refusal;
+use osgi_ops::reply::Reply;
+use osgi_ops::service::{Service, ServiceRow};
+use osgi_registry::properties::ranking;
+use osgi_registry::registry::Registry;
+use std::alloc::{AllocError, Global};
+
+fn done(answer: Result<(), Refusal>) -> Reply {
+    match answer {
+        Ok(()) => Reply::Done,
+        Err(refusal) => Reply::Refused { refusal },
+    }
+}
+
+fn register(
+    alloc: Global,
+    registry: &mut Registry,
+    owner: BundleId,
+    classes: &List<Text>,
+    object: &Text,
+    properties: &Attributes,
+) -> Result<Reply, AllocError>
+    requires { registry.old.given < 4294967295 }
+    ensures given { registry.new.given ≤ registry.old.given + 1 }
+{
+    let classes = classes.copy(alloc)?;
+    let object = object.copy(alloc)?;
+    match registry.register(owner, classes, object, properties.copy(alloc)?)? {
+        Ok(service) => Ok(Reply::Service { service }),
+        Err(refusal) => Ok(Reply::Refused { refusal }),
+    }
+}
+
+fn modify(
+    alloc: Global,
+    registry: &mut Registry,
+    owner: BundleId,
+    service: ServiceId,
+    properties: &Attributes,
+) -> Result<Reply, AllocError>
+    ensures given { registry.new.given ≡ registry.old.given }
+{
+    Ok(done(registry.modify(owner, service, properties.copy(alloc)?)?))
+}
+
+fn find(
+    registry: &Registry,
+    class: &Text,
+    filter: Option<&Filter>,
+    assignable: &Assignable,
+) -> Option<ServiceId> {
+    registry.find(
+        class,
+        filter,
+        |registrant: BundleId, class: &Text| -> bool { assignable.allows(registrant, class) },
+    )
+}
+
+fn get_object(
+    registry: &mut Registry,
+    user: BundleId,
+    service: ServiceId,
+) -> Result<Reply, AllocError>
+    ensures given { registry.new.given ≡ registry.old.given }
+{
+    match get(registry, user, service)? {
+        Ok(text) => Ok(Reply::Object { text }),
+        Err(refusal) => Ok(Reply::Refused { refusal }),
+    }
+}
+
+/// What a list of services shows of one.
+fn row(alloc: Global, service: &Service) -> Result<ServiceRow, AllocError> {
+    Ok(ServiceRow {
+        service: service.service,
+        owner: service.owner,
+        ranking: ranking(service.properties.items()),
+        classes: service.classes.copy(alloc)?,
+        object: service.object.copy(alloc)?,
+    })
+}
+
+fn rows(alloc: Global, registry: &Registry) -> Result<List<ServiceRow>, AllocError> {
+    let mut rows = List::new(alloc)?;
+    for service in registry.services() {
+        rows.push(row(alloc, service)?)?;
+    }
+    Ok(rows)
+}
+
+/// What the registry answers to an operation.
+pub fn reply_to(
+    alloc: Global,
+    registry: &mut Registry,
+    op: &Op,
+    assignable: &Assignable,
+) -> Result<Reply, AllocError>
+    requires { registry.old.given < 4294967295 }
+    ensures given { registry.new.given ≤ registry.old.given + 1 }
+{
+    match op {
+        Op::Register {
+            owner,
+            classes,
+            object,
+            properties,
+        } => register(alloc, registry, *owner, classes, object, properties),
+        Op::Modify {
+            owner,
+            service,
+            properties,
+        } => modify(alloc, registry, *owner, *service, properties),
+        Op::Unregister { owner, service } => Ok(done(registry.unregister(*owner, *service))),
+        Op::Find { class, filter, .. } => Ok(Reply::Best {
+            service: find(registry, class, filter.as_ref(), assignable),
+        }),
+        Op::FindAll { class, filter, .. } => Ok(Reply::Services {
+            services: registry.find_all(class, filter.as_ref())?,
+        }),
+        Op::Get { user, service } => get_object(registry, *user, *service),
+        Op::Unget { user, service } => Ok(Reply::Flag {
+            value: registry.unget(*user, *service),
+        }),
+        Op::ListServices => Ok(Reply::ServiceRows {
+            rows: rows(alloc, registry)?,
+        }),
+    }
+}

@@ -1,2 +1,0 @@
--- Lemmas for the tests.
-pub mod Counts
