@@ -1,3 +1,4 @@
+<<<<<<< HEAD
 //! Whole runs of the services' commands.
 
 use crate::fixtures::run;
@@ -41,10 +42,40 @@ fn commands_are_answered_as_the_examples_say(rt: HostRuntime) -> Result<(), Fail
         assert_eq!(rt; outcome.sink.written(), wanted.as_bytes(), "at {more}");
         assert_eq!(rt; outcome.finished.status, status, "at {more}");
     }
+=======
+//! The machine's answers at the end of its history, and to other bundles than the system bundle.
+
+use crate::fixtures::{refused, tag};
+use osgi_base::ids::{BundleId, ServiceId};
+use osgi_base::text::Text;
+use osgi_core::machine::Core;
+use osgi_ops::limits::Limits;
+use osgi_ops::op::Op;
+use osgi_ops::refusal::Refusal;
+use osgi_ops::reply::Reply;
+use std::test::Fail;
+
+#[test]
+fn services_are_listed_without_an_entry_more_than_may_be(rt: HostRuntime) -> Result<(), Fail> {
+    let limits = Limits {
+        budget: 0,
+        handings: 0,
+        entries: 2,
+    };
+    let mut core = Core::new(rt.alloc(), limits)?;
+    for number in [1, 2] {
+        let reply = core.apply(tag(number), Op::ListServices)?;
+        assert!(rt; matches!(reply, Reply::ServiceRows { .. }), "at {number}");
+    }
+    let reply = core.apply(tag(3), Op::ListServices)?;
+    assert_eq!(rt; reply, refused(Refusal::HistoryFull));
+    assert_eq!(rt; core.entries().len(), 2);
+>>>>>>> 36b4837 (Whole runs as cases of a program, a line each)
     Ok(())
 }
 
 #[test]
+<<<<<<< HEAD
 fn a_search_finds_what_its_filter_matches(rt: HostRuntime) -> Result<(), Fail> {
     let rows = [
         (
@@ -70,5 +101,39 @@ fn a_search_finds_what_its_filter_matches(rt: HostRuntime) -> Result<(), Fail> {
         assert_eq!(rt; outcome.sink.written(), wanted.as_bytes(), "at {more}");
         assert_eq!(rt; outcome.finished.status, status, "at {more}");
     }
+=======
+fn a_bundle_that_is_not_there_is_refused_whatever_it_asks(rt: HostRuntime) -> Result<(), Fail> {
+    let (bundle, service) = (BundleId(1), ServiceId(1));
+    let ops = [
+        Op::Unregister {
+            owner: bundle,
+            service,
+        },
+        Op::Find {
+            asker: bundle,
+            class: Text::of(rt.alloc(), b"a")?,
+            filter: None,
+        },
+        Op::FindAll {
+            asker: bundle,
+            class: Text::of(rt.alloc(), b"a")?,
+            filter: None,
+        },
+        Op::Get {
+            user: bundle,
+            service,
+        },
+        Op::Unget {
+            user: bundle,
+            service,
+        },
+    ];
+    let mut core = Core::new(rt.alloc(), Limits::standard())?;
+    for op in &ops {
+        let reply = core.apply(tag(1), op.copy(rt.alloc())?)?;
+        assert_eq!(rt; reply, refused(Refusal::NoSuchBundle), "at {op:?}");
+    }
+    assert_eq!(rt; core.entries().len(), 5);
+>>>>>>> 36b4837 (Whole runs as cases of a program, a line each)
     Ok(())
 }

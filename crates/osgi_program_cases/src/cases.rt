@@ -1,0 +1,85 @@
+//! Cases: what the program is run on, read from their lines.
+
+use crate::escapes::bytes_of;
+use osgi_base::text::Text;
+use std::alloc::{AllocError, Global};
+
+/// What the program is run on.
+#[derive(Drop)]
+pub struct Case {
+    /// The words of the command line, without the program's name.
+    pub words: Vec<Text>,
+    pub input: Vec<u8>,
+    /// The numbers of the reads that fail, and of the writes and flushes, counted from 1.
+    pub reads: Vec<u64>,
+    pub writes: Vec<u64>,
+    times: u64,
+}
+
+impl Case {
+    /// The case of a line, or `None` where something else stands in its brackets.
+    pub fn read(alloc: Global, line: &str) -> Result<Option<Case>, AllocError> {
+        let mut case = Case::plain(alloc)?;
+        let mut rest = line;
+        for _ in 0..line.len() {
+            let Some((head, more)) = split_head(rest) else {
+                break;
+            };
+            if !case.set(alloc, head)? {
+                return Ok(None);
+            }
+            rest = more;
+        }
+        let once = bytes_of(alloc, rest.as_bytes())?;
+        for _ in 0..case.times {
+            case.input.extend_from_slice(once.as_slice())?;
+        }
+        Ok(Some(case))
+    }
+
+    /// The word `run`, and no call that fails.
+    fn plain(alloc: Global) -> Result<Case, AllocError> {
+        Ok(Case {
+            words: words_of(alloc, "run")?,
+            input: Vec::new(alloc),
+            reads: Vec::new(alloc),
+            writes: Vec::new(alloc),
+            times: 1,
+        })
+    }
+
+    /// Takes what stands between brackets, and says whether it is of a known form.
+    fn set(&mut self, alloc: Global, head: &str) -> Result<bool, AllocError> {
+        let (name, rest) = head.split_once(" ").unwrap_or((head, ""));
+        match name {
+            "words" => self.words = words_of(alloc, rest)?,
+            "reads" => self.reads = numbers_of(alloc, rest)?,
+            "writes" => self.writes = numbers_of(alloc, rest)?,
+            "times" => self.times = rest.parse::<u64>().unwrap_or(0),
+            _ => return Ok(false),
+        }
+        Ok(true)
+    }
+}
+
+/// What stands between brackets at the beginning of a line, and the rest of the line.
+fn split_head(line: &str) -> Option<(&str, &str)> {
+    line.strip_prefix("[")?.split_once("] ")
+}
+
+fn words_of(alloc: Global, text: &str) -> Result<Vec<Text>, AllocError> {
+    let mut words = Vec::new(alloc);
+    for word in text.split_whitespace() {
+        let spelled = if word == "''" { "" } else { word };
+        words.push(Text::from(bytes_of(alloc, spelled.as_bytes())?))?;
+    }
+    Ok(words)
+}
+
+fn numbers_of(alloc: Global, text: &str) -> Result<Vec<u64>, AllocError> {
+    let mut numbers = Vec::new(alloc);
+    for word in text.split_whitespace() {
+        numbers.push(word.parse::<u64>().unwrap_or(0))?;
+    }
+    Ok(numbers)
+}

@@ -1,0 +1,48 @@
+//! Replies as an answer tells them.
+
+use crate::commands::put_classes;
+use crate::escapes::put_quoted;
+use osgi_base::ids::ServiceId;
+use osgi_ops::reply::Reply;
+use osgi_ops::service::ServiceRow;
+use std::alloc::AllocError;
+use std::fmt::Write;
+
+pub fn put_reply(out: &mut String, reply: &Reply) -> Result<(), AllocError> {
+    match reply {
+        Reply::Service { service } => write!(out, "service {}", service.0),
+        Reply::Done => out.push_str("done"),
+        Reply::Best { service: None } => out.push_str("best none"),
+        Reply::Best {
+            service: Some(service),
+        } => write!(out, "best {}", service.0),
+        Reply::Services { services } => put_services(out, services.items()),
+        Reply::Object { text } => {
+            out.push_str("object ")?;
+            put_quoted(out, text.bytes())
+        }
+        Reply::Flag { value } => write!(out, "flag {value}"),
+        Reply::ServiceRows { rows } => put_rows(out, rows.items()),
+        Reply::Refused { refusal } => write!(out, "refused {} {refusal:?}", refusal.number()),
+    }
+}
+
+fn put_services(out: &mut String, services: &[ServiceId]) -> Result<(), AllocError> {
+    out.push_str("services")?;
+    for service in services {
+        write!(out, " {}", service.0)?;
+    }
+    Ok(())
+}
+
+fn put_rows(out: &mut String, rows: &[ServiceRow]) -> Result<(), AllocError> {
+    out.push_str("rows")?;
+    for row in rows {
+        write!(out, " ({} {} {} ", row.service.0, row.owner.0, row.ranking)?;
+        put_classes(out, row.classes.items())?;
+        out.push(' ')?;
+        put_quoted(out, row.object.bytes())?;
+        out.push(')')?;
+    }
+    Ok(())
+}

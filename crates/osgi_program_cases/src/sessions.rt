@@ -1,0 +1,75 @@
+//! Sessions as an answer tells them.
+
+use crate::commands::{put_command, put_op};
+use crate::replies::put_reply;
+use osgi_base::copied::Copied;
+use osgi_ops::entry::Entry;
+use osgi_ops::line::{Content, Line};
+use osgi_program::session::Session;
+use std::alloc::{AllocError, Global};
+use std::fmt::Write;
+
+/// More lines, or entries, are told by their number.
+const SHOWN: usize = 50;
+
+pub fn put_session(alloc: Global, out: &mut String, session: &Session) -> Result<(), AllocError> {
+    out.push_str(" | ")?;
+    put_lines(alloc, out, session.lines.items())?;
+    out.push_str(" | ")?;
+    put_entries(alloc, out, session.entries.items())?;
+    if session.handings > 0 {
+        write!(out, " | {} handings", session.handings)?;
+    }
+    if !equals_its_copy(alloc, session)? {
+        out.push_str(" | a copy differs")?;
+    }
+    Ok(())
+}
+
+/// Whether the session's lines and entries equal their copies.
+fn equals_its_copy(alloc: Global, session: &Session) -> Result<bool, AllocError> {
+    let lines = session.lines.copied(alloc)?;
+    let entries = session.entries.copied(alloc)?;
+    Ok(lines == session.lines && entries == session.entries)
+}
+
+fn put_lines(alloc: Global, out: &mut String, lines: &[Line]) -> Result<(), AllocError> {
+    if lines.is_empty() || lines.len() > SHOWN {
+        return write!(out, "{} lines", lines.len());
+    }
+    let mut separator = "";
+    for line in lines {
+        write!(out, "{separator}{}.{} ", line.lane, line.number)?;
+        put_content(alloc, out, &line.content)?;
+        separator = "; ";
+    }
+    Ok(())
+}
+
+fn put_content(alloc: Global, out: &mut String, content: &Content) -> Result<(), AllocError> {
+    match content {
+        Content::Empty => out.push_str("empty"),
+        Content::Join => out.push_str("join"),
+        Content::Bad => out.push_str("bad"),
+        Content::Run(command) => put_command(alloc, out, command),
+    }
+}
+
+fn put_entries(alloc: Global, out: &mut String, entries: &[Entry]) -> Result<(), AllocError> {
+    if entries.is_empty() || entries.len() > SHOWN {
+        return write!(out, "{} entries", entries.len());
+    }
+    let mut separator = "";
+    for entry in entries {
+        write!(
+            out,
+            "{separator}{}.{} ",
+            entry.tag.caller, entry.tag.command
+        )?;
+        put_op(alloc, out, &entry.op)?;
+        out.push_str(": ")?;
+        put_reply(out, &entry.reply)?;
+        separator = "; ";
+    }
+    Ok(())
+}
