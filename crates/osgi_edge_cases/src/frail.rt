@@ -4,16 +4,16 @@ use std::alloc::Global;
 use std::io;
 use std::io::{ErrorKind, Read, Write};
 
-/// A reader that gives the bytes 1, 2, 3 and so on, up to `last`. The read of the number `bad`, counted from 1, fails once.
+/// A reader that gives the letters `a`, `b`, `c` and so on, `last` of them. The read of the number `bad`, counted from 1, fails once.
 #[derive(Drop)]
 pub struct FrailReader {
     pub last: u8,
     pub given: u8,
-    pub reads: u32,
-    pub bad: u32,
+    pub reads: u64,
+    pub bad: u64,
 }
 
-pub fn reader(last: u8, bad: u32) -> FrailReader {
+pub fn reader(last: u8, bad: u64) -> FrailReader {
     FrailReader {
         last,
         given: 0,
@@ -32,7 +32,7 @@ impl Read for FrailReader {
             return Ok(0);
         }
         self.given += 1;
-        buf[0] = self.given;
+        buf[0] = b'`'.saturating_add(self.given);
         Ok(1)
     }
 }
@@ -42,14 +42,14 @@ impl Read for FrailReader {
 #[derive(Drop)]
 pub struct FrailWriter {
     pub taken: Vec<u8>,
-    pub writes: u32,
-    pub flushes: u32,
-    pub bad_write: u32,
-    pub bad_flush: u32,
-    pub full: u32,
+    pub writes: u64,
+    pub flushes: u64,
+    pub bad_write: u64,
+    pub bad_flush: u64,
+    pub full: u64,
 }
 
-pub fn writer(alloc: Global, bad_write: u32, bad_flush: u32, full: u32) -> FrailWriter {
+pub fn writer(alloc: Global, bad_write: u64, bad_flush: u64, full: u64) -> FrailWriter {
     FrailWriter {
         taken: Vec::new(alloc),
         writes: 0,

@@ -1,0 +1,49 @@
+//! Tries the ends of the program, shelves and the shared data on each line of standard input, and prints what came of it.
+//!
+//! A line is a case, and is printed again with its answer: `CASE => ANSWER`. An empty line, or one that begins with `#`, is
+//! printed as it is.
+//!
+//! | Case | What is tried |
+//! |---|---|
+//! | `std-sink BAD_WRITE BAD_FLUSH FULL STEP..` | a sink over a writer of one byte a call, of which one write and one flush fail, and which takes nothing from the write FULL on |
+//! | `vec-sink STEP..`, `memory-sink BAD STEP..` | a sink over a `Vec`, and one in memory of which one call fails |
+//! | `std-source LAST BAD STEP..` | a source over a reader of one byte a call, of LAST letters, of which one read fails |
+//! | `slice-source TEXT STEP..`, `memory-source TEXT BAD STEP..` | a source over a slice, and one in memory of which one read fails |
+//! | `long-source BYTES LIMIT` | so many bytes read to their end from a source over a slice |
+//! | `shelf BAD LOCATION..` | reads of a shelf with folders at `e`, `f` and again `f`, of which one read fails |
+//! | `folder BYTES FILES` | a read of a folder of so many files with so many bytes |
+//! | `order TEXT TEXT` | how two texts compare |
+//! | `copies` | whether values of each shared type equal their copies |
+//! | `gate` | a gate that holds nobody |
+//!
+//! Calls are counted from 1, and 0 is none of them. A step of a sink is `=TEXT`, one write; `+TEXT`, a text written whole; `.`, a
+//! flush. A step of a source is `=COUNT`, one read of at most so many bytes; `+LIMIT`, all bytes up to a limit.
+#![tactic(auto)]
+
+mod cases;
+mod copies;
+mod frail;
+mod shelves;
+mod sinks;
+mod sources;
+mod tree;
+
+use osgi_outside::gate::{Gate, OpenGate, Point};
+use std::io;
+
+fn main(rt: HostRuntime) -> io::Result<()> {
+    for line in rt.lines(rt.alloc()) {
+        let line = line?;
+        let case = line.as_str();
+        if case.is_empty() || case.starts_with('#') {
+            println!(rt; "{case}")?;
+        } else if case == "gate" {
+            OpenGate.at(&rt, 1, Point::BeforeCall);
+            println!(rt; "{case} => passed")?;
+        } else {
+            let answer = cases::answer(rt.alloc(), case)?;
+            println!(rt; "{case} => {answer}")?;
+        }
+    }
+    Ok(())
+}

@@ -1,0 +1,87 @@
+//! A shelf in memory: what it finds, what is too large, and what fails.
+
+use crate::cases::split_number;
+use osgi_base::folder::{File, Folder};
+use osgi_base::list::List;
+use osgi_base::text::Text;
+use osgi_outside::memory_shelf::MemoryShelf;
+use osgi_outside::shelf::{Found, Shelf};
+use std::alloc::{AllocError, Global};
+use std::fmt::Write;
+
+/// A file of so many bytes.
+fn file(alloc: Global, count: u64) -> Result<File, AllocError> {
+    Ok(File {
+        path: Text::of(alloc, b"data")?,
+        bytes: Text::from(vec![in alloc; b'x'; count as usize]?),
+    })
+}
+
+/// A folder of so many files, of which the first has so many bytes and the others none.
+fn folder(alloc: Global, bytes: u64, files: u64) -> Result<Folder, AllocError> {
+    let mut all = List::new(alloc)?;
+    for at in 0..files {
+        all.push(file(alloc, if at == 0 { bytes } else { 0 })?)?;
+    }
+    Ok(Folder { files: all })
+}
+
+/// Folders of one file at `e`, `f` and again `f`, of 1, 2 and 3 bytes.
+fn rows(alloc: Global) -> Result<Vec<(Text, Folder)>, AllocError> {
+    let mut rows = Vec::new(alloc);
+    for (location, bytes) in [(b"e", 1), (b"f", 2), (b"f", 3)] {
+        rows.push((Text::of(alloc, location)?, folder(alloc, bytes, 1)?))?;
+    }
+    Ok(rows)
+}
+
+/// Reads a location, and tells what stands there: of a folder its files, and the bytes of the first.
+fn put_read(
+    alloc: Global,
+    out: &mut String,
+    shelf: &mut MemoryShelf,
+    location: &str,
+) -> Result<(), AllocError> {
+    let location = Text::of(alloc, location.as_bytes())?;
+    match shelf.read(alloc, &location)? {
+        Found::Folder(folder) => put_folder(out, folder.files.items()),
+        Found::NoFolder => out.push_str("no folder, "),
+        Found::TooLarge { bytes, files } => {
+            write!(out, "too large: {files} files, {bytes} bytes, ")
+        }
+        Found::Failed => out.push_str("failed, "),
+    }
+}
+
+fn put_folder(out: &mut String, files: &[File]) -> Result<(), AllocError> {
+    match files.first() {
+        None => out.push_str("no file, "),
+        Some(first) => {
+            let bytes = first.bytes.bytes().len();
+            write!(out, "{} files, {bytes} bytes in the first, ", files.len())
+        }
+    }
+}
+
+pub fn read_each(alloc: Global, line: &str) -> Result<String, AllocError> {
+    let (bad, locations) = split_number(line);
+    let mut out = String::new(alloc);
+    let mut shelf = MemoryShelf::new(rows(alloc)?, vec![in alloc; bad]?);
+    for location in locations.split_whitespace() {
+        put_read(alloc, &mut out, &mut shelf, location)?;
+    }
+    write!(out, "faults {}", shelf.count())?;
+    Ok(out)
+}
+
+pub fn read_folder(alloc: Global, line: &str) -> Result<String, AllocError> {
+    let (bytes, rest) = split_number(line);
+    let (files, _) = split_number(rest);
+    let mut out = String::new(alloc);
+    let mut rows = Vec::new(alloc);
+    rows.push((Text::of(alloc, b"f")?, folder(alloc, bytes, files)?))?;
+    let mut shelf = MemoryShelf::new(rows, Vec::new(alloc));
+    put_read(alloc, &mut out, &mut shelf, "f")?;
+    write!(out, "faults {}", shelf.count())?;
+    Ok(out)
+}
