@@ -65,7 +65,7 @@ fn split_commas<'a>(alloc: Global, word: &'a [u8]) -> Result<Vec<&'a [u8]>, Allo
 fn texts(alloc: Global, names: &[&[u8]]) -> Result<List<Text>, AllocError>
     ensures texts { IfOk result (λ texts. texts ≡ texts_of names.now) }
 {
-    let mut texts = List::new(alloc)?;
+    let mut texts = List::with_capacity(alloc, names.len())?;
     for name in names {
         texts.push(Text::of(alloc, name)?)?;
     }

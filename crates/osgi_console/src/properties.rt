@@ -79,7 +79,7 @@ fn property(alloc: Global, word: &[u8]) -> Result<Option<Attribute>, AllocError>
 pub fn properties(alloc: Global, words: &[&[u8]]) -> Result<Option<Attributes>, AllocError>
     ensures properties { IfOk result (λ properties. properties ≡ properties_of (texts_of words.now)) }
 {
-    let mut properties = List::new(alloc)?;
+    let mut properties = List::with_capacity(alloc, words.len())?;
     for word in words {
         let Some(property) = property(alloc, word)? else {
             return Ok(None);

@@ -29,7 +29,7 @@ fn unquote<'a>(alloc: Global, quoted: &'a [u8]) -> Result<Option<(Text, &'a [u8]
             escaped = false;
         } else if *b == b'"' {
             let (_, left) = quoted.split_at(at + 1);
-            return Ok(Some((Text::from(text), left)));
+            return Ok(Some((Text::from_vec(alloc, text)?, left)));
         } else if *b == b'\\' {
             escaped = true;
         } else {

@@ -251,5 +251,5 @@ pub fn render(alloc: Global, lines: &[Line], entries: &[Entry]) -> Result<Text, 
     for line in lines {
         add_line(&mut out, line, &texts)?;
     }
-    Ok(Text::from(out))
+    Text::from_vec(alloc, out)
 }

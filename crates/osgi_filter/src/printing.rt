@@ -114,5 +114,6 @@ pub fn print(alloc: Global, filter: &Filter) -> Result<Text, AllocError>
 {
     let mut out = Vec::new(alloc);
     print_filter(&mut out, filter)?;
-    Ok(Text::from(out))
+    let text = Text::from_vec(alloc, out)?;
+    Ok(text)
 }

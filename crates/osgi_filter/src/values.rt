@@ -46,7 +46,7 @@ fn escaped_at<'a>(
         } else if *b == b'\\' {
             escaped = true;
         } else {
-            return Ok((Text::from(piece), rest));
+            return Ok((Text::from_vec(alloc, piece)?, rest));
         }
         rest = behind;
     }

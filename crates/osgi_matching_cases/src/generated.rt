@@ -65,7 +65,7 @@ impl Generator {
         for _ in 0..self.below(bound) {
             letters.push(if self.below(2) == 0 { b'a' } else { b'b' })?;
         }
-        Ok(Text::from(letters))
+        Text::from_vec(self.alloc, letters)
     }
 
     fn any_text(&mut self) -> Result<Text, AllocError> {

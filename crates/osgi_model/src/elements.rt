@@ -30,7 +30,7 @@ pub fn elements(alloc: Global, text: &[u8]) -> Result<List<Text>, AllocError>
             push_escaped(&mut element, *b)?;
             escaped = false;
         } else if *b == b',' {
-            elements.push(Text::from(element))?;
+            elements.push(Text::from_vec(alloc, element)?)?;
             element = Vec::new(alloc);
         } else if *b == b'\\' {
             escaped = true;
@@ -41,6 +41,6 @@ pub fn elements(alloc: Global, text: &[u8]) -> Result<List<Text>, AllocError>
     if escaped {
         element.push(b'\\')?;
     }
-    elements.push(Text::from(element))?;
+    elements.push(Text::from_vec(alloc, element)?)?;
     Ok(elements)
 }

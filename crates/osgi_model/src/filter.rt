@@ -72,7 +72,7 @@ impl Filter {
 fn copy_all(filters: &[Filter], alloc: Global) -> Result<List<Filter>, AllocError>
     ensures same { IfOk result (λ copies. copies ≡ filters.now) }
 {
-    let mut copies = List::new(alloc)?;
+    let mut copies = List::with_capacity(alloc, filters.len())?;
     for filter in filters {
         copies.push(filter.copy(alloc)?)?;
     }

@@ -65,7 +65,7 @@ fn scalar_values(
 ) -> Result<Option<List<Value>>, AllocError>
     ensures values { IfOk result (λ values. values ≡ scalars_of scalar texts.now) }
 {
-    let mut values = List::new(alloc)?;
+    let mut values = List::with_capacity(alloc, texts.len())?;
     for text in texts {
         let Some(value) = scalar_value(alloc, scalar, text.bytes())? else {
             return Ok(None);

@@ -36,7 +36,7 @@ impl Value {
 fn copy_all(values: &[Value], alloc: Global) -> Result<List<Value>, AllocError>
     ensures same { IfOk result (λ copies. copies ≡ values.now) }
 {
-    let mut copies = List::new(alloc)?;
+    let mut copies = List::with_capacity(alloc, values.len())?;
     for value in values {
         copies.push(value.copy(alloc)?)?;
     }

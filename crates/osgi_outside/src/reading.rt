@@ -31,7 +31,7 @@ pub fn read_all<S: Source>(alloc: Global, source: &mut S, limit: usize) -> Resul
     while all.len() <= limit {
         match source.read(&mut piece) {
             Err(_) => return Ok(Input::Failed),
-            Ok(0) => return Ok(Input::All(Text::from(all))),
+            Ok(0) => return Ok(Input::All(Text::from_vec(alloc, all)?)),
             Ok(count) => all.extend_from_slice(&piece[..count])?,
         }
     }

@@ -54,7 +54,9 @@ impl Qualifier {
     pub fn copy(&self, alloc: Global) -> Result<Qualifier, AllocError>
         ensures same { IfOk result (λ copy. copy ≡ self.now) }
     {
-        Qualifier::of(alloc, self.bytes())
+        Ok(Qualifier {
+            bytes: self.bytes.copy(alloc)?,
+        })
     }
 }
 
