@@ -9,3 +9,4 @@ pub mod LongReader
 pub mod VersionReader
 pub mod ValueReader
 pub mod MatchReader
+pub mod Comparing

@@ -1,15 +1,19 @@
 //! The values of properties, and properties by name.
 
-ghost use Rattle.std.specs.Prelude.{◌≡◌, IfOk};
+ghost use Rattle.std.specs.Prelude.{◌≡◌, ◌↔◌, IfOk, IsTrue, map};
+ghost use Rattle.std.specs.Cmp.{partial_equiv_from_equiv};
+ghost use Rattle.osgi_base.specs.Exact.{exact_equivalence};
+ghost use Rattle.osgi_model.specs.Comparing.{each_passes, exact_attribute, exact_value, value_eq};
 
 use osgi_base::copied::Copied;
+use osgi_base::exact::ExactEq;
 use osgi_base::list::List;
 use osgi_base::text::Text;
 use osgi_version::version::Version;
 use std::alloc::{AllocError, Global};
 
 /// A value of a property or of an attribute.
-#[derive(Debug, Drop, PartialEq, Eq)]
+#[derive(Debug, Drop)]
 pub enum Value {
     Text(Text),
     Long(i64),
@@ -49,6 +53,46 @@ impl Copied for Value {
     }
 }
 
+impl PartialEq for Value {
+    ghost eq = { value_eq };
+
+    ghost laws = { partial_equiv_from_equiv (exact_equivalence value_eq exact_value) };
+
+    #[cycle(eq)]
+    fn eq(&self, other: &Value) -> bool {
+        match (self, other) {
+            (Value::Text(one), Value::Text(other)) => one == other,
+            (Value::Long(one), Value::Long(other)) => one == other,
+            (Value::Version(one), Value::Version(other)) => one == other,
+            (Value::List(one), Value::List(other)) => are_equal(one.items(), other.items()),
+            _ => false,
+        }
+    }
+}
+
+/// Whether there are as many values in one as in the other, and each equals that at its place.
+#[cycle(eq)]
+fn are_equal(ones: &[Value], others: &[Value]) -> bool
+    ensures each { result ≡ each_passes (map value_eq ones.now) others.now }
+{
+    let mut left = others;
+    for one in ones {
+        match left.split_first() {
+            Some((other, rest)) if *one == *other => left = rest,
+            _ => return false,
+        }
+    }
+    left.is_empty()
+}
+
+impl Eq for Value {
+    ghost laws = { exact_equivalence value_eq exact_value };
+}
+
+impl ExactEq for Value {
+    ghost exact = { exact_value };
+}
+
 /// A property, or an attribute of a capability: a name and its value.
 #[derive(Debug, Drop, PartialEq, Eq)]
 pub struct Attribute {
@@ -71,6 +115,10 @@ impl Copied for Attribute {
     fn copied(&self, alloc: Global) -> Result<Attribute, AllocError> {
         self.copy(alloc)
     }
+}
+
+impl ExactEq for Attribute {
+    ghost exact = { exact_attribute };
 }
 
 /// Attributes in the order in which they were given.

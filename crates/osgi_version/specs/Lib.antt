@@ -1,6 +1,7 @@
 -- The grammars of versions and ranges with their values and faults, and the machines that read them.
 pub mod Bytes
 pub mod Classes
+pub mod Comparing
 pub mod Faults
 pub mod FoundParts
 pub mod Places

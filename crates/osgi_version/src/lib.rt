@@ -7,6 +7,7 @@
 
 mod bounds;
 mod bytes;
+mod comparing;
 pub mod examine;
 pub mod fault;
 mod printing;

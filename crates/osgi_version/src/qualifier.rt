@@ -1,14 +1,15 @@
 //! Qualifiers of versions. Contracts see one as the list of its bytes.
 
-ghost use Rattle.std.specs.Prelude.{◌≡◌, ◌==◌, IfOk};
+ghost use Rattle.std.specs.Prelude.{◌≡◌, ◌==◌, ◌↔◌, IfOk, IsTrue};
 ghost use Rattle.std.proofs.Common.{rules};
 ghost use Rattle.std.specs.Cmp.{partial_order_from_own_ties};
-ghost use Rattle.std.specs.Cmp.Lexicographic.{slice_cmp, pointwise};
+ghost use Rattle.std.specs.Cmp.Lexicographic.{slice_cmp, pointwise, bytes_decides};
 ghost use Rattle.std.specs.Cmp.Rules.{comparing};
 ghost use Rattle.std.specs.Ordering.{nat_cmp, as_partial_cmp};
 ghost use Rattle.osgi_version.specs.Bytes.{Each, IsWordByte};
 
 use osgi_base::copied::Copied;
+use osgi_base::exact::ExactEq;
 use osgi_base::text::Text;
 use std::alloc::{AllocError, Global};
 use std::cmp::Ordering;
@@ -71,13 +72,20 @@ impl PartialEq for Qualifier {
 
     ghost laws = { Prim.search (comparing, rules) };
 
-    fn eq(&self, other: &Qualifier) -> bool {
+    fn eq(&self, other: &Qualifier) -> bool
+        ensures bytes { result ≡ pointwise ◌==◌ self.now other.now }
+        ensures same { IsTrue result ↔ self.now ≡ other.now }
+    {
         self.bytes() == other.bytes()
     }
 }
 
 impl Eq for Qualifier {
     ghost laws = { Prim.search (comparing, rules) };
+}
+
+impl ExactEq for Qualifier {
+    ghost exact = { bytes_decides };
 }
 
 impl PartialOrd for Qualifier {

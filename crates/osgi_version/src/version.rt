@@ -11,7 +11,7 @@ use std::alloc::{AllocError, Global};
 use std::cmp::Ordering;
 
 /// A version. Versions are ordered by their numbers, then by the qualifiers' bytes.
-#[derive(Debug, Drop, PartialEq, Eq, PartialOrd, Ord)]
+#[derive(Debug, Drop)]
 pub struct Version {
     pub major: u32,
     pub minor: u32,
@@ -64,7 +64,19 @@ impl Version {
         }
     }
 
-    fn order(&self, other: &Found) -> Ordering
+    /// What it says, as if it stood in a text.
+    pub(crate) fn found(&self) -> Found<'_>
+        ensures parts { found_parts result ≡ parts self.now }
+    {
+        Found {
+            major: self.major,
+            minor: self.minor,
+            micro: self.micro,
+            qualifier: self.qualifier.bytes(),
+        }
+    }
+
+    pub(crate) fn order(&self, other: &Found) -> Ordering
         ensures order { result ≡ order (parts self.now) (found_parts other.now) }
     {
         let by_micro = self.micro.cmp(&other.micro);
