@@ -13,10 +13,15 @@ use std::marker::Model;
 
 /// A service, and how often each user holds it.
 ///
-/// The service stands behind a pointer, so that the nodes of a tree of these stay small.
+/// Both stand behind one pointer, so that the nodes of a tree of these stay small: a look-up goes through few of them.
 #[derive(Drop)]
 pub struct Held {
-    service: Box<Service>,
+    inner: Box<Used>,
+}
+
+#[derive(Drop)]
+struct Used {
+    service: Service,
     uses: Uses,
 }
 
@@ -29,7 +34,7 @@ impl Model for Held {
 
     ghost coded = { Prim.hlevel (codes, value.the_row.coded) };
 
-    ghost view = { λ h. record { service = h.service.value; uses = h.uses } };
+    ghost view = { λ h. record { service = h.inner.value.service; uses = h.inner.value.uses } };
 }
 
 impl Held {
@@ -37,23 +42,23 @@ impl Held {
     pub fn new(alloc: Global, service: Service) -> Result<Held, AllocError>
         ensures service { IfOk result (λ held. held ≡ record { service = service; uses = [] }) }
     {
+        let uses = Uses::new(alloc);
         Ok(Held {
-            service: Box::new(alloc, service)?,
-            uses: Uses::new(alloc),
+            inner: Box::new(alloc, Used { service, uses })?,
         })
     }
 
     pub fn service(&self) -> &Service
         ensures service { result.now ≡ self.now.service }
     {
-        &self.service
+        &self.inner.service
     }
 
     /// Puts these properties in place of the service's.
     pub fn set_properties(&mut self, properties: Attributes)
         ensures set { self.new ≡ record self.old { service = record self.old.service { properties = properties } } }
     {
-        self.service.properties = properties;
+        self.inner.service.properties = properties;
     }
 
     /// Counts one more use by the user.
@@ -63,7 +68,7 @@ impl Held {
         ensures used { OnOk result (self.new ≡ used_more user self.old) }
         ensures unchanged { OnErr result (self.new ≡ self.old) }
     {
-        self.uses.add(user)
+        self.inner.uses.add(user)
     }
 
     /// Counts one use less by the user, and answers whether there was one.
@@ -73,13 +78,13 @@ impl Held {
         ensures used { OnTrue result (self.new ≡ used_less user self.old) }
         ensures unchanged { OnFalse result (self.new ≡ self.old) }
     {
-        self.uses.take(user)
+        self.inner.uses.take(user)
     }
 
     /// Forgets the uses by the user.
     pub fn forget(&mut self, user: BundleId)
         ensures forgotten { self.new ≡ without_user user self.old }
     {
-        self.uses.forget(user);
+        self.inner.uses.forget(user);
     }
 }

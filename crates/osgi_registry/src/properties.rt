@@ -1,6 +1,6 @@
 //! What the framework reads in the properties of services, and what it sets in them.
 
-ghost use Rattle.std.specs.Prelude.{◌≡◌, ◌≤◌, IfOk, OnOk, [], ◌∷◌, ◌++◌, filter, map, not, pos};
+ghost use Rattle.std.specs.Prelude.{◌≡◌, ◌≤◌, IfOk, OnOk, [], ◌∷◌, ◌++◌, codes, filter, map, not, pos};
 ghost use Rattle.std.specs.List.{list_any};
 ghost use Rattle.std.specs.Option.{option_copied};
 ghost use Rattle.osgi_ops.specs.Properties as spec;
@@ -86,59 +86,82 @@ fn is_the_frameworks(property: &Attribute) -> bool
         || is_named(b"service.scope", property)
 }
 
-/// The given properties, then those that the framework sets; given ones of the framework's names are left out.
-pub fn with_framework(
-    alloc: Global,
-    given: &[Attribute],
-    classes: &[Text],
-    service: ServiceId,
-    owner: BundleId,
-) -> Result<Attributes, AllocError>
-    requires fits { service.0 ≤ 4294967295 }
-    ensures all { IfOk result (λ all. all ≡ spec.with_framework given.now classes.now service owner) }
-{
-    let mut all = others(alloc, given)?;
-    let names = class_names(alloc, classes)?;
-    add(&mut all, alloc, b"objectClass", names)?;
-    add(&mut all, alloc, b"service.id", id_value(service.0))?;
-    add(
-        &mut all,
-        alloc,
-        b"service.bundleid",
-        id_value(owner.0 as u64),
-    )?;
-    let scope = Value::Text(Text::of(alloc, b"singleton")?);
-    add(&mut all, alloc, b"service.scope", scope)?;
-    Ok(all)
+/// The names of the properties that the framework sets, and the one scope of services. They are made once, and all services
+/// share them.
+#[derive(Drop)]
+pub struct FrameworkTexts {
+    object_class: Text,
+    service_id: Text,
+    service_bundleid: Text,
+    service_scope: Text,
+    singleton: Text,
+    ghost classes_name: { object_class ≡ codes "objectClass" },
+    ghost ids_name: { service_id ≡ codes "service.id" },
+    ghost owners_name: { service_bundleid ≡ codes "service.bundleid" },
+    ghost scopes_name: { service_scope ≡ codes "service.scope" },
+    ghost scope: { singleton ≡ codes "singleton" },
 }
+
+impl FrameworkTexts {
+    pub fn new(alloc: Global) -> Result<FrameworkTexts, AllocError> {
+        Ok(FrameworkTexts {
+            object_class: Text::of(alloc, b"objectClass")?,
+            service_id: Text::of(alloc, b"service.id")?,
+            service_bundleid: Text::of(alloc, b"service.bundleid")?,
+            service_scope: Text::of(alloc, b"service.scope")?,
+            singleton: Text::of(alloc, b"singleton")?,
+        })
+    }
+
+    /// The given properties, then those that the framework sets; given ones of the framework's names are left out.
+    pub fn with_framework(
+        &self,
+        alloc: Global,
+        given: Attributes,
+        classes: &[Text],
+        service: ServiceId,
+        owner: BundleId,
+    ) -> Result<Attributes, AllocError>
+        requires fits { service.0 ≤ 4294967295 }
+        ensures all { IfOk result (λ all. all ≡ spec.with_framework given classes.now service owner) }
+    {
+        let mut all = others(given)?;
+        let names = class_names(alloc, classes)?;
+        add(&mut all, alloc, &self.object_class, names)?;
+        add(&mut all, alloc, &self.service_id, id_value(service.0))?;
+        add(
+            &mut all,
+            alloc,
+            &self.service_bundleid,
+            id_value(owner.0 as u64),
+        )?;
+        let scope = Value::Text(self.singleton.copy(alloc)?);
+        add(&mut all, alloc, &self.service_scope, scope)?;
+        Ok(all)
+    }
+}
+
+/// How many properties the framework sets.
+const OWN_PROPERTIES: usize = 4;
 
 /// Adds a property.
-fn add(all: &mut Attributes, alloc: Global, name: &[u8], value: Value) -> Result<(), AllocError>
+fn add(all: &mut Attributes, alloc: Global, name: &Text, value: Value) -> Result<(), AllocError>
     ensures added { OnOk result (all.new ≡ all.old ++ spec.property name.now value ∷ []) }
 {
-    all.push(property(alloc, name, value)?)
-}
-
-/// Copies of the properties whose names are not the framework's.
-fn others(alloc: Global, given: &[Attribute]) -> Result<Attributes, AllocError>
-    ensures others { IfOk result (λ others. others ≡ filter (λ p. not (spec.is_the_frameworks p)) given.now) }
-{
-    let mut others = List::new(alloc)?;
-    for property in given {
-        if !is_the_frameworks(property) {
-            others.push(property.copy(alloc)?)?;
-        }
-    }
-    Ok(others)
-}
-
-fn property(alloc: Global, name: &[u8], value: Value) -> Result<Attribute, AllocError>
-    ensures property { IfOk result (λ property. property ≡ spec.property name.now value) }
-{
-    Ok(Attribute {
-        name: Text::of(alloc, name)?,
+    all.push(Attribute {
+        name: name.copy(alloc)?,
         value,
     })
+}
+
+/// The properties whose names are not the framework's, with room for those that are.
+fn others(given: Attributes) -> Result<Attributes, AllocError>
+    ensures others { IfOk result (λ others. others ≡ filter (λ p. not (spec.is_the_frameworks p)) given) }
+{
+    let mut others = given.into_items();
+    others.retain(|property| !is_the_frameworks(property));
+    others.reserve_exact(OWN_PROPERTIES)?;
+    Ok(List::from(others))
 }
 
 /// An id as a value.
@@ -153,7 +176,7 @@ fn id_value(id: u64) -> Value
 fn class_names(alloc: Global, classes: &[Text]) -> Result<Value, AllocError>
     ensures names { IfOk result (λ names. names ≡ Value.List (map Value.Text classes.now)) }
 {
-    let mut names = List::new(alloc)?;
+    let mut names = List::with_capacity(alloc, classes.len())?;
     for class in classes {
         names.push(Value::Text(class.copy(alloc)?))?;
     }

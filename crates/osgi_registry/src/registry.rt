@@ -18,7 +18,7 @@ use crate::class_index::ClassIndex;
 use crate::finding::{all_fit, all_of, first_open};
 use crate::held::Held;
 use crate::place::Place;
-use crate::properties::{has_twins, with_framework};
+use crate::properties::{FrameworkTexts, has_twins};
 use crate::services::Services;
 use osgi_base::ids::{BundleId, ServiceId};
 use osgi_base::list::List;
@@ -38,6 +38,7 @@ const MOST_SERVICES: usize = 65_536;
 #[derive(Drop)]
 pub struct Registry {
     alloc: Global,
+    texts: FrameworkTexts,
     services: BTreeMap<u64, Held>,
     index: ClassIndex,
     given: u64,
@@ -66,6 +67,7 @@ impl Registry {
     {
         Ok(Registry {
             alloc,
+            texts: FrameworkTexts::new(alloc)?,
             services: BTreeMap::new(alloc),
             index: ClassIndex::new(alloc),
             given: 0,
@@ -126,13 +128,9 @@ impl Registry {
             }));
         }
         let service = ServiceId(self.given + 1);
-        let properties = with_framework(
-            self.alloc,
-            properties.items(),
-            classes.items(),
-            service,
-            owner,
-        )?;
+        let properties = self
+            .texts
+            .with_framework(self.alloc, properties, classes.items(), service, owner)?;
         self.add(Service {
             service,
             owner,
@@ -203,9 +201,9 @@ impl Registry {
             return Ok(Err(Refusal::NoSuchService));
         };
         let now = held.service();
-        let all = with_framework(
+        let all = self.texts.with_framework(
             self.alloc,
-            properties.items(),
+            properties,
             now.classes.items(),
             now.service,
             now.owner,

@@ -39,7 +39,7 @@ returns-in_err-all-clause-unchanged c =
 
 pub move_all-requires-clause-stands : goal.move_all-requires-clause-stands
 move_all-requires-clause-stands c =
-    rw (c.items-5.ensures.items, c.of.ensures.place, c.service-now.ensures.service)
+    rw (c.items-4.ensures.items, c.of.ensures.place, c.service-now.ensures.service)
     (stands c.self.inside.index.classes c.args.service.0 c.in-Some-get_mut.held.now c.self.inside.services.entries c.self.invariant.index (found_by c.args.service.0 _ _ c.in-Some-get_mut.ensures.value))
 
 pub move_all-requires-clause-fresh : goal.move_all-requires-clause-fresh
@@ -74,17 +74,17 @@ invariant_of-self-2 c =
     let found : lookup (nat_eq c.args.service.0) c.self.inside.services.entries ≡ Some row = found_by c.args.service.0 _ _ c.in-Some-get_mut.ensures.value in
     let key : c.args.service.0 ≡ id_of row = (found_under _ _ _ _ c.self.invariant.rows.under found).key in
     let is : with_properties c.args.properties row ≡ c.set_properties.new.self
-    = rw (c.set_properties.ensures.set, c.in_ok-all.ensures.all, c.items-2.ensures.items, c.items-3.ensures.items, c.service-now.ensures.service) refl in
-    let among : c.items-5.result.now ≡ row.service.classes = c.items-5.ensures.items ∙ ap (λ s. s.classes) c.service-now.ensures.service in
+    = rw (c.set_properties.ensures.set, c.in_ok-all.ensures.all, c.items-2.ensures.items, c.service-now.ensures.service) refl in
+    let among : c.items-4.result.now ≡ row.service.classes = c.items-4.ensures.items ∙ ap (λ s. s.classes) c.service-now.ensures.service in
     let from : c.of.result ≡ place_of row.service = c.of.ensures.place ∙ ap place_of c.service-now.ensures.service in
     let to : c.new-place.result ≡ place_of (with_properties c.args.properties row).service
     = rw
-    (c.new-place.ensures.place, c.items-4.ensures.items, c.in_ok-all.ensures.all, c.items-2.ensures.items, c.items-3.ensures.items, c.service-now.ensures.service)
+    (c.new-place.ensures.place, c.items-3.ensures.items, c.in_ok-all.ensures.all, c.items-2.ensures.items, c.service-now.ensures.service)
     refl in
     let moved : Moves old new row.service.classes (place_of row.service) (place_of (with_properties c.args.properties row).service)
     = subst (λ l. Moves old new l (place_of row.service) (place_of (with_properties c.args.properties row).service)) among
-    (subst (λ q. Moves old new c.items-5.result.now q (place_of (with_properties c.args.properties row).service)) from
-    (subst (λ q. Moves old new c.items-5.result.now c.of.result q) to c.in_ok-move_all.ensures.moved)) in
+    (subst (λ q. Moves old new c.items-4.result.now q (place_of (with_properties c.args.properties row).service)) from
+    (subst (λ q. Moves old new c.items-4.result.now c.of.result q) to c.in_ok-move_all.ensures.moved)) in
     let rows = c.self.invariant.rows in
     rw (set_by c.args.service.0 _ _ _ (c.get_mut.follows.holds c.set_properties.new.self).0)
     (record {
@@ -99,7 +99,7 @@ invariant_of-self-2 c =
 pub returns-clause-rows : goal.returns-clause-rows
 returns-clause-rows c =
     let is : with_properties c.args.properties c.in-Some-get_mut.held.now ≡ c.set_properties.new.self
-    = rw (c.set_properties.ensures.set, c.in_ok-all.ensures.all, c.items-2.ensures.items, c.items-3.ensures.items, c.service-now.ensures.service) refl in
+    = rw (c.set_properties.ensures.set, c.in_ok-all.ensures.all, c.items-2.ensures.items, c.service-now.ensures.service) refl in
     rw (set_by c.args.service.0 _ _ _ (c.get_mut.follows.holds c.set_properties.new.self).0, ← c.self.view_is)
     (rows_set _ c.args.service c.in-Some-get_mut.held.now c.set_properties.new.self (with_properties c.args.properties) _ c.self.invariant.rows.under c.self.invariant.rows.rising is (found_by c.args.service.0 _ _ c.in-Some-get_mut.ensures.value))
 

@@ -1,6 +1,6 @@
 -- Four pushes, one after another.
 use Rattle.osgi_registry.proofs.Pushes.{four_pushes}
-use Rattle.osgi_registry.proofs.properties.with_framework.Goals as goal
+use Rattle.osgi_registry.proofs.properties.FrameworkTexts.with_framework.Goals as goal
 
 pub returns : goal.returns
 returns c = record {
@@ -10,7 +10,12 @@ returns c = record {
         c.in_ok-add-3.ensures.added,
         c.in_ok-add-2.ensures.added,
         c.in_ok-add.ensures.added,
-        c.in_ok-of.ensures.bytes,
+        c.in_ok-copy.ensures.same,
+        c.args.self.now.classes_name,
+        c.args.self.now.ids_name,
+        c.args.self.now.owners_name,
+        c.args.self.now.scopes_name,
+        c.args.self.now.scope,
         c.id_value.ensures.value,
         c.id_value-2.ensures.value,
         c.in_ok-names.ensures.names,
