@@ -13,7 +13,7 @@ use std::fmt::Write;
 fn file(alloc: Global, count: u64) -> Result<File, AllocError> {
     Ok(File {
         path: Text::of(alloc, b"data")?,
-        bytes: Text::from(vec![in alloc; b'x'; count as usize]?),
+        bytes: Text::from_vec(alloc, vec![in alloc; b'x'; count as usize]?)?,
     })
 }
 

@@ -71,7 +71,7 @@ fn words_of(alloc: Global, text: &str) -> Result<Vec<Text>, AllocError> {
     let mut words = Vec::new(alloc);
     for word in text.split_whitespace() {
         let spelled = if word == "''" { "" } else { word };
-        words.push(Text::from(bytes_of(alloc, spelled.as_bytes())?))?;
+        words.push(Text::from_vec(alloc, bytes_of(alloc, spelled.as_bytes())?)?)?;
     }
     Ok(words)
 }

@@ -18,7 +18,7 @@ fn attribute(alloc: Global, text: &str) -> Result<Option<Attribute>, AllocError>
     let Some(value) = value_of(alloc, kind, text)? else {
         return Ok(None);
     };
-    let name = Text::from(bytes_of(alloc, name)?);
+    let name = Text::from_vec(alloc, bytes_of(alloc, name)?)?;
     Ok(Some(Attribute { name, value }))
 }
 
