@@ -1,0 +1,10 @@
+//! The hall: a ticket lock round one machine, with the history of all that its callers had the machine do. A caller calls with
+//! its pass; a call waits for its turn, has the machine do one operation, and learns the history so far.
+#![tactic(auto)]
+
+mod board;
+pub mod entry;
+pub mod hall;
+pub mod machine;
+pub mod pass;
+mod steps;

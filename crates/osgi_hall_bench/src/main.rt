@@ -1,0 +1,86 @@
+//! Has a counter called by many threads, for the measurements under `bench/`.
+//!
+//!     osgi_hall_bench hall|mutex CALLERS CALLS
+//!
+//! Each of CALLERS threads makes CALLS calls that add 1, through a hall or under a mutex. A line is printed before the first call
+//! and one after the last: the clock is whoever reads them. Then every answer is compared with the history.
+#![tactic(auto)]
+
+use anyhow::{Result, bail};
+use osgi_base::ids::Tag;
+use osgi_hall::machine::Machine;
+use osgi_hall_tests::counter::{Answer, Counter};
+use osgi_hall_tests::crowd::{Crowd, Start, Told, run};
+use std::alloc::{AllocError, Global};
+use std::env;
+use std::sync::{Mutex, Wait};
+use std::thread::{Threads, map_indices};
+
+/// As many threads as a run may have.
+const MOST_CALLERS: u32 = 64;
+
+/// So many calls of one caller, each under the mutex. It ends early where there is no memory.
+fn lock_often<R: Wait>(
+    rt: &R,
+    alloc: Global,
+    counter: &Mutex<Counter>,
+    caller: u32,
+    calls: u32,
+) -> Told {
+    let mut totals = Vec::new(alloc);
+    for command in 0..calls {
+        let answer = counter.lock(rt).apply(Tag { caller, command }, 1);
+        let Ok(Answer::Total(total)) = answer else {
+            break;
+        };
+        if totals.push(total).is_err() {
+            break;
+        }
+    }
+    Told { caller, totals }
+}
+
+/// The same calls as `crowd::run` makes, under a mutex.
+fn run_mutex<R: Threads + Wait + Sync>(
+    rt: &R,
+    alloc: Global,
+    callers: u32,
+    calls: u32,
+) -> Result<Crowd, AllocError> {
+    let counter = Mutex::new(Counter::new(alloc, u64::MAX));
+    let told = map_indices(
+        rt,
+        alloc,
+        callers as usize,
+        &|caller| { lock_often(rt, alloc, &counter, caller as u32, calls) },
+    )?;
+    Ok(Crowd {
+        counter: counter.into_inner(),
+        told,
+    })
+}
+
+fn main(rt: HostRuntime) -> Result<()> {
+    let words: Vec<_> = env::args(&rt)?.skip(1).collect(rt.alloc())?;
+    let [what, callers, calls] = words.as_slice() else {
+        bail!("takes hall or mutex, CALLERS and CALLS");
+    };
+    let callers: u32 = callers.parse()?;
+    let calls: u32 = calls.parse()?;
+    if callers > MOST_CALLERS {
+        bail!("more than {MOST_CALLERS} callers");
+    }
+    println!(rt; "begin")?;
+    let crowd = match what.as_str() {
+        "hall" => run(&rt, rt.alloc(), callers, calls)?,
+        "mutex" => run_mutex(&rt, rt.alloc(), callers, calls)?,
+        _ => bail!("takes hall or mutex, CALLERS and CALLS"),
+    };
+    let made = u64::from(callers) * u64::from(calls);
+    println!(rt; "{made} calls")?;
+    if crowd.counter.length() != made || !crowd.is_told_right() {
+        bail!("the answers are not those of the history");
+    }
+    println!(rt; "each answered as the history says")?;
+    Ok(())
+}

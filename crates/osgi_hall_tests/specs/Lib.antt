@@ -1,0 +1,2 @@
+-- What the counter's contracts cite.
+pub mod Totals
