@@ -1,7 +1,6 @@
 -- Those that are kept are those that pass the closure's test.
 use Rattle.std.proofs.Common.{◌≡◌, rules, filter, not, ◌∙◌, ap}
 use Rattle.std.proofs.lemmas.List.Elements.{filter_from_retain}
-use Rattle.osgi_model.specs.declared.value.Attribute.{Attribute}
 use Rattle.osgi_ops.specs.Properties.{is_the_frameworks}
 use Rattle.osgi_registry.proofs.properties.others.Goals as goal
 
