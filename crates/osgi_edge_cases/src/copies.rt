@@ -42,7 +42,7 @@ fn tree(alloc: Global) -> Result<Tree, AllocError> {
     Ok(Tree::Hung(Boxed::new(alloc, Tree::Many(trees))?))
 }
 
-/// Tells whether a value equals its copy.
+/// Shows whether a value equals its copy.
 fn put<T: Copied + PartialEq + Drop>(
     alloc: Global,
     out: &mut String,
@@ -73,6 +73,7 @@ fn is_option_same(alloc: Global) -> Result<bool, AllocError> {
     Ok(copy_option(&some, alloc)? == some && copy_option(&none, alloc)?.is_none())
 }
 
+/// Whether a value of each type equals its copy.
 pub fn copies(alloc: Global) -> Result<String, AllocError> {
     let mut out = String::new(alloc);
     put(alloc, &mut out, "text", &text(alloc)?)?;

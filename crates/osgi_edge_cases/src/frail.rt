@@ -4,16 +4,17 @@ use std::alloc::Global;
 use std::io;
 use std::io::{ErrorKind, Read, Write};
 
-/// A reader that gives the letters `a`, `b`, `c` and so on, `last` of them. The read of the number `bad`, counted from 1, fails once.
+/// A reader that gives the letters `a`, `b`, `c` and so on, `last` of them. The reads of two numbers, counted from 1, fail; 0
+/// stands for none.
 #[derive(Drop)]
 pub struct FrailReader {
     pub last: u8,
     pub given: u8,
     pub reads: u64,
-    pub bad: u64,
+    pub bad: (u64, u64),
 }
 
-pub fn reader(last: u8, bad: u64) -> FrailReader {
+pub fn reader(last: u8, bad: (u64, u64)) -> FrailReader {
     FrailReader {
         last,
         given: 0,
@@ -25,7 +26,7 @@ pub fn reader(last: u8, bad: u64) -> FrailReader {
 impl Read for FrailReader {
     fn read(&mut self, buf: &mut [u8]) -> io::Result<usize> {
         self.reads = self.reads.saturating_add(1);
-        if self.reads == self.bad {
+        if self.reads == self.bad.0 || self.reads == self.bad.1 {
             return Err(io::Error::from(ErrorKind::BrokenPipe));
         }
         if buf.is_empty() || self.given >= self.last {

@@ -7,7 +7,7 @@
 //! |---|---|
 //! | `std-sink BAD_WRITE BAD_FLUSH FULL STEP..` | a sink over a writer of one byte a call, of which one write and one flush fail, and which takes nothing from the write FULL on |
 //! | `vec-sink STEP..`, `memory-sink BAD STEP..` | a sink over a `Vec`, and one in memory of which one call fails |
-//! | `std-source LAST BAD STEP..` | a source over a reader of one byte a call, of LAST letters, of which one read fails |
+//! | `std-source LAST BAD BAD STEP..` | a source over a reader of one byte a call, of LAST letters, of which two reads fail |
 //! | `slice-source TEXT STEP..`, `memory-source TEXT BAD STEP..` | a source over a slice, and one in memory of which one read fails |
 //! | `long-source BYTES LIMIT` | so many bytes read to their end from a source over a slice |
 //! | `shelf BAD LOCATION..` | reads of a shelf with folders at `e`, `f` and again `f`, of which one read fails |
@@ -17,7 +17,8 @@
 //! | `gate` | a gate that holds nobody |
 //!
 //! Calls are counted from 1, and 0 is none of them. A step of a sink is `=TEXT`, one write; `+TEXT`, a text written whole; `.`, a
-//! flush. A step of a source is `=COUNT`, one read of at most so many bytes; `+LIMIT`, all bytes up to a limit.
+//! flush. A step of a source is `=COUNT`, one read
+//! into so many bytes, which are dots before it; `+LIMIT`, all bytes up to a limit.
 #![tactic(auto)]
 
 mod cases;
@@ -38,7 +39,9 @@ fn main(rt: HostRuntime) -> io::Result<()> {
         if case.is_empty() || case.starts_with('#') {
             println!(rt; "{case}")?;
         } else if case == "gate" {
-            OpenGate.at(&rt, 1, Point::BeforeCall);
+            for point in [Point::BeforeCall, Point::AfterCall, Point::InSection] {
+                OpenGate.at(&rt, 1, point);
+            }
             println!(rt; "{case} => passed")?;
         } else {
             let answer = cases::answer(rt.alloc(), case)?;

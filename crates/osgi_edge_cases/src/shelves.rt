@@ -35,7 +35,7 @@ fn rows(alloc: Global) -> Result<Vec<(Text, Folder)>, AllocError> {
     Ok(rows)
 }
 
-/// Reads a location, and tells what stands there: of a folder its files, and the bytes of the first.
+/// Reads a location, and shows what stands there: of a folder its files, and the bytes of the first.
 fn put_read(
     alloc: Global,
     out: &mut String,
@@ -63,6 +63,7 @@ fn put_folder(out: &mut String, files: &[File]) -> Result<(), AllocError> {
     }
 }
 
+/// The reads of a shelf of three folders.
 pub fn read_each(alloc: Global, line: &str) -> Result<String, AllocError> {
     let (bad, locations) = split_number(line);
     let mut out = String::new(alloc);
@@ -74,6 +75,7 @@ pub fn read_each(alloc: Global, line: &str) -> Result<String, AllocError> {
     Ok(out)
 }
 
+/// The read of a folder of a size.
 pub fn read_folder(alloc: Global, line: &str) -> Result<String, AllocError> {
     let (bytes, rest) = split_number(line);
     let (files, _) = split_number(rest);

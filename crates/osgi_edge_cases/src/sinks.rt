@@ -15,22 +15,23 @@ pub fn letters(bytes: &[u8]) -> &str {
     str::from_utf8(bytes).unwrap_or("?")
 }
 
-fn told(answer: Result<(), Failed>) -> &'static str {
+/// How an answer is shown.
+fn shown(answer: Result<(), Failed>) -> &'static str {
     match answer {
         Ok(()) => "ok",
         Err(Failed) => "failed",
     }
 }
 
-/// Does one step, and tells what it was answered.
+/// Does one step, and shows what it was answered.
 fn put_step<K: Sink>(out: &mut String, sink: &mut K, step: &str) -> Result<(), AllocError> {
     let answer = match step.as_bytes() {
         [b'=', text @ ..] => match sink.write(text) {
             Ok(count) => return write!(out, "{count}, "),
             Err(Failed) => "failed",
         },
-        [b'+', text @ ..] => told(write_all(sink, text)),
-        _ => told(sink.flush()),
+        [b'+', text @ ..] => shown(write_all(sink, text)),
+        _ => shown(sink.flush()),
     };
     write!(out, "{answer}, ")
 }
@@ -42,6 +43,7 @@ fn put_steps<K: Sink>(out: &mut String, sink: &mut K, steps: &str) -> Result<(),
     Ok(())
 }
 
+/// A sink over a writer of which calls fail.
 pub fn std_sink(alloc: Global, line: &str) -> Result<String, AllocError> {
     let (bad_write, rest) = split_number(line);
     let (bad_flush, rest) = split_number(rest);
@@ -56,6 +58,7 @@ pub fn std_sink(alloc: Global, line: &str) -> Result<String, AllocError> {
     Ok(out)
 }
 
+/// A sink over a `Vec`.
 pub fn vec_sink(alloc: Global, steps: &str) -> Result<String, AllocError> {
     let mut out = String::new(alloc);
     let mut sink = StdSink::new(Vec::new(alloc));
@@ -66,6 +69,7 @@ pub fn vec_sink(alloc: Global, steps: &str) -> Result<String, AllocError> {
     Ok(out)
 }
 
+/// A sink in memory of which one call fails.
 pub fn memory_sink(alloc: Global, line: &str) -> Result<String, AllocError> {
     let (bad, steps) = split_number(line);
     let mut out = String::new(alloc);

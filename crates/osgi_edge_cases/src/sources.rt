@@ -13,16 +13,17 @@ use std::fmt::Write;
 /// The bytes that one read can give here.
 const PIECE: usize = 4;
 
-/// Reads at most so many bytes, and tells them.
+/// Reads into so many bytes, and shows them all: what the read leaves alone is dots.
 fn put_read<S: Source>(out: &mut String, source: &mut S, count: usize) -> Result<(), AllocError> {
-    let mut piece = [0; PIECE];
-    match source.read(&mut piece[..count.min(PIECE)]) {
-        Ok(given) => write!(out, "\"{}\", ", letters(&piece[..given])),
+    let mut piece = [b'.'; PIECE];
+    let asked = count.min(PIECE);
+    match source.read(&mut piece[..asked]) {
+        Ok(given) => write!(out, "{given} \"{}\", ", letters(&piece[..asked])),
         Err(Failed) => out.push_str("failed, "),
     }
 }
 
-/// Reads all bytes up to a limit, and tells them.
+/// Reads all bytes up to a limit, and shows them.
 fn put_all<S: Source>(
     alloc: Global,
     out: &mut String,
@@ -36,7 +37,7 @@ fn put_all<S: Source>(
     }
 }
 
-/// Does one step, and tells what it was answered.
+/// Does one step, and shows what it was answered.
 fn put_step<S: Source>(
     alloc: Global,
     out: &mut String,
@@ -62,16 +63,19 @@ fn put_steps<S: Source>(
     Ok(())
 }
 
+/// A source over a reader of which reads fail.
 pub fn std_source(alloc: Global, line: &str) -> Result<String, AllocError> {
     let (last, rest) = split_number(line);
-    let (bad, steps) = split_number(rest);
+    let (bad, rest) = split_number(rest);
+    let (other, steps) = split_number(rest);
     let mut out = String::new(alloc);
-    let mut source = StdSource::new(reader((last % 20) as u8, bad));
+    let mut source = StdSource::new(reader((last % 20) as u8, (bad, other)));
     put_steps(alloc, &mut out, &mut source, steps)?;
     write!(out, "faults {}", source.faults())?;
     Ok(out)
 }
 
+/// A source over a slice.
 pub fn slice_source(alloc: Global, line: &str) -> Result<String, AllocError> {
     let (text, steps) = split_word(line);
     let mut out = String::new(alloc);
@@ -81,6 +85,7 @@ pub fn slice_source(alloc: Global, line: &str) -> Result<String, AllocError> {
     Ok(out)
 }
 
+/// A source in memory of which one read fails.
 pub fn memory_source(alloc: Global, line: &str) -> Result<String, AllocError> {
     let (text, rest) = split_word(line);
     let (bad, steps) = split_number(rest);
@@ -101,6 +106,7 @@ fn long_text(alloc: Global, count: u64) -> Result<Vec<u8>, AllocError> {
     Ok(bytes)
 }
 
+/// A source of many bytes, read to its end.
 pub fn long_source(alloc: Global, line: &str) -> Result<String, AllocError> {
     let (count, rest) = split_number(line);
     let (limit, _) = split_number(rest);

@@ -12,7 +12,7 @@ use Rattle.atomic_table.specs.Table.{State, Me, keeps, takes, gives, put_back, r
 use Rattle.atomic_table.proofs.Lists.{at_set, set_here, set_else, set_again, one_turn}
 use Rattle.osgi_hall.specs.declared.entry.Entry.{Entry}
 use Rattle.osgi_hall.specs.declared.board.Known.{Known}
-use Rattle.osgi_hall.specs.declared.entry.Ended.{Ended}
+use Rattle.osgi_hall.specs.declared.entry.Joined.{Joined}
 use Rattle.osgi_hall.specs.declared.board.Stage.{Stage}
 use Rattle.osgi_hall.specs.declared.board.Stage.TheVariants.{Idle, Waits, Has, Done}
 use Rattle.osgi_hall.specs.declared.board.View.{View}
@@ -61,7 +61,7 @@ module _ {M O R Z : Type 0} (entries : M → List (Entry O R)) (setting : M → 
   pub apart_from : (s : St) (r : Rule s) (id j : ℕ) (k : Known O R Z) → get_elem? s.views id ≡ some (Live k) → get_elem? s.views j ≡ some Spent → j ≢ id
   apart_from s r id j k at there e = spent_not k (some-injective (Live k) Spent (sym at ∙ (ap (λ (i : ℕ). get_elem? s.views i) (sym e) ∙ there)))
 
-  other_sound : (all suffix : List (Entry O R)) (low high low' high' id : ℕ) (ended : List (Ended O R)) (j : ℕ) (v : View O R Z) → j ≢ id → mine id suffix
+  other_sound : (all suffix : List (Entry O R)) (low high low' high' id : ℕ) (ended : List (Joined O R)) (j : ℕ) (v : View O R Z) → j ≢ id → mine id suffix
       → (InTurn low high all (stage_of v) → InTurn low' high' (all ++ suffix) (stage_of v)) → Sound CanMake z all low high ended j v → Sound CanMake z (all ++ suffix) low' high' ended j v
   other_sound all suffix low high low' high' id ended j Spent n a f k = k
   other_sound all suffix low high low' high' id ended j (Live v) n a f k = record {
@@ -261,14 +261,14 @@ module _ {M O R Z : Type 0} (entries : M → List (Entry O R)) (setting : M → 
   out_place s r j (Live k) there o = out_has_place r.low r.high r.all k.stage o (r.each j (Live k) there).turn
 
   -- of the callers that have joined, as caller 0 knows them
-  pub ended_known : (s : St) (r : Rule s) (id : ℕ) (k : Known O R Z) → get_elem? s.views id ≡ some (Live k) → (i : ℕ) (y : Ended O R) → get_elem? k.ended i ≡ some y
+  pub ended_known : (s : St) (r : Rule s) (id : ℕ) (k : Known O R Z) → get_elem? s.views id ≡ some (Live k) → (i : ℕ) (y : Joined O R) → get_elem? k.ended i ≡ some y
       → (y.caller ≢ id) × (calls_by y.caller r.all ≡ y.own) × (calls_by y.caller k.seen ≡ y.own)
   ended_known s r id k at i y there = dite (ℕ_discrete id 0)
       (λ (e : id ≡ 0). let o = r.root in let is : o.0 ≡ k = live_is o.0 k (some-injective (Live o.0) (Live k) (sym o.1 ∙ (ap (λ (j : ℕ). get_elem? s.views j) (sym e) ∙ at))) in
-      let there' : get_elem? r.ended i ≡ some y = ap (λ (l : List (Ended O R)). get_elem? l i) (sym o.2.ended_is ∙ ap (λ (x : Known O R Z). x.ended) is) ∙ there in
+      let there' : get_elem? r.ended i ≡ some y = ap (λ (l : List (Joined O R)). get_elem? l i) (sym o.2.ended_is ∙ ap (λ (x : Known O R Z). x.ended) is) ∙ there in
       let known = r.ended_spent i y there' in
       (apart_from s r id y.caller k at known.0, known.1, ap (λ (x : Known O R Z). calls_by y.caller x.seen) (sym is) ∙ o.2.ended_calls i y there'))
-      (λ (n : id ≢ 0). absurd (some-ne-none y (sym there ∙ ap (λ (l : List (Ended O R)). get_elem? l i) ((fits_at s r id k at).plain n))))
+      (λ (n : id ≢ 0). absurd (some-ne-none y (sym there ∙ ap (λ (l : List (Joined O R)). get_elem? l i) ((fits_at s r id k at).plain n))))
 
   pub finds : (slots id : ℕ) (me : Me (Option M) (View O R Z)) (k : Known O R Z) (p : ℕ) → me.0 ≡ Live k → k.stage ≡ Waits p
       → Allows Rule slots id me 1 (λ n. n) (found entries setting (step slots 1 0 0 none) me)

@@ -5,7 +5,7 @@ use Rattle.std.proofs.lemmas.List.{append-nil}
 use Rattle.atomic_table.specs.Table.{Me}
 use Rattle.atomic_table.specs.Seated.{TableId}
 use Rattle.osgi_hall.specs.declared.entry.Entry.{Entry}
-use Rattle.osgi_hall.specs.declared.entry.Ended.{Ended}
+use Rattle.osgi_hall.specs.declared.entry.Joined.{Joined}
 use Rattle.osgi_base.specs.declared.ids.Tag.{Tag}
 use Rattle.osgi_hall.specs.declared.board.Known.{Known}
 use Rattle.osgi_hall.specs.declared.board.Stage.TheVariants.{Idle, Has}
@@ -73,7 +73,7 @@ module _ {M O R Z : Type 0} (entries : M → List (Entry O R)) (setting : M → 
         can = all_each (λ (z : Z). can_make z (entries x')) k.setting (subst (λ (s : List Z). Each (λ (z : Z). can_make z (entries x')) s) knows'.0 (subst (λ (z : Z). can_make z (entries x')) same can, tt));
         own_calls = ap (calls_by k.caller) grown.1 ∙ (by_append k.caller (entries x) grown.0
             ∙ (λ i. knows'.2 i ++ (by_all k.caller grown.0 grown.2 ∙ sym (ap (drop (length (entries x))) grown.1 ∙ drop-append_seam (entries x) grown.0)) i));
-        ended_calls = all_at (λ (y : Ended O R). calls_by y.caller (entries x') ≡ y.own) k.ended (λ i y there. let e = knows'.3 i y there in ap (calls_by y.caller) grown.1 ∙ by_others y.caller k.caller e.0 (entries x) grown.0 y.own grown.2 e.1);
+        ended_calls = all_at (λ (y : Joined O R). calls_by y.caller (entries x') ≡ y.own) k.ended (λ i y there. let e = knows'.3 i y there in ap (calls_by y.caller) grown.1 ∙ by_others y.caller k.caller e.0 (entries x) grown.0 y.own grown.2 e.1);
       }
 
   told_so : {E : Type 0} (is_recorded : R → Bool) (gives : Z → List (Entry O R) → O → R → Type 0) (z : Z) (p q : PassView O R Z) (es es' : List (Entry O R)) (y : Z) (t : Tag) (command : ℕ) (o : O) (answer : Result R E)

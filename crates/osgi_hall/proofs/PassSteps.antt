@@ -12,7 +12,7 @@ use Rattle.atomic_table.specs.Table.{State, Me, keeps, step, Allows, Splits, Joi
 use Rattle.atomic_table.proofs.Lists.{at_set, set_here, set_else, at_longer, at_last}
 use Rattle.osgi_hall.specs.declared.entry.Entry.{Entry}
 use Rattle.osgi_hall.specs.declared.board.Known.{Known}
-use Rattle.osgi_hall.specs.declared.entry.Ended.{Ended}
+use Rattle.osgi_hall.specs.declared.entry.Joined.{Joined}
 use Rattle.osgi_hall.specs.declared.board.Stage.{Stage}
 use Rattle.osgi_hall.specs.declared.board.Stage.TheVariants.{Idle}
 use Rattle.osgi_hall.specs.declared.board.View.{View}
@@ -79,7 +79,7 @@ module _ {M O R Z : Type 0} (entries : M → List (Entry O R)) (setting : M → 
             record {
               can = all_each (λ (y : Z). CanMake y k.seen) k.setting (subst (λ (l : List Z). Each (λ (y : Z). CanMake y k.seen) l) (sym fits.setting) (fits.can, tt));
               own_calls = ap (λ (c : ℕ). calls_by c k.seen) fits.caller ∙ fits.own_seen;
-              ended_calls = all_at (λ (y : Ended O R). calls_by y.caller k.seen ≡ y.own) k.ended (λ i y there. (ended_known entries setting CanMake z s r id k at' i y there).2);
+              ended_calls = all_at (λ (y : Joined O R). calls_by y.caller k.seen ≡ y.own) k.ended (λ i y there. (ended_known entries setting CanMake z s r id k at' i y there).2);
             },
             fits.noted_begin,
             (λ first. root_tally s r id k at' first),
@@ -199,7 +199,7 @@ module _ {M O R Z : Type 0} (entries : M → List (Entry O R)) (setting : M → 
       let fits = fits_at entries setting CanMake z s r id k at in
       let first : id ≡ 0 = sym fits.caller ∙ zero_is in
       let L : List (Entry O R) = longer k.seen e.seen in
-      let x : Ended O R = ended_of e in
+      let x : Joined O R = ended_of e in
       let k' : Known O R Z = record k { seen = L; notes = k.seen ∷ e.seen ∷ []; out = k.out - 1; ended = k.ended ++ x ∷ [] } in
       let front : List (View O R Z) = set s.views id (Live k') in
       let at_other : get_elem? s.views other ≡ some (Live e) = sym (set_else s.views id other (Live k') apart) ∙ there in
@@ -209,7 +209,7 @@ module _ {M O R Z : Type 0} (entries : M → List (Entry O R)) (setting : M → 
       let made_is : k.made ≡ r.made = ap (λ (y : Known O R Z). y.made) (sym is) ∙ o.2.made_is in
       let out_was : k.out ≡ r.out = ap (λ (y : Known O R Z). y.out) (sym is) ∙ o.2.out_is in
       let ended_was : k.ended ≡ r.ended = ap (λ (y : Known O R Z). y.ended) (sym is) ∙ o.2.ended_is in
-      let ended' : List (Ended O R) = r.ended ++ x ∷ [] in
+      let ended' : List (Joined O R) = r.ended ++ x ∷ [] in
       let two : 2 ≤ total live s.views = total_two live s.views id other (Live k) (Live e) (λ (h : id ≡ other). apart (sym h)) at at_other in
       let inside : id < length s.views = at_below s.views id (Live k) at in
       let inside_other : other < length front = at_below front other (Live e) there in
@@ -323,10 +323,10 @@ module _ {M O R Z : Type 0} (entries : M → List (Entry O R)) (setting : M → 
           record {
             made_is = made_is;
             out_is = ap (λ (n : ℕ). n - 1) out_was;
-            ended_is = ap (λ (l : List (Ended O R)). l ++ x ∷ []) ended_was;
+            ended_is = ap (λ (l : List (Joined O R)). l ++ x ∷ []) ended_was;
             ended_calls = λ i y h. ⊎_elim
-                (λ (t : get_elem? r.ended i ≡ some y). let known = ended_known entries setting CanMake z s r id k at i y (ap (λ (l : List (Ended O R)). get_elem? l i) ended_was ∙ t) in by_between y.caller k.seen L r.all y.own L_begins L_k known.2 known.1)
-                (λ (t : (i ≡ length r.ended) × (x ≡ y)). subst (λ (w : Ended O R). calls_by w.caller L ≡ w.own) t.1
+                (λ (t : get_elem? r.ended i ≡ some y). let known = ended_known entries setting CanMake z s r id k at i y (ap (λ (l : List (Joined O R)). get_elem? l i) ended_was ∙ t) in by_between y.caller k.seen L r.all y.own L_begins L_k known.2 known.1)
+                (λ (t : (i ≡ length r.ended) × (x ≡ y)). subst (λ (w : Joined O R). calls_by w.caller L ≡ w.own) t.1
                 (by_between e.caller e.seen L r.all e.own L_begins L_e (ap (λ (c : ℕ). calls_by c e.seen) fits_e.caller ∙ fits_e.own_seen) (ap (λ (c : ℕ). calls_by c r.all) fits_e.caller ∙ fits_e.own_all)))
                 (snoc_at r.ended x y i h);
           },
@@ -335,17 +335,17 @@ module _ {M O R Z : Type 0} (entries : M → List (Entry O R)) (setting : M → 
         ended_apart = λ i j y w a b same. ⊎_elim
             (λ (t : get_elem? r.ended i ≡ some y). ⊎_elim
             (λ (u : get_elem? r.ended j ≡ some w). r.ended_apart i j y w t u same)
-            (λ (u : (j ≡ length r.ended) × (x ≡ w)). absurd (apart_from entries setting CanMake z s r other y.caller e at_other (r.ended_spent i y t).0 (same ∙ (ap (λ (q : Ended O R). q.caller) (sym u.1) ∙ fits_e.caller))))
+            (λ (u : (j ≡ length r.ended) × (x ≡ w)). absurd (apart_from entries setting CanMake z s r other y.caller e at_other (r.ended_spent i y t).0 (same ∙ (ap (λ (q : Joined O R). q.caller) (sym u.1) ∙ fits_e.caller))))
             (snoc_at r.ended x w j b))
             (λ (t : (i ≡ length r.ended) × (x ≡ y)). ⊎_elim
-            (λ (u : get_elem? r.ended j ≡ some w). absurd (apart_from entries setting CanMake z s r other w.caller e at_other (r.ended_spent j w u).0 (sym same ∙ (ap (λ (q : Ended O R). q.caller) (sym t.1) ∙ fits_e.caller))))
+            (λ (u : get_elem? r.ended j ≡ some w). absurd (apart_from entries setting CanMake z s r other w.caller e at_other (r.ended_spent j w u).0 (sym same ∙ (ap (λ (q : Joined O R). q.caller) (sym t.1) ∙ fits_e.caller))))
             (λ (u : (j ≡ length r.ended) × (x ≡ w)). t.0 ∙ sym u.0)
             (snoc_at r.ended x w j b))
             (snoc_at r.ended x y i a);
         ended_spent = λ i y h. ⊎_elim
             (λ (t : get_elem? r.ended i ≡ some y). let known = r.ended_spent i y t in
             (stay y.caller Spent (apart_from entries setting CanMake z s r id y.caller k at known.0) (apart_from entries setting CanMake z s r other y.caller e at_other known.0) known.0, known.1))
-            (λ (t : (i ≡ length r.ended) × (x ≡ y)). subst (λ (w : Ended O R). (get_elem? (set front other Spent) w.caller ≡ some Spent) × (calls_by w.caller r.all ≡ w.own)) t.1
+            (λ (t : (i ≡ length r.ended) × (x ≡ y)). subst (λ (w : Joined O R). (get_elem? (set front other Spent) w.caller ≡ some Spent) × (calls_by w.caller r.all ≡ w.own)) t.1
             (ap (get_elem? (set front other Spent)) fits_e.caller ∙ gone, ap (λ (c : ℕ). calls_by c r.all) fits_e.caller ∙ fits_e.own_all))
             (snoc_at r.ended x y i h);
       }
@@ -354,8 +354,8 @@ module _ {M O R Z : Type 0} (entries : M → List (Entry O R)) (setting : M → 
       still j Spent t = (t.0, t.1, at_longer r.ended (ended_of e ∷ []) t.0 t.1 t.2, t.3)
       still j (Live n) t = t
 
-  abbrev IsKnownCaller : List (Ended O R) → ℕ → Type 0
-  IsKnownCaller ended c = (c ≡ 0) ⊎ Contains (map (λ (known : Ended O R). known.caller) ended) c
+  abbrev IsKnownCaller : List (Joined O R) → ℕ → Type 0
+  IsKnownCaller ended c = (c ≡ 0) ⊎ Contains (map (λ (known : Joined O R). known.caller) ended) c
 
   known_caller : (s : St) (r : Rule s) (id : ℕ) (k : Known O R Z) → get_elem? s.views id ≡ some (Live k) → k.caller ≡ 0 → k.out ≡ 0 → (c : ℕ) → c < r.made → IsKnownCaller k.ended c
   known_caller s r id k at zero_is none_out c below =
@@ -369,7 +369,7 @@ module _ {M O R Z : Type 0} (entries : M → List (Entry O R)) (setting : M → 
       by_case v.0 v.1 first ended_was out_was
     where
       by_case : (v : View O R Z) → get_elem? s.views c ≡ some v → id ≡ 0 → k.ended ≡ r.ended → k.out ≡ r.out → IsKnownCaller k.ended c
-      by_case Spent there first ended_was out_was = let t = r.each c Spent there in inr (subst (Contains (map (λ (known : Ended O R). known.caller) k.ended)) t.3 (contains_at k.ended t.0 t.1 (ap (λ (l : List (Ended O R)). get_elem? l t.0) ended_was ∙ t.2)))
+      by_case Spent there first ended_was out_was = let t = r.each c Spent there in inr (subst (Contains (map (λ (known : Joined O R). known.caller) k.ended)) t.3 (contains_at k.ended t.0 t.1 (ap (λ (l : List (Joined O R)). get_elem? l t.0) ended_was ∙ t.2)))
       by_case (Live e) there first ended_was out_was = dite (ℕ_discrete c id)
           (λ (q : c ≡ id). inl (q ∙ first))
           (λ (n : c ≢ id). let two : 2 ≤ total live s.views = total_two live s.views c id (Live e) (Live k) n there at in let a = r.out_is in absurd (omega arith))

@@ -9,7 +9,7 @@ use native.Mathlib.Decide.{dec_le}
 use Rattle.std.proofs.lemmas.Bool.{le-leb, lt-leb}
 use lib.ListN.{get_elem?}
 use Rattle.std.specs.List.{All, Contains}
-use Rattle.osgi_hall.specs.declared.entry.Ended.{Ended}
+use Rattle.osgi_hall.specs.declared.entry.Joined.{Joined}
 use Rattle.osgi_hall.specs.declared.entry.Entry.{Entry}
 use Rattle.osgi_hall.specs.Histories.{BeginsWith, calls_by, longer}
 use Rattle.osgi_hall.specs.computed.Lists.{total, Each}
@@ -135,7 +135,7 @@ module _ {O R : Type 0} where
   by_others c d n xs ys own a e = by_append c xs ys ∙ (ap (λ (l : List (Entry O R)). calls_by c xs ++ l) (by_none c d n ys a) ∙ (append-nil (calls_by c xs) ∙ e))
 
   -- the number of one that has joined is among theirs
-  pub contains_at : (ended : List (Ended O R)) (i : ℕ) (x : Ended O R) → get_elem? ended i ≡ some x → Contains (map (λ (known : Ended O R). known.caller) ended) x.caller
+  pub contains_at : (ended : List (Joined O R)) (i : ℕ) (x : Joined O R) → get_elem? ended i ≡ some x → Contains (map (λ (known : Joined O R). known.caller) ended) x.caller
   contains_at [] i x e = absurd (some-ne-none x (sym e))
-  contains_at (y ∷ ys) zero x e = (0, omega arith, ap (λ (known : Ended O R). known.caller) (some-injective y x e))
+  contains_at (y ∷ ys) zero x e = (0, omega arith, ap (λ (known : Joined O R). known.caller) (some-injective y x e))
   contains_at (y ∷ ys) (suc i) x e = let more = contains_at ys i x e in (suc more.0, (let below = more.1 in omega arith), more.2)

@@ -3,7 +3,7 @@ use Rattle.std.specs.Prelude.{◌≡◌, ◌⊎◌, ℕ, ◌+◌, ◌-◌, List,
 use Rattle.std.specs.List.{All, Contains}
 use Rattle.atomic_table.specs.Seated.{TableId}
 use Rattle.osgi_hall.specs.declared.entry.Entry.{Entry}
-use Rattle.osgi_hall.specs.declared.entry.Ended.{Ended}
+use Rattle.osgi_hall.specs.declared.entry.Joined.{Joined}
 use Rattle.osgi_hall.specs.Histories.{calls_by, longer}
 
 -- a hall: which one it is, and the setting of its machine
@@ -22,7 +22,7 @@ pub record PassView (O R Z : Type 0) : Type 0 where
   pub own : List (Entry O R)
   pub made : ℕ
   pub out : ℕ
-  pub ended : List (Ended O R)
+  pub ended : List (Joined O R)
 
 module _ {O R Z : Type 0} where
   -- the pass is one of this hall
@@ -40,10 +40,10 @@ module _ {O R Z : Type 0} where
 
   -- A machine of the setting can make the history that was seen. The entries of the caller there are exactly its own calls, each
   -- once and in order, and so are those of each caller that has joined.
-  pub record IsLegalFor (can_make : Z → List (Entry O R) → Type 0) (setting : List Z) (caller : ℕ) (seen own : List (Entry O R)) (ended : List (Ended O R)) : Type 0 where
+  pub record IsLegalFor (can_make : Z → List (Entry O R) → Type 0) (setting : List Z) (caller : ℕ) (seen own : List (Entry O R)) (ended : List (Joined O R)) : Type 0 where
     pub can : All (λ (z : Z). can_make z seen) setting
     pub own_calls : calls_by caller seen ≡ own
-    pub ended_calls : All (λ (e : Ended O R). calls_by e.caller seen ≡ e.own) ended
+    pub ended_calls : All (λ (e : Joined O R). calls_by e.caller seen ≡ e.own) ended
 
   abbrev pub IsLegal : (Z → List (Entry O R) → Type 0) → PassView O R Z → Type 0
   IsLegal can_make pass = IsLegalFor can_make pass.setting pass.caller pass.seen pass.own pass.ended
@@ -65,5 +65,5 @@ module _ {O R Z : Type 0} where
   after_join pass other = record pass { seen = longer pass.seen other.seen; out = pass.out - 1; ended = pass.ended ++ record { caller = other.caller; own = other.own } ∷ [] }
 
 -- each entry is of caller 0 or of one that has joined
-abbrev pub IsByKnownCallers : {O R : Type 0} → List (Ended O R) → List (Entry O R) → Type 0
+abbrev pub IsByKnownCallers : {O R : Type 0} → List (Joined O R) → List (Entry O R) → Type 0
 IsByKnownCallers ended history = All (λ e. (e.tag.caller ≡ 0) ⊎ Contains (map (λ known. known.caller) ended) e.tag.caller) history

@@ -1,7 +1,7 @@
 //! What the seats at a hall's table know. Only contracts speak of these types, and no value of them is made. Each type parameter
 //! stands in a list, since a type that a table is made over has to have a size.
 
-use crate::entry::{Ended, Entry};
+use crate::entry::{Joined, Entry};
 use std::collections::LinkedList;
 
 /// How far a caller is with its turn. Places are counted without end, as tickets are drawn.
@@ -27,7 +27,7 @@ pub struct Known<O, R, Z> {
     pub notes: LinkedList<LinkedList<Entry<O, R>>>,
     pub made: u32,
     pub out: u32,
-    pub ended: LinkedList<Ended<O, R>>,
+    pub ended: LinkedList<Joined<O, R>>,
 }
 
 /// What a seat knows: nothing once it has joined another.

@@ -13,7 +13,7 @@ pub struct Entry<O, R> {
 
 /// What the pass of caller 0 knows of a caller whose pass has joined: its number, and the entries of its calls. Only contracts
 /// speak of it, and no value of it is made.
-pub struct Ended<O, R> {
+pub struct Joined<O, R> {
     pub caller: u32,
     pub own: LinkedList<Entry<O, R>>,
 }

@@ -69,7 +69,7 @@ pub struct Open<M: Machine> {
 }
 
 impl<M: Machine> Hall<M> {
-    /// A hall round a machine with an empty history, and the pass of caller 0. Where memory is wanting the machine is dropped.
+    /// A hall round a machine with an empty history, and the pass of caller 0. If memory runs out the machine is dropped.
     pub fn new(alloc: Global, machine: M) -> Result<(Hall<M>, Pass<M>), AllocError>
     where
         M: Drop,
@@ -78,7 +78,9 @@ impl<M: Machine> Hall<M> {
         ensures pass { IfOk result (λ made. made.1 ≡ first_pass made.0) }
         ensures legal { IfOk result (λ made. IsLegal M.can_make made.1) }
     {
+        // This promises that the empty history is one that the machine can make.
         let _ = machine.length();
+        // Contracts see the machine's setting by the table's key.
         let key = Snapshot::of(&machine);
         let mut slots = Vec::new(alloc);
         slots.push(Some(machine))?;
@@ -96,7 +98,8 @@ impl<M: Machine> Hall<M> {
         }
     }
 
-    /// Waits for a turn, and has the machine do one operation, tagged with the pass's caller and this command.
+    /// Waits for a turn, and has the machine do one operation, tagged with the pass's caller and this command. If the machine runs
+    /// out of memory nothing is recorded.
     pub fn call<R: Wait>(
         &self,
         rt: &R,
@@ -119,7 +122,7 @@ impl<M: Machine> Hall<M> {
         answer
     }
 
-    /// Makes a pass for another caller, which has seen what this one has. Where memory is wanting the pass stays as it was.
+    /// Makes a pass for another caller, which has seen what this one has. If memory runs out the pass stays as it was.
     pub fn split(&self, pass: &mut Pass<M>) -> Result<Pass<M>, AllocError>
         requires hall { IsPassOf self.now pass.old }
         requires first { (pass.old.caller ≡ 0) × (pass.old.made < 4294967295) }
@@ -130,6 +133,7 @@ impl<M: Machine> Hall<M> {
     {
         let shared = &self.table.shared;
         let mut seat = shared.split_seat::<SplitOff>(&mut pass.seat);
+        // A read by the new seat tells it what the table's rule says; its value is not needed.
         shared.load::<Look<M>>(&mut seat, NEXT_TICKET);
         let caller = pass.made;
         pass.made += 1;
@@ -159,6 +163,7 @@ impl<M: Machine> Hall<M> {
             out: _,
         } = ended;
         shared.join_seat::<TakeIn>(&mut pass.seat, seat);
+        // A read by the seat tells it which of the two histories begins with the other; its value is not needed.
         shared.load::<Look<M>>(&mut pass.seat, NEXT_TICKET);
         pass.out -= 1;
     }
@@ -271,6 +276,7 @@ impl<M: Machine> Hall<M> {
         let served = shared
             .fetch_add::<GiveTurn>(seat, SERVED, 1)
             .wrapping_add(1);
+        // Whoever draws a ticket after this look reads the new place before it sleeps, so that no wake is lost.
         if shared.peek(NEXT_TICKET) != served {
             shared.wake_all(SERVED);
         }

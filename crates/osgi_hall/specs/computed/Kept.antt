@@ -6,7 +6,7 @@ use mathlib.Core.Option.{some, none}
 use lib.ListN.{get_elem?}
 use Rattle.atomic_table.specs.Table.{State}
 use Rattle.osgi_hall.specs.declared.entry.Entry.{Entry}
-use Rattle.osgi_hall.specs.declared.entry.Ended.{Ended}
+use Rattle.osgi_hall.specs.declared.entry.Joined.{Joined}
 use Rattle.osgi_hall.specs.declared.board.Known.{Known}
 use Rattle.osgi_hall.specs.declared.board.View.{View}
 use Rattle.osgi_hall.specs.declared.board.View.TheVariants.{Live, Spent}
@@ -29,16 +29,16 @@ module _ {O R Z : Type 0} where
     pub plain : j ≢ 0 → k.ended ≡ []
 
   -- the same of any seat: one that is spent is that of a caller that has joined
-  abbrev pub Sound : (Z → List (Entry O R) → Type 0) → Z → List (Entry O R) → ℕ → ℕ → List (Ended O R) → ℕ → View O R Z → Type 0
-  Sound CanMake z all low high ended j Spent = (i : ℕ) × (x : Ended O R) × (get_elem? ended i ≡ some x) × (x.caller ≡ j)
+  abbrev pub Sound : (Z → List (Entry O R) → Type 0) → Z → List (Entry O R) → ℕ → ℕ → List (Joined O R) → ℕ → View O R Z → Type 0
+  Sound CanMake z all low high ended j Spent = (i : ℕ) × (x : Joined O R) × (get_elem? ended i ≡ some x) × (x.caller ≡ j)
   Sound CanMake z all low high ended j (Live k) = Fits CanMake z all low high j k
 
   -- what caller 0 knows of all callers
-  pub record IsRoot (made out : ℕ) (ended : List (Ended O R)) (k : Known O R Z) : Type 0 where
+  pub record IsRoot (made out : ℕ) (ended : List (Joined O R)) (k : Known O R Z) : Type 0 where
     pub made_is : k.made ≡ made
     pub out_is : k.out ≡ out
     pub ended_is : k.ended ≡ ended
-    pub ended_calls : (i : ℕ) (x : Ended O R) → get_elem? ended i ≡ some x → calls_by x.caller k.seen ≡ x.own
+    pub ended_calls : (i : ℕ) (x : Joined O R) → get_elem? ended i ≡ some x → calls_by x.caller k.seen ≡ x.own
 
 module _ {M O R Z : Type 0} where
   -- the machine is in its slot, has the setting and the history of all, and no caller has it
@@ -56,7 +56,7 @@ module _ {M O R Z : Type 0} where
     pub high : ℕ
     pub made : ℕ
     pub out : ℕ
-    pub ended : List (Ended O R)
+    pub ended : List (Joined O R)
     pub words : s.words ≡ high % 2 ^ 64 ∷ low % 2 ^ 64 ∷ length all ∷ []
     pub each : (j : ℕ) (v : View O R Z) → get_elem? s.views j ≡ some v → Sound CanMake z all low high ended j v
     -- each place from low up to high is held, by one caller
@@ -72,5 +72,5 @@ module _ {M O R Z : Type 0} where
     pub tally : made ≡ out + 1 + length ended
     pub root : (k : Known O R Z) × (get_elem? s.views 0 ≡ some (Live k)) × IsRoot made out ended k
     pub no_others : Each (λ (e : Entry O R). e.tag.caller < made) all
-    pub ended_apart : (i j : ℕ) (x y : Ended O R) → get_elem? ended i ≡ some x → get_elem? ended j ≡ some y → x.caller ≡ y.caller → i ≡ j
-    pub ended_spent : (i : ℕ) (x : Ended O R) → get_elem? ended i ≡ some x → (get_elem? s.views x.caller ≡ some Spent) × (calls_by x.caller all ≡ x.own)
+    pub ended_apart : (i j : ℕ) (x y : Joined O R) → get_elem? ended i ≡ some x → get_elem? ended j ≡ some y → x.caller ≡ y.caller → i ≡ j
+    pub ended_spent : (i : ℕ) (x : Joined O R) → get_elem? ended i ≡ some x → (get_elem? s.views x.caller ≡ some Spent) × (calls_by x.caller all ≡ x.own)

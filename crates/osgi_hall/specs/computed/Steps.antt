@@ -4,7 +4,7 @@ use mathlib.Core.Option.{some}
 use lib.ListN.{get_elem?}
 use Rattle.atomic_table.specs.Table.{Me, Step, rest}
 use Rattle.osgi_hall.specs.declared.entry.Entry.{Entry}
-use Rattle.osgi_hall.specs.declared.entry.Ended.{Ended}
+use Rattle.osgi_hall.specs.declared.entry.Joined.{Joined}
 use Rattle.osgi_hall.specs.declared.board.Known.{Known}
 use Rattle.osgi_hall.specs.declared.board.Stage.{Stage}
 use Rattle.osgi_hall.specs.declared.board.Stage.TheVariants.{Idle, Waits, Has, Done}
@@ -50,7 +50,7 @@ module _ {M O R Z : Type 0} where
   abbrev pub Knows : (M → List (Entry O R)) → (M → Z) → View O R Z → M → Type 0
   Knows entries setting Spent x = Unit {0}
   Knows entries setting (Live k) x = (setting x ∷ [] ≡ k.setting) × BeginsWith (entries x) k.seen × (calls_by k.caller (entries x) ≡ k.own)
-      × ((i : ℕ) (y : Ended O R) → get_elem? k.ended i ≡ some y → (y.caller ≢ k.caller) × (calls_by y.caller (entries x) ≡ y.own))
+      × ((i : ℕ) (y : Joined O R) → get_elem? k.ended i ≡ some y → (y.caller ≢ k.caller) × (calls_by y.caller (entries x) ≡ y.own))
 
   -- where the place is served, the machine is out with the caller, who knows what it has; else nothing changed
   abbrev pub found : (M → List (Entry O R)) → (M → Z) → Step (Option M) → Sat M O R Z → ℕ → Sat M O R Z → Type 0
@@ -85,7 +85,7 @@ module _ {O R Z : Type 0} where
   newcomer Spent = Spent
   newcomer (Live k) = Live record { caller = k.made; setting = k.setting; stage = Idle; seen = k.seen; own = []; notes = []; made = 0; out = 0; ended = [] }
 
-  abbrev pub ended_of : Known O R Z → Ended O R
+  abbrev pub ended_of : Known O R Z → Joined O R
   ended_of k = record { caller = k.caller; own = k.own }
 
   -- caller 0 after another has joined

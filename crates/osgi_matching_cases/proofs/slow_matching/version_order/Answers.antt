@@ -10,7 +10,7 @@ use Rattle.osgi_matching_cases.proofs.slow_matching.version_order.Goals as goal
 pub returns-in-Ok : goal.returns-in-Ok
 returns-in-Ok c =
     let reads : ReadsVersion c.args.text.now (parts c.in-Ok.version) = rw c.in-Ok.is at c.in_ok-version.ensures.reads in
-    record { order = ap Some c.cmp.ensures ∙ sym (ap (option_and_then (λ v. Some (order (parts c.args.given.now) v))) (parts_read c.args.text.now (parts c.in-Ok.version) reads)) }
+    record { order = ap Some c.cmp.ensures.order ∙ sym (ap (option_and_then (λ v. Some (order (parts c.args.given.now) v))) (parts_read c.args.text.now (parts c.in-Ok.version) reads)) }
 
 pub returns-in-Err : goal.returns-in-Err
 returns-in-Err c =
