@@ -1,7 +1,7 @@
 //! What the seats at a hall's table know. Only contracts speak of these types, and no value of them is made. Each type parameter
 //! stands in a list, since a type that a table is made over has to have a size.
 
-use crate::entry::{Joined, Entry};
+use crate::entry::{Entry, Joined};
 use std::collections::LinkedList;
 
 /// How far a caller is with its turn. Places are counted without end, as tickets are drawn.
