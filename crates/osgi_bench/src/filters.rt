@@ -2,8 +2,7 @@
 
 use crate::machine::lines_of;
 use anyhow::{Result, bail};
-use osgi_filter::case::Case;
-use osgi_filter::matching::matches;
+use osgi_filter::{Case, matches};
 use osgi_model::filter::Filter;
 use osgi_model::value::Attributes;
 use osgi_ops::command::Command;

@@ -3,8 +3,8 @@
 use anyhow::{Result, ensure};
 use osgi_base::ids::{BundleId, Tag};
 use osgi_base::list::List;
-use osgi_console::reading::parse;
-use osgi_core::machine::Core;
+use osgi_console::parse;
+use osgi_core::Core;
 use osgi_ops::command::Command;
 use osgi_ops::limits::Limits;
 use osgi_ops::line::{Content, Line};
@@ -91,14 +91,20 @@ fn run_lines(alloc: Global, core: &mut Core, lines: &[Line]) -> Result<u64, Allo
     Ok(accepted)
 }
 
-/// Runs the blocks of a text, and prints a line when each is read and when it has run.
+/// Runs a block, and prints a line when it is read and when it has run.
+fn run_block(rt: &HostRuntime, core: &mut Core, block: &str) -> Result<()> {
+    let lines = lines_of(rt.alloc(), block.as_bytes())?;
+    println!(rt; "read {}", lines.items().len())?;
+    let accepted = run_lines(rt.alloc(), core, lines.items())?;
+    println!(rt; "accepted {accepted}")?;
+    Ok(())
+}
+
+/// Runs the blocks of a text on one machine.
 pub fn run(rt: &HostRuntime, text: &str) -> Result<()> {
     let mut core = Core::new(rt.alloc(), Limits::standard())?;
     for block in text.split("\n.\n") {
-        let lines = lines_of(rt.alloc(), block.as_bytes())?;
-        println!(rt; "read {}", lines.items().len())?;
-        let accepted = run_lines(rt.alloc(), &mut core, lines.items())?;
-        println!(rt; "accepted {accepted}")?;
+        run_block(rt, &mut core, block)?;
     }
     Ok(())
 }

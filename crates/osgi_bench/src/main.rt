@@ -16,12 +16,10 @@ mod readers;
 use anyhow::{Result, bail};
 use std::{env, io};
 
-fn main(rt: HostRuntime) -> Result<()> {
-    let words: Vec<_> = env::args(&rt)?.skip(1).collect(rt.alloc())?;
-    let text = io::read_to_string(rt.alloc(), rt.reader())?;
-    let text = text.as_str();
-    match words.as_slice() {
-        [what] if what.as_str() == "run" => machine::run(&rt, text),
+/// Does what the words ask for with the text.
+fn run(rt: &HostRuntime, words: &[String], text: &str) -> Result<()> {
+    match words {
+        [what] if what.as_str() == "run" => machine::run(rt, text),
         [what, count] => {
             let done = readers::repeat(rt.alloc(), what.as_str(), text, count.parse()?)?;
             println!(rt; "{done} of {} bytes", text.len())?;
@@ -29,4 +27,10 @@ fn main(rt: HostRuntime) -> Result<()> {
         }
         _ => bail!("takes run, or what to read and how often"),
     }
+}
+
+fn main(rt: HostRuntime) -> Result<()> {
+    let words: Vec<_> = env::args(&rt)?.skip(1).collect(rt.alloc())?;
+    let text = io::read_to_string(rt.alloc(), rt.reader())?;
+    run(&rt, words.as_slice(), text.as_str())
 }

@@ -2,16 +2,15 @@
 
 use crate::filters::count_matches;
 use anyhow::{Result, bail};
-use osgi_filter::reading::parse;
-use osgi_header::reading::clauses;
-use osgi_header::unfolding::unfold;
+use osgi_filter::parse;
+use osgi_header::{clauses, unfold};
 use osgi_version::range::VersionRange;
 use osgi_version::version::Version;
 use std::alloc::{AllocError, Global};
 
 /// What a text is read as.
 #[derive(Clone, Copy)]
-enum Kind {
+enum ValueType {
     Version,
     Range,
     Manifest,
@@ -20,18 +19,18 @@ enum Kind {
 }
 
 /// Whether the text can be read as this.
-fn can_read(alloc: Global, kind: Kind, text: &[u8]) -> Result<bool, AllocError> {
+fn can_read(alloc: Global, kind: ValueType, text: &[u8]) -> Result<bool, AllocError> {
     match kind {
-        Kind::Version => Ok(Version::parse(alloc, text)?.is_ok()),
-        Kind::Range => Ok(VersionRange::parse(alloc, text)?.is_ok()),
-        Kind::Manifest => Ok(unfold(alloc, text)?.is_ok()),
-        Kind::Clauses => Ok(clauses(alloc, text)?.is_ok()),
-        Kind::Filter => Ok(parse(alloc, text)?.is_ok()),
+        ValueType::Version => Ok(Version::parse(alloc, text)?.is_ok()),
+        ValueType::Range => Ok(VersionRange::parse(alloc, text)?.is_ok()),
+        ValueType::Manifest => Ok(unfold(alloc, text)?.is_ok()),
+        ValueType::Clauses => Ok(clauses(alloc, text)?.is_ok()),
+        ValueType::Filter => Ok(parse(alloc, text)?.is_ok()),
     }
 }
 
 /// Reads the text so many times, and answers how often it could be read.
-fn count_read(alloc: Global, kind: Kind, text: &[u8], count: u32) -> Result<u32, AllocError> {
+fn count_read(alloc: Global, kind: ValueType, text: &[u8], count: u32) -> Result<u32, AllocError> {
     let mut read: u32 = 0;
     for _ in 0..count {
         if can_read(alloc, kind, text)? {
@@ -44,11 +43,11 @@ fn count_read(alloc: Global, kind: Kind, text: &[u8], count: u32) -> Result<u32,
 /// Does what is asked for so many times, and answers how often it could be done.
 pub fn repeat(alloc: Global, what: &str, text: &str, count: u32) -> Result<u32> {
     let kind = match what {
-        "version" => Kind::Version,
-        "range" => Kind::Range,
-        "manifest" => Kind::Manifest,
-        "clauses" => Kind::Clauses,
-        "filter" => Kind::Filter,
+        "version" => ValueType::Version,
+        "range" => ValueType::Range,
+        "manifest" => ValueType::Manifest,
+        "clauses" => ValueType::Clauses,
+        "filter" => ValueType::Filter,
         "match" => return count_matches(alloc, text.as_bytes(), count),
         _ => bail!("reads a version, range, manifest, clauses or filter, or matches one"),
     };

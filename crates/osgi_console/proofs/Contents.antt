@@ -7,13 +7,14 @@ use Rattle.osgi_ops.specs.declared.command.Command.{Command}
 use Rattle.osgi_ops.specs.declared.line.Content.{Content}
 use Rattle.osgi_ops.specs.declared.line.Content.TheVariants.{Empty, Join, Bad, Run}
 use Rattle.osgi_ops.specs.declared.line.Line.{Line}
-use Rattle.osgi_console.specs.declared.words.Place.TheVariants.{Bare}
-use Rattle.osgi_console.proofs.Spaces.{after_spaces-all, after_spaces-front, spaced}
+use Rattle.osgi_base.specs.declared.parts.QuoteState.TheVariants.{Bare}
+use Rattle.osgi_syntax.specs.laws.Spaces.{after_spaces-all, after_spaces-front, spaced}
 use Rattle.osgi_console.proofs.Verbs.{command_read, command_sound}
-use Rattle.osgi_console.specs.Console.{AreLinesOf, AreReadFrom, blank, comment, Reads, Says, SaysNothing}
-use Rattle.osgi_console.specs.LineReader.{command_by, command_of, content_of, is_silent, numbered, run_or_bad, verb_of}
-use Rattle.osgi_console.specs.Splitting.{after_spaces, behind_word, first_word, word_len}
-use Rattle.osgi_console.specs.Words.{AreSpaces}
+use Rattle.osgi_console.specs.Console.{AreLinesOf, AreReadFrom, blank, comment, LineReads, Says, SaysNothing}
+use Rattle.osgi_console.specs.computed.LineReader.{command_by, command_of, content_of, is_silent, numbered, run_or_bad, verb_of}
+use Rattle.osgi_base.specs.Parts.{part_len}
+use Rattle.osgi_syntax.specs.Splitting.{after_spaces, after_word, first_word}
+use Rattle.osgi_syntax.specs.Words.{AreSpaces}
 
 -- ---- what the grammar says is read
 
@@ -22,7 +23,7 @@ nothing_read line (blank are) = rw (after_spaces-all line are) refl
 nothing_read line (comment spaces rest are e) = rw (e, after_spaces-front spaces (35 ∷ rest) are) refl
 
 -- a comment says no command
-no_comment : (rest : List ℕ) → verb_of (take (word_len Bare (35 ∷ rest)) (35 ∷ rest)) ≡ None
+no_comment : (rest : List ℕ) → verb_of (take (part_len 32 Bare (35 ∷ rest)) (35 ∷ rest)) ≡ None
 no_comment rest = rw add-one refl
 
 some_none : (c : Command) → Some c ≡ None → ⊥
@@ -30,16 +31,16 @@ some_none c e = absurd (cc e)
 
 -- a line whose first word is no verb says none
 unnamed : (line : List ℕ) (c : Command) → verb_of (first_word line) ≡ None → command_of line ≡ Some c → ⊥
-unnamed line c none e = some_none c (sym e ∙ ap (option_and_then (λ v. command_by v (behind_word line))) none)
+unnamed line c none e = some_none c (sym e ∙ ap (option_and_then (λ v. command_by v (after_word line))) none)
 
 -- a line that says a command is neither empty nor a comment
-loud_by : (line behind : List ℕ) (c : Command) (test : Bool) → after_spaces line ≡ behind → is_silent behind ≡ test → command_of line ≡ Some c → test ≡ false
+loud_by : (line remainder : List ℕ) (c : Command) (test : Bool) → after_spaces line ≡ remainder → is_silent remainder ≡ test → command_of line ≡ Some c → test ≡ false
 loud_by line [] c true is silent e =
-    absurd (unnamed line c (ap (λ l. verb_of (take (word_len Bare l) l)) is) e)
+    absurd (unnamed line c (ap (λ l. verb_of (take (part_len 32 Bare l) l)) is) e)
 loud_by line (b ∷ rest) c true is silent e =
     let hash : after_spaces line ≡ 35 ∷ rest = is ∙ ap (λ x. x ∷ rest) (eqb-true b 35 silent) in
-    absurd (unnamed line c (ap (λ l. verb_of (take (word_len Bare l) l)) hash ∙ no_comment rest) e)
-loud_by line behind c false is silent e = refl
+    absurd (unnamed line c (ap (λ l. verb_of (take (part_len 32 Bare l) l)) hash ∙ no_comment rest) e)
+loud_by line remainder c false is silent e = refl
 
 says_read : (line : List ℕ) (c : Command) → Says line c → content_of line ≡ Run c
 says_read line c says =
@@ -55,7 +56,7 @@ IsSo line Join = ⊥
 IsSo line Bad = Unit {0}
 IsSo line (Run c) = Says line c
 
-so_silent : (line spaces behind : List ℕ) → AreSpaces spaces → line ≡ spaces ++ behind → is_silent behind ≡ true → SaysNothing line
+so_silent : (line spaces remainder : List ℕ) → AreSpaces spaces → line ≡ spaces ++ remainder → is_silent remainder ≡ true → SaysNothing line
 so_silent line spaces [] are is silent = blank (subst AreSpaces (sym (is ∙ append-nil spaces)) are)
 so_silent line spaces (b ∷ rest) are is silent = comment spaces rest are (is ∙ ap (λ x. spaces ++ x ∷ rest) (eqb-true b 35 silent))
 
@@ -67,8 +68,8 @@ so_said line (Some c) e = command_sound line c e
 so_by : (line : List ℕ) (test : Bool) → is_silent (after_spaces line) ≡ test → IsSo line (content_of line)
 unfolding IsSo
 so_by line true silent =
-    let front = spaced line in
-    subst (IsSo line) (sym (cond-true (is_silent (after_spaces line)) _ _ silent)) (so_silent line front.spaces (after_spaces line) front.are front.is silent)
+    let prefix = spaced line in
+    subst (IsSo line) (sym (cond-true (is_silent (after_spaces line)) _ _ silent)) (so_silent line prefix.spaces (after_spaces line) prefix.are prefix.is silent)
 so_by line false loud = subst (IsSo line) (sym (cond-false (is_silent (after_spaces line)) _ _ loud)) (so_said line (command_of line) refl)
 
 so : (line : List ℕ) → IsSo line (content_of line)
@@ -76,7 +77,7 @@ so line = so_by line (is_silent (after_spaces line)) refl
 
 -- ---- both
 
-reads_by : (line : List ℕ) (content : Content) → content_of line ≡ content → IsSo line content → Reads line content
+reads_by : (line : List ℕ) (content : Content) → content_of line ≡ content → IsSo line content → LineReads line content
 unfolding IsSo
 reads_by line Empty e is = is
 reads_by line Join e is = absurd is
@@ -84,17 +85,17 @@ reads_by line Bad e is = ((λ says. absurd (cc (e, nothing_read line says))), (�
 reads_by line (Run c) e is = is
 
 -- the reader's content is a reading
-pub reads : (line : List ℕ) → Reads line (content_of line)
+pub reads : (line : List ℕ) → LineReads line (content_of line)
 reads line = reads_by line (content_of line) refl (so line)
 
-bad_by : (line : List ℕ) (content : Content) → Reads line content → ¬ SaysNothing line → ((c : Command) → ¬ Says line c) → content ≡ Bad
+bad_by : (line : List ℕ) (content : Content) → LineReads line content → ¬ SaysNothing line → ((c : Command) → ¬ Says line c) → content ≡ Bad
 bad_by line Empty reads no_nothing no_command = absurd (no_nothing reads)
 bad_by line Join reads no_nothing no_command = absurd reads
 bad_by line Bad reads no_nothing no_command = refl
 bad_by line (Run c) reads no_nothing no_command = absurd (no_command c reads)
 
 -- and the only one
-pub reads_one : (line : List ℕ) (content : Content) → Reads line content → content ≡ content_of line
+pub reads_one : (line : List ℕ) (content : Content) → LineReads line content → content ≡ content_of line
 reads_one line Empty says = sym (nothing_read line says)
 reads_one line Join says = absurd says
 reads_one line Bad says = sym (bad_by line (content_of line) (reads line) says.0 says.1)

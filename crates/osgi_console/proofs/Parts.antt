@@ -39,7 +39,7 @@ pub rows_lines-some : (rows : List ServiceRow) → nat_eq (length rows) 0 ≡ fa
 rows_lines-some [] none = absurd (cc)
 rows_lines-some (row ∷ rows) some = map-map with_line_end row_text (row ∷ rows)
 
--- joined pieces: the first, and the others each behind a comma
+-- joined pieces: the first, and the others each after a comma
 pub join-cons : (class : List ℕ) (classes : List (List ℕ)) → join_with_byte 44 (class ∷ classes) ≡ class ++ concat (map (λ c. 44 ∷ c) classes)
 join-cons class [] = sym (append-nil class)
 join-cons class (next ∷ classes) = ap (λ l. class ++ 44 ∷ l) (join-cons next classes)

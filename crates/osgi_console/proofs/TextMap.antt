@@ -1,22 +1,24 @@
 -- The texts of a history's entries, by line, with one more entry.
-use Rattle.std.proofs.Common.{◌≡◌, ℕ, List, [], ◌∷◌, ◌++◌, ap, sym, ◌∙◌, refl, append-nil}
-use Rattle.std.specs.Prelude.{Bool, true, false, cond, Option, None, Some, nat_eq, ◌||◌}
+use Rattle.std.proofs.Common.{◌≡◌, ℕ, List, [], ◌∷◌, ◌++◌, ap, sym, ◌∙◌, refl, append-nil, arith}
+use Rattle.std.specs.Prelude.{Bool, true, false, cond, Option, None, Some, nat_eq, nat_lt, ◌||◌}
 use Rattle.std.specs.List.{list_any}
 use Rattle.std.specs.Option.{option_map, unwrap_or}
-use Rattle.std.specs.HashMap.{get}
+use Rattle.std.specs.BTreeMap.{get}
+use Rattle.std.specs.Ordering.{is_eq, nat_cmp}
+use Rattle.std.specs.declared.cmp.Ordering.TheVariants.{Equal, Greater, Less}
 use Rattle.std.specs.declared.alloc.Global.{Global}
 use Rattle.std.specs.declared.vec.Vec.{Vec}
-use Rattle.std.proofs.lemmas.Bool.{cond-false, cond-true, eqb-true}
+use Rattle.std.proofs.lemmas.Bool.{cond-false, cond-true, eqb-true, ltb-true}
 use Rattle.std.proofs.lemmas.List.Folds.{list_any-append}
 use Rattle.std.proofs.Math.Bool.{or-true}
-use Rattle.osgi_ops.proofs.Texts.{entries_text-none, entries_text-push}
+use Rattle.osgi_ops.specs.laws.Texts.{entries_text-none, entries_text-push}
 use Rattle.osgi_ops.specs.Lines.{is_of}
 use Rattle.osgi_ops.specs.Rendering.{entries_text, entry_text, line_text}
 use Rattle.osgi_ops.specs.declared.entry.Entry.{Entry}
 use Rattle.osgi_ops.specs.declared.line.Content.{Content}
 use Rattle.osgi_ops.specs.declared.line.Content.TheVariants.{Empty, Join, Bad, Run}
 use Rattle.osgi_ops.specs.declared.line.Line.{Line}
-use Rattle.osgi_console.specs.Texts.{AreTextsOf, line_text_by, text_at, text_of, Texts}
+use Rattle.osgi_console.specs.computed.Texts.{AreTextsOf, line_text_by, text_at, text_of, Texts}
 
 has_entry-push : (number : ℕ) (history : List Entry) (e : Entry) → list_any (is_of number) (history ++ e ∷ []) ≡ (list_any (is_of number) history || is_of number e)
 has_entry-push number history e = list_any-append (is_of number) history (e ∷ []) ∙ ap (λ b. list_any (is_of number) history || b) (or_false (is_of number e))
@@ -65,13 +67,23 @@ put_by number q false history e taken at_old at_less at_more text fresh same is_
     let other : is_of q e ≡ false = rw is_number same in
     rw (more, less) (known ∙ sym (text_of-no q history e other))
 
+same_by : (x y : ℕ) (less same : Bool) → nat_lt x y ≡ less → nat_eq x y ≡ same → is_eq (cond less Less (cond same Equal Greater)) ≡ same
+same_by x y true true l s = absurd (omega (arith, ltb-true x y l, eqb-true x y s))
+same_by x y true false l s = refl
+same_by x y false true l s = refl
+same_by x y false false l s = refl
+
+-- numbers compare as equal where they are the same
+same_number : (x y : ℕ) → is_eq (nat_cmp x y) ≡ nat_eq x y
+same_number x y = same_by x y (nat_lt x y) (nat_eq x y) refl refl
+
 -- a text is taken out, gains the text of one more entry and is put back
-pub texts_put : (history : List Entry) (e : Entry) (old less more : Texts) (taken : Option (Vec ℕ Global)) (text fresh : Vec ℕ Global) → AreTextsOf history old → taken ≡ get nat_eq old e.tag.command → fresh.items ≡ [] →
-    text.items ≡ (unwrap_or taken fresh).items ++ entry_text [] e → ((q : ℕ) → get nat_eq less q ≡ cond (nat_eq e.tag.command q) None (get nat_eq old q)) →
-    ((q : ℕ) → get nat_eq more q ≡ cond (nat_eq e.tag.command q) (Some text) (get nat_eq less q)) → AreTextsOf (history ++ e ∷ []) more
+pub texts_put : (history : List Entry) (e : Entry) (old less more : Texts) (taken : Option (Vec ℕ Global)) (text fresh : Vec ℕ Global) → AreTextsOf history old → taken ≡ get nat_cmp old e.tag.command → fresh.items ≡ [] →
+    text.items ≡ (unwrap_or taken fresh).items ++ entry_text [] e → ((q : ℕ) → get nat_cmp less q ≡ cond (is_eq (nat_cmp e.tag.command q)) None (get nat_cmp old q)) →
+    ((q : ℕ) → get nat_cmp more q ≡ cond (is_eq (nat_cmp e.tag.command q)) (Some text) (get nat_cmp less q)) → AreTextsOf (history ++ e ∷ []) more
 texts_put history e old less more taken text fresh texts is_taken none added without with_text = λ q.
-    put_by e.tag.command q (nat_eq e.tag.command q) history e taken (get nat_eq old q) (get nat_eq less q) (get nat_eq more q) text fresh refl refl
-    (λ here. is_taken ∙ ap (get nat_eq old) here) (texts q) none added (without q) (with_text q)
+    put_by e.tag.command q (is_eq (nat_cmp e.tag.command q)) history e taken (get nat_cmp old q) (get nat_cmp less q) (get nat_cmp more q) text fresh (sym (same_number e.tag.command q)) refl
+    (λ here. is_taken ∙ ap (get nat_cmp old) here) (texts q) none added (without q) (with_text q)
 
 line_by : (content : Content) (number : ℕ) (history : List Entry) (some : Bool) → list_any (is_of number) history ≡ some →
     line_text_by content (cond some (Some (entries_text number history)) None) ≡ line_text history (record { number = number; lane = 0; content = content })

@@ -8,26 +8,29 @@ use Rattle.osgi_base.specs.declared.ids.ServiceId.{ServiceId}
 use Rattle.osgi_model.specs.declared.filter.Filter.{Filter}
 use Rattle.osgi_ops.specs.declared.command.Command.{Command}
 use Rattle.osgi_ops.specs.declared.command.Command.TheVariants as command
-use Rattle.osgi_console.specs.declared.commands.Wanted.{Wanted}
-use Rattle.osgi_console.specs.declared.words.Place.TheVariants.{Bare}
+use Rattle.osgi_console.specs.declared.commands.Search.{Search}
+use Rattle.osgi_base.specs.declared.parts.QuoteState.TheVariants.{Bare}
 use Rattle.osgi_console.specs.declared.commands.Verb.{Verb}
 use Rattle.osgi_console.specs.declared.commands.Verb.TheVariants as verb
-use Rattle.osgi_model.proofs.Made.{mapped, passes_found, same_text}
-use Rattle.osgi_console.proofs.Attributes.{properties_read, properties_sound, whole_properties}
-use Rattle.osgi_console.proofs.Classes.{classes_read, classes_sound, whole_classes}
+use Rattle.osgi_model.specs.laws.Made.{mapped, passes_found, same_text}
+use Rattle.osgi_syntax.specs.laws.Attributes.{properties_read, properties_sound, whole_properties}
+use Rattle.osgi_syntax.specs.laws.Names.{classes_read, classes_sound, whole_classes}
 use Rattle.osgi_console.proofs.Filters.{filter_ends, wanted_read, wanted_sound}
-use Rattle.osgi_console.proofs.Numbers.{id_read, id_sound, whole_id}
-use Rattle.osgi_console.proofs.Parting.{front_parts, words_part}
-use Rattle.osgi_console.proofs.Quoting.{quoted_read, quoted_sound}
-use Rattle.osgi_console.proofs.Spaces.{EndsWord}
-use Rattle.osgi_console.proofs.Splitting.{begins, behind_word-ends}
-use Rattle.osgi_console.proofs.Whole.{AreWhole, ends_all, HasFront, IsWhole, parted_front, parted_words, whole_quoted}
+use Rattle.osgi_syntax.specs.laws.Ids.{id_read, id_sound, whole_id}
+use Rattle.osgi_syntax.specs.laws.Separating.{front_parts, words_part}
+use Rattle.osgi_base.specs.laws.Quoting.{quoted_read, quoted_sound}
+use Rattle.osgi_syntax.specs.laws.Spaces.{EndsWord}
+use Rattle.osgi_syntax.specs.laws.Splitting.{begins, after_word-ends}
+use Rattle.osgi_syntax.specs.laws.Whole.{AreWhole, ends_all, HasFront, IsWhole, parted_front, parted_words, whole_quoted}
 use Rattle.osgi_console.specs.Console as says
-use Rattle.osgi_console.specs.LineReader.{command_by, command_of, modify_of, name_of, only_id_of, register_of, services_of, verb_of, verbs, wanted_of}
-use Rattle.osgi_console.specs.PropertyReader.{properties_of}
-use Rattle.osgi_console.specs.Splitting.{after_spaces, behind_word, first_word, word_len, words_of}
-use Rattle.osgi_console.specs.WordReader.{classes_of, id_of, quoted_of}
-use Rattle.osgi_console.specs.Words.{AreSpaces, IsClass, IsFilterEnd, IsId, IsParted}
+use Rattle.osgi_console.specs.computed.LineReader.{command_by, command_of, modify_of, name_of, only_id_of, register_of, services_command, verb_of, verbs, search_of}
+use Rattle.osgi_syntax.specs.PropertyReader.{properties_of}
+use Rattle.osgi_base.specs.Parts.{part_len}
+use Rattle.osgi_syntax.specs.Splitting.{after_spaces, after_word, first_word, words_of}
+use Rattle.osgi_base.specs.QuoteReader.{quoted_of}
+use Rattle.osgi_syntax.specs.WordReader.{classes_of, id_of}
+use Rattle.osgi_console.specs.Console.{IsFilterEnd}
+use Rattle.osgi_syntax.specs.Words.{AreSpaces, IsClass, IsId, IsSeparated}
 
 -- ---- the first word
 
@@ -47,14 +50,14 @@ whole_name verb.Services = record { some = omega arith; scanned = refl }
 -- a line with such a first word has one
 has_word : (v : Verb) (line : List ℕ) → name_of v ≡ first_word line → 0 < length (after_spaces line)
 has_word v line named =
-    omega (arith, (whole_name v).some, ap length named, length-take (word_len Bare (after_spaces line)) (after_spaces line))
+    omega (arith, (whole_name v).some, ap length named, length-take (part_len 32 Bare (after_spaces line)) (after_spaces line))
 
 -- where a verb's name and other words part a line, it is the line's first word
 named_front : (IsEnd : List ℕ → Type 0) (v : Verb) (words : List (List ℕ)) (line : List ℕ) → ((end : List ℕ) → IsEnd end → EndsWord end) →
-    (parted : IsParted IsEnd (name_of v ∷ words) (32 ∷ line)) → HasFront line (name_of v) parted.1
+    (parted : IsSeparated IsEnd (name_of v ∷ words) (32 ∷ line)) → HasFront line (name_of v) parted.1
 named_front IsEnd v words line end parted =
-    let front = parted_front IsEnd (name_of v) words (32 ∷ line) end (whole_name v) parted in
-    record { some = front.some; first = front.first; behind = front.behind }
+    let prefix = parted_front IsEnd (name_of v) words (32 ∷ line) end (whole_name v) parted in
+    record { some = prefix.some; first = prefix.first; remainder = prefix.remainder }
 
 -- ---- the arguments
 
@@ -99,48 +102,48 @@ modify_sound (id ∷ words) c e =
     let read = mapped (command.Modify service) (properties_of words) c behind_id in
     rw (← read.is) (says.modify (id_sound id service is) (properties_sound words read.value read.was)))
 
-services_sound : (arguments : List (List ℕ)) (c : Command) → services_of arguments ≡ Some c → says.AreWordsOf (codes "services" ∷ arguments) c
+services_sound : (arguments : List (List ℕ)) (c : Command) → services_command arguments ≡ Some c → says.AreWordsOf (codes "services" ∷ arguments) c
 services_sound [] c e =
     let is : command.Services ≡ c = cc e in
     rw (← is) says.services
 services_sound (word ∷ rest) c e = absurd (cc e)
 
 -- a command in words alone
-said_in_words : (v : Verb) (line : List ℕ) (c : Command) → name_of v ≡ first_word line → says.AreWordsOf (name_of v ∷ words_of (behind_word line)) c → says.Says line c
+said_in_words : (v : Verb) (line : List ℕ) (c : Command) → name_of v ≡ first_word line → says.AreWordsOf (name_of v ∷ words_of (after_word line)) c → says.Says line c
 said_in_words v line c named are =
     let some : 0 < length (after_spaces line) = has_word v line named in
-    let words : words_of line ≡ name_of v ∷ words_of (behind_word line) = (begins line some).words ∙ ap (λ l. l ∷ words_of (behind_word line)) (sym named) in
-    says.in_words are (subst (λ l. IsParted AreSpaces l (32 ∷ line)) words (words_part line))
+    let words : words_of line ≡ name_of v ∷ words_of (after_word line) = (begins line some).words ∙ ap (λ l. l ∷ words_of (after_word line)) (sym named) in
+    says.in_words are (subst (λ l. IsSeparated AreSpaces l (32 ∷ line)) words (words_part line))
 
 -- a command with a class, and a filter or none
 said_of_class : (v : Verb) (make : List ℕ → Option Filter → Command) (line : List ℕ) (c : Command) → name_of v ≡ first_word line →
-    option_map (λ w. make w.class w.filter) (wanted_of (behind_word line)) ≡ Some c →
-    ((class : List ℕ) (filter : Option Filter) → IsClass class → IsParted (IsFilterEnd filter) (name_of v ∷ class ∷ []) (32 ∷ line) → says.Says line (make class filter)) → says.Says line c
+    option_map (λ w. make w.class w.filter) (search_of (after_word line)) ≡ Some c →
+    ((class : List ℕ) (filter : Option Filter) → IsClass class → IsSeparated (IsFilterEnd filter) (name_of v ∷ class ∷ []) (32 ∷ line) → says.Says line (make class filter)) → says.Says line c
 said_of_class v make line c named e said =
-    let read = mapped (λ (w : Wanted). make w.class w.filter) (wanted_of (behind_word line)) c e in
-    let wanted = wanted_sound (behind_word line) read.value (behind_word-ends line) read.was in
-    let parted : IsParted (IsFilterEnd read.value.filter) (name_of v ∷ read.value.class ∷ []) (32 ∷ line)
-    = subst (λ l. IsParted (IsFilterEnd read.value.filter) (l ∷ read.value.class ∷ []) (32 ∷ line)) (sym named)
+    let read = mapped (λ (w : Search). make w.class w.filter) (search_of (after_word line)) c e in
+    let wanted = wanted_sound (after_word line) read.value (after_word-ends line) read.was in
+    let parted : IsSeparated (IsFilterEnd read.value.filter) (name_of v ∷ read.value.class ∷ []) (32 ∷ line)
+    = subst (λ l. IsSeparated (IsFilterEnd read.value.filter) (l ∷ read.value.class ∷ []) (32 ∷ line)) (sym named)
     (front_parts (IsFilterEnd read.value.filter) (read.value.class ∷ []) line wanted.parted) in
     subst (says.Says line) read.is (said read.value.class read.value.filter wanted.class parted)
 
-says_by : (v : Verb) (line : List ℕ) (c : Command) → name_of v ≡ first_word line → command_by v (behind_word line) ≡ Some c → says.Says line c
-says_by verb.Register line c named e = said_in_words verb.Register line c named (register_sound (words_of (behind_word line)) c e)
-says_by verb.Modify line c named e = said_in_words verb.Modify line c named (modify_sound (words_of (behind_word line)) c e)
+says_by : (v : Verb) (line : List ℕ) (c : Command) → name_of v ≡ first_word line → command_by v (after_word line) ≡ Some c → says.Says line c
+says_by verb.Register line c named e = said_in_words verb.Register line c named (register_sound (words_of (after_word line)) c e)
+says_by verb.Modify line c named e = said_in_words verb.Modify line c named (modify_sound (words_of (after_word line)) c e)
 says_by verb.Unregister line c named e =
     said_in_words verb.Unregister line c named
-    (id_command (codes "unregister") command.Unregister (words_of (behind_word line)) c e (λ word service id. says.unregister id))
+    (id_command (codes "unregister") command.Unregister (words_of (after_word line)) c e (λ word service id. says.unregister id))
 says_by verb.Find line c named e = said_of_class verb.Find command.Find line c named e (λ class filter is parted. says.find is parted)
 says_by verb.FindAll line c named e = said_of_class verb.FindAll command.FindAll line c named e (λ class filter is parted. says.findall is parted)
 says_by verb.Get line c named e =
-    said_in_words verb.Get line c named (id_command (codes "get") command.Get (words_of (behind_word line)) c e (λ word service id. says.get id))
+    said_in_words verb.Get line c named (id_command (codes "get") command.Get (words_of (after_word line)) c e (λ word service id. says.get id))
 says_by verb.Unget line c named e =
-    said_in_words verb.Unget line c named (id_command (codes "unget") command.Unget (words_of (behind_word line)) c e (λ word service id. says.unget id))
-says_by verb.Services line c named e = said_in_words verb.Services line c named (services_sound (words_of (behind_word line)) c e)
+    said_in_words verb.Unget line c named (id_command (codes "unget") command.Unget (words_of (after_word line)) c e (λ word service id. says.unget id))
+says_by verb.Services line c named e = said_in_words verb.Services line c named (services_sound (words_of (after_word line)) c e)
 
 pub command_sound : (line : List ℕ) (c : Command) → command_of line ≡ Some c → says.Says line c
 command_sound line c e =
-    option_and_then_some (λ v. command_by v (behind_word line)) (verb_of (first_word line)) c e
+    option_and_then_some (λ v. command_by v (after_word line)) (verb_of (first_word line)) c e
     (λ v named by. says_by v line c (verb_sound (first_word line) v named) by)
 
 -- ---- what says a command is read
@@ -155,9 +158,9 @@ verb_read verb.Get = refl
 verb_read verb.Unget = refl
 verb_read verb.Services = refl
 
--- a line's first word is this one, and so the command is read from behind it
+-- a line's first word is this one, and so the command is read from what follows it
 read_by : (v : Verb) (line rest : List ℕ) (c : Command) → HasFront line (name_of v) rest → command_by v rest ≡ Some c → command_of line ≡ Some c
-read_by v line rest c front by = rw (front.first, front.behind, verb_read v) by
+read_by v line rest c prefix by = rw (prefix.first, prefix.remainder, verb_read v) by
 
 -- words of a command: the name, and arguments from which the command is read
 record HasVerb (words : List (List ℕ)) (c : Command) : Type 0 where
@@ -203,11 +206,11 @@ has_verb words c (says.unget {id = id} {service = service} is) = record {
   whole = (whole_id id service is, tt);
   read = λ text e. ap (λ l. option_map command.Unget (only_id_of l)) e ∙ ap (option_map command.Unget) (id_read id service is);
 }
-has_verb words c says.services = record { verb = verb.Services; arguments = []; is = refl; whole = tt; read = λ text e. ap services_of e }
+has_verb words c says.services = record { verb = verb.Services; arguments = []; is = refl; whole = tt; read = λ text e. ap services_command e }
 
-words_read : (words : List (List ℕ)) (line : List ℕ) (c : Command) → HasVerb words c → IsParted AreSpaces words (32 ∷ line) → command_of line ≡ Some c
+words_read : (words : List (List ℕ)) (line : List ℕ) (c : Command) → HasVerb words c → IsSeparated AreSpaces words (32 ∷ line) → command_of line ≡ Some c
 words_read words line c has parted =
-    let named : IsParted AreSpaces (name_of has.verb ∷ has.arguments) (32 ∷ line) = subst (λ l. IsParted AreSpaces l (32 ∷ line)) has.is parted in
+    let named : IsSeparated AreSpaces (name_of has.verb ∷ has.arguments) (32 ∷ line) = subst (λ l. IsSeparated AreSpaces l (32 ∷ line)) has.is parted in
     read_by has.verb line named.1 c (named_front AreSpaces has.verb has.arguments line ends_all named)
     (has.read named.1 (parted_words has.arguments named.1 has.whole named.5))
 
@@ -215,7 +218,7 @@ pub command_read : (line : List ℕ) (c : Command) → says.Says line c → comm
 command_read line c (says.in_words {words = words} are parted) = words_read words line c (has_verb words c are) parted
 command_read line c (says.find {class = class} {filter = filter} is parted) =
     read_by verb.Find line parted.1 c (named_front (IsFilterEnd filter) verb.Find (class ∷ []) line (filter_ends filter) parted)
-    (ap (option_map (λ (w : Wanted). command.Find w.class w.filter)) (wanted_read class filter parted.1 is parted.5))
+    (ap (option_map (λ (w : Search). command.Find w.class w.filter)) (wanted_read class filter parted.1 is parted.5))
 command_read line c (says.findall {class = class} {filter = filter} is parted) =
     read_by verb.FindAll line parted.1 c (named_front (IsFilterEnd filter) verb.FindAll (class ∷ []) line (filter_ends filter) parted)
-    (ap (option_map (λ (w : Wanted). command.FindAll w.class w.filter)) (wanted_read class filter parted.1 is parted.5))
+    (ap (option_map (λ (w : Search). command.FindAll w.class w.filter)) (wanted_read class filter parted.1 is parted.5))

@@ -1,7 +1,8 @@
 -- The text of the console: which lines the input has, and what each of them says.
-use Rattle.std.specs.Prelude.{ℕ, ◌≡◌, ◌+◌, List, [], ◌∷◌, ◌++◌, codes, Option}
+use Rattle.std.specs.Prelude.{ℕ, ◌≡◌, ◌+◌, List, [], ◌∷◌, ◌++◌, codes, Option, None, Some}
 use Rattle.std.specs.Str.Lines.{lines}
 use Rattle.osgi_base.specs.declared.ids.ServiceId.{ServiceId}
+use Rattle.osgi_model.specs.Filters.{ReadsFilter}
 use Rattle.osgi_model.specs.declared.filter.Filter.{Filter}
 use Rattle.osgi_model.specs.declared.value.Attribute.{Attribute}
 use Rattle.osgi_ops.specs.declared.command.Command.{Command}
@@ -9,8 +10,15 @@ use Rattle.osgi_ops.specs.declared.command.Command.TheVariants as command
 use Rattle.osgi_ops.specs.declared.line.Content.{Content}
 use Rattle.osgi_ops.specs.declared.line.Content.TheVariants.{Empty, Join, Bad, Run}
 use Rattle.osgi_ops.specs.declared.line.Line.{Line}
-use Rattle.osgi_console.specs.Values.{AreProperties}
-use Rattle.osgi_console.specs.Words.{AreClasses, AreSpaces, IsClass, IsFilterEnd, IsId, IsParted, IsQuoted}
+use Rattle.osgi_syntax.specs.Properties.{AreProperties}
+use Rattle.osgi_base.specs.Quotes.{IsQuoted}
+use Rattle.osgi_syntax.specs.Words.{AreClasses, AreSpaces, IsClass, IsId, IsSeparated}
+
+-- the end of a line that may have a filter there: without one it is spaces; with one it begins with a space and reads as
+-- the filter, round which white space may stand
+abbrev pub IsFilterEnd : Option Filter → List ℕ → Type 0
+IsFilterEnd None text = AreSpaces text
+IsFilterEnd (Some filter) text = (rest : List ℕ) × (text ≡ 32 ∷ rest) × ReadsFilter text filter
 
 -- a line that says nothing: spaces, or a comment, whose first byte besides spaces is `#`
 pub data SaysNothing : List ℕ → Type 0 where
@@ -39,26 +47,26 @@ pub data AreWordsOf : List (List ℕ) → Command → Type 0 where
 -- command has one. Each word wants spaces before it, and the first word of a line needs none: so a space is put before the
 -- line
 pub data Says (line : List ℕ) : Command → Type 0 where
-  in_words : {words : List (List ℕ)} {c : Command} → AreWordsOf words c → IsParted AreSpaces words (32 ∷ line) → Says line c
+  in_words : {words : List (List ℕ)} {c : Command} → AreWordsOf words c → IsSeparated AreSpaces words (32 ∷ line) → Says line c
   -- `find CLASS [FILTER]`
   find : {class : List ℕ} {filter : Option Filter} → IsClass class →
-      IsParted (IsFilterEnd filter) (codes "find" ∷ class ∷ []) (32 ∷ line) → Says line (command.Find class filter)
+      IsSeparated (IsFilterEnd filter) (codes "find" ∷ class ∷ []) (32 ∷ line) → Says line (command.Find class filter)
   -- `findall CLASS [FILTER]`
   findall : {class : List ℕ} {filter : Option Filter} → IsClass class →
-      IsParted (IsFilterEnd filter) (codes "findall" ∷ class ∷ []) (32 ∷ line) → Says line (command.FindAll class filter)
+      IsSeparated (IsFilterEnd filter) (codes "findall" ∷ class ∷ []) (32 ∷ line) → Says line (command.FindAll class filter)
 
 -- what a line is read as: it is bad where it says neither nothing nor a command
-abbrev pub Reads : List ℕ → Content → Type 0
-Reads line Empty = SaysNothing line
-Reads line Join = ⊥
-Reads line Bad = (¬ SaysNothing line) × ((command : Command) → ¬ Says line command)
-Reads line (Run command) = Says line command
+abbrev pub LineReads : List ℕ → Content → Type 0
+LineReads line Empty = SaysNothing line
+LineReads line Join = ⊥
+LineReads line Bad = (¬ SaysNothing line) × ((command : Command) → ¬ Says line command)
+LineReads line (Run command) = Says line command
 
 -- the lines of these texts, numbered from here on
 abbrev pub AreReadFrom : ℕ → List (List ℕ) → List Line → Type 0
 AreReadFrom number [] [] = Unit {0}
 AreReadFrom number (text ∷ texts) (line ∷ rest) =
-    (line.number ≡ number) × (line.lane ≡ 0) × Reads text line.content × AreReadFrom (number + 1) texts rest
+    (line.number ≡ number) × (line.lane ≡ 0) × LineReads text line.content × AreReadFrom (number + 1) texts rest
 AreReadFrom number _ _ = ⊥
 
 -- the lines of an input. A line ends by LF or CRLF, which the last one need not have; lines are numbered from 1

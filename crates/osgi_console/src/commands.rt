@@ -1,18 +1,20 @@
 //! The commands, read from lines: the first word says how the rest is read.
 
 ghost use Rattle.std.specs.Prelude.{◌≡◌, IfOk};
-ghost use Rattle.osgi_console.specs.LineReader.{command_by, command_of, filter_of, modify_of, name_of, only_id_of, register_of, services_of, verb_of, wanted_of};
-ghost use Rattle.osgi_console.specs.Splitting.{words_of};
+ghost use Rattle.osgi_filter.specs.computed.Reader.{read_filter};
+ghost use Rattle.osgi_console.specs.computed.LineReader.{command_by, command_of, modify_of, name_of, only_id_of, register_of, services_command, verb_of, search_of};
+ghost use Rattle.osgi_syntax.specs.Splitting.{words_of};
 
-use crate::names::{class, classes, id};
-use crate::properties::properties;
-use crate::quoted::quoted;
-use crate::words::{skip_spaces, split_word, split_words};
 use osgi_base::ids::ServiceId;
+use osgi_base::quoted::quoted;
 use osgi_base::text::Text;
-use osgi_filter::reading::parse;
+use osgi_filter::parse;
 use osgi_model::filter::Filter;
 use osgi_ops::command::Command;
+use osgi_syntax::ids::id;
+use osgi_syntax::names::{class, classes};
+use osgi_syntax::properties::properties;
+use osgi_syntax::words::{skip_spaces, split_word, split_words};
 use std::alloc::{AllocError, Global};
 
 /// The commands, by their first words.
@@ -58,7 +60,7 @@ impl Verb {
 
 /// What a `find` or `findall` looks for.
 #[derive(Drop)]
-struct Wanted {
+struct Search {
     class: Text,
     filter: Option<Filter>,
 }
@@ -69,7 +71,7 @@ fn verb_named(word: &[u8]) -> Option<Verb>
     VERBS.iter().copied().find(|verb| verb.name() == word)
 }
 
-/// `register CLASS[,CLASS].. "TEXT" [PROP]..`, from behind its first word.
+/// `register CLASS[,CLASS].. "TEXT" [PROP]..`, from what follows its first word.
 fn register(alloc: Global, text: &[u8]) -> Result<Option<Command>, AllocError>
     ensures command { IfOk result (λ command. command ≡ register_of (words_of text.now)) }
 {
@@ -95,7 +97,7 @@ fn register(alloc: Global, text: &[u8]) -> Result<Option<Command>, AllocError>
     }))
 }
 
-/// `modify ID [PROP]..`, from behind its first word.
+/// `modify ID [PROP]..`, from what follows its first word.
 fn modify(alloc: Global, text: &[u8]) -> Result<Option<Command>, AllocError>
     ensures command { IfOk result (λ command. command ≡ modify_of (words_of text.now)) }
 {
@@ -125,9 +127,9 @@ fn only_id(text: &[u8]) -> Option<ServiceId>
     }
 }
 
-/// `services`, from behind its first word.
+/// `services`, from what follows its first word.
 fn services(text: &[u8]) -> Option<Command>
-    ensures command { result ≡ services_of (words_of text.now) }
+    ensures command { result ≡ services_command (words_of text.now) }
 {
     match split_word(text) {
         Some(_) => None,
@@ -138,28 +140,28 @@ fn services(text: &[u8]) -> Option<Command>
 /// The filter that a text reads as; none where it is none.
 #[tactic(auto, using(crate::proofs::Filters::filter_is))]
 fn filter(alloc: Global, text: &[u8]) -> Result<Option<Filter>, AllocError>
-    ensures filter { IfOk result (λ filter. filter ≡ filter_of text.now) }
+    ensures filter { IfOk result (λ filter. filter ≡ read_filter text.now) }
 {
     Ok(parse(alloc, text)?.ok())
 }
 
-/// `CLASS [FILTER]`. The filter is what is left behind the class and is not split into words: quotes mean nothing in it.
-fn class_and_filter(alloc: Global, text: &[u8]) -> Result<Option<Wanted>, AllocError>
-    ensures wanted { IfOk result (λ wanted. wanted ≡ wanted_of text.now) }
+/// `CLASS [FILTER]`. The filter is what is left after the class and is not split into words: quotes mean nothing in it.
+fn class_and_filter(alloc: Global, text: &[u8]) -> Result<Option<Search>, AllocError>
+    ensures wanted { IfOk result (λ wanted. wanted ≡ search_of text.now) }
 {
-    let Some((name, behind)) = split_word(text) else {
+    let Some((name, remainder)) = split_word(text) else {
         return Ok(None);
     };
     let Some(class) = class(alloc, name)? else {
         return Ok(None);
     };
-    if skip_spaces(behind).is_empty() {
-        return Ok(Some(Wanted {
+    if skip_spaces(remainder).is_empty() {
+        return Ok(Some(Search {
             class,
             filter: None,
         }));
     }
-    Ok(filter(alloc, behind)?.map(|filter| Wanted {
+    Ok(filter(alloc, remainder)?.map(|filter| Search {
         class,
         filter: Some(filter),
     }))
@@ -190,11 +192,11 @@ fn command_by(alloc: Global, verb: Verb, text: &[u8]) -> Result<Option<Command>,
 pub fn command(alloc: Global, line: &[u8]) -> Result<Option<Command>, AllocError>
     ensures command { IfOk result (λ command. command ≡ command_of line.now) }
 {
-    let Some((name, behind)) = split_word(line) else {
+    let Some((name, remainder)) = split_word(line) else {
         return Ok(None);
     };
     match verb_named(name) {
-        Some(verb) => command_by(alloc, verb, behind),
+        Some(verb) => command_by(alloc, verb, remainder),
         None => Ok(None),
     }
 }

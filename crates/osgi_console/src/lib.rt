@@ -2,10 +2,8 @@
 #![tactic(auto)]
 
 mod commands;
-mod names;
-mod properties;
-mod quoted;
-pub mod reading;
-pub mod rendering;
-mod values;
-mod words;
+mod reading;
+mod rendering;
+
+pub use reading::parse;
+pub use rendering::render;

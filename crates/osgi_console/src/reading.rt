@@ -5,13 +5,12 @@ ghost use Rattle.std.specs.List.{position};
 ghost use Rattle.std.specs.Str.Lines.{lines, lines_of_parts, strip_carriage_return};
 ghost use Rattle.osgi_ops.specs.declared.line.Line.{Line};
 ghost use Rattle.osgi_console.specs.Console.{AreLinesOf};
-ghost use Rattle.osgi_console.specs.LineReader.{content_of, numbered};
-ghost use Rattle.osgi_console.specs.Splitting.{is_line_feed, BeginsWithLine};
+ghost use Rattle.osgi_console.specs.computed.LineReader.{content_of, numbered, is_line_feed, BeginsWithLine};
 
 use crate::commands::command;
-use crate::words::skip_spaces;
 use osgi_base::list::List;
 use osgi_ops::line::{Content, Line};
+use osgi_syntax::words::skip_spaces;
 use std::alloc::{AllocError, Global};
 
 /// Reads what a line says.
@@ -42,7 +41,7 @@ fn strip_return(line: &[u8]) -> &[u8]
     ensures stripped { result.now ≡ strip_carriage_return line.now }
 {
     match line.split_last() {
-        Some((b'\r', front)) => front,
+        Some((b'\r', prefix)) => prefix,
         _ => line,
     }
 }
@@ -53,7 +52,7 @@ fn first_line_feed(bytes: &[u8]) -> Option<usize>
     bytes.iter().position(|b| *b == b'\n')
 }
 
-/// Splits at the first line end: the line before it, and what is left behind it. None where no line end is left.
+/// Splits at the first line end: the line before it, and what is left after it. None where no line end is left.
 fn split_line(bytes: &[u8]) -> Option<(&[u8], &[u8])>
     ensures lines { MatchOption result (lines bytes.now ≡ lines_of_parts (bytes.now ∷ [])) (λ split. BeginsWithLine bytes.now split.0.now split.1.now) }
 {
@@ -72,7 +71,7 @@ fn split_line(bytes: &[u8]) -> Option<(&[u8], &[u8])>
 /// A line ends by LF or CRLF; the last one need not. Lines are numbered from 1.
 pub fn parse(alloc: Global, bytes: &[u8]) -> Result<List<Line>, AllocError>
     requires few { length bytes.now < 4294967295 }
-    ensures reading { IfOk result (AreLinesOf bytes.now) }
+    ensures reads { IfOk result (AreLinesOf bytes.now) }
     ensures only { (others : List Line) → AreLinesOf bytes.now others → IfOk result (λ all. all ≡ others) }
 {
     read_lines(alloc, bytes)

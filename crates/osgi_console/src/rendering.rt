@@ -4,7 +4,7 @@ ghost use Rattle.std.specs.Prelude.{◌≡◌, ◌==◌, ◌||◌, if◌then◌e
 ghost use Rattle.std.specs.Fmt.{decimal, signed_decimal};
 ghost use Rattle.std.specs.List.{concat, join_with_byte};
 ghost use Rattle.osgi_ops.specs.Rendering.{details, refusal_text, ids_text, quoted, row_text, rows_lines, truth, with_line_end, entry_text, render};
-ghost use Rattle.osgi_console.specs.Texts.{AreTextsOf, line_text_by, text_at};
+ghost use Rattle.osgi_console.specs.computed.Texts.{AreTextsOf, line_text_by, text_at};
 
 use itoa::Buffer;
 use osgi_base::ids::ServiceId;
@@ -16,7 +16,7 @@ use osgi_ops::refusal::Refusal;
 use osgi_ops::reply::Reply;
 use osgi_ops::service::ServiceRow;
 use std::alloc::{AllocError, Global};
-use std::collections::HashMap;
+use std::collections::BTreeMap;
 
 /// Adds a number in decimal.
 fn add_number(out: &mut Vec<u8>, number: u64) -> Result<(), AllocError>
@@ -34,7 +34,7 @@ fn add_ranking(out: &mut Vec<u8>, ranking: i32) -> Result<(), AllocError>
     out.extend_from_slice(buffer.format(ranking).as_bytes())
 }
 
-/// Adds what a refusal tells besides its number and name.
+/// Adds what a refusal says besides its number and name.
 fn add_details(out: &mut Vec<u8>, refusal: &Refusal) -> Result<(), AllocError>
     ensures added { OnOk result (out.new.items ≡ out.old.items ++ details refusal.now) }
 {
@@ -67,7 +67,7 @@ fn add_refusal(out: &mut Vec<u8>, refusal: &Refusal) -> Result<(), AllocError>
     Ok(())
 }
 
-/// Adds ids, each behind a space.
+/// Adds ids, each after a space.
 fn add_ids(out: &mut Vec<u8>, ids: &[ServiceId]) -> Result<(), AllocError>
     ensures added { OnOk result (out.new.items ≡ out.old.items ++ ids_text ids.now) }
 {
@@ -160,7 +160,7 @@ fn add_id_line(out: &mut Vec<u8>, word: &[u8], id: ServiceId) -> Result<(), Allo
     Ok(())
 }
 
-/// Adds the line that tells which services were found.
+/// Adds the line that says which services were found.
 fn add_found(out: &mut Vec<u8>, ids: &[ServiceId]) -> Result<(), AllocError>
     ensures added { OnOk result (out.new.items ≡ out.old.items ++ with_line_end (codes "found" ++ ids_text ids.now)) }
 {
@@ -170,7 +170,7 @@ fn add_found(out: &mut Vec<u8>, ids: &[ServiceId]) -> Result<(), AllocError>
     Ok(())
 }
 
-/// Adds the line that tells a service's object.
+/// Adds the line that shows a service's object.
 fn add_object(out: &mut Vec<u8>, object: &[u8]) -> Result<(), AllocError>
     ensures added { OnOk result (out.new.items ≡ out.old.items ++ with_line_end (codes "object " ++ quoted object.now)) }
 {
@@ -180,7 +180,7 @@ fn add_object(out: &mut Vec<u8>, object: &[u8]) -> Result<(), AllocError>
     Ok(())
 }
 
-/// Adds the line that tells whether there was a use to take back.
+/// Adds the line that says whether there was a use to take back.
 fn add_unget(out: &mut Vec<u8>, value: bool) -> Result<(), AllocError>
     ensures added { OnOk result (out.new.items ≡ out.old.items ++ with_line_end (codes "unget " ++ truth value)) }
 {
@@ -212,10 +212,10 @@ fn add_entry(out: &mut Vec<u8>, entry: &Entry) -> Result<(), AllocError>
 }
 
 /// The texts of the entries, each under the number of its line.
-fn texts(alloc: Global, entries: &[Entry]) -> Result<HashMap<u32, Vec<u8>>, AllocError>
+fn texts(alloc: Global, entries: &[Entry]) -> Result<BTreeMap<u32, Vec<u8>>, AllocError>
     ensures texts { IfOk result (AreTextsOf entries.now) }
 {
-    let mut texts = HashMap::new(alloc);
+    let mut texts = BTreeMap::new(alloc);
     for entry in entries {
         let number = entry.tag.command;
         // Taken out and put back: what the map then holds has a contract, which a loan into it has not.
@@ -227,7 +227,11 @@ fn texts(alloc: Global, entries: &[Entry]) -> Result<HashMap<u32, Vec<u8>>, Allo
 }
 
 /// Adds what a line writes.
-fn add_line(out: &mut Vec<u8>, line: &Line, texts: &HashMap<u32, Vec<u8>>) -> Result<(), AllocError>
+fn add_line(
+    out: &mut Vec<u8>,
+    line: &Line,
+    texts: &BTreeMap<u32, Vec<u8>>,
+) -> Result<(), AllocError>
     ensures added { OnOk result (out.new.items ≡ out.old.items ++ line_text_by line.now.content (text_at texts.now line.now.number)) }
 {
     match &line.content {

@@ -1,19 +1,19 @@
 -- The machine's fields between calls.
 use Rattle.std.proofs.Common.{◌<◌, List, [], ◌∷◌, ◌++◌, length, arith}
-use Rattle.osgi_ops.proofs.Histories.{Legal-push}
-use Rattle.osgi_ops.proofs.Services.{length-registered, uses-le-length}
+use Rattle.osgi_ops.specs.laws.Histories.{Legal-push}
+use Rattle.osgi_ops.specs.laws.Services.{length-registered, uses-le-length}
 use Rattle.osgi_ops.specs.Settings.{Setting}
 use Rattle.osgi_ops.specs.declared.entry.Entry.{Entry}
 use Rattle.osgi_registry.specs.Rows.{RegistryRows}
 use Rattle.osgi_registry.specs.Stands.{StandsFor}
 use Rattle.osgi_core.proofs.Replying.{uses_now}
-use Rattle.osgi_core.specs.Kept.{IsKept}
-use Rattle.osgi_core.specs.Replied.{HasRoom, IsReplied}
+use Rattle.osgi_core.specs.computed.Kept.{IsKept}
+use Rattle.osgi_core.specs.computed.Replied.{HasRoom, IsReplied}
 
 -- the registry of a history within its limit has room
 pub has_room : (history : List Entry) (registry : RegistryRows) → StandsFor history registry → length history < 1000000 → HasRoom registry
 has_room history registry stands short = record {
-  ids = omega (arith, short, stands.given, length-registered history);
+  ids = omega (arith, short, stands.issued, length-registered history);
   uses = λ user service. omega (arith, short, uses_now history registry user service stands, uses-le-length user service history);
 }
 

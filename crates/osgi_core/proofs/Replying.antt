@@ -7,14 +7,14 @@ use Rattle.osgi_base.specs.declared.ids.BundleId.{BundleId}
 use Rattle.osgi_base.specs.declared.ids.ServiceId.{ServiceId}
 use Rattle.osgi_model.specs.declared.filter.Filter.{Filter}
 use Rattle.osgi_model.specs.declared.value.Attribute.{Attribute}
-use Rattle.osgi_ops.proofs.Verdicts.{gives_first, gives_rest}
+use Rattle.osgi_base.specs.laws.Verdicts.{gives_first, gives_rest}
 use Rattle.osgi_ops.specs.Bundles.{IsLive, system}
 use Rattle.osgi_ops.specs.Classes.{AreRanked, IsFound, IsOf, IsOpenTo}
 use Rattle.osgi_ops.specs.Operations.{Answers, conditions, IsReply, moment, Moment, no_such_bundle, row_of}
 use Rattle.osgi_ops.specs.Properties.{has_twins}
 use Rattle.osgi_ops.specs.Services.{live, live_at, Registered, registered, services, uses, uses_of}
-use Rattle.osgi_ops.specs.Settings.{most_services}
-use Rattle.osgi_ops.specs.Verdict.{answers, Gives, refuses, Verdict, Where}
+use Rattle.osgi_ops.specs.declared.limits.TheConstants.{MAX_SERVICES}
+use Rattle.osgi_base.specs.Verdict.{answers, Gives, refuses, Verdict, Where}
 use Rattle.osgi_ops.specs.declared.entry.Entry.{Entry}
 use Rattle.osgi_ops.specs.declared.op.Op.{Op}
 use Rattle.osgi_ops.specs.declared.op.Op.TheVariants as op
@@ -25,10 +25,10 @@ use Rattle.osgi_ops.specs.declared.reply.Reply.{Reply}
 use Rattle.osgi_ops.specs.declared.reply.Reply.TheVariants as answer
 use Rattle.osgi_ops.specs.declared.service.Service.{Service}
 use Rattle.osgi_ops.specs.declared.service.ServiceRow.{ServiceRow}
-use Rattle.osgi_registry.proofs.Standing.{Found, nowhere, quiet_find, quiet_find_all, quiet_list, quiet_refused, rows_found, rows_length, rows_services, stands_quiet, there}
-use Rattle.osgi_registry.specs.Rows.{count_of, IsOpenBy, modify_refusal, object_at, refusal_at, register_refusal, RegistryRows, Row, row_at, services_of, twins_refusal, use_count}
+use Rattle.osgi_registry.specs.laws.Standing.{Found, nowhere, quiet_find, quiet_find_all, quiet_list, quiet_refused, rows_found, rows_length, rows_services, stands_quiet, there}
+use Rattle.osgi_registry.specs.Rows.{count_of, IsOpenBy, modify_refusal, object_at, refusal_at, register_refusal, RegistryRows, Row, row_at, services_in, twins_refusal, use_count}
 use Rattle.osgi_registry.specs.Stands.{IsRowOf, StandsAfter, StandsFor}
-use Rattle.osgi_core.specs.Replied.{IsReplied}
+use Rattle.osgi_core.specs.computed.Replied.{IsReplied}
 
 -- ---- bundles
 
@@ -48,8 +48,8 @@ no_bundle o bundle now asks other =
 
 -- one that is there is not refused by it
 some_bundle : (o : Op) (bundle : BundleId) (now : Moment) (v : Verdict Refusal Reply) → Asks bundle o → (bundle.0 == 0) ≡ true → Gives (drop 1 (conditions now o)) (Answers now o) v → Gives (conditions now o) (Answers now o) v
-some_bundle o bundle now v asks is given =
-    subst (λ cs. Gives cs (Answers now o) v) (sym (asks now)) (gives_rest NoSuchBundle (¬ IsLive now.before bundle) (drop 1 (conditions now o)) (Answers now o) v (λ not. not (is_system bundle is)) given)
+some_bundle o bundle now v asks is issued =
+    subst (λ cs. Gives cs (Answers now o) v) (sym (asks now)) (gives_rest NoSuchBundle (¬ IsLive now.before bundle) (drop 1 (conditions now o)) (Answers now o) v (λ not. not (is_system bundle is)) issued)
 
 -- ---- services
 
@@ -79,18 +79,18 @@ change_refused owner (Some row) (Some r) refusal rest due (there is) e = refused
 
 passed_there : (owner : BundleId) (row : Row) (r : Registered) (rest : List (Refusal → Type 0)) (due : Reply → Type 0) (v : Verdict Refusal Reply) (own : Bool) → (owner.0 == row.service.owner.0) ≡ own → IsRowOf row r →
     None ≡ cond own None (Some (NotOwner row.service.owner)) → Gives rest due v → Gives (Where NoSuchService (Some r ≡ None) ∷ Others owner (Some r) ∷ rest) due v
-passed_there owner row r rest due v true own is e given =
+passed_there owner row r rest due v true own is e issued =
     let same : r.owner ≡ owner = sym (same_owner row r is) ∙ (λ i. record { 0 = sym (eqb-true owner.0 row.service.owner.0 own) i }) in
-    inr ((λ f called. cc called.1), inr ((λ f called. called.0 same), given))
-passed_there owner row r rest due v false own is e given = absurd (cc e)
+    inr ((λ f called. cc called.1), inr ((λ f called. called.0 same), issued))
+passed_there owner row r rest due v false own is e issued = absurd (cc e)
 
 -- where there is none, neither is
 change_passed : (owner : BundleId) (at : Option Row) (of : Option Registered) (rest : List (Refusal → Type 0)) (due : Reply → Type 0) (v : Verdict Refusal Reply) → Found at of → None ≡ refusal_at owner at → Gives rest due v →
     Gives (Where NoSuchService (of ≡ None) ∷ Others owner of ∷ rest) due v
-change_passed owner None (Some r) rest due v found e given = elim found [ ]
-change_passed owner (Some row) None rest due v found e given = elim found [ ]
-change_passed owner None None rest due v nowhere e given = absurd (cc e)
-change_passed owner (Some row) (Some r) rest due v (there is) e given = passed_there owner row r rest due v (owner.0 == row.service.owner.0) refl is e given
+change_passed owner None (Some r) rest due v found e issued = elim found [ ]
+change_passed owner (Some row) None rest due v found e issued = elim found [ ]
+change_passed owner None None rest due v nowhere e issued = absurd (cc e)
+change_passed owner (Some row) (Some r) rest due v (there is) e issued = passed_there owner row r rest due v (owner.0 == row.service.owner.0) refl is e issued
 
 -- ---- each operation
 
@@ -111,9 +111,9 @@ replied_no_bundle o bundle registry asks other =
 room_is : (history : List Entry) (registry : RegistryRows) → StandsFor history registry → length registry.rows ≡ length (live history)
 room_is history registry stands = rows_length registry.rows (live history) stands.rows
 
-register_refused : (properties : List Attribute) (rows : List Row) (count : ℕ) (refusal : Refusal) (due : Reply → Type 0) (twins full : Bool) → has_twins properties ≡ twins → nat_le most_services (length rows) ≡ full → length rows ≡ count →
+register_refused : (properties : List Attribute) (rows : List Row) (count : ℕ) (refusal : Refusal) (due : Reply → Type 0) (twins full : Bool) → has_twins properties ≡ twins → nat_le MAX_SERVICES (length rows) ≡ full → length rows ≡ count →
     Some refusal ≡ option_or (cond twins (Some BadProperties) None) (cond full (Some (TooMany Services)) None) →
-    Gives (Where BadProperties (has_twins properties ≡ true) ∷ Where (TooMany Services) (most_services ≤ count) ∷ []) due (refuses refusal)
+    Gives (Where BadProperties (has_twins properties ≡ true) ∷ Where (TooMany Services) (MAX_SERVICES ≤ count) ∷ []) due (refuses refusal)
 register_refused properties rows count refusal due true full t f is e =
     let named : refusal ≡ BadProperties = cc e in
     inl (BadProperties, (refl, t), ap refuses named)
@@ -122,22 +122,22 @@ register_refused properties rows count refusal due false true t f is e =
     inr ((λ g called. absurd (cc (called.1, t))), inl (TooMany Services, (refl, rw is at (leb-true _ _ f)), ap refuses named))
 register_refused properties rows count refusal due false false t f is e = absurd (cc e)
 
-register_passed : (properties : List Attribute) (rows : List Row) (count : ℕ) (due : Reply → Type 0) (v : Verdict Refusal Reply) (twins full : Bool) → has_twins properties ≡ twins → nat_le most_services (length rows) ≡ full → length rows ≡ count →
+register_passed : (properties : List Attribute) (rows : List Row) (count : ℕ) (due : Reply → Type 0) (v : Verdict Refusal Reply) (twins full : Bool) → has_twins properties ≡ twins → nat_le MAX_SERVICES (length rows) ≡ full → length rows ≡ count →
     None ≡ option_or (cond twins (Some BadProperties) None) (cond full (Some (TooMany Services)) None) → Gives [] due v →
-    Gives (Where BadProperties (has_twins properties ≡ true) ∷ Where (TooMany Services) (most_services ≤ count) ∷ []) due v
-register_passed properties rows count due v true full t f is e given = absurd (cc e)
-register_passed properties rows count due v false true t f is e given = absurd (cc e)
-register_passed properties rows count due v false false t f is e given =
-    let room : length rows < most_services = leb-false _ _ f in
-    inr ((λ g called. absurd (cc (called.1, t))), inr ((λ g called. let c = called.1 in absurd (omega (arith, room, c, is))), given))
+    Gives (Where BadProperties (has_twins properties ≡ true) ∷ Where (TooMany Services) (MAX_SERVICES ≤ count) ∷ []) due v
+register_passed properties rows count due v true full t f is e issued = absurd (cc e)
+register_passed properties rows count due v false true t f is e issued = absurd (cc e)
+register_passed properties rows count due v false false t f is e issued =
+    let room : length rows < MAX_SERVICES = leb-false _ _ f in
+    inr ((λ g called. absurd (cc (called.1, t))), inr ((λ g called. let c = called.1 in absurd (omega (arith, room, c, is))), issued))
 
 pub replied_registered : (owner : BundleId) (classes : List (List ℕ)) (object : List ℕ) (properties : List Attribute) (old new : RegistryRows) (service : ServiceId) → (owner.0 == 0) ≡ true → None ≡ register_refusal properties old.rows →
-    service.0 ≡ old.given + 1 → StandsAfter (op.Register owner classes object properties) (answer.Service service) old new → IsReplied (op.Register owner classes object properties) old new (answer.Service service)
+    service.0 ≡ old.issued + 1 → StandsAfter (op.Register owner classes object properties) (answer.Service service) old new → IsReplied (op.Register owner classes object properties) old new (answer.Service service)
 replied_registered owner classes object properties old new service asked none id stands = record {
   due = λ setting history tag stood.
-      let is : answer.Service service ≡ answer.Service (record { 0 = length (registered history) + 1 }) = λ i. answer.Service (record { 0 = (id ∙ ap (λ n. n + 1) stood.given) i }) in
+      let is : answer.Service service ≡ answer.Service (record { 0 = length (registered history) + 1 }) = λ i. answer.Service (record { 0 = (id ∙ ap (λ n. n + 1) stood.issued) i }) in
       some_bundle (op.Register owner classes object properties) owner (moment setting history tag) (answers (answer.Service service)) (λ now. refl) asked
-      (register_passed properties old.rows (length (live history)) (Answers (moment setting history tag) (op.Register owner classes object properties)) (answers (answer.Service service)) (has_twins properties) (nat_le most_services (length old.rows)) refl refl (room_is history old stood) none is);
+      (register_passed properties old.rows (length (live history)) (Answers (moment setting history tag) (op.Register owner classes object properties)) (answers (answer.Service service)) (has_twins properties) (nat_le MAX_SERVICES (length old.rows)) refl refl (room_is history old stood) none is);
   stands = stands;
 }
 
@@ -146,7 +146,7 @@ pub replied_unregistered : (owner : BundleId) (classes : List (List ℕ)) (objec
 replied_unregistered owner classes object properties old new refusal asked some same = record {
   due = λ setting history tag stood.
       some_bundle (op.Register owner classes object properties) owner (moment setting history tag) (refuses refusal) (λ now. refl) asked
-      (register_refused properties old.rows (length (live history)) refusal (Answers (moment setting history tag) (op.Register owner classes object properties)) (has_twins properties) (nat_le most_services (length old.rows)) refl refl (room_is history old stood) some);
+      (register_refused properties old.rows (length (live history)) refusal (Answers (moment setting history tag) (op.Register owner classes object properties)) (has_twins properties) (nat_le MAX_SERVICES (length old.rows)) refl refl (room_is history old stood) some);
   stands = refused_stands _ old new refusal same;
 }
 
@@ -160,8 +160,8 @@ twins_refused properties refusal due false t e = absurd (cc e)
 
 twins_passed : (properties : List Attribute) (due : Reply → Type 0) (v : Verdict Refusal Reply) (twins : Bool) → has_twins properties ≡ twins → None ≡ cond twins (Some BadProperties) None → Gives [] due v →
     Gives (Where BadProperties (has_twins properties ≡ true) ∷ []) due v
-twins_passed properties due v true t e given = absurd (cc e)
-twins_passed properties due v false t e given = inr ((λ g called. absurd (cc (called.1, t))), given)
+twins_passed properties due v true t e issued = absurd (cc e)
+twins_passed properties due v false t e issued = inr ((λ g called. absurd (cc (called.1, t))), issued)
 
 modify_refused : (owner : BundleId) (at : Option Row) (of : Option Registered) (properties : List Attribute) (refusal : Refusal) (due : Reply → Type 0) (first : Option Refusal) → Found at of → refusal_at owner at ≡ first →
     Some refusal ≡ option_or first (twins_refusal properties) → Gives (Where NoSuchService (of ≡ None) ∷ Others owner of ∷ Where BadProperties (has_twins properties ≡ true) ∷ []) due (refuses refusal)
@@ -170,8 +170,8 @@ modify_refused owner at of properties refusal due (Some other) found is e = chan
 
 modify_passed : (owner : BundleId) (at : Option Row) (of : Option Registered) (properties : List Attribute) (due : Reply → Type 0) (v : Verdict Refusal Reply) (first : Option Refusal) → Found at of → refusal_at owner at ≡ first →
     None ≡ option_or first (twins_refusal properties) → Gives [] due v → Gives (Where NoSuchService (of ≡ None) ∷ Others owner of ∷ Where BadProperties (has_twins properties ≡ true) ∷ []) due v
-modify_passed owner at of properties due v None found is e given = change_passed owner at of (Where BadProperties (has_twins properties ≡ true) ∷ []) due v found (sym is) (twins_passed properties due v (has_twins properties) refl e given)
-modify_passed owner at of properties due v (Some other) found is e given = absurd (cc e)
+modify_passed owner at of properties due v None found is e issued = change_passed owner at of (Where BadProperties (has_twins properties ≡ true) ∷ []) due v found (sym is) (twins_passed properties due v (has_twins properties) refl e issued)
+modify_passed owner at of properties due v (Some other) found is e issued = absurd (cc e)
 
 pub replied_modified : (owner : BundleId) (service : ServiceId) (properties : List Attribute) (old new : RegistryRows) → (owner.0 == 0) ≡ true → None ≡ modify_refusal owner service properties old.rows →
     StandsAfter (op.Modify owner service properties) answer.Done old new → IsReplied (op.Modify owner service properties) old new answer.Done
@@ -209,7 +209,7 @@ replied_untaken owner service old new refusal asked some same = record {
 }
 
 -- Find
-services_now : (history : List Entry) (registry : RegistryRows) → StandsFor history registry → services_of registry.rows ≡ services history
+services_now : (history : List Entry) (registry : RegistryRows) → StandsFor history registry → services_in registry.rows ≡ services history
 services_now history registry stands = rows_services registry.rows (live history) stands.rows
 
 -- what is found of services, where others say the same of what is asked
@@ -236,7 +236,7 @@ unfolding own
 open_back asker class filter s is = (is.0, λ k d within. eq-eqb s.owner.0 asker.0 (ap (λ (b : BundleId). b.0) (is.1 k d within)))
 
 pub replied_found : (asker : BundleId) (class : List ℕ) (filter : Option Filter) (registry : RegistryRows) (found : Option ServiceId) → (asker.0 == 0) ≡ true →
-    IsFound (IsOpenBy (λ registrant class. registrant.0 == asker.0) class filter) (services_of registry.rows) found → IsReplied (op.Find asker class filter) registry registry (answer.Best found)
+    IsFound (IsOpenBy (λ registrant class. registrant.0 == asker.0) class filter) (services_in registry.rows) found → IsReplied (op.Find asker class filter) registry registry (answer.Best found)
 unfolding own
 replied_found asker class filter registry found asked is = record {
   due = λ setting history tag stood.
@@ -244,13 +244,13 @@ replied_found asker class filter registry found asked is = record {
         found,
         refl,
         subst (λ list. IsFound (IsOpenTo asker class filter) list found) (services_now history registry stood)
-            (found_alike (IsOpenBy (own asker) class filter) (IsOpenTo asker class filter) (services_of registry.rows) found (open_there asker class filter) (open_back asker class filter) is),
+            (found_alike (IsOpenBy (own asker) class filter) (IsOpenTo asker class filter) (services_in registry.rows) found (open_there asker class filter) (open_back asker class filter) is),
       );
   stands = λ history tag stood. stands_quiet history registry _ stood (quiet_find tag asker class filter found);
 }
 
 -- FindAll
-pub replied_found_all : (asker : BundleId) (class : List ℕ) (filter : Option Filter) (registry : RegistryRows) (found : List ServiceId) → (asker.0 == 0) ≡ true → AreRanked (IsOf class filter) (services_of registry.rows) found →
+pub replied_found_all : (asker : BundleId) (class : List ℕ) (filter : Option Filter) (registry : RegistryRows) (found : List ServiceId) → (asker.0 == 0) ≡ true → AreRanked (IsOf class filter) (services_in registry.rows) found →
     IsReplied (op.FindAll asker class filter) registry registry (answer.Services found)
 replied_found_all asker class filter registry found asked ranked = record {
   due = λ setting history tag stood.
@@ -310,7 +310,7 @@ replied_ungot user service old new value asked is stands = record {
 }
 
 -- ListServices
-pub replied_listed : (registry : RegistryRows) (rows : List ServiceRow) → rows ≡ map row_of (services_of registry.rows) → IsReplied op.ListServices registry registry (answer.ServiceRows rows)
+pub replied_listed : (registry : RegistryRows) (rows : List ServiceRow) → rows ≡ map row_of (services_in registry.rows) → IsReplied op.ListServices registry registry (answer.ServiceRows rows)
 replied_listed registry rows are = record {
   due = λ setting history tag stood. ap answer.ServiceRows (are ∙ ap (map row_of) (services_now history registry stood));
   stands = λ history tag stood. stands_quiet history registry _ stood (quiet_list tag rows);

@@ -1,5 +1,7 @@
 //! The machine: it applies operations one at a time and keeps the history of what it answered.
 #![tactic(auto)]
 
-pub mod machine;
+mod machine;
 mod replies;
+
+pub use machine::Core;

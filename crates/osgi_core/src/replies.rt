@@ -6,8 +6,8 @@
 ghost use Rattle.std.specs.Prelude.{◌≡◌, ◌==◌, ◌<◌, IfOk, OnErr, map};
 ghost use Rattle.osgi_ops.specs.Operations.{row_of};
 ghost use Rattle.osgi_ops.specs.declared.op.Op.TheVariants as op;
-ghost use Rattle.osgi_registry.specs.Rows.{services_of, use_count};
-ghost use Rattle.osgi_core.specs.Replied.{HasRoom, IsReplied, StandsStill};
+ghost use Rattle.osgi_registry.specs.Rows.{services_in, use_count};
+ghost use Rattle.osgi_core.specs.computed.Replied.{HasRoom, IsReplied, StandsStill};
 
 use osgi_base::ids::{BundleId, ServiceId};
 use osgi_base::list::List;
@@ -18,8 +18,8 @@ use osgi_ops::op::Op;
 use osgi_ops::refusal::Refusal;
 use osgi_ops::reply::Reply;
 use osgi_ops::service::{Service, ServiceRow};
+use osgi_registry::Registry;
 use osgi_registry::properties::ranking;
-use osgi_registry::registry::Registry;
 use std::alloc::{AllocError, Global};
 
 /// A refusal, twice.
@@ -45,7 +45,7 @@ fn register(
     object: &Text,
     properties: &Attributes,
 ) -> Result<(Reply, Reply), AllocError>
-    requires ids { registry.old.given < 4294967295 }
+    requires ids { registry.old.issued < 4294967295 }
     ensures twice { IfOk result (λ r. r.1 ≡ r.0) }
     ensures replied { IfOk result (λ r. IsReplied (op.Register owner classes.now object.now properties.now) registry.old registry.new r.0) }
     ensures unchanged { OnErr result (StandsStill registry.old registry.new) }
@@ -53,13 +53,13 @@ fn register(
     if !is_live(owner) {
         return refused(alloc, Refusal::NoSuchBundle);
     }
-    let given = registry.register(
+    let issued = registry.register(
         owner,
         classes.copy(alloc)?,
         object.copy(alloc)?,
         properties.copy(alloc)?,
     )?;
-    match given {
+    match issued {
         Ok(service) => Ok((Reply::Service { service }, Reply::Service { service })),
         Err(refusal) => refused(alloc, refusal),
     }
@@ -169,10 +169,10 @@ fn get(
     };
     match text.copy(alloc) {
         Ok(kept) => Ok((Reply::Object { text }, Reply::Object { text: kept })),
-        Err(wanting) => {
+        Err(error) => {
             // The use that was counted is given back.
             registry.unget(user, service);
-            Err(wanting)
+            Err(error)
         }
     }
 }
@@ -209,7 +209,7 @@ fn row(alloc: Global, service: &Service) -> Result<ServiceRow, AllocError>
 
 /// All services, by rising id.
 fn rows(alloc: Global, registry: &Registry) -> Result<List<ServiceRow>, AllocError>
-    ensures rows { IfOk result (λ rows. rows ≡ map row_of (services_of registry.now.rows)) }
+    ensures rows { IfOk result (λ rows. rows ≡ map row_of (services_in registry.now.rows)) }
 {
     let mut rows = List::new(alloc)?;
     for service in registry.services() {
@@ -230,7 +230,7 @@ fn list_services(alloc: Global, registry: &Registry) -> Result<(Reply, Reply), A
     ))
 }
 
-/// Carries an operation out, and answers its reply twice. Where memory is wanting the registry stands for what it did.
+/// Carries an operation out, and answers its reply twice. If memory runs out, the registry stands for what it did.
 pub fn reply_to(
     alloc: Global,
     registry: &mut Registry,

@@ -1,4 +1,4 @@
-//! Cases, told apart by their first word.
+//! Cases by their first word.
 
 use crate::{copies, shelves, sinks, sources};
 use std::alloc::{AllocError, Global};
@@ -14,21 +14,21 @@ pub fn split_number(line: &str) -> (u64, &str) {
     (word.parse::<u64>().unwrap_or(0), rest)
 }
 
-/// The answer to a line that is a case.
-pub fn answer(alloc: Global, line: &str) -> Result<String, AllocError> {
+/// Adds the answer to a line that is a case.
+pub fn add_answer(alloc: Global, out: &mut String, line: &str) -> Result<(), AllocError> {
     let (name, rest) = split_word(line);
     match name {
-        "std-sink" => sinks::std_sink(alloc, rest),
-        "vec-sink" => sinks::vec_sink(alloc, rest),
-        "memory-sink" => sinks::memory_sink(alloc, rest),
-        "std-source" => sources::std_source(alloc, rest),
-        "slice-source" => sources::slice_source(alloc, rest),
-        "memory-source" => sources::memory_source(alloc, rest),
-        "long-source" => sources::long_source(alloc, rest),
-        "shelf" => shelves::read_each(alloc, rest),
-        "folder" => shelves::read_folder(alloc, rest),
-        "order" => copies::order(alloc, rest),
-        "copies" => copies::copies(alloc),
-        _ => String::from_str(alloc, "not a case"),
+        "std-sink" => sinks::std_sink(alloc, out, rest),
+        "vec-sink" => sinks::vec_sink(alloc, out, rest),
+        "memory-sink" => sinks::memory_sink(alloc, out, rest),
+        "std-source" => sources::std_source(alloc, out, rest),
+        "slice-source" => sources::slice_source(alloc, out, rest),
+        "memory-source" => sources::memory_source(alloc, out, rest),
+        "long-source" => sources::long_source(alloc, out, rest),
+        "shelf" => shelves::read_each(alloc, out, rest),
+        "folder" => shelves::read_folder(alloc, out, rest),
+        "order" => copies::order(alloc, out, rest),
+        "copies" => copies::copies(alloc, out),
+        _ => out.push_str("not a case"),
     }
 }

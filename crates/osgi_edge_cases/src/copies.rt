@@ -34,6 +34,10 @@ fn folder(alloc: Global) -> Result<Folder, AllocError> {
     Ok(Folder { files })
 }
 
+fn boxed(alloc: Global) -> Result<Boxed<Text>, AllocError> {
+    Boxed::new(alloc, text(alloc)?)
+}
+
 /// A box with a list of a leaf and an empty list.
 fn tree(alloc: Global) -> Result<Tree, AllocError> {
     let mut trees = List::new(alloc)?;
@@ -42,14 +46,15 @@ fn tree(alloc: Global) -> Result<Tree, AllocError> {
     Ok(Tree::Hung(Boxed::new(alloc, Tree::Many(trees))?))
 }
 
-/// Shows whether a value equals its copy.
-fn put<T: Copied + PartialEq + Drop>(
+/// Adds whether a value equals its copy.
+fn add<T: Copied + PartialEq + Drop>(
     alloc: Global,
     out: &mut String,
     name: &str,
-    value: &T,
+    value: Result<T, AllocError>,
 ) -> Result<(), AllocError> {
-    let is_same = value.copied(alloc)? == *value;
+    let value = value?;
+    let is_same = value.copied(alloc)? == value;
     write!(out, "{name} {is_same}, ")
 }
 
@@ -69,35 +74,33 @@ fn is_tree_same(alloc: Global) -> Result<bool, AllocError> {
 
 fn is_option_same(alloc: Global) -> Result<bool, AllocError> {
     let some = Some(text(alloc)?);
-    let none: Option<Text> = None;
-    Ok(copy_option(&some, alloc)? == some && copy_option(&none, alloc)?.is_none())
+    Ok(copy_option(&some, alloc)? == some && copy_option::<Text>(&None, alloc)?.is_none())
 }
 
 /// Whether a value of each type equals its copy.
-pub fn copies(alloc: Global) -> Result<String, AllocError> {
-    let mut out = String::new(alloc);
-    put(alloc, &mut out, "text", &text(alloc)?)?;
-    put(alloc, &mut out, "list", &texts(alloc)?)?;
-    put(alloc, &mut out, "file", &file(alloc)?)?;
-    put(alloc, &mut out, "folder", &folder(alloc)?)?;
-    put(alloc, &mut out, "box", &Boxed::new(alloc, text(alloc)?)?)?;
+pub fn copies(alloc: Global, out: &mut String) -> Result<(), AllocError> {
+    add(alloc, out, "text", text(alloc))?;
+    add(alloc, out, "list", texts(alloc))?;
+    add(alloc, out, "file", file(alloc))?;
+    add(alloc, out, "folder", folder(alloc))?;
+    add(alloc, out, "box", boxed(alloc))?;
     let (option, tree) = (is_option_same(alloc)?, is_tree_same(alloc)?);
-    write!(out, "option {option}, tree {tree}, ")?;
-    write!(out, "a longer list differs {}", is_longer_another(alloc)?)?;
-    Ok(out)
+    let longer = is_longer_another(alloc)?;
+    write!(
+        out,
+        "option {option}, tree {tree}, a longer list differs {longer}"
+    )
 }
 
 /// How two texts compare, by their order and by equality.
-pub fn order(alloc: Global, line: &str) -> Result<String, AllocError> {
+pub fn order(alloc: Global, out: &mut String, line: &str) -> Result<(), AllocError> {
     let (first, second) = split_word(line);
-    let (a, b) = (
-        Text::of(alloc, first.as_bytes())?,
-        Text::of(alloc, second.as_bytes())?,
-    );
-    let order = match a.cmp(&b) {
+    let first = Text::of(alloc, first.as_bytes())?;
+    let second = Text::of(alloc, second.as_bytes())?;
+    let order = match first.cmp(&second) {
         Ordering::Less => "less",
         Ordering::Equal => "equal",
         Ordering::Greater => "greater",
     };
-    format!(in alloc; "{order}, equal {}", a == b)
+    write!(out, "{order}, equal {}", first == second)
 }

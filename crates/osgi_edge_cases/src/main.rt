@@ -17,8 +17,8 @@
 //! | `gate` | a gate that holds nobody |
 //!
 //! Calls are counted from 1, and 0 is none of them. A step of a sink is `=TEXT`, one write; `+TEXT`, a text written whole; `.`, a
-//! flush. A step of a source is `=COUNT`, one read
-//! into so many bytes, which are dots before it; `+LIMIT`, all bytes up to a limit.
+//! flush. A step of a source is `=COUNT`, one read into so many bytes, which are dots before it; `+LIMIT`, all bytes up to a
+//! limit.
 #![tactic(auto)]
 
 mod cases;
@@ -44,7 +44,8 @@ fn main(rt: HostRuntime) -> io::Result<()> {
             }
             println!(rt; "{case} => passed")?;
         } else {
-            let answer = cases::answer(rt.alloc(), case)?;
+            let mut answer = String::new(rt.alloc());
+            cases::add_answer(rt.alloc(), &mut answer, case)?;
             println!(rt; "{case} => {answer}")?;
         }
     }

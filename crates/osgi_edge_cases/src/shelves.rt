@@ -35,16 +35,10 @@ fn rows(alloc: Global) -> Result<Vec<(Text, Folder)>, AllocError> {
     Ok(rows)
 }
 
-/// Reads a location, and shows what stands there: of a folder its files, and the bytes of the first.
-fn put_read(
-    alloc: Global,
-    out: &mut String,
-    shelf: &mut MemoryShelf,
-    location: &str,
-) -> Result<(), AllocError> {
-    let location = Text::of(alloc, location.as_bytes())?;
-    match shelf.read(alloc, &location)? {
-        Found::Folder(folder) => put_folder(out, folder.files.items()),
+/// Adds what stands at a location: of a folder its files, and the bytes of the first.
+fn add_found(out: &mut String, found: &Found) -> Result<(), AllocError> {
+    match found {
+        Found::Folder(folder) => add_files(out, folder.files.items()),
         Found::NoFolder => out.push_str("no folder, "),
         Found::TooLarge { bytes, files } => {
             write!(out, "too large: {files} files, {bytes} bytes, ")
@@ -53,37 +47,43 @@ fn put_read(
     }
 }
 
-fn put_folder(out: &mut String, files: &[File]) -> Result<(), AllocError> {
-    match files.first() {
-        None => out.push_str("no file, "),
-        Some(first) => {
-            let bytes = first.bytes.bytes().len();
-            write!(out, "{} files, {bytes} bytes in the first, ", files.len())
+fn add_files(out: &mut String, files: &[File]) -> Result<(), AllocError> {
+    match files {
+        [] => out.push_str("no file, "),
+        [first, ..] => {
+            let (count, bytes) = (files.len(), first.bytes.bytes().len());
+            write!(out, "{count} files, {bytes} bytes in the first, ")
         }
     }
 }
 
-/// The reads of a shelf of three folders.
-pub fn read_each(alloc: Global, line: &str) -> Result<String, AllocError> {
-    let (bad, locations) = split_number(line);
-    let mut out = String::new(alloc);
-    let mut shelf = MemoryShelf::new(rows(alloc)?, vec![in alloc; bad]?);
+/// Adds what is found at each location, and the faults.
+fn add_reads(
+    alloc: Global,
+    out: &mut String,
+    shelf: &mut MemoryShelf,
+    locations: &str,
+) -> Result<(), AllocError> {
     for location in locations.split_whitespace() {
-        put_read(alloc, &mut out, &mut shelf, location)?;
+        let location = Text::of(alloc, location.as_bytes())?;
+        add_found(out, &shelf.read(alloc, &location)?)?;
     }
-    write!(out, "faults {}", shelf.count())?;
-    Ok(out)
+    write!(out, "faults {}", shelf.count())
+}
+
+/// The reads of a shelf of three folders.
+pub fn read_each(alloc: Global, out: &mut String, line: &str) -> Result<(), AllocError> {
+    let (bad, locations) = split_number(line);
+    let rows = rows(alloc)?;
+    let mut shelf = MemoryShelf::new(rows, vec![in alloc; bad]?);
+    add_reads(alloc, out, &mut shelf, locations)
 }
 
 /// The read of a folder of a size.
-pub fn read_folder(alloc: Global, line: &str) -> Result<String, AllocError> {
+pub fn read_folder(alloc: Global, out: &mut String, line: &str) -> Result<(), AllocError> {
     let (bytes, rest) = split_number(line);
     let (files, _) = split_number(rest);
-    let mut out = String::new(alloc);
-    let mut rows = Vec::new(alloc);
-    rows.push((Text::of(alloc, b"f")?, folder(alloc, bytes, files)?))?;
-    let mut shelf = MemoryShelf::new(rows, Vec::new(alloc));
-    put_read(alloc, &mut out, &mut shelf, "f")?;
-    write!(out, "faults {}", shelf.count())?;
-    Ok(out)
+    let row = (Text::of(alloc, b"f")?, folder(alloc, bytes, files)?);
+    let mut shelf = MemoryShelf::new(vec![in alloc; row]?, Vec::new(alloc));
+    add_reads(alloc, out, &mut shelf, "f")
 }

@@ -1,7 +1,7 @@
 //! Sinks over std and in memory, tried step by step.
 
 use crate::cases::split_number;
-use crate::frail::writer;
+use crate::frail::{FrailWriter, writer};
 use osgi_outside::memory_sink::MemorySink;
 use osgi_outside::sink::Sink;
 use osgi_outside::source::Failed;
@@ -15,69 +15,82 @@ pub fn letters(bytes: &[u8]) -> &str {
     str::from_utf8(bytes).unwrap_or("?")
 }
 
-/// How an answer is shown.
-fn shown(answer: Result<(), Failed>) -> &'static str {
+/// The word for what a call of a sink answers.
+fn outcome(answer: Result<(), Failed>) -> &'static str {
     match answer {
-        Ok(()) => "ok",
-        Err(Failed) => "failed",
+        Ok(()) => "ok, ",
+        Err(Failed) => "failed, ",
     }
 }
 
-/// Does one step, and shows what it was answered.
-fn put_step<K: Sink>(out: &mut String, sink: &mut K, step: &str) -> Result<(), AllocError> {
-    let answer = match step.as_bytes() {
+/// Does one step, and adds what it was answered.
+fn add_step<K: Sink>(out: &mut String, sink: &mut K, step: &str) -> Result<(), AllocError> {
+    match step.as_bytes() {
         [b'=', text @ ..] => match sink.write(text) {
-            Ok(count) => return write!(out, "{count}, "),
-            Err(Failed) => "failed",
+            Ok(count) => write!(out, "{count}, "),
+            Err(Failed) => out.push_str("failed, "),
         },
-        [b'+', text @ ..] => shown(write_all(sink, text)),
-        _ => shown(sink.flush()),
-    };
-    write!(out, "{answer}, ")
+        [b'+', text @ ..] => out.push_str(outcome(write_all(sink, text))),
+        _ => out.push_str(outcome(sink.flush())),
+    }
 }
 
-fn put_steps<K: Sink>(out: &mut String, sink: &mut K, steps: &str) -> Result<(), AllocError> {
+fn add_steps<K: Sink>(out: &mut String, sink: &mut K, steps: &str) -> Result<(), AllocError> {
     for step in steps.split_whitespace() {
-        put_step(out, sink, step)?;
+        add_step(out, sink, step)?;
     }
     Ok(())
 }
 
+/// Adds the faults of a sink, and what its writer was given.
+fn add_writer(out: &mut String, faults: u64, writer: &FrailWriter) -> Result<(), AllocError> {
+    let FrailWriter {
+        taken,
+        writes,
+        flushes,
+        ..
+    } = writer;
+    let taken = letters(taken);
+    write!(
+        out,
+        "faults {faults}; \"{taken}\" in {writes} writes, {flushes} flushes"
+    )
+}
+
 /// A sink over a writer of which calls fail.
-pub fn std_sink(alloc: Global, line: &str) -> Result<String, AllocError> {
+pub fn std_sink(alloc: Global, out: &mut String, line: &str) -> Result<(), AllocError> {
     let (bad_write, rest) = split_number(line);
     let (bad_flush, rest) = split_number(rest);
     let (full, steps) = split_number(rest);
-    let mut out = String::new(alloc);
     let mut sink = StdSink::new(writer(alloc, bad_write, bad_flush, full));
-    put_steps(&mut out, &mut sink, steps)?;
-    write!(out, "faults {}", sink.faults())?;
-    let writer = sink.into_inner();
-    let (taken, writes, flushes) = (letters(&writer.taken), writer.writes, writer.flushes);
-    write!(out, "; \"{taken}\" in {writes} writes, {flushes} flushes")?;
-    Ok(out)
+    add_steps(out, &mut sink, steps)?;
+    let faults = sink.faults();
+    add_writer(out, faults, &sink.into_inner())
 }
 
 /// A sink over a `Vec`.
-pub fn vec_sink(alloc: Global, steps: &str) -> Result<String, AllocError> {
-    let mut out = String::new(alloc);
+pub fn vec_sink(alloc: Global, out: &mut String, steps: &str) -> Result<(), AllocError> {
     let mut sink = StdSink::new(Vec::new(alloc));
-    put_steps(&mut out, &mut sink, steps)?;
-    write!(out, "faults {}", sink.faults())?;
+    add_steps(out, &mut sink, steps)?;
+    let faults = sink.faults();
     let taken = sink.into_inner();
-    write!(out, "; \"{}\"", letters(&taken))?;
-    Ok(out)
+    write!(out, "faults {faults}; \"{}\"", letters(&taken))
+}
+
+/// Adds the faults of a sink in memory, and what it was given.
+fn add_memory(out: &mut String, sink: &MemorySink) -> Result<(), AllocError> {
+    let (faults, starved) = (sink.faults(), sink.starved());
+    let (written, flushed) = (letters(sink.written()), letters(sink.flushed()));
+    write!(
+        out,
+        "faults {faults}, out of memory {starved}; \"{written}\", flushed \"{flushed}\""
+    )
 }
 
 /// A sink in memory of which one call fails.
-pub fn memory_sink(alloc: Global, line: &str) -> Result<String, AllocError> {
+pub fn memory_sink(alloc: Global, out: &mut String, line: &str) -> Result<(), AllocError> {
     let (bad, steps) = split_number(line);
-    let mut out = String::new(alloc);
     let mut sink = MemorySink::new(alloc, vec![in alloc; bad]?)?;
-    put_steps(&mut out, &mut sink, steps)?;
-    let (faults, starved) = (sink.faults(), sink.starved());
-    write!(out, "faults {faults}, out of memory {starved}")?;
-    let (written, flushed) = (letters(sink.written()), letters(sink.flushed()));
-    write!(out, "; \"{written}\", flushed \"{flushed}\"")?;
-    Ok(out)
+    add_steps(out, &mut sink, steps)?;
+    add_memory(out, &sink)
 }

@@ -13,8 +13,8 @@ use std::fmt::Write;
 /// The bytes that one read can give here.
 const PIECE: usize = 4;
 
-/// Reads into so many bytes, and shows them all: what the read leaves alone is dots.
-fn put_read<S: Source>(out: &mut String, source: &mut S, count: usize) -> Result<(), AllocError> {
+/// Reads into so many bytes, and adds them all: what the read leaves alone is dots.
+fn add_read<S: Source>(out: &mut String, source: &mut S, count: usize) -> Result<(), AllocError> {
     let mut piece = [b'.'; PIECE];
     let asked = count.min(PIECE);
     match source.read(&mut piece[..asked]) {
@@ -23,105 +23,97 @@ fn put_read<S: Source>(out: &mut String, source: &mut S, count: usize) -> Result
     }
 }
 
-/// Reads all bytes up to a limit, and shows them.
-fn put_all<S: Source>(
-    alloc: Global,
-    out: &mut String,
-    source: &mut S,
-    limit: usize,
-) -> Result<(), AllocError> {
-    match read_all(alloc, source, limit)? {
+/// Adds what was read to the end.
+fn add_input(out: &mut String, input: &Input) -> Result<(), AllocError> {
+    match input {
         Input::All(text) => write!(out, "all \"{}\", ", letters(text.bytes())),
         Input::TooMuch => out.push_str("too much, "),
         Input::Failed => out.push_str("failed, "),
     }
 }
 
-/// Does one step, and shows what it was answered.
-fn put_step<S: Source>(
+/// Does one step, and adds what it was answered.
+fn add_step<S: Source>(
     alloc: Global,
     out: &mut String,
     source: &mut S,
     step: &str,
 ) -> Result<(), AllocError> {
-    if let Some(limit) = step.strip_prefix("+") {
-        return put_all(alloc, out, source, limit.parse::<usize>().unwrap_or(0));
+    match step.strip_prefix("+") {
+        Some(limit) => {
+            let limit = limit.parse::<usize>().unwrap_or(0);
+            add_input(out, &read_all(alloc, source, limit)?)
+        }
+        None => {
+            let count = step.strip_prefix("=").unwrap_or(step);
+            add_read(out, source, count.parse::<usize>().unwrap_or(0))
+        }
     }
-    let count = step.strip_prefix("=").unwrap_or(step);
-    put_read(out, source, count.parse::<usize>().unwrap_or(0))
 }
 
-fn put_steps<S: Source>(
+fn add_steps<S: Source>(
     alloc: Global,
     out: &mut String,
     source: &mut S,
     steps: &str,
 ) -> Result<(), AllocError> {
     for step in steps.split_whitespace() {
-        put_step(alloc, out, source, step)?;
+        add_step(alloc, out, source, step)?;
     }
     Ok(())
 }
 
 /// A source over a reader of which reads fail.
-pub fn std_source(alloc: Global, line: &str) -> Result<String, AllocError> {
+pub fn std_source(alloc: Global, out: &mut String, line: &str) -> Result<(), AllocError> {
     let (last, rest) = split_number(line);
     let (bad, rest) = split_number(rest);
     let (other, steps) = split_number(rest);
-    let mut out = String::new(alloc);
     let mut source = StdSource::new(reader((last % 20) as u8, (bad, other)));
-    put_steps(alloc, &mut out, &mut source, steps)?;
-    write!(out, "faults {}", source.faults())?;
-    Ok(out)
+    add_steps(alloc, out, &mut source, steps)?;
+    write!(out, "faults {}", source.faults())
 }
 
 /// A source over a slice.
-pub fn slice_source(alloc: Global, line: &str) -> Result<String, AllocError> {
+pub fn slice_source(alloc: Global, out: &mut String, line: &str) -> Result<(), AllocError> {
     let (text, steps) = split_word(line);
-    let mut out = String::new(alloc);
     let mut source = StdSource::new(text.as_bytes());
-    put_steps(alloc, &mut out, &mut source, steps)?;
-    write!(out, "faults {}", source.faults())?;
-    Ok(out)
+    add_steps(alloc, out, &mut source, steps)?;
+    write!(out, "faults {}", source.faults())
 }
 
 /// A source in memory of which one read fails.
-pub fn memory_source(alloc: Global, line: &str) -> Result<String, AllocError> {
+pub fn memory_source(alloc: Global, out: &mut String, line: &str) -> Result<(), AllocError> {
     let (text, rest) = split_word(line);
     let (bad, steps) = split_number(rest);
-    let mut out = String::new(alloc);
-    let mut source = MemorySource::new(text.as_bytes().to_vec(alloc)?, vec![in alloc; bad]?);
-    put_steps(alloc, &mut out, &mut source, steps)?;
-    write!(out, "faults {}", source.faults())?;
-    Ok(out)
+    let bytes = text.as_bytes().to_vec(alloc)?;
+    let mut source = MemorySource::new(bytes, vec![in alloc; bad]?);
+    add_steps(alloc, out, &mut source, steps)?;
+    write!(out, "faults {}", source.faults())
 }
 
 /// Many bytes, and a last one that is another.
 fn long_text(alloc: Global, count: u64) -> Result<Vec<u8>, AllocError> {
-    let mut bytes = Vec::new(alloc);
-    for _ in 1..count {
-        bytes.push(b'x')?;
-    }
+    let mut bytes = vec![in alloc; b'x'; count.saturating_sub(1) as usize]?;
     bytes.push(b'y')?;
     Ok(bytes)
 }
 
+/// What was read to the end, beside the bytes that there were.
+fn compared(input: &Input, bytes: &[u8]) -> &'static str {
+    match input {
+        Input::All(text) if text.bytes() == bytes => "all of them",
+        Input::All(_) => "other bytes",
+        Input::TooMuch => "too much",
+        Input::Failed => "failed",
+    }
+}
+
 /// A source of many bytes, read to its end.
-pub fn long_source(alloc: Global, line: &str) -> Result<String, AllocError> {
+pub fn long_source(alloc: Global, out: &mut String, line: &str) -> Result<(), AllocError> {
     let (count, rest) = split_number(line);
     let (limit, _) = split_number(rest);
     let bytes = long_text(alloc, count)?;
     let mut source = StdSource::new(bytes.as_slice());
-    let answer = match read_all(alloc, &mut source, limit as usize)? {
-        Input::All(text) => {
-            if text.bytes() == bytes.as_slice() {
-                "all of them"
-            } else {
-                "other bytes"
-            }
-        }
-        Input::TooMuch => "too much",
-        Input::Failed => "failed",
-    };
-    String::from_str(alloc, answer)
+    let input = read_all(alloc, &mut source, limit as usize)?;
+    out.push_str(compared(&input, bytes.as_slice()))
 }

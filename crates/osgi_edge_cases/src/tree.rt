@@ -7,7 +7,7 @@ use osgi_base::list::List;
 use osgi_base::text::Text;
 use std::alloc::{AllocError, Global};
 
-#[derive(Debug, Drop, PartialEq, Eq)]
+#[derive(Drop, PartialEq, Eq)]
 pub enum Tree {
     Leaf(Text),
     Many(List<Tree>),

@@ -10,13 +10,13 @@ use Rattle.std.proofs.lemmas.Slice.Eq.{bytes_eq-Decides}
 use Rattle.memchr.specs.Find.{FindsNeedle, OccursAt}
 use Rattle.memchr.proofs.lemmas.MatchLemmas.{OccursAt-from_part, OccursAt-split}
 use Rattle.osgi_model.specs.Matching.{Stand}
-use Rattle.osgi_filter.specs.Between.{Between}
+use Rattle.osgi_filter.specs.computed.Between.{Between}
 
 -- ---- pieces between
 
-grows : (pieces : List (List ℕ)) (front text : List ℕ) → Between pieces text → Between pieces (front ++ text)
-grows [] front text h = tt
-grows (piece ∷ more) front text (gap, rest, e, h) = (front ++ gap, rest, ap (λ (x : List ℕ). front ++ x) e ∙ sym (append_assoc front gap (piece ++ rest)), h)
+grows : (pieces : List (List ℕ)) (start text : List ℕ) → Between pieces text → Between pieces (start ++ text)
+grows [] start text h = tt
+grows (piece ∷ more) start text (gap, rest, e, h) = (start ++ gap, rest, ap (λ (x : List ℕ). start ++ x) e ∙ sym (append_assoc start gap (piece ++ rest)), h)
 
 occurs : (text piece gap rest : List ℕ) → text ≡ gap ++ (piece ++ rest) → OccursAt text piece (length gap)
 occurs text piece gap rest e =
@@ -30,8 +30,8 @@ reaches text piece gap rest e = omega (arith, ap length e, length-append gap (pi
 pub not_between : (text piece : List ℕ) (more : List (List ℕ)) → FindsNeedle text piece 0 None → Between (piece ∷ more) text → ⊥
 not_between text piece more nowhere (gap, rest, e, h) = nowhere (length gap) (omega arith) (reaches text piece gap rest e) (occurs text piece gap rest e)
 
--- what is behind the first place is no less than what is behind a later one
-behind_first : (text piece gap rest : List ℕ) (at : ℕ) → text ≡ gap ++ (piece ++ rest) → at ≤ length gap → (front : List ℕ) × (drop (at + length piece) text ≡ front ++ rest)
+-- what is after the first place is no less than what is after a later one
+behind_first : (text piece gap rest : List ℕ) (at : ℕ) → text ≡ gap ++ (piece ++ rest) → at ≤ length gap → (start : List ℕ) × (drop (at + length piece) text ≡ start ++ rest)
 behind_first text piece gap rest at e le =
     let n : ℕ = at + length piece in
     let whole : text ≡ (gap ++ piece) ++ rest = e ∙ sym (append_assoc gap piece rest) in
@@ -41,8 +41,8 @@ pub first_found : (text piece : List ℕ) (more : List (List ℕ)) (at : ℕ) �
 first_found text piece more at (first, here) = (
   (λ b.
       let le : at ≤ length b.0 = not_later b.0 b.1 b.2 in
-      let behind = behind_first text piece b.0 b.1 at b.2 le in
-      subst (λ (x : List ℕ). Between more x) (sym behind.1) (grows more behind.0 b.1 b.3)),
+      let remainder = behind_first text piece b.0 b.1 at b.2 le in
+      subst (λ (x : List ℕ). Between more x) (sym remainder.1) (grows more remainder.0 b.1 b.3)),
   (λ b. (take at text, drop (at + length piece) text, sym (take-append-drop at text) ∙ ap (λ (x : List ℕ). take at text ++ x) (OccursAt-split text piece at here), b)),
 )
   where
@@ -72,23 +72,23 @@ module _ (first : List ℕ) (between : List (List ℕ)) (last text : List ℕ) w
       let r = ends_of first between last text h in
       false≢true (sym fails ∙ (bytes_eq-Decides (take (length first) text) first).1 (ap (take (length first)) r.1 ∙ take-append_seam first (r.0 ++ last)))
 
-  pub front : pointwise nat_eq (take (length first) text) first ≡ true → text ≡ first ++ drop (length first) text
-  front holds = sym (take-append-drop (length first) text) ∙ ap (λ (x : List ℕ). x ++ drop (length first) text) ((bytes_eq-Decides (take (length first) text) first).0 holds)
+  pub start : pointwise nat_eq (take (length first) text) first ≡ true → text ≡ first ++ drop (length first) text
+  start holds = sym (take-append-drop (length first) text) ∙ ap (λ (x : List ℕ). x ++ drop (length first) text) ((bytes_eq-Decides (take (length first) text) first).0 holds)
 
-  pub no_end : (behind : List ℕ) → text ≡ first ++ behind → pointwise nat_eq (drop (length behind - length last) behind) last ≡ false → Stand (first ∷ (between ++ last ∷ [])) text → ⊥
-  no_end behind e fails h =
+  pub no_end : (remainder : List ℕ) → text ≡ first ++ remainder → pointwise nat_eq (drop (length remainder - length last) remainder) last ≡ false → Stand (first ∷ (between ++ last ∷ [])) text → ⊥
+  no_end remainder e fails h =
       let r = ends_of first between last text h in
-      let is : behind ≡ r.0 ++ last = append_cancel_left first behind (r.0 ++ last) (sym e ∙ r.1) in
-      let n : length behind - length last ≡ length r.0 = omega (arith, ap length is, length-append r.0 last) in
-      false≢true (sym fails ∙ (bytes_eq-Decides (drop (length behind - length last) behind) last).1 (ap (λ (k : ℕ). drop k behind) n ∙ ap (drop (length r.0)) is ∙ drop-append_seam r.0 last))
+      let is : remainder ≡ r.0 ++ last = append_cancel_left first remainder (r.0 ++ last) (sym e ∙ r.1) in
+      let n : length remainder - length last ≡ length r.0 = omega (arith, ap length is, length-append r.0 last) in
+      false≢true (sym fails ∙ (bytes_eq-Decides (drop (length remainder - length last) remainder) last).1 (ap (λ (k : ℕ). drop k remainder) n ∙ ap (drop (length r.0)) is ∙ drop-append_seam r.0 last))
 
-  pub end : (behind : List ℕ) → pointwise nat_eq (drop (length behind - length last) behind) last ≡ true → behind ≡ take (length behind - length last) behind ++ last
-  end behind holds =
-      let n : ℕ = length behind - length last in
-      sym (take-append-drop n behind) ∙ ap (λ (x : List ℕ). take n behind ++ x) ((bytes_eq-Decides (drop n behind) last).0 holds)
+  pub end : (remainder : List ℕ) → pointwise nat_eq (drop (length remainder - length last) remainder) last ≡ true → remainder ≡ take (length remainder - length last) remainder ++ last
+  end remainder holds =
+      let n : ℕ = length remainder - length last in
+      sym (take-append-drop n remainder) ∙ ap (λ (x : List ℕ). take n remainder ++ x) ((bytes_eq-Decides (drop n remainder) last).0 holds)
 
-  pub round : (behind middle : List ℕ) → text ≡ first ++ behind → behind ≡ middle ++ last → Between between middle ↔ Stand (first ∷ (between ++ last ∷ [])) text
-  round behind middle e f = (
+  pub round : (remainder middle : List ℕ) → text ≡ first ++ remainder → remainder ≡ middle ++ last → Between between middle ↔ Stand (first ∷ (between ++ last ∷ [])) text
+  round remainder middle e f = (
     (λ h. stand_of first between last text middle (e ∙ ap (λ (x : List ℕ). first ++ x) f) h),
     (λ h.
         let r = ends_of first between last text h in
@@ -105,8 +105,8 @@ module _ (pieces : List (List ℕ)) (i : ℕ) (piece text rest : List ℕ) (insi
   pub never : FindsNeedle rest piece 0 None → Between pieces text → ⊥
   never nowhere h = not_between rest piece (drop (i + 1) pieces) nowhere (subst (λ (x : List (List ℕ)). Between x rest) left (kept.0 h))
 
-  pub passed : (at : ℕ) (behind : List ℕ) → FindsNeedle rest piece 0 (Some at) → behind ≡ drop (at + length piece) rest → Between pieces text ↔ Between (drop (i + 1) pieces) behind
-  passed at behind found e =
+  pub passed : (at : ℕ) (remainder : List ℕ) → FindsNeedle rest piece 0 (Some at) → remainder ≡ drop (at + length piece) rest → Between pieces text ↔ Between (drop (i + 1) pieces) remainder
+  passed at remainder found e =
       let step = first_found rest piece (drop (i + 1) pieces) at found in (
         λ h. subst (λ (x : List ℕ). Between (drop (i + 1) pieces) x) (sym e) (step.0 (subst (λ (x : List (List ℕ)). Between x rest) left (kept.0 h))),
         λ h. kept.1 (subst (λ (x : List (List ℕ)). Between x rest) (sym left) (step.1 (subst (λ (x : List ℕ). Between (drop (i + 1) pieces) x) e h))),

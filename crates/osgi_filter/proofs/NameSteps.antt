@@ -2,13 +2,13 @@
 use Rattle.std.proofs.Common.{◌≡◌, ℕ, zero, suc, ◌+◌, ◌≤◌, ◌<◌, true, false, List, [], ◌∷◌, ◌++◌, length, take, drop, get_or, refl, sym, ap, ◌∙◌, arith, append_assoc, add-one, drop-cons, length-take}
 use Rattle.std.proofs.lemmas.List.{take_more, drop-append-le, take-append-drop, drop_all}
 use Rattle.osgi_version.specs.Bytes.{is_blank}
-use Rattle.osgi_model.specs.Filters.{is_name_byte}
-use Rattle.osgi_filter.specs.Reader.{name_at}
+use Rattle.osgi_model.specs.Filters.{is_item_name_byte}
+use Rattle.osgi_filter.specs.computed.Reader.{name_at}
 
-blank_byte : (name blanks rest : List ℕ) (b : ℕ) → is_name_byte b ≡ true → is_blank b ≡ true → name_at name blanks (b ∷ rest) ≡ name_at name (blanks ++ b ∷ []) rest
+blank_byte : (name blanks rest : List ℕ) (b : ℕ) → is_item_name_byte b ≡ true → is_blank b ≡ true → name_at name blanks (b ∷ rest) ≡ name_at name (blanks ++ b ∷ []) rest
 blank_byte name blanks rest b n k = rw (n, k) refl
 
-other_byte : (name blanks rest : List ℕ) (b : ℕ) → is_name_byte b ≡ true → is_blank b ≡ false → name_at name blanks (b ∷ rest) ≡ name_at (name ++ (blanks ++ b ∷ [])) [] rest
+other_byte : (name blanks rest : List ℕ) (b : ℕ) → is_item_name_byte b ≡ true → is_blank b ≡ false → name_at name blanks (b ∷ rest) ≡ name_at (name ++ (blanks ++ b ∷ [])) [] rest
 other_byte name blanks rest b n k = rw (n, k) refl
 
 take_shorter : (end at : ℕ) (bytes : List ℕ) → end ≤ at → take end (take at bytes) ≡ take end bytes
@@ -27,12 +27,12 @@ module _ (bytes : List ℕ) (end at : ℕ) (lt : at < length bytes) (le : end �
   front_is : take end bytes ++ drop end (take at bytes) ≡ take at bytes
   front_is = ap (λ (x : List ℕ). x ++ drop end (take at bytes)) (sym (take_shorter end at bytes le)) ∙ take-append-drop end (take at bytes)
 
-  pub name_blank : is_name_byte (get_or bytes at 0) ≡ true → is_blank (get_or bytes at 0) ≡ true → name_at (take end bytes) (drop end (take (at + 1) bytes)) (drop (at + 1) bytes) ≡ name_at (take end bytes) (drop end (take at bytes)) (drop at bytes)
+  pub name_blank : is_item_name_byte (get_or bytes at 0) ≡ true → is_blank (get_or bytes at 0) ≡ true → name_at (take end bytes) (drop end (take (at + 1) bytes)) (drop (at + 1) bytes) ≡ name_at (take end bytes) (drop end (take at bytes)) (drop at bytes)
   name_blank n k =
       ap (λ (x : List ℕ). name_at (take end bytes) x (drop (at + 1) bytes)) (ap (λ (x : List ℕ). drop end x) (take_more bytes at 0 lt) ∙ drop-append-le end (take at bytes) (get_or bytes at 0 ∷ []) front_fits)
       ∙ sym (ap (λ (x : List ℕ). name_at (take end bytes) (drop end (take at bytes)) x) rest_is ∙ blank_byte (take end bytes) (drop end (take at bytes)) (drop (at + 1) bytes) (get_or bytes at 0) n k)
 
-  pub name_other : is_name_byte (get_or bytes at 0) ≡ true → is_blank (get_or bytes at 0) ≡ false → name_at (take (at + 1) bytes) (drop (at + 1) (take (at + 1) bytes)) (drop (at + 1) bytes) ≡ name_at (take end bytes) (drop end (take at bytes)) (drop at bytes)
+  pub name_other : is_item_name_byte (get_or bytes at 0) ≡ true → is_blank (get_or bytes at 0) ≡ false → name_at (take (at + 1) bytes) (drop (at + 1) (take (at + 1) bytes)) (drop (at + 1) bytes) ≡ name_at (take end bytes) (drop end (take at bytes)) (drop at bytes)
   name_other n k =
       let whole : take (at + 1) bytes ≡ take end bytes ++ (drop end (take at bytes) ++ get_or bytes at 0 ∷ []) =
       take_more bytes at 0 lt ∙ ap (λ (x : List ℕ). x ++ get_or bytes at 0 ∷ []) (sym front_is) ∙ append_assoc (take end bytes) (drop end (take at bytes)) (get_or bytes at 0 ∷ []) in

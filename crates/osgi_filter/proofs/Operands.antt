@@ -3,10 +3,10 @@ use Rattle.std.proofs.Common.{◌≡◌, ℕ, zero, suc, ◌≤◌, ◌<◌, ◌
 use Rattle.std.proofs.lemmas.Bool.{cases_Bool, cond-false, ne_eqb}
 use Rattle.std.proofs.lemmas.List.{length-append}
 use Rattle.osgi_model.specs.declared.filter.Filter.{Filter}
-use Rattle.osgi_filter.specs.Reader.{◌>>=◌, skip, operand, operands_at, listing, filter_at}
-use Rattle.osgi_filter.proofs.Scans.{bind_same, skip_sound}
-use Rattle.osgi_filter.proofs.Levels.{IsExact, filter_exact}
-use Rattle.osgi_filter.proofs.Bounded.{Bare}
+use Rattle.osgi_filter.specs.computed.Reader.{◌>>=◌, skip, operand, operands_at, listing, filter_at}
+use Rattle.osgi_filter.specs.laws.Scans.{bind_same, skip_sound}
+use Rattle.osgi_filter.specs.laws.Levels.{IsExact, filter_exact}
+use Rattle.osgi_filter.specs.laws.Bounded.{Bare}
 
 pub skip_length : (t : List ℕ) → length (skip t) ≤ length t
 skip_length t = let s = skip_sound t in omega (arith, ap length s.parts, length-append s.spaces (skip t))

@@ -6,13 +6,13 @@ use Rattle.osgi_model.specs.declared.filter.Filter.{Filter, roll-Filter}
 use Rattle.osgi_model.specs.declared.filter.Filter.TheOpen.{Not}
 use Rattle.osgi_version.specs.Bytes.{Each, IsBlank, is_blank}
 use Rattle.osgi_model.specs.Filters.{ReadsFilter, IsReadableFilter}
-use Rattle.osgi_filter.proofs.Bounded.{Bare}
-use Rattle.osgi_filter.specs.Reader.{◌>>=◌, skip, after, item_at, opens, is_composing, listed, operand, listing, not_at, composed_at, inside, level_at, filter_at, ended, whole_at}
-use Rattle.osgi_filter.proofs.Scans.{bind_ok, space_is_name, skip_over, skip_spaces, skip_sound, skip_stops}
-use Rattle.osgi_filter.proofs.ItemReading.{item_sound}
-use Rattle.osgi_filter.proofs.Levels.{IsExact, inside_item, begins_item, filter_exact, whole_again, whole_sound}
-use Rattle.osgi_version.specs.Places.{IsLongestFront}
-use Rattle.osgi_filter.proofs.Steps.{filter_at_none, filter_at_some, filter_at_more}
+use Rattle.osgi_filter.specs.laws.Bounded.{Bare}
+use Rattle.osgi_filter.specs.computed.Reader.{◌>>=◌, skip, after, item_at, opens, is_composing, listed, operand, listing, not_at, composed_at, inside, level_at, filter_at, ended, whole_at}
+use Rattle.osgi_filter.specs.laws.Scans.{bind_ok, space_is_name, skip_over, skip_spaces, skip_sound, skip_stops}
+use Rattle.osgi_filter.specs.laws.ItemReading.{item_sound}
+use Rattle.osgi_filter.specs.laws.Levels.{IsExact, inside_item, begins_item, filter_exact, whole_again, whole_sound}
+use Rattle.osgi_version.specs.FaultPlaces.{IsLongestPrefix}
+use Rattle.osgi_filter.specs.laws.Steps.{filter_at_none, filter_at_some, filter_at_more}
 use Rattle.osgi_filter.proofs.Operands.{skip_length, takes, listing_is}
 use Rattle.osgi_filter.proofs.Stopping.{err_is, err_ok, Stops, steps, made, made_err, stops_at_end, after_stops, name_then, name_alive, item_alive, item_stops}
 
@@ -24,26 +24,26 @@ fail n = Err n
 
 -- as Stops, where a reader that stops at its first byte may read nothing at all
 pub record Halts (reader : List ℕ → Result (Filter × List ℕ) ℕ) (bytes : List ℕ) (left : ℕ) : Type 0 where
-  pub front : List ℕ
+  pub start : List ℕ
   pub back : List ℕ
-  pub parts : bytes ≡ front ++ back
+  pub parts : bytes ≡ start ++ back
   pub len : length back ≡ left
   pub more : List ℕ
-  pub alive : (front ≡ [] → ⊥) → (rest : List ℕ) → (x : Filter) × (reader (front ++ (more ++ rest)) ≡ Ok (x, rest))
-  pub dead : (b : ℕ) (bs : List ℕ) → back ≡ b ∷ bs → (other : List ℕ) (x : Filter × List ℕ) → reader (front ++ b ∷ other) ≡ Ok x → ⊥
+  pub alive : (start ≡ [] → ⊥) → (rest : List ℕ) → (x : Filter) × (reader (start ++ (more ++ rest)) ≡ Ok (x, rest))
+  pub dead : (b : ℕ) (bs : List ℕ) → back ≡ b ∷ bs → (other : List ℕ) (x : Filter × List ℕ) → reader (start ++ b ∷ other) ≡ Ok x → ⊥
 
 weaken : (reader : List ℕ → Result (Filter × List ℕ) ℕ) (bytes : List ℕ) (left : ℕ) → Stops Filter reader bytes left → Halts reader bytes left
-weaken reader bytes left s = record { front = s.front; back = s.back; parts = s.parts; len = s.len; more = s.more; alive = λ h. s.alive; dead = s.dead }
+weaken reader bytes left s = record { start = s.start; back = s.back; parts = s.parts; len = s.len; more = s.more; alive = λ h. s.alive; dead = s.dead }
 
 halts_same : (reader next : List ℕ → Result (Filter × List ℕ) ℕ) → ((xs : List ℕ) → reader xs ≡ next xs) → (bytes : List ℕ) (left : ℕ) → Halts next bytes left → Halts reader bytes left
 halts_same reader next same bytes left s = record {
-  front = s.front;
+  start = s.start;
   back = s.back;
   parts = s.parts;
   len = s.len;
   more = s.more;
-  alive = λ h rest. let a = s.alive h rest in (a.0, same (s.front ++ (s.more ++ rest)) ∙ a.1);
-  dead = λ b bs e other x k. s.dead b bs e other x (sym (same (s.front ++ b ∷ other)) ∙ k);
+  alive = λ h rest. let a = s.alive h rest in (a.0, same (s.start ++ (s.more ++ rest)) ∙ a.1);
+  dead = λ b bs e other x k. s.dead b bs e other x (sym (same (s.start ++ b ∷ other)) ∙ k);
 }
 
 -- ---- a name that begins with ! & or |
@@ -106,9 +106,9 @@ module _ (R : List ℕ → Filter → Type 0) (below : List ℕ → Result (Filt
   listing_close : (fs : List Filter) (spaces : List ℕ) → Each IsBlank spaces → (rest : List ℕ) → (x : List Filter) × (listing below fs (spaces ++ (41 ∷ [] ++ rest)) ≡ Ok (x, rest))
   listing_close fs spaces h rest = (fs, listing_over fs spaces 41 rest h refl)
 
-  listing_halts : (fs : List Filter) (spaces : List ℕ) (b : ℕ) (bs : List ℕ) (left : ℕ) → Each IsBlank spaces → is_blank b ≡ false → (b == 41) ≡ false → (s : Halts below (b ∷ bs) left) → (front : List ℕ) → s.front ≡ front → Stops (List Filter) (listing below fs) (spaces ++ b ∷ bs) left
+  listing_halts : (fs : List Filter) (spaces : List ℕ) (b : ℕ) (bs : List ℕ) (left : ℕ) → Each IsBlank spaces → is_blank b ≡ false → (b == 41) ≡ false → (s : Halts below (b ∷ bs) left) → (start : List ℕ) → s.start ≡ start → Stops (List Filter) (listing below fs) (spaces ++ b ∷ bs) left
   listing_halts fs spaces b bs left h k n s [] e = record {
-    front = spaces;
+    start = spaces;
     back = b ∷ bs;
     parts = refl;
     len = ap length (s.parts ∙ ap (λ (x : List ℕ). x ++ s.back) e) ∙ s.len;
@@ -126,10 +126,10 @@ module _ (R : List ℕ → Filter → Type 0) (below : List ℕ → Result (Filt
       let d-is : b ≡ d = cc in
       let dk : is_blank d ≡ false = subst (λ (x : ℕ). is_blank x ≡ false) d-is k in
       let dn : (d == 41) ≡ false = subst (λ (x : ℕ). (x == 41) ≡ false) d-is n in
-      let goes : (xs : List ℕ) → listing below fs ((spaces ++ (d ∷ ds)) ++ xs) ≡ (below (s.front ++ xs) >>= λ x. listing below (fs ++ x.0 ∷ []) x.1) = λ xs. ap (λ (x : List ℕ). listing below fs x) (append_assoc spaces (d ∷ ds) xs) ∙ listing_one fs spaces d (ds ++ xs) h dk dn ∙ ap (λ (y : List ℕ). below (y ++ xs) >>= λ x. listing below (fs ++ x.0 ∷ []) x.1) (sym e) in
-      let some : s.front ≡ [] → ⊥ = λ z. absurd cc in
+      let goes : (xs : List ℕ) → listing below fs ((spaces ++ (d ∷ ds)) ++ xs) ≡ (below (s.start ++ xs) >>= λ x. listing below (fs ++ x.0 ∷ []) x.1) = λ xs. ap (λ (x : List ℕ). listing below fs x) (append_assoc spaces (d ∷ ds) xs) ∙ listing_one fs spaces d (ds ++ xs) h dk dn ∙ ap (λ (y : List ℕ). below (y ++ xs) >>= λ x. listing below (fs ++ x.0 ∷ []) x.1) (sym e) in
+      let some : s.start ≡ [] → ⊥ = λ z. absurd cc in
       record {
-        front = spaces ++ (d ∷ ds);
+        start = spaces ++ (d ∷ ds);
         back = s.back;
         parts = ap (λ (x : List ℕ). spaces ++ x) parts ∙ sym (append_assoc spaces (d ∷ ds) s.back);
         len = s.len;
@@ -139,13 +139,13 @@ module _ (R : List ℕ → Filter → Type 0) (below : List ℕ → Result (Filt
             let c = listing_close (fs ++ a.0 ∷ []) [] tt rest in
             (c.0, ap (λ (x : List ℕ). listing below fs ((spaces ++ (d ∷ ds)) ++ x)) (append_assoc s.more (41 ∷ []) rest) ∙ goes (s.more ++ 41 ∷ rest) ∙ ap (λ (r : Result (Filter × List ℕ) ℕ). r >>= λ x. listing below (fs ++ x.0 ∷ []) x.1) a.1 ∙ c.1);
         dead = λ c cs is other x r.
-            let m = bind_ok (below (s.front ++ c ∷ other)) (λ x. listing below (fs ++ x.0 ∷ []) x.1) x (sym (goes (c ∷ other)) ∙ r) in
+            let m = bind_ok (below (s.start ++ c ∷ other)) (λ x. listing below (fs ++ x.0 ∷ []) x.1) x (sym (goes (c ∷ other)) ∙ r) in
             s.dead c cs is other m.0 m.1;
       }
 
   listing_rest : (n : ℕ) → ((fs : List Filter) (bytes : List ℕ) (left : ℕ) → length bytes ≤ n → listing below fs bytes ≡ Err left → Stops (List Filter) (listing below fs) bytes left) → (fs : List Filter) (spaces t : List ℕ) (left : ℕ) → length t ≤ suc n → Each IsBlank spaces → ((b : ℕ) (bs : List ℕ) → t ≡ b ∷ bs → is_blank b ≡ false) → operand below (listing below) fs t ≡ Err left → Stops (List Filter) (listing below fs) (spaces ++ t) left
   listing_rest n next fs spaces [] left lt h starts e = record {
-    front = spaces;
+    start = spaces;
     back = [];
     parts = refl;
     len = err_is (List Filter × List ℕ) 0 left e;
@@ -178,7 +178,7 @@ module _ (R : List ℕ → Filter → Type 0) (below : List ℕ → Result (Filt
       subst (λ (y : List ℕ). Stops (List Filter) (listing below fs) y left) (sym k.parts) (listing_none fs k.spaces (skip bytes) left (omega arith) k.are (sym (listing_is R below exact fs bytes) ∙ e))
     where
       listing_none : (fs : List Filter) (spaces t : List ℕ) (left : ℕ) → length t ≤ 0 → Each IsBlank spaces → operand below (listing below) fs t ≡ Err left → Stops (List Filter) (listing below fs) (spaces ++ t) left
-      listing_none fs spaces [] left lt h e = record { front = spaces; back = []; parts = refl; len = err_is (List Filter × List ℕ) 0 left e; more = 41 ∷ []; alive = listing_close fs spaces h; dead = λ c cs is other x r. absurd cc }
+      listing_none fs spaces [] left lt h e = record { start = spaces; back = []; parts = refl; len = err_is (List Filter × List ℕ) 0 left e; more = 41 ∷ []; alive = listing_close fs spaces h; dead = λ c cs is other x r. absurd cc }
       listing_none fs spaces (b ∷ bs) left lt h e = absurd (omega arith)
   listing_stops (suc n) fs bytes left lt e =
       let k = skip_sound bytes in
@@ -197,12 +197,12 @@ module _ (R : List ℕ → Filter → Type 0) (below : List ℕ → Result (Filt
   closing_close f spaces h rest = (roll-Filter (Not f), closing_over f spaces 41 rest h refl)
 
   closing_rest : (f : Filter) (spaces t : List ℕ) (left : ℕ) → Each IsBlank spaces → ((b : ℕ) (bs : List ℕ) → t ≡ b ∷ bs → is_blank b ≡ false) → (after 41 t >>= closed f) ≡ Err left → Stops Filter (closing f) (spaces ++ t) left
-  closing_rest f spaces [] left h starts e = record { front = spaces; back = []; parts = refl; len = err_is (Filter × List ℕ) 0 left e; more = 41 ∷ []; alive = closing_close f spaces h; dead = λ c cs is other x r. absurd cc }
+  closing_rest f spaces [] left h starts e = record { start = spaces; back = []; parts = refl; len = err_is (Filter × List ℕ) 0 left e; more = 41 ∷ []; alive = closing_close f spaces h; dead = λ c cs is other x r. absurd cc }
   closing_rest f spaces (b ∷ bs) left h starts e =
       elim (cases_Bool (b == 41)) [
         | inl m ↦ absurd (err_ok (Filter × List ℕ) (after 41 (b ∷ bs) >>= closed f) left (roll-Filter (Not f), bs) e (rw m refl))
         | inr m ↦ record {
-          front = spaces;
+          start = spaces;
           back = b ∷ bs;
           parts = refl;
           len = err_is (Filter × List ℕ) (length (b ∷ bs)) left (rw m at e);
@@ -225,15 +225,15 @@ module _ (R : List ℕ → Filter → Type 0) (below : List ℕ → Result (Filt
   not_read bytes left (Err l) is e =
       let s = halts bytes left (is ∙ ap (λ (y : ℕ). fail y) (err_is (Filter × List ℕ) l left e)) in
       record {
-        front = s.front;
+        start = s.start;
         back = s.back;
         parts = s.parts;
         len = s.len;
         more = s.more ++ 41 ∷ [];
         alive = λ some rest.
             let a = s.alive some (41 ∷ rest) in
-            (roll-Filter (Not a.0), ap (λ (x : List ℕ). not_at below (s.front ++ x)) (append_assoc s.more (41 ∷ []) rest) ∙ ap (λ (r : Result (Filter × List ℕ) ℕ). r >>= λ x. closing x.0 x.1) a.1);
-        dead = λ c cs h other x k. let m = bind_ok (below (s.front ++ c ∷ other)) (λ x. closing x.0 x.1) x k in s.dead c cs h other m.0 m.1;
+            (roll-Filter (Not a.0), ap (λ (x : List ℕ). not_at below (s.start ++ x)) (append_assoc s.more (41 ∷ []) rest) ∙ ap (λ (r : Result (Filter × List ℕ) ℕ). r >>= λ x. closing x.0 x.1) a.1);
+        dead = λ c cs h other x k. let m = bind_ok (below (s.start ++ c ∷ other)) (λ x. closing x.0 x.1) x k in s.dead c cs h other m.0 m.1;
       }
   not_read bytes left (Ok x) is e =
       let g = exact.sound bytes x.0 x.1 is in
@@ -250,7 +250,7 @@ module _ (R : List ℕ → Filter → Type 0) (below : List ℕ → Result (Filt
             (weaken (λ xs. listing below [] xs >>= λ x. Ok (listed sign x.0, x.1)) bytes left (made (List Filter) Filter (λ fs. listed sign fs) (listing below []) bytes left (listing_stops (length bytes) [] bytes left (omega arith) (made_err (List Filter) Filter (λ fs. listed sign fs) (listing below [] bytes) left k))))
       ]
 
-  -- ---- behind the (
+  -- ---- after the (
 
   inside_composed : (b : ℕ) (spaces t : List ℕ) → is_composing b ≡ true → Each IsBlank spaces → inside below (b ∷ (spaces ++ 40 ∷ t)) ≡ composed_at below b (40 ∷ t)
   inside_composed b spaces t c h =
@@ -265,9 +265,9 @@ module _ (R : List ℕ → Filter → Type 0) (below : List ℕ → Result (Filt
             ∙ cond-false (is_composing b && false) (composed_at below b (97 ∷ 61 ∷ 41 ∷ rest)) (item_at (b ∷ (spaces ++ (97 ∷ 61 ∷ 41 ∷ rest)))) (and_right (is_composing b) false refl) ∙ a.1,
       )
 
-  composed_stops : (b : ℕ) (spaces t : List ℕ) (left : ℕ) → is_composing b ≡ true → Each IsBlank spaces → (s : Halts (composed_at below b) (40 ∷ t) left) → (front : List ℕ) → s.front ≡ front → Stops Filter (inside below) (b ∷ (spaces ++ 40 ∷ t)) left
+  composed_stops : (b : ℕ) (spaces t : List ℕ) (left : ℕ) → is_composing b ≡ true → Each IsBlank spaces → (s : Halts (composed_at below b) (40 ∷ t) left) → (start : List ℕ) → s.start ≡ start → Stops Filter (inside below) (b ∷ (spaces ++ 40 ∷ t)) left
   composed_stops b spaces t left c h s [] e = record {
-    front = b ∷ spaces;
+    start = b ∷ spaces;
     back = 40 ∷ t;
     parts = refl;
     len = ap length (s.parts ∙ ap (λ (x : List ℕ). x ++ s.back) e) ∙ s.len;
@@ -282,11 +282,11 @@ module _ (R : List ℕ → Filter → Type 0) (below : List ℕ → Result (Filt
   composed_stops b spaces t left c h s (d ∷ ds) e =
       let parts : 40 ∷ t ≡ d ∷ (ds ++ s.back) = s.parts ∙ ap (λ (x : List ℕ). x ++ s.back) e in
       let d-is : d ≡ 40 = ap (λ (y : List ℕ). first_byte y) (sym parts) in
-      let some : s.front ≡ [] → ⊥ = λ z. absurd cc in
-      let goes : (xs : List ℕ) → inside below ((b ∷ (spaces ++ (d ∷ ds))) ++ xs) ≡ composed_at below b (s.front ++ xs) = λ xs.
+      let some : s.start ≡ [] → ⊥ = λ z. absurd cc in
+      let goes : (xs : List ℕ) → inside below ((b ∷ (spaces ++ (d ∷ ds))) ++ xs) ≡ composed_at below b (s.start ++ xs) = λ xs.
       ap (λ (x : List ℕ). inside below (b ∷ x)) (append_assoc spaces (d ∷ ds) xs ∙ ap (λ (y : ℕ). spaces ++ y ∷ (ds ++ xs)) d-is) ∙ inside_composed b spaces (ds ++ xs) c h ∙ ap (λ (y : ℕ). composed_at below b (y ∷ (ds ++ xs))) (sym d-is) ∙ ap (λ (y : List ℕ). composed_at below b (y ++ xs)) (sym e) in
       record {
-        front = b ∷ (spaces ++ (d ∷ ds));
+        start = b ∷ (spaces ++ (d ∷ ds));
         back = s.back;
         parts = ap (λ (x : List ℕ). b ∷ (spaces ++ x)) parts ∙ ap (λ (x : List ℕ). b ∷ x) (sym (append_assoc spaces (d ∷ ds) s.back));
         len = s.len;
@@ -295,7 +295,7 @@ module _ (R : List ℕ → Filter → Type 0) (below : List ℕ → Result (Filt
         dead = λ c cs is other x r. s.dead c cs is other x (sym (goes (c ∷ other)) ∙ r);
       }
 
-  -- an item that is read is read behind the ( too
+  -- an item that is read is read after the ( too
   item_inside : (bytes : List ℕ) (x : Filter × List ℕ) → item_at bytes ≡ Ok x → inside below bytes ≡ Ok x
   item_inside bytes x e =
       let g = item_sound bytes x.0 x.1 e in
@@ -303,7 +303,7 @@ module _ (R : List ℕ → Filter → Type 0) (below : List ℕ → Result (Filt
       let whole : bytes ≡ i.before ++ (g.name ++ (i.after ++ (i.signed ++ 41 ∷ x.1))) = g.parts ∙ ap (λ (y : List ℕ). y ++ x.1) i.parts ∙ simp append_assoc in
       inside_item R below exact bytes (λ b bs is. begins_item R below exact i.before g.name i.after i.signed x.1 g.test i.are_before i.named i.are_after i.reads b bs (sym whole ∙ is)) ∙ e
 
-  item_dead : (b : ℕ) (bs : List ℕ) (left : ℕ) → (is_composing b && opens (skip bs)) ≡ false → (s : Stops Filter item_at (b ∷ bs) left) → (front : List ℕ) → s.front ≡ front → (c : ℕ) (cs : List ℕ) → s.back ≡ c ∷ cs → (other : List ℕ) (x : Filter × List ℕ) → inside below (front ++ c ∷ other) ≡ Ok x → ⊥
+  item_dead : (b : ℕ) (bs : List ℕ) (left : ℕ) → (is_composing b && opens (skip bs)) ≡ false → (s : Stops Filter item_at (b ∷ bs) left) → (start : List ℕ) → s.start ≡ start → (c : ℕ) (cs : List ℕ) → s.back ≡ c ∷ cs → (other : List ℕ) (x : Filter × List ℕ) → inside below (start ++ c ∷ other) ≡ Ok x → ⊥
   item_dead b bs left n s [] e c cs is other x r =
       elim (cases_Bool (is_composing c)) [
         | inl k ↦ let a = sign_alive c [] k tt [] in s.dead c cs is (97 ∷ 61 ∷ 41 ∷ []) (a.0, []) (ap (λ (y : List ℕ). item_at (y ++ c ∷ 97 ∷ 61 ∷ 41 ∷ [])) e ∙ a.1)
@@ -334,17 +334,17 @@ module _ (R : List ℕ → Filter → Type 0) (below : List ℕ → Result (Filt
             let o = open_first (skip bs) p.1 in
             let f : composed_at below b (40 ∷ o.0) ≡ Err left = ap (λ (y : List ℕ). composed_at below b y) (sym o.1) ∙ sym (cond-true (is_composing b && opens (skip bs)) (composed_at below b (skip bs)) (item_at (b ∷ bs)) h) ∙ e in
             let s = composed_halts b (40 ∷ o.0) left f in
-            subst (λ (y : List ℕ). Stops Filter (inside below) (b ∷ y) left) (sym (k.parts ∙ ap (λ (y : List ℕ). k.spaces ++ y) o.1)) (composed_stops b k.spaces o.0 left p.0 k.are s s.front refl)
+            subst (λ (y : List ℕ). Stops Filter (inside below) (b ∷ y) left) (sym (k.parts ∙ ap (λ (y : List ℕ). k.spaces ++ y) o.1)) (composed_stops b k.spaces o.0 left p.0 k.are s s.start refl)
         | inr h ↦
             let s = item_stops (b ∷ bs) left (sym (cond-false (is_composing b && opens (skip bs)) (composed_at below b (skip bs)) (item_at (b ∷ bs)) h) ∙ e) in
             record {
-              front = s.front;
+              start = s.start;
               back = s.back;
               parts = s.parts;
               len = s.len;
               more = s.more;
-              alive = λ rest. let a = s.alive rest in (a.0, item_inside (s.front ++ (s.more ++ rest)) (a.0, rest) a.1);
-              dead = λ c cs is other x r. item_dead b bs left h s s.front refl c cs is other x r;
+              alive = λ rest. let a = s.alive rest in (a.0, item_inside (s.start ++ (s.more ++ rest)) (a.0, rest) a.1);
+              dead = λ c cs is other x r. item_dead b bs left h s s.start refl c cs is other x r;
             }
       ]
 
@@ -355,7 +355,7 @@ module _ (R : List ℕ → Filter → Type 0) (below : List ℕ → Result (Filt
 
 filter_halts : (n : ℕ) (bytes : List ℕ) (left : ℕ) → filter_at n bytes ≡ Err left → Halts (filter_at n) bytes left
 filter_halts zero bytes left e = record {
-  front = [];
+  start = [];
   back = bytes;
   parts = refl;
   len = err_is (Filter × List ℕ) (length bytes) left (sym (filter_at_none bytes) ∙ e);
@@ -370,13 +370,13 @@ filter_halts (suc n) bytes left e =
 -- ---- whole texts
 
 record Ends (text : List ℕ) (left : ℕ) : Type 0 where
-  pub front : List ℕ
+  pub start : List ℕ
   pub back : List ℕ
-  pub parts : text ≡ front ++ back
+  pub parts : text ≡ start ++ back
   pub len : length back ≡ left
   pub more : List ℕ
-  pub alive : (f : Filter) × (whole_at (front ++ more) ≡ Ok f)
-  pub dead : (b : ℕ) (bs : List ℕ) → back ≡ b ∷ bs → (other : List ℕ) (f : Filter) → whole_at (front ++ b ∷ other) ≡ Ok f → ⊥
+  pub alive : (f : Filter) × (whole_at (start ++ more) ≡ Ok f)
+  pub dead : (b : ℕ) (bs : List ℕ) → back ≡ b ∷ bs → (other : List ℕ) (f : Filter) → whole_at (start ++ b ∷ other) ≡ Ok f → ⊥
 
 abbrev finish : Filter × List ℕ → Result Filter ℕ
 finish x = ended x.0 (skip x.1)
@@ -393,11 +393,11 @@ whole_over spaces b t h k = ap (λ (x : List ℕ). filter_at 64 x >>= finish) (s
 top_alive : (f : Filter) × (filter_at 64 (40 ∷ 97 ∷ 61 ∷ 41 ∷ []) ≡ Ok (f, []))
 top_alive = let a = item_alive [] tt [] in (a.0, filter_at_64 (40 ∷ 97 ∷ 61 ∷ 41 ∷ []) ∙ a.1)
 
-whole_err : (spaces t : List ℕ) (left : ℕ) → Each IsBlank spaces → ((b : ℕ) (bs : List ℕ) → t ≡ b ∷ bs → is_blank b ≡ false) → (s : Stops Filter (filter_at 64) t left) → (front : List ℕ) → s.front ≡ front → Ends (spaces ++ t) left
+whole_err : (spaces t : List ℕ) (left : ℕ) → Each IsBlank spaces → ((b : ℕ) (bs : List ℕ) → t ≡ b ∷ bs → is_blank b ≡ false) → (s : Stops Filter (filter_at 64) t left) → (start : List ℕ) → s.start ≡ start → Ends (spaces ++ t) left
 whole_err spaces t left h starts s [] e =
     let a = top_alive in
     record {
-      front = spaces;
+      start = spaces;
       back = t;
       parts = refl;
       len = ap length (s.parts ∙ ap (λ (x : List ℕ). x ++ s.back) e) ∙ s.len;
@@ -411,16 +411,16 @@ whole_err spaces t left h starts s [] e =
 whole_err spaces t left h starts s (d ∷ ds) e =
     let parts : t ≡ d ∷ (ds ++ s.back) = s.parts ∙ ap (λ (x : List ℕ). x ++ s.back) e in
     let none : is_blank d ≡ false = starts d (ds ++ s.back) parts in
-    let goes : (xs : List ℕ) → whole_at ((spaces ++ (d ∷ ds)) ++ xs) ≡ (filter_at 64 (s.front ++ xs) >>= finish) = λ xs. ap whole_at (append_assoc spaces (d ∷ ds) xs) ∙ whole_over spaces d (ds ++ xs) h none ∙ ap (λ (x : List ℕ). filter_at 64 (x ++ xs) >>= finish) (sym e) in
+    let goes : (xs : List ℕ) → whole_at ((spaces ++ (d ∷ ds)) ++ xs) ≡ (filter_at 64 (s.start ++ xs) >>= finish) = λ xs. ap whole_at (append_assoc spaces (d ∷ ds) xs) ∙ whole_over spaces d (ds ++ xs) h none ∙ ap (λ (x : List ℕ). filter_at 64 (x ++ xs) >>= finish) (sym e) in
     let a = s.alive [] in
     record {
-      front = spaces ++ (d ∷ ds);
+      start = spaces ++ (d ∷ ds);
       back = s.back;
       parts = ap (λ (x : List ℕ). spaces ++ x) parts ∙ sym (append_assoc spaces (d ∷ ds) s.back);
       len = s.len;
       more = s.more ++ [];
       alive = (a.0, goes (s.more ++ []) ∙ ap (λ (r : Result (Filter × List ℕ) ℕ). r >>= finish) a.1);
-      dead = λ b bs is other f k. let m = bind_ok (filter_at 64 (s.front ++ b ∷ other)) finish f (sym (goes (b ∷ other)) ∙ k) in s.dead b bs is other m.0 m.1;
+      dead = λ b bs is other f k. let m = bind_ok (filter_at 64 (s.start ++ b ∷ other)) finish f (sym (goes (b ∷ other)) ∙ k) in s.dead b bs is other m.0 m.1;
     }
 
 -- a filter, and then something else
@@ -436,7 +436,7 @@ whole_rest spaces t left h f rest e k =
     ∙ ap (λ (x : List ℕ). filter_at 64 (x ++ (r.spaces ++ xs)) >>= finish) (sym s.1)
     ∙ ap (λ (x : Result (Filter × List ℕ) ℕ). x >>= finish) (exact.again g.text f (r.spaces ++ xs) g.reads) in
     record {
-      front = spaces ++ (g.text ++ r.spaces);
+      start = spaces ++ (g.text ++ r.spaces);
       back = skip rest;
       parts = ap (λ (x : List ℕ). spaces ++ x) (g.parts ∙ ap (λ (x : List ℕ). g.text ++ x) r.parts ∙ sym (append_assoc g.text r.spaces (skip rest))) ∙ sym (append_assoc spaces (g.text ++ r.spaces) (skip rest));
       len = ended_len f (skip rest) left k;
@@ -457,38 +457,38 @@ whole_ends text left e =
     subst (λ (x : List ℕ). Ends x left) (sym k.parts) (ends_by k.spaces (skip text) left k.are (skip_stops text) (filter_at 64 (skip text)) refl e)
   where
     ends_by : (spaces t : List ℕ) (left : ℕ) → Each IsBlank spaces → ((b : ℕ) (bs : List ℕ) → t ≡ b ∷ bs → is_blank b ≡ false) → (r : Result (Filter × List ℕ) ℕ) → filter_at 64 t ≡ r → (r >>= finish) ≡ Err left → Ends (spaces ++ t) left
-    ends_by spaces t left h starts (Err l) is e = let s = top_stops t left (is ∙ ap (λ (y : ℕ). fail y) (err_is Filter l left e)) in whole_err spaces t left h starts s s.front refl
+    ends_by spaces t left h starts (Err l) is e = let s = top_stops t left (is ∙ ap (λ (y : ℕ). fail y) (err_is Filter l left e)) in whole_err spaces t left h starts s s.start refl
     ends_by spaces t left h starts (Ok x) is e = whole_rest spaces t left h x.0 x.1 is e
 
 -- ---- the place of a fault
 
-take_past : (front : List ℕ) (b : ℕ) (bs : List ℕ) (n : ℕ) → length front < n → (other : List ℕ) × (take n (front ++ b ∷ bs) ≡ front ++ b ∷ other)
+take_past : (start : List ℕ) (b : ℕ) (bs : List ℕ) (n : ℕ) → length start < n → (other : List ℕ) × (take n (start ++ b ∷ bs) ≡ start ++ b ∷ other)
 take_past [] b bs zero lt = absurd (omega arith)
 take_past [] b bs (suc n) lt = (take n bs, refl)
 take_past (c ∷ cs) b bs zero lt = absurd (omega arith)
 take_past (c ∷ cs) b bs (suc n) lt = let less : length cs < n = omega arith in let r = take_past cs b bs n less in (r.0, ap (λ (x : List ℕ). c ∷ x) r.1)
 
-longest_by : (text : List ℕ) (left : ℕ) (s : Ends text left) (back : List ℕ) → s.back ≡ back → (n : ℕ) → length s.front < n → n ≤ length text → (rest : List ℕ) (f : Filter) → ReadsFilter (take n text ++ rest) f → ⊥
-longest_by text left s [] e n lt le rest f k = absurd (omega (arith, ap length s.parts, length-append s.front s.back, ap length e))
+longest_by : (text : List ℕ) (left : ℕ) (s : Ends text left) (back : List ℕ) → s.back ≡ back → (n : ℕ) → length s.start < n → n ≤ length text → (rest : List ℕ) (f : Filter) → ReadsFilter (take n text ++ rest) f → ⊥
+longest_by text left s [] e n lt le rest f k = absurd (omega (arith, ap length s.parts, length-append s.start s.back, ap length e))
 longest_by text left s (c ∷ cs) e n lt le rest f k =
-    let r = take_past s.front c cs n lt in
-    let whole : take n text ≡ s.front ++ c ∷ r.0 = ap (λ (x : List ℕ). take n x) (s.parts ∙ ap (λ (x : List ℕ). s.front ++ x) e) ∙ r.1 in
-    let read : whole_at (s.front ++ c ∷ (r.0 ++ rest)) ≡ Ok f = ap whole_at (sym (append_assoc s.front (c ∷ r.0) rest) ∙ ap (λ (x : List ℕ). x ++ rest) (sym whole)) ∙ whole_again (take n text ++ rest) f k in
+    let r = take_past s.start c cs n lt in
+    let whole : take n text ≡ s.start ++ c ∷ r.0 = ap (λ (x : List ℕ). take n x) (s.parts ∙ ap (λ (x : List ℕ). s.start ++ x) e) ∙ r.1 in
+    let read : whole_at (s.start ++ c ∷ (r.0 ++ rest)) ≡ Ok f = ap whole_at (sym (append_assoc s.start (c ∷ r.0) rest) ∙ ap (λ (x : List ℕ). x ++ rest) (sym whole)) ∙ whole_again (take n text ++ rest) f k in
     s.dead c cs e (r.0 ++ rest) f read
 
 pub unread : (text : List ℕ) (left : ℕ) → whole_at text ≡ Err left → (f : Filter) → ReadsFilter text f → ⊥
 unread text left e f r = err_ok Filter (whole_at text) left f e (whole_again text f r)
 
-pub fault_is : (text : List ℕ) (left : ℕ) → whole_at text ≡ Err left → IsLongestFront IsReadableFilter text (length text - left)
+pub fault_is : (text : List ℕ) (left : ℕ) → whole_at text ≡ Err left → IsLongestPrefix IsReadableFilter text (length text - left)
 fault_is text left e =
     let s = whole_ends text left e in
-    let at : length text - left ≡ length s.front = omega (arith, ap length s.parts, length-append s.front s.back, s.len) in
+    let at : length text - left ≡ length s.start = omega (arith, ap length s.parts, length-append s.start s.back, s.len) in
     let a = s.alive in
     record {
       within = omega arith;
-      begins = (s.more, (a.0, subst (λ (x : List ℕ). ReadsFilter (x ++ s.more) a.0) (sym (ap (λ (x : ℕ). take x text) at ∙ ap (λ (x : List ℕ). take (length s.front) x) s.parts ∙ take_at s.front s.back (length s.front) refl)) (whole_sound (s.front ++ s.more) a.0 a.1)));
+      begins = (s.more, (a.0, subst (λ (x : List ℕ). ReadsFilter (x ++ s.more) a.0) (sym (ap (λ (x : ℕ). take x text) at ∙ ap (λ (x : List ℕ). take (length s.start) x) s.parts ∙ take_at s.start s.back (length s.start) refl)) (whole_sound (s.start ++ s.more) a.0 a.1)));
       longest = λ n rest lt le k. longest_by text left s s.back refl n (omega arith) le rest k.0 k.1;
     }
 
 pub fault_within : (text : List ℕ) (left : ℕ) → whole_at text ≡ Err left → left ≤ length text
-fault_within text left e = let s = whole_ends text left e in omega (arith, ap length s.parts, length-append s.front s.back, s.len)
+fault_within text left e = let s = whole_ends text left e in omega (arith, ap length s.parts, length-append s.start s.back, s.len)

@@ -1,13 +1,14 @@
 -- What is printed of a filter that was read is read as the same.
 use Rattle.std.proofs.Common.{◌≡◌, ℕ, Bool, true, false, not, ◌||◌, ◌&&◌, ◌==◌, List, [], ◌∷◌, ◌++◌, map, refl, sym, inl, inr}
+use Rattle.std.specs.List.{concat}
 use Rattle.std.proofs.lemmas.Bool.{cases_Bool}
 use Rattle.std.proofs.lemmas.List.{append-nil}
 use Rattle.osgi_model.specs.declared.filter.Test.{Test}
 use Rattle.osgi_model.specs.declared.filter.Filter.{Filter}
 use Rattle.osgi_model.specs.declared.filter.Filter.TheFolds.{fold-roll-Filter}
 use Rattle.osgi_model.specs.Filters.{is_plain, IsCut, end, plain, escaped, star, IsTest, equal, present, pieces, approx, at_least, at_most, IsFilter, AreFilters, item, negated, all, any, none, more, ReadsFilter}
-use Rattle.osgi_model.specs.FilterTexts.{value_text, starred_from, test_text, joined, filter_text}
-use Rattle.osgi_filter.proofs.ValueReading.{star_only, star_alone}
+use Rattle.osgi_model.specs.FilterTexts.{value_text, starred, test_text, filter_text}
+use Rattle.osgi_filter.specs.laws.ValueReading.{star_only, star_alone}
 
 plain_always : (cut : Bool) (b : ℕ) → is_plain true b ≡ true → is_plain cut b ≡ true
 plain_always true b h = h
@@ -34,14 +35,14 @@ value_then (b ∷ bs) rest piece others k =
       | inr h ↦ rw h (escaped b (value_text bs ++ 42 ∷ rest) bs (piece ∷ others) (value_then bs rest piece others k))
     ]
 
-starred_cuts : (others : List (List ℕ)) (piece : List ℕ) → IsCut true (starred_from piece others) piece others
+starred_cuts : (others : List (List ℕ)) (piece : List ℕ) → IsCut true (starred (piece ∷ others)) piece others
 starred_cuts [] piece = value_cuts true piece
-starred_cuts (next ∷ others) piece = value_then piece (starred_from next others) next others (starred_cuts others next)
+starred_cuts (next ∷ others) piece = value_then piece (starred (next ∷ others)) next others (starred_cuts others next)
 
 test_printed : (text : List ℕ) (test : Test) → IsTest text test → IsTest (test_text test) test
 test_printed text test (equal t v k) = equal (value_text v) v (value_cuts true v)
 test_printed text test present = present
-test_printed text test (pieces t f s m k nope) = pieces (starred_from f (s ∷ m)) f s m (starred_cuts (s ∷ m) f) (λ e. star_only (starred_from f (s ∷ m)) f (s ∷ m) (starred_cuts (s ∷ m) f) e (λ h. nope (star_alone t f (s ∷ m) k h.0 h.1)))
+test_printed text test (pieces t f s m k nope) = pieces (starred (f ∷ s ∷ m)) f s m (starred_cuts (s ∷ m) f) (λ e. star_only (starred (f ∷ s ∷ m)) f (s ∷ m) (starred_cuts (s ∷ m) f) e (λ h. nope (star_alone t f (s ∷ m) k h.0 h.1)))
 test_printed text test (approx t v k) = approx (value_text v) v (value_cuts false v)
 test_printed text test (at_least t v k) = at_least (value_text v) v (value_cuts false v)
 test_printed text test (at_most t v k) = at_most (value_text v) v (value_cuts false v)
@@ -50,12 +51,12 @@ mutual
   filter_printed : (text : List ℕ) (f : Filter) → IsFilter text f → IsFilter (filter_text f) f
   filter_printed text f (item before name after signed test hb hn ha ht) = rw fold-roll-Filter (item [] name [] (test_text test) test tt hn tt (test_printed signed test ht))
   filter_printed text f (negated before one after g hb k ha) = rw fold-roll-Filter (negated [] (filter_text g) [] g tt (filter_printed one g k) tt)
-  filter_printed text f (all t g gs o) = rw fold-roll-Filter (all (joined (map filter_text (g ∷ gs))) g gs (filters_printed t (g ∷ gs) o))
-  filter_printed text f (any t g gs o) = rw fold-roll-Filter (any (joined (map filter_text (g ∷ gs))) g gs (filters_printed t (g ∷ gs) o))
+  filter_printed text f (all t g gs o) = rw fold-roll-Filter (all (concat (map filter_text (g ∷ gs))) g gs (filters_printed t (g ∷ gs) o))
+  filter_printed text f (any t g gs o) = rw fold-roll-Filter (any (concat (map filter_text (g ∷ gs))) g gs (filters_printed t (g ∷ gs) o))
 
-  filters_printed : (text : List ℕ) (fs : List Filter) → AreFilters text fs → AreFilters (joined (map filter_text fs)) fs
+  filters_printed : (text : List ℕ) (fs : List Filter) → AreFilters text fs → AreFilters (concat (map filter_text fs)) fs
   filters_printed text fs (none t h) = none [] tt
-  filters_printed text fs (more blanks one rest f gs h k ks) = more [] (filter_text f) (joined (map filter_text gs)) f gs tt (filter_printed one f k) (filters_printed rest gs ks)
+  filters_printed text fs (more blanks one rest f gs h k ks) = more [] (filter_text f) (concat (map filter_text gs)) f gs tt (filter_printed one f k) (filters_printed rest gs ks)
 
 pub printed : (text : List ℕ) (f : Filter) → ReadsFilter text f → ReadsFilter (filter_text f) f
 printed text f r = record { before = []; bare = filter_text f; after = []; parts = sym (append-nil (filter_text f)); blanks_before = tt; blanks_after = tt; written = filter_printed r.bare f r.written; few = r.few }

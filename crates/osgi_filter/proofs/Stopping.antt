@@ -5,10 +5,10 @@ use Rattle.osgi_model.specs.declared.filter.Test.{Test}
 use Rattle.osgi_model.specs.declared.filter.Filter.{Filter, roll-Filter}
 use Rattle.osgi_model.specs.declared.filter.Filter.TheOpen.{Item}
 use Rattle.osgi_version.specs.Bytes.{Each, IsBlank, is_blank}
-use Rattle.osgi_model.specs.Filters.{is_name_byte, is_plain}
-use Rattle.osgi_filter.specs.Reader.{◌>>=◌, skip, after, name_at, value_at, is_order, order_test, equal_at, plain_at, order_at, signed_at, named_at, item_at}
-use Rattle.osgi_filter.proofs.ValueReading.{equal_test, first_of, equal_is, plain_is}
-use Rattle.osgi_filter.proofs.Scans.{bind_ok, skip_over, skip_sound, skip_stops}
+use Rattle.osgi_model.specs.Filters.{is_item_name_byte, is_plain}
+use Rattle.osgi_filter.specs.computed.Reader.{◌>>=◌, skip, after, name_at, value_at, is_order, order_test, equal_at, plain_at, order_at, signed_at, named_at, item_at}
+use Rattle.osgi_filter.specs.laws.ValueReading.{equal_test, first_of, equal_is, plain_is}
+use Rattle.osgi_filter.specs.laws.Scans.{bind_ok, skip_over, skip_sound, skip_stops}
 
 abbrev done : {A : Type 0} → A → Result A ℕ
 done x = Ok x
@@ -23,36 +23,36 @@ pub err_ok : (A : Type 0) (r : Result A ℕ) (n : ℕ) (x : A) → r ≡ Err n �
 err_ok A r n x e k = let w : fail n ≡ done x = sym e ∙ k in absurd cc
 
 pub record Stops (A : Type 0) (reader : List ℕ → Result (A × List ℕ) ℕ) (bytes : List ℕ) (left : ℕ) : Type 0 where
-  pub front : List ℕ
+  pub start : List ℕ
   pub back : List ℕ
-  pub parts : bytes ≡ front ++ back
+  pub parts : bytes ≡ start ++ back
   pub len : length back ≡ left
   pub more : List ℕ
-  pub alive : (rest : List ℕ) → (x : A) × (reader (front ++ (more ++ rest)) ≡ Ok (x, rest))
-  pub dead : (b : ℕ) (bs : List ℕ) → back ≡ b ∷ bs → (other : List ℕ) (x : A × List ℕ) → reader (front ++ b ∷ other) ≡ Ok x → ⊥
+  pub alive : (rest : List ℕ) → (x : A) × (reader (start ++ (more ++ rest)) ≡ Ok (x, rest))
+  pub dead : (b : ℕ) (bs : List ℕ) → back ≡ b ∷ bs → (other : List ℕ) (x : A × List ℕ) → reader (start ++ b ∷ other) ≡ Ok x → ⊥
 
 -- a reader that goes on as another one after a prefix
 pub steps : (A : Type 0) (reader next : List ℕ → Result (A × List ℕ) ℕ) (prefix : List ℕ) → ((xs : List ℕ) → reader (prefix ++ xs) ≡ next xs) → (bytes : List ℕ) (left : ℕ) → Stops A next bytes left → Stops A reader (prefix ++ bytes) left
 steps A reader next prefix same bytes left s = record {
-  front = prefix ++ s.front;
+  start = prefix ++ s.start;
   back = s.back;
-  parts = ap (λ (x : List ℕ). prefix ++ x) s.parts ∙ sym (append_assoc prefix s.front s.back);
+  parts = ap (λ (x : List ℕ). prefix ++ x) s.parts ∙ sym (append_assoc prefix s.start s.back);
   len = s.len;
   more = s.more;
-  alive = λ rest. let a = s.alive rest in (a.0, ap reader (append_assoc prefix s.front (s.more ++ rest)) ∙ same (s.front ++ (s.more ++ rest)) ∙ a.1);
-  dead = λ b bs e other x k. s.dead b bs e other x (sym (same (s.front ++ b ∷ other)) ∙ ap reader (sym (append_assoc prefix s.front (b ∷ other))) ∙ k);
+  alive = λ rest. let a = s.alive rest in (a.0, ap reader (append_assoc prefix s.start (s.more ++ rest)) ∙ same (s.start ++ (s.more ++ rest)) ∙ a.1);
+  dead = λ b bs e other x k. s.dead b bs e other x (sym (same (s.start ++ b ∷ other)) ∙ ap reader (sym (append_assoc prefix s.start (b ∷ other))) ∙ k);
 }
 
 -- a reader that makes something of what another one reads
 pub made : (A B : Type 0) (f : A → B) (reader : List ℕ → Result (A × List ℕ) ℕ) (bytes : List ℕ) (left : ℕ) → Stops A reader bytes left → Stops B (λ xs. reader xs >>= λ v. Ok (f v.0, v.1)) bytes left
 made A B f reader bytes left s = record {
-  front = s.front;
+  start = s.start;
   back = s.back;
   parts = s.parts;
   len = s.len;
   more = s.more;
   alive = λ rest. let a = s.alive rest in (f a.0, ap (λ (r : Result (A × List ℕ) ℕ). r >>= λ v. done (f v.0, v.1)) a.1);
-  dead = λ b bs e other x k. let m = bind_ok (reader (s.front ++ b ∷ other)) (λ v. done (f v.0, v.1)) x k in s.dead b bs e other m.0 m.1;
+  dead = λ b bs e other x k. let m = bind_ok (reader (s.start ++ b ∷ other)) (λ v. done (f v.0, v.1)) x k in s.dead b bs e other m.0 m.1;
 }
 
 abbrev paired : (A B : Type 0) → (A → B) → A × List ℕ → Result (B × List ℕ) ℕ
@@ -64,7 +64,7 @@ made_err A B f (Err n) left e = cc
 
 -- at the first byte, or where there is none
 pub stops_here : (A : Type 0) (reader : List ℕ → Result (A × List ℕ) ℕ) (bytes more : List ℕ) (left : ℕ) → length bytes ≡ left → ((rest : List ℕ) → (x : A) × (reader (more ++ rest) ≡ Ok (x, rest))) → ((b : ℕ) (bs : List ℕ) → bytes ≡ b ∷ bs → (other : List ℕ) (x : A × List ℕ) → reader (b ∷ other) ≡ Ok x → ⊥) → Stops A reader bytes left
-stops_here A reader bytes more left len alive dead = record { front = []; back = bytes; parts = refl; len = len; more = more; alive = alive; dead = dead }
+stops_here A reader bytes more left len alive dead = record { start = []; back = bytes; parts = refl; len = len; more = more; alive = alive; dead = dead }
 
 none_dead : (A : Type 0) (reader : List ℕ → Result (A × List ℕ) ℕ) (b : ℕ) (bs : List ℕ) → [] ≡ b ∷ bs → (other : List ℕ) (x : A × List ℕ) → reader (b ∷ other) ≡ Ok x → ⊥
 none_dead A reader b bs e other x k = absurd cc
@@ -92,23 +92,23 @@ after_stops A wanted same next more alive stops (b ∷ bs) left e =
 
 -- ---- values
 
-value_closes : (cut : Bool) (before : List (List ℕ)) (front rest : List ℕ) → (x : List (List ℕ)) × (value_at cut false before front (41 ∷ [] ++ rest) ≡ Ok (x, rest))
-value_closes cut before front rest = (before ++ front ∷ [], refl)
+value_closes : (cut : Bool) (before : List (List ℕ)) (start rest : List ℕ) → (x : List (List ℕ)) × (value_at cut false before start (41 ∷ [] ++ rest) ≡ Ok (x, rest))
+value_closes cut before start rest = (before ++ start ∷ [], refl)
 
-pub value_stops : (cut : Bool) (bytes : List ℕ) (escape : Bool) (before : List (List ℕ)) (front : List ℕ) (left : ℕ) → value_at cut escape before front bytes ≡ Err left → Stops (List (List ℕ)) (value_at cut escape before front) bytes left
-value_stops cut [] true before front left e = stops_at_end (List (List ℕ)) (value_at cut true before front) (41 ∷ 41 ∷ []) left (err_is (List (List ℕ) × List ℕ) 0 left e) (λ rest. (before ++ (front ++ 41 ∷ []) ∷ [], refl))
-value_stops cut [] false before front left e = stops_at_end (List (List ℕ)) (value_at cut false before front) (41 ∷ []) left (err_is (List (List ℕ) × List ℕ) 0 left e) (value_closes cut before front)
-value_stops cut (b ∷ bs) true before front left e = steps (List (List ℕ)) (value_at cut true before front) (value_at cut false before (front ++ b ∷ [])) (b ∷ []) (λ xs. refl) bs left (value_stops cut bs false before (front ++ b ∷ []) left e)
-value_stops cut (b ∷ bs) false before front left e =
+pub value_stops : (cut : Bool) (bytes : List ℕ) (escape : Bool) (before : List (List ℕ)) (start : List ℕ) (left : ℕ) → value_at cut escape before start bytes ≡ Err left → Stops (List (List ℕ)) (value_at cut escape before start) bytes left
+value_stops cut [] true before start left e = stops_at_end (List (List ℕ)) (value_at cut true before start) (41 ∷ 41 ∷ []) left (err_is (List (List ℕ) × List ℕ) 0 left e) (λ rest. (before ++ (start ++ 41 ∷ []) ∷ [], refl))
+value_stops cut [] false before start left e = stops_at_end (List (List ℕ)) (value_at cut false before start) (41 ∷ []) left (err_is (List (List ℕ) × List ℕ) 0 left e) (value_closes cut before start)
+value_stops cut (b ∷ bs) true before start left e = steps (List (List ℕ)) (value_at cut true before start) (value_at cut false before (start ++ b ∷ [])) (b ∷ []) (λ xs. refl) bs left (value_stops cut bs false before (start ++ b ∷ []) left e)
+value_stops cut (b ∷ bs) false before start left e =
     elim (cases_Bool (is_plain cut b)) [
-      | inl h ↦ steps (List (List ℕ)) (value_at cut false before front) (value_at cut false before (front ++ b ∷ [])) (b ∷ []) (λ xs. rw h refl) bs left (value_stops cut bs false before (front ++ b ∷ []) left (rw h at e))
+      | inl h ↦ steps (List (List ℕ)) (value_at cut false before start) (value_at cut false before (start ++ b ∷ [])) (b ∷ []) (λ xs. rw h refl) bs left (value_stops cut bs false before (start ++ b ∷ []) left (rw h at e))
       | inr p ↦ elim (cases_Bool (b == 92)) [
-        | inl h ↦ steps (List (List ℕ)) (value_at cut false before front) (value_at cut true before front) (b ∷ []) (λ xs. rw (p, h) refl) bs left (value_stops cut bs true before front left (rw (p, h) at e))
+        | inl h ↦ steps (List (List ℕ)) (value_at cut false before start) (value_at cut true before start) (b ∷ []) (λ xs. rw (p, h) refl) bs left (value_stops cut bs true before start left (rw (p, h) at e))
         | inr q ↦ elim (cases_Bool (b == 42)) [
-          | inl h ↦ steps (List (List ℕ)) (value_at cut false before front) (value_at cut false (before ++ front ∷ []) []) (b ∷ []) (λ xs. rw (p, q, h) refl) bs left (value_stops cut bs false (before ++ front ∷ []) [] left (rw (p, q, h) at e))
+          | inl h ↦ steps (List (List ℕ)) (value_at cut false before start) (value_at cut false (before ++ start ∷ []) []) (b ∷ []) (λ xs. rw (p, q, h) refl) bs left (value_stops cut bs false (before ++ start ∷ []) [] left (rw (p, q, h) at e))
           | inr s ↦ elim (cases_Bool (b == 41)) [
             | inl h ↦ absurd (let k = rw (p, q, s, h) at e in cc)
-            | inr h ↦ stops_at_byte (List (List ℕ)) (value_at cut false before front) (41 ∷ []) b bs left (err_is (List (List ℕ) × List ℕ) (length (b ∷ bs)) left (rw (p, q, s, h) at e)) (value_closes cut before front) (λ other x k. err_ok (List (List ℕ) × List ℕ) (fail (length (b ∷ other))) (length (b ∷ other)) x refl (rw (p, q, s, h) at k))
+            | inr h ↦ stops_at_byte (List (List ℕ)) (value_at cut false before start) (41 ∷ []) b bs left (err_is (List (List ℕ) × List ℕ) (length (b ∷ bs)) left (rw (p, q, s, h) at e)) (value_closes cut before start) (λ other x k. err_ok (List (List ℕ) × List ℕ) (fail (length (b ∷ other))) (length (b ∷ other)) x refl (rw (p, q, s, h) at k))
           ]
         ]
       ]
@@ -157,7 +157,7 @@ signed_stops (b ∷ bs) left e =
 abbrev pub name_then : List ℕ → List ℕ → List ℕ → Result (Filter × List ℕ) ℕ
 name_then name spaces bytes = name_at name spaces bytes >>= λ n. named_at n.0 n.1
 
-named_alive : (front : List ℕ) (c : ℕ) (rest : List ℕ) → (x : Filter) × (named_at (front ++ c ∷ []) (61 ∷ 41 ∷ rest) ≡ Ok (x, rest))
+named_alive : (start : List ℕ) (c : ℕ) (rest : List ℕ) → (x : Filter) × (named_at (start ++ c ∷ []) (61 ∷ 41 ∷ rest) ≡ Ok (x, rest))
 named_alive [] c rest = (roll-Filter (Item (c ∷ []) (equal_test ([] ∷ []))), refl)
 named_alive (b ∷ bs) c rest = (roll-Filter (Item (b ∷ bs ++ c ∷ []) (equal_test ([] ∷ []))), refl)
 
@@ -165,8 +165,8 @@ named_alive (b ∷ bs) c rest = (roll-Filter (Item (b ∷ bs ++ c ∷ []) (equal
 pub name_alive : (name spaces rest : List ℕ) → (x : Filter) × (name_then name spaces (97 ∷ 61 ∷ 41 ∷ [] ++ rest) ≡ Ok (x, rest))
 name_alive name spaces rest = let a = named_alive (name ++ spaces) 97 rest in (a.0, ap (λ (x : List ℕ). named_at x (61 ∷ 41 ∷ rest)) (sym (append_assoc name spaces (97 ∷ []))) ∙ a.1)
 
--- a sign behind a name that stands
-sign_stops : (c : ℕ) (cs spaces : List ℕ) (b : ℕ) (bs : List ℕ) (left : ℕ) → is_name_byte b ≡ false → (s : Stops Test signed_at (b ∷ bs) left) → (front : List ℕ) → s.front ≡ front → Stops Filter (name_then (c ∷ cs) spaces) (b ∷ bs) left
+-- a sign after a name that stands
+sign_stops : (c : ℕ) (cs spaces : List ℕ) (b : ℕ) (bs : List ℕ) (left : ℕ) → is_item_name_byte b ≡ false → (s : Stops Test signed_at (b ∷ bs) left) → (start : List ℕ) → s.start ≡ start → Stops Filter (name_then (c ∷ cs) spaces) (b ∷ bs) left
 sign_stops c cs spaces b bs left n s [] e =
     stops_at_byte Filter (name_then (c ∷ cs) spaces) (97 ∷ 61 ∷ 41 ∷ []) b bs left (ap length (s.parts ∙ ap (λ (x : List ℕ). x ++ s.back) e) ∙ s.len) (name_alive (c ∷ cs) spaces)
     (λ other x k.
@@ -176,9 +176,9 @@ sign_stops c cs spaces b bs left n s [] e =
 sign_stops c cs spaces b bs left n s (d ∷ ds) e =
     let parts : b ∷ bs ≡ d ∷ (ds ++ s.back) = s.parts ∙ ap (λ (x : List ℕ). x ++ s.back) e in
     let d-is : b ≡ d = cc in
-    let none : is_name_byte d ≡ false = subst (λ (x : ℕ). is_name_byte x ≡ false) d-is n in
+    let none : is_item_name_byte d ≡ false = subst (λ (x : ℕ). is_item_name_byte x ≡ false) d-is n in
     record {
-      front = d ∷ ds;
+      start = d ∷ ds;
       back = s.back;
       parts = parts;
       len = s.len;
@@ -189,16 +189,16 @@ sign_stops c cs spaces b bs left n s (d ∷ ds) e =
           s.dead b bs h other m.0 (ap (λ (x : List ℕ). signed_at (x ++ b ∷ other)) e ∙ m.1);
     }
 
-named_stops : (name spaces : List ℕ) (b : ℕ) (bs : List ℕ) (left : ℕ) → is_name_byte b ≡ false → named_at name (b ∷ bs) ≡ Err left → Stops Filter (name_then name spaces) (b ∷ bs) left
+named_stops : (name spaces : List ℕ) (b : ℕ) (bs : List ℕ) (left : ℕ) → is_item_name_byte b ≡ false → named_at name (b ∷ bs) ≡ Err left → Stops Filter (name_then name spaces) (b ∷ bs) left
 named_stops [] spaces b bs left n e = stops_at_byte Filter (name_then [] spaces) (97 ∷ 61 ∷ 41 ∷ []) b bs left (err_is (Filter × List ℕ) (length (b ∷ bs)) left e) (name_alive [] spaces) (λ other x k. err_ok (Filter × List ℕ) (fail (length (b ∷ other))) (length (b ∷ other)) x refl (rw n at k))
 named_stops (c ∷ cs) spaces b bs left n e =
     let s = signed_stops (b ∷ bs) left (made_err Test Filter (λ t. roll-Filter (Item (c ∷ cs) t)) (signed_at (b ∷ bs)) left e) in
-    sign_stops c cs spaces b bs left n s s.front refl
+    sign_stops c cs spaces b bs left n s s.start refl
 
 pub name_stops : (bytes name spaces : List ℕ) (left : ℕ) → name_then name spaces bytes ≡ Err left → Stops Filter (name_then name spaces) bytes left
 name_stops [] name spaces left e = stops_at_end Filter (name_then name spaces) (97 ∷ 61 ∷ 41 ∷ []) left (err_is (Filter × List ℕ) 0 left e) (name_alive name spaces)
 name_stops (b ∷ bs) name spaces left e =
-    elim (cases_Bool (is_name_byte b)) [
+    elim (cases_Bool (is_item_name_byte b)) [
       | inl n ↦ elim (cases_Bool (is_blank b)) [
         | inl h ↦ steps Filter (name_then name spaces) (name_then name (spaces ++ b ∷ [])) (b ∷ []) (λ xs. rw (n, h) refl) bs left (name_stops bs name (spaces ++ b ∷ []) left (rw (n, h) at e))
         | inr h ↦ steps Filter (name_then name spaces) (name_then (name ++ (spaces ++ b ∷ [])) []) (b ∷ []) (λ xs. rw (n, h) refl) bs left (name_stops bs (name ++ (spaces ++ b ∷ [])) [] left (rw (n, h) at e))
@@ -210,9 +210,9 @@ name_stops (b ∷ bs) name spaces left e =
 pub item_alive : (spaces : List ℕ) → Each IsBlank spaces → (rest : List ℕ) → (x : Filter) × (item_at (spaces ++ (97 ∷ 61 ∷ 41 ∷ rest)) ≡ Ok (x, rest))
 item_alive spaces h rest = let a = name_alive [] [] rest in (a.0, ap (λ (x : List ℕ). name_then [] [] x) (skip_over spaces 97 (61 ∷ 41 ∷ rest) h refl) ∙ a.1)
 
-item_after : (t : List ℕ) (left : ℕ) (spaces : List ℕ) → Each IsBlank spaces → ((b : ℕ) (bs : List ℕ) → t ≡ b ∷ bs → is_blank b ≡ false) → (s : Stops Filter (name_then [] []) t left) → (front : List ℕ) → s.front ≡ front → Stops Filter item_at (spaces ++ t) left
+item_after : (t : List ℕ) (left : ℕ) (spaces : List ℕ) → Each IsBlank spaces → ((b : ℕ) (bs : List ℕ) → t ≡ b ∷ bs → is_blank b ≡ false) → (s : Stops Filter (name_then [] []) t left) → (start : List ℕ) → s.start ≡ start → Stops Filter item_at (spaces ++ t) left
 item_after t left spaces h starts s [] e = record {
-  front = spaces;
+  start = spaces;
   back = t;
   parts = refl;
   len = ap length (s.parts ∙ ap (λ (x : List ℕ). x ++ s.back) e) ∙ s.len;
@@ -225,9 +225,9 @@ item_after t left spaces h starts s [] e = record {
 item_after t left spaces h starts s (d ∷ ds) e =
     let parts : t ≡ d ∷ (ds ++ s.back) = s.parts ∙ ap (λ (x : List ℕ). x ++ s.back) e in
     let none : is_blank d ≡ false = starts d (ds ++ s.back) parts in
-    let goes : (xs : List ℕ) → item_at (spaces ++ ((d ∷ ds) ++ xs)) ≡ name_then [] [] (s.front ++ xs) = λ xs. ap (λ (x : List ℕ). name_then [] [] x) (skip_over spaces d (ds ++ xs) h none ∙ ap (λ (x : List ℕ). x ++ xs) (sym e)) in
+    let goes : (xs : List ℕ) → item_at (spaces ++ ((d ∷ ds) ++ xs)) ≡ name_then [] [] (s.start ++ xs) = λ xs. ap (λ (x : List ℕ). name_then [] [] x) (skip_over spaces d (ds ++ xs) h none ∙ ap (λ (x : List ℕ). x ++ xs) (sym e)) in
     record {
-      front = spaces ++ (d ∷ ds);
+      start = spaces ++ (d ∷ ds);
       back = s.back;
       parts = ap (λ (x : List ℕ). spaces ++ x) parts ∙ sym (append_assoc spaces (d ∷ ds) s.back);
       len = s.len;
@@ -240,4 +240,4 @@ pub item_stops : (bytes : List ℕ) (left : ℕ) → item_at bytes ≡ Err left 
 item_stops bytes left e =
     let k = skip_sound bytes in
     let s = name_stops (skip bytes) [] [] left e in
-    subst (λ (x : List ℕ). Stops Filter item_at x left) (sym k.parts) (item_after (skip bytes) left k.spaces k.are (skip_stops bytes) s s.front refl)
+    subst (λ (x : List ℕ). Stops Filter item_at x left) (sym k.parts) (item_after (skip bytes) left k.spaces k.are (skip_stops bytes) s s.start refl)

@@ -1,6 +1,4 @@
 -- How names are compared, and what the code computes of texts and of attributes.
 pub mod Names
-pub mod Given
-pub mod Reader
-pub mod Between
-pub mod Orders
+pub mod laws
+pub mod computed

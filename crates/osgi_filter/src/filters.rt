@@ -1,8 +1,8 @@
 //! Filters: items, and what is made of them.
 
 ghost use Rattle.std.specs.Prelude.{◌≡◌, []};
-ghost use Rattle.osgi_filter.specs.Given.{Gives};
-ghost use Rattle.osgi_filter.specs.Reader.{is_composing, opens, listing, composed_at, filter_at, not_at, inside, level_at, whole_at};
+ghost use Rattle.osgi_filter.specs.computed.Given.{Gives};
+ghost use Rattle.osgi_filter.specs.computed.Reader.{is_composing, opens, listing, composed_at, filter_at, not_at, inside, level_at, whole_at};
 
 use crate::items::item_at;
 use crate::scan::{after, skip};
@@ -27,7 +27,7 @@ fn opens(bytes: &[u8]) -> bool
     matches!(bytes, [b'(', ..])
 }
 
-/// A filter of at most so many levels, and what is left behind it.
+/// A filter of at most so many levels, and what is left after it.
 #[cycle(filters)]
 fn filter_at(alloc: Global, levels: u32, bytes: &[u8]) -> Result<(Filter, &[u8]), Stop>
     ensures filter { Gives (λ x. (x.0, x.1.now)) result (filter_at levels bytes.now) }
@@ -54,9 +54,9 @@ fn inside(alloc: Global, levels: u32, bytes: &[u8]) -> Result<(Filter, &[u8]), S
 {
     match bytes {
         [] => Err(Stop::Left(0)),
-        [sign, behind @ ..] => {
+        [sign, remainder @ ..] => {
             if is_composing(*sign) {
-                let operands = skip(behind);
+                let operands = skip(remainder);
                 if opens(operands) {
                     return composed_at(alloc, levels, *sign, operands);
                 }
@@ -86,8 +86,8 @@ fn composed_at(alloc: Global, levels: u32, sign: u8, bytes: &[u8]) -> Result<(Fi
 fn not_at(alloc: Global, levels: u32, bytes: &[u8]) -> Result<(Filter, &[u8]), Stop>
     ensures filter { Gives (λ x. (x.0, x.1.now)) result (not_at (filter_at levels) bytes.now) }
 {
-    let (one, behind) = filter_at(alloc, levels, bytes)?;
-    let rest = after(b')', skip(behind))?;
+    let (one, remainder) = filter_at(alloc, levels, bytes)?;
+    let rest = after(b')', skip(remainder))?;
     Ok((Filter::Not(Boxed::new(alloc, one)?), rest))
 }
 
@@ -101,9 +101,9 @@ fn operands_at(alloc: Global, levels: u32, bytes: &[u8]) -> Result<(List<Filter>
         if *b == b')' {
             return Ok((filters, more));
         }
-        let (one, behind) = filter_at(alloc, levels, rest)?;
+        let (one, remainder) = filter_at(alloc, levels, rest)?;
         filters.push(one)?;
-        rest = skip(behind);
+        rest = skip(remainder);
     }
     Err(Stop::Left(0))
 }
@@ -112,8 +112,8 @@ fn operands_at(alloc: Global, levels: u32, bytes: &[u8]) -> Result<(List<Filter>
 pub fn whole_at(alloc: Global, bytes: &[u8]) -> Result<Filter, Stop>
     ensures filter { Gives (λ filter. filter) result (whole_at bytes.now) }
 {
-    let (filter, behind) = filter_at(alloc, LEVELS, skip(bytes))?;
-    match skip(behind) {
+    let (filter, remainder) = filter_at(alloc, LEVELS, skip(bytes))?;
+    match skip(remainder) {
         [] => Ok(filter),
         rest => Err(Stop::Left(rest.len())),
     }

@@ -1,8 +1,8 @@
 //! Items: a name and a test.
 
 ghost use Rattle.std.specs.Prelude.{◌≡◌};
-ghost use Rattle.osgi_filter.specs.Given.{Gives};
-ghost use Rattle.osgi_filter.specs.Reader.{is_order, order_test, order_at, signed_at, item_at};
+ghost use Rattle.osgi_filter.specs.computed.Given.{Gives};
+ghost use Rattle.osgi_filter.specs.computed.Reader.{is_order, order_test, order_at, signed_at, item_at};
 
 use crate::scan::{after, name_at, skip};
 use crate::stop::Stop;
@@ -28,7 +28,7 @@ fn order_test(sign: u8, value: Text) -> Test
     }
 }
 
-/// What stands behind the first byte of `~=`, `>=` or `<=`, up to the `)`.
+/// What follows the first byte of `~=`, `>=` or `<=`, up to the `)`.
 fn order_at(alloc: Global, sign: u8, bytes: &[u8]) -> Result<(Test, &[u8]), Stop>
     ensures test { Gives (λ x. (x.0, x.1.now)) result (order_at sign bytes.now) }
 {
@@ -36,7 +36,7 @@ fn order_at(alloc: Global, sign: u8, bytes: &[u8]) -> Result<(Test, &[u8]), Stop
     Ok((order_test(sign, value), rest))
 }
 
-/// An operator with its value, and what is left behind the `)`.
+/// An operator with its value, and what is left after the `)`.
 fn signed_at(alloc: Global, bytes: &[u8]) -> Result<(Test, &[u8]), Stop>
     ensures test { Gives (λ x. (x.0, x.1.now)) result (signed_at bytes.now) }
 {
@@ -47,7 +47,7 @@ fn signed_at(alloc: Global, bytes: &[u8]) -> Result<(Test, &[u8]), Stop>
     }
 }
 
-/// What follows the `(` of an item, and what is left behind its `)`.
+/// What follows the `(` of an item, and what is left after its `)`.
 pub fn item_at(alloc: Global, bytes: &[u8]) -> Result<(Filter, &[u8]), Stop>
     ensures item { Gives (λ x. (x.0, x.1.now)) result (item_at bytes.now) }
 {

@@ -7,16 +7,22 @@
 #![tactic(auto)]
 
 mod approx;
-pub mod case;
-pub mod fault;
+mod case;
+mod fault;
 mod filters;
 mod items;
-pub mod matching;
+mod matching;
 mod ordered;
 mod passing;
 mod pieces;
-pub mod printing;
-pub mod reading;
+mod printing;
+mod reading;
 mod scan;
 mod stop;
 mod values;
+
+pub use case::Case;
+pub use fault::FilterFault;
+pub use matching::matches;
+pub use printing::print;
+pub use reading::parse;

@@ -2,8 +2,8 @@
 
 ghost use Rattle.std.specs.Prelude.{◌≡◌, ◌↔◌, IsTrue, map};
 ghost use Rattle.std.specs.Option.{option_copied};
-ghost use Rattle.osgi_model.specs.Matching.{value_of, Matches};
-ghost use Rattle.osgi_model.specs.MatchReader as reader;
+ghost use Rattle.osgi_model.specs.Matching.{attribute_value, Matches};
+ghost use Rattle.osgi_model.specs.computed.MatchReader as reader;
 ghost use Rattle.osgi_filter.specs.Names.{same_name};
 
 use crate::case::Case;
@@ -13,8 +13,8 @@ use osgi_model::filter::{Filter, Test};
 use osgi_model::value::{Attribute, Attributes, Value};
 
 /// The value of the first attribute of the name.
-fn value_of<'a>(name: &Text, attributes: &'a [Attribute], case: Case) -> Option<&'a Value>
-    ensures value { option_copied result ≡ value_of (same_name case) name.now attributes.now }
+fn attribute_value<'a>(name: &Text, attributes: &'a [Attribute], case: Case) -> Option<&'a Value>
+    ensures value { option_copied result ≡ attribute_value (same_name case) name.now attributes.now }
 {
     for attribute in attributes {
         if case.is_same(&attribute.name, name) {
@@ -43,7 +43,7 @@ fn is_match(filter: &Filter, attributes: &[Attribute], case: Case) -> bool
         Filter::And(filters) => all_match(filters.items(), attributes, case),
         Filter::Or(filters) => one_matches(filters.items(), attributes, case),
         Filter::Not(filter) => !is_match(filter.get(), attributes, case),
-        Filter::Item { name, test } => item_passes(test, value_of(name, attributes, case)),
+        Filter::Item { name, test } => item_passes(test, attribute_value(name, attributes, case)),
     }
 }
 

@@ -1,9 +1,9 @@
 //! Numbers and versions, which are ordered with those that texts read as.
 
 ghost use Rattle.std.specs.Prelude.{◌≡◌};
-ghost use Rattle.osgi_model.specs.MatchReader.{long_order, order_passes, version_order};
+ghost use Rattle.osgi_model.specs.computed.MatchReader.{long_order, order_passes, version_order};
 ghost use Rattle.osgi_version.specs.VersionValues.{parts};
-ghost use Rattle.osgi_filter.specs.Orders.{order_of};
+ghost use Rattle.osgi_filter.specs.computed.Orders.{order_of};
 
 use osgi_base::text::Text;
 use osgi_model::filter::Test;

@@ -1,7 +1,7 @@
 //! Which values pass a test.
 
 ghost use Rattle.std.specs.Prelude.{◌≡◌, map};
-ghost use Rattle.osgi_model.specs.MatchReader as reader;
+ghost use Rattle.osgi_model.specs.computed.MatchReader as reader;
 
 use crate::approx::is_approx;
 use crate::ordered::Ordered;

@@ -2,7 +2,7 @@
 
 ghost use Rattle.std.specs.Prelude.{◌↔◌, ◌∷◌, ◌++◌, [], IsTrue};
 ghost use Rattle.osgi_model.specs.Matching.{Stand};
-ghost use Rattle.osgi_filter.specs.Between.{Between};
+ghost use Rattle.osgi_filter.specs.computed.Between.{Between};
 
 use memchr::memmem;
 use osgi_base::text::Text;
@@ -26,10 +26,10 @@ fn stand_between(pieces: &[Text], text: &[u8]) -> bool
 fn stand_round(first: &[u8], between: &[Text], last: &[u8], text: &[u8]) -> bool
     ensures stand { IsTrue result ↔ Stand (first.now ∷ (between.now ++ last.now ∷ [])) text.now }
 {
-    let Some(behind) = text.strip_prefix(first) else {
+    let Some(remainder) = text.strip_prefix(first) else {
         return false;
     };
-    let Some(middle) = behind.strip_suffix(last) else {
+    let Some(middle) = remainder.strip_suffix(last) else {
         return false;
     };
     stand_between(between, middle)

@@ -1,8 +1,9 @@
 //! The texts of filters.
 
 ghost use Rattle.std.specs.Prelude.{◌≡◌, ℕ, List, ◌∷◌, ◌++◌, OnOk, IfOk, map};
+ghost use Rattle.std.specs.List.{concat};
 ghost use Rattle.osgi_model.specs.Filters.{ReadsFilter};
-ghost use Rattle.osgi_model.specs.FilterTexts.{value_text, starred_from, test_text, joined, filter_text};
+ghost use Rattle.osgi_model.specs.FilterTexts.{value_text, starred, test_text, filter_text};
 
 use crate::scan::is_plain;
 use osgi_base::text::Text;
@@ -23,7 +24,7 @@ fn print_value(out: &mut Vec<u8>, value: &[u8]) -> Result<(), AllocError>
 
 /// Pieces with `*` between them.
 fn print_pieces(out: &mut Vec<u8>, first: &Text, others: &[Text]) -> Result<(), AllocError>
-    ensures text { OnOk result (out.new.items ≡ out.old.items ++ starred_from first.now others.now) }
+    ensures text { OnOk result (out.new.items ≡ out.old.items ++ starred (first.now ∷ others.now)) }
 {
     let mut piece = first;
     let mut pieces = others;
@@ -72,7 +73,7 @@ fn print_test(out: &mut Vec<u8>, test: &Test) -> Result<(), AllocError>
 
 #[cycle(printing)]
 fn print_all(out: &mut Vec<u8>, filters: &[Filter]) -> Result<(), AllocError>
-    ensures text { OnOk result (out.new.items ≡ out.old.items ++ joined (map filter_text filters.now)) }
+    ensures text { OnOk result (out.new.items ≡ out.old.items ++ concat (map filter_text filters.now)) }
 {
     for filter in filters {
         print_filter(out, filter)?;
@@ -109,8 +110,8 @@ fn print_filter(out: &mut Vec<u8>, filter: &Filter) -> Result<(), AllocError>
 
 /// The filter's text, without white space but for that inside names and values. Where some text reads as the filter, this one does too.
 pub fn print(alloc: Global, filter: &Filter) -> Result<Text, AllocError>
-    ensures text { IfOk result (λ t. t ≡ filter_text filter.now) }
-    ensures again { (text : List ℕ) → ReadsFilter text filter.now → IfOk result (λ t. ReadsFilter t filter.now) }
+    ensures prints { IfOk result (λ t. t ≡ filter_text filter.now) }
+    ensures reads_back { (text : List ℕ) → ReadsFilter text filter.now → IfOk result (λ t. ReadsFilter t filter.now) }
 {
     let mut out = Vec::new(alloc);
     print_filter(&mut out, filter)?;

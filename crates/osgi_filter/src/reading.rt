@@ -1,7 +1,7 @@
 //! Filters from their texts.
 
 ghost use Rattle.std.specs.Prelude.{◌≡◌, IfErr, IfOk, IsOkAnd};
-ghost use Rattle.osgi_version.specs.Places.{IsLongestFront};
+ghost use Rattle.osgi_version.specs.FaultPlaces.{IsLongestPrefix};
 ghost use Rattle.osgi_model.specs.Filters.{ReadsFilter, IsReadableFilter};
 ghost use Rattle.osgi_model.specs.declared.filter.Filter.{Filter};
 
@@ -16,8 +16,7 @@ pub fn parse(alloc: Global, bytes: &[u8]) -> Result<Result<Filter, FilterFault>,
     ensures reads { IfOk result (λ r. IfOk r (ReadsFilter bytes.now)) }
     ensures only { (filter : Filter) → ReadsFilter bytes.now filter → IfOk result (λ r. IsOkAnd r (λ f. f ≡ filter)) }
     ensures one_tree { (one other : Filter) → ReadsFilter bytes.now one → ReadsFilter bytes.now other → one ≡ other }
-    ensures unread { IfOk result (λ r. IfErr r (λ _. ¬ IsReadableFilter bytes.now)) }
-    ensures place { IfOk result (λ r. IfErr r (λ fault. IsLongestFront IsReadableFilter bytes.now fault.at)) }
+    ensures fault { IfOk result (λ r. IfErr r (λ fault. (¬ IsReadableFilter bytes.now) × IsLongestPrefix IsReadableFilter bytes.now fault.at)) }
 {
     match whole_at(alloc, bytes) {
         Ok(filter) => Ok(Ok(filter)),

@@ -2,9 +2,9 @@
 
 ghost use Rattle.std.specs.Prelude.{◌≡◌, []};
 ghost use Rattle.osgi_version.specs.Bytes.{is_blank};
-ghost use Rattle.osgi_model.specs.Filters.{is_name_byte, is_plain};
-ghost use Rattle.osgi_filter.specs.Given.{Gives};
-ghost use Rattle.osgi_filter.specs.Reader.{skip, name_at, after};
+ghost use Rattle.osgi_model.specs.Filters.{is_item_name_byte, is_plain};
+ghost use Rattle.osgi_filter.specs.computed.Given.{Gives};
+ghost use Rattle.osgi_filter.specs.computed.Reader.{skip, name_at, after};
 
 use crate::stop::Stop;
 use osgi_base::text::Text;
@@ -18,8 +18,8 @@ fn is_blank(b: u8) -> bool
 }
 
 /// A byte of a name.
-fn is_name_byte(b: u8) -> bool
-    ensures name { result ≡ is_name_byte b }
+fn is_item_name_byte(b: u8) -> bool
+    ensures name { result ≡ is_item_name_byte b }
 {
     !matches!(b, b'=' | b'<' | b'>' | b'~' | b'(' | b')')
 }
@@ -35,21 +35,21 @@ pub fn is_plain(stars: bool, b: u8) -> bool
     }
 }
 
-/// What is left behind the white space at the front.
+/// What is left after the white space at the start.
 pub fn skip(bytes: &[u8]) -> &[u8]
     ensures rest { result.now ≡ skip bytes.now }
 {
     let mut rest = bytes;
-    while let [b, behind @ ..] = rest {
+    while let [b, remainder @ ..] = rest {
         if !is_blank(*b) {
             return rest;
         }
-        rest = behind;
+        rest = remainder;
     }
     rest
 }
 
-/// What is left behind the wanted byte.
+/// What is left after the wanted byte.
 pub fn after(wanted: u8, bytes: &[u8]) -> Result<&[u8], Stop>
     ensures rest { Gives (λ rest. rest.now) result (after wanted bytes.now) }
 {
@@ -59,13 +59,13 @@ pub fn after(wanted: u8, bytes: &[u8]) -> Result<&[u8], Stop>
     }
 }
 
-/// The bytes of a name without the white space behind it, and what is left behind that.
+/// The bytes of a name without the white space after it, and what is left after that.
 pub fn name_at(alloc: Global, bytes: &[u8]) -> Result<(Text, &[u8]), Stop>
     ensures name { Gives (λ x. (x.0, x.1.now)) result (name_at [] [] bytes.now) }
 {
     let mut end = 0;
     for (at, b) in bytes.iter().enumerate() {
-        if !is_name_byte(*b) {
+        if !is_item_name_byte(*b) {
             return Ok((Text::of(alloc, &bytes[..end])?, &bytes[at..]));
         }
         if !is_blank(*b) {

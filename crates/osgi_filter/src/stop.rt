@@ -5,7 +5,7 @@ ghost use Rattle.osgi_filter.specs.declared.stop.Stop.TheVariants.{Memory};
 
 use std::alloc::{AllocError, AllocFailed};
 
-/// Memory was wanting, or this many bytes were left where the reading stopped.
+/// Memory ran out, or this many bytes were left where the reading stopped.
 #[derive(Debug, Drop)]
 pub enum Stop {
     Left(usize),

@@ -1,8 +1,8 @@
 //! The values of items, as they stand between an operator and the `)`.
 
 ghost use Rattle.std.specs.Prelude.{◌≡◌, ◌∷◌, [], true, false};
-ghost use Rattle.osgi_filter.specs.Given.{Gives};
-ghost use Rattle.osgi_filter.specs.Reader.{piece_at, value_at, starred_at, equal_at, plain_at};
+ghost use Rattle.osgi_filter.specs.computed.Given.{Gives};
+ghost use Rattle.osgi_filter.specs.computed.Reader.{piece_at, value_at, starred_at, equal_at, plain_at};
 
 use crate::scan::{after, is_plain};
 use crate::stop::Stop;
@@ -26,20 +26,20 @@ fn piece_at(alloc: Global, stars: bool, bytes: &[u8]) -> Result<(Text, &[u8]), S
     Err(Stop::Left(0))
 }
 
-/// As `piece_at`, where the front of the piece was read.
+/// As `piece_at`, where the start of the piece was read.
 fn escaped_at<'a>(
     alloc: Global,
     stars: bool,
-    front: &[u8],
+    start: &[u8],
     bytes: &'a [u8],
 ) -> Result<(Text, &'a [u8]), Stop>
-    ensures piece { Gives (λ x. (x.0, x.1.now)) result (piece_at stars false front.now bytes.now) }
+    ensures piece { Gives (λ x. (x.0, x.1.now)) result (piece_at stars false start.now bytes.now) }
 {
     let mut piece = Vec::new(alloc);
-    piece.extend_from_slice(front)?;
+    piece.extend_from_slice(start)?;
     let mut escaped = false;
     let mut rest = bytes;
-    while let [b, behind @ ..] = rest {
+    while let [b, remainder @ ..] = rest {
         if escaped || is_plain(stars, *b) {
             piece.push(*b)?;
             escaped = false;
@@ -48,12 +48,12 @@ fn escaped_at<'a>(
         } else {
             return Ok((Text::from_vec(alloc, piece)?, rest));
         }
-        rest = behind;
+        rest = remainder;
     }
     Err(Stop::Left(0))
 }
 
-/// The first piece and those behind its `*`, and what is left behind the `)`.
+/// The first piece and those after its `*`, and what is left after the `)`.
 fn pieces_at(alloc: Global, first: Text, bytes: &[u8]) -> Result<(List<Text>, &[u8]), Stop>
     ensures pieces { Gives (λ x. (x.0, x.1.now)) result (value_at true false (first ∷ []) [] bytes.now) }
 {
@@ -61,16 +61,16 @@ fn pieces_at(alloc: Global, first: Text, bytes: &[u8]) -> Result<(List<Text>, &[
     pieces.push(first)?;
     let mut rest = bytes;
     loop {
-        let (piece, behind) = piece_at(alloc, true, rest)?;
+        let (piece, remainder) = piece_at(alloc, true, rest)?;
         pieces.push(piece)?;
-        match behind {
+        match remainder {
             [b'*', more @ ..] => rest = more,
-            _ => return Ok((pieces, after(b')', behind)?)),
+            _ => return Ok((pieces, after(b')', remainder)?)),
         }
     }
 }
 
-/// What stands behind a first piece and its `*`, and what is left behind the `)`. The lone `*` is presence.
+/// What follows a first piece and its `*`, and what is left after the `)`. The lone `*` is presence.
 fn starred_at(alloc: Global, first: Text, bytes: &[u8]) -> Result<(Test, &[u8]), Stop>
     ensures test { Gives (λ x. (x.0, x.1.now)) result (starred_at first bytes.now) }
 {
@@ -83,21 +83,21 @@ fn starred_at(alloc: Global, first: Text, bytes: &[u8]) -> Result<(Test, &[u8]),
     }
 }
 
-/// The value of an `=`, and what is left behind the `)`.
+/// The value of an `=`, and what is left after the `)`.
 pub fn equal_at(alloc: Global, bytes: &[u8]) -> Result<(Test, &[u8]), Stop>
     ensures test { Gives (λ x. (x.0, x.1.now)) result (equal_at bytes.now) }
 {
-    let (first, behind) = piece_at(alloc, true, bytes)?;
-    match behind {
+    let (first, remainder) = piece_at(alloc, true, bytes)?;
+    match remainder {
         [b'*', more @ ..] => starred_at(alloc, first, more),
-        _ => Ok((Test::Equal(first), after(b')', behind)?)),
+        _ => Ok((Test::Equal(first), after(b')', remainder)?)),
     }
 }
 
-/// The value of another operator, where `*` is a byte as others are, and what is left behind the `)`.
+/// The value of another operator, where `*` is a byte as others are, and what is left after the `)`.
 pub fn plain_at(alloc: Global, bytes: &[u8]) -> Result<(Text, &[u8]), Stop>
     ensures value { Gives (λ x. (x.0, x.1.now)) result (plain_at bytes.now) }
 {
-    let (value, behind) = piece_at(alloc, false, bytes)?;
-    Ok((value, after(b')', behind)?))
+    let (value, remainder) = piece_at(alloc, false, bytes)?;
+    Ok((value, after(b')', remainder)?))
 }

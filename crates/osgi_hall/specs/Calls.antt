@@ -18,7 +18,7 @@ module _ {O R Z : Type 0} where
   AddsNone before after = BeginsWith after.seen before.seen × (after.own ≡ before.own)
 
   -- Where the reply is recorded, the call's entry is added. Where it is not, none is, and the machine gives this reply at the
-  -- history that is then seen. Where memory is wanting, none is.
+  -- history that is then seen. If memory runs out, none is.
   abbrev pub IsCall : {E : Type 0} → (R → Bool) → (List (Entry O R) → O → R → Type 0) → PassView O R Z → PassView O R Z → ℕ → O → Result R E → Type 0
   IsCall is_recorded gives before after command op answer = MatchResult answer
       (λ reply. MatchBool (is_recorded reply) (AddsEntry before after (entry (tag_of before command) op reply)) (AddsNone before after × gives after.seen op reply))

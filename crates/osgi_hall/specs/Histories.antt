@@ -20,7 +20,7 @@ module _ {O R : Type 0} where
   calls_by caller history = filter (λ e. e.tag.caller == caller) history
 
   -- What one operation does to a history. Where its reply is recorded, its entry is added at the end. Where it is not, nothing is
-  -- added, and the machine gives this reply at this history. Where memory is wanting, nothing is added.
+  -- added, and the machine gives this reply at this history. If memory runs out, nothing is added.
   abbrev pub IsApplied : {E : Type 0} → (R → Bool) → (List (Entry O R) → O → R → Type 0) → List (Entry O R) → List (Entry O R) → Tag → O → Result R E → Type 0
   IsApplied is_recorded gives before after tag op answer = MatchResult answer
       (λ reply. MatchBool (is_recorded reply) (after ≡ before ++ entry tag op reply ∷ []) ((after ≡ before) × gives before op reply))

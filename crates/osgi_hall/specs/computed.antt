@@ -1,4 +1,4 @@
--- What private functions, invariants, and the view of a pass cite: the rule of a hall's table, and what its steps tell. No public clause cites it.
+-- What private functions, invariants, and the view of a pass cite: the rule of a hall's table, and what its steps show. No public clause cites it.
 pub mod Lists
 pub mod Stages
 pub mod Kept

@@ -33,7 +33,7 @@ const LENGTH: usize = 2;
 const MACHINE: usize = 0;
 
 /// How often a caller that waits gives way to other threads before it sleeps.
-const MOST_YIELDS: u32 = 32;
+const MAX_YIELDS: u32 = 32;
 
 /// A machine that callers in many threads share by turns. A call takes the machine out, has it do one operation, and puts it
 /// back before it gives the turn on, so that no two calls have it at once. Contracts see which hall it is, and the setting of its
@@ -133,7 +133,7 @@ impl<M: Machine> Hall<M> {
     {
         let shared = &self.table.shared;
         let mut seat = shared.split_seat::<SplitOff>(&mut pass.seat);
-        // A read by the new seat tells it what the table's rule says; its value is not needed.
+        // A read by the new seat shows it what the table's rule says; its value is not needed.
         shared.load::<Look<M>>(&mut seat, NEXT_TICKET);
         let caller = pass.made;
         pass.made += 1;
@@ -163,7 +163,7 @@ impl<M: Machine> Hall<M> {
             out: _,
         } = ended;
         shared.join_seat::<TakeIn>(&mut pass.seat, seat);
-        // A read by the seat tells it which of the two histories begins with the other; its value is not needed.
+        // A read by the seat shows it which of the two histories begins with the other; its value is not needed.
         shared.load::<Look<M>>(&mut pass.seat, NEXT_TICKET);
         pass.out -= 1;
     }
@@ -228,7 +228,7 @@ impl<M: Machine> Hall<M> {
     /// be woken takes longer than they do.
     fn wait_while_served<R: Wait>(&self, rt: &R, place: u64) {
         let shared = &self.table.shared;
-        for _ in 0..MOST_YIELDS {
+        for _ in 0..MAX_YIELDS {
             if shared.peek(SERVED) != place {
                 return;
             }

@@ -3,8 +3,13 @@
 #![tactic(auto)]
 
 mod board;
-pub mod entry;
-pub mod hall;
-pub mod machine;
-pub mod pass;
+mod entry;
+mod hall;
+mod machine;
+mod pass;
 mod steps;
+
+pub use entry::{Entry, Joined};
+pub use hall::{Closed, Hall, Open};
+pub use machine::Machine;
+pub use pass::Pass;

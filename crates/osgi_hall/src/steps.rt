@@ -1,4 +1,4 @@
-//! The rule of a hall's table, and what each atomic step on it tells the seat that makes it. The table has three words: the next
+//! The rule of a hall's table, and what each atomic step on it shows the seat that makes it. The table has three words: the next
 //! ticket, the place that is served, and the number of entries; and one slot, where the machine is while nobody has the turn.
 
 use crate::board::View;

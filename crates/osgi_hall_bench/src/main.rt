@@ -8,28 +8,34 @@
 
 use anyhow::{Result, bail};
 use osgi_base::ids::Tag;
-use osgi_hall::machine::Machine;
+use osgi_hall::Machine;
 use osgi_hall_tests::counter::{Answer, Counter};
-use osgi_hall_tests::crowd::{Crowd, Start, Told, run};
+use osgi_hall_tests::crowd::{Caller, Crowd, run};
 use std::alloc::{AllocError, Global};
 use std::env;
 use std::sync::{Mutex, Wait};
 use std::thread::{Threads, map_indices};
 
 /// As many threads as a run may have.
-const MOST_CALLERS: u32 = 64;
+const MAX_CALLERS: u32 = 64;
 
 /// So many calls of one caller, each under the mutex. It ends early where there is no memory.
 fn lock_often<R: Wait>(
     rt: &R,
     alloc: Global,
     counter: &Mutex<Counter>,
-    caller: u32,
+    number: u32,
     calls: u32,
-) -> Told {
+) -> Caller {
     let mut totals = Vec::new(alloc);
     for command in 0..calls {
-        let answer = counter.lock(rt).apply(Tag { caller, command }, 1);
+        let answer = counter.lock(rt).apply(
+            Tag {
+                caller: number,
+                command,
+            },
+            1,
+        );
         let Ok(Answer::Total(total)) = answer else {
             break;
         };
@@ -37,7 +43,7 @@ fn lock_often<R: Wait>(
             break;
         }
     }
-    Told { caller, totals }
+    Caller { number, totals }
 }
 
 /// The same calls as `crowd::run` makes, under a mutex.
@@ -48,15 +54,15 @@ fn run_mutex<R: Threads + Wait + Sync>(
     calls: u32,
 ) -> Result<Crowd, AllocError> {
     let counter = Mutex::new(Counter::new(alloc, u64::MAX));
-    let told = map_indices(
+    let callers = map_indices(
         rt,
         alloc,
         callers as usize,
-        &|caller| { lock_often(rt, alloc, &counter, caller as u32, calls) },
+        &|number| { lock_often(rt, alloc, &counter, number as u32, calls) },
     )?;
     Ok(Crowd {
         counter: counter.into_inner(),
-        told,
+        callers,
     })
 }
 
@@ -67,8 +73,8 @@ fn main(rt: HostRuntime) -> Result<()> {
     };
     let callers: u32 = callers.parse()?;
     let calls: u32 = calls.parse()?;
-    if callers > MOST_CALLERS {
-        bail!("more than {MOST_CALLERS} callers");
+    if callers > MAX_CALLERS {
+        bail!("more than {MAX_CALLERS} callers");
     }
     println!(rt; "begin")?;
     let crowd = match what.as_str() {
@@ -78,7 +84,7 @@ fn main(rt: HostRuntime) -> Result<()> {
     };
     let made = u64::from(callers) * u64::from(calls);
     println!(rt; "{made} calls")?;
-    if crowd.counter.length() != made || !crowd.is_told_right() {
+    if crowd.counter.length() != made || !crowd.agrees_with_history() {
         bail!("the answers are not those of the history");
     }
     println!(rt; "each answered as the history says")?;

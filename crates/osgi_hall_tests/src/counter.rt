@@ -4,8 +4,7 @@ ghost use Rattle.std.specs.Prelude.{◌≡◌, ◌≤◌, [], length};
 ghost use Rattle.osgi_hall_tests.specs.Totals.{is_total, CanMake, Gives};
 
 use osgi_base::ids::Tag;
-use osgi_hall::entry::Entry;
-use osgi_hall::machine::Machine;
+use osgi_hall::{Entry, Machine};
 use std::alloc::{AllocError, Global};
 
 #[derive(Clone, Copy, PartialEq, Eq, Debug)]

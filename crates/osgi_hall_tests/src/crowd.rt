@@ -4,9 +4,7 @@ ghost use Rattle.std.specs.Prelude.{◌≡◌, ◌+◌, ◌≤◌, All, IfOk, ve
 ghost use Rattle.osgi_hall.specs.Passes.{IsPassOf, IsSamePass};
 
 use crate::counter::{Answer, Counter};
-use osgi_hall::entry::Entry;
-use osgi_hall::hall::{Closed, Hall};
-use osgi_hall::pass::Pass;
+use osgi_hall::{Closed, Entry, Hall, Pass};
 use std::alloc::{AllocError, Global};
 use std::sync::Wait;
 use std::sync::atomic::{AtomicU64, Ordering};
@@ -14,20 +12,20 @@ use std::thread;
 use std::thread::{Threads, map_vec};
 
 /// How often a caller gives way to other threads while it waits for callers to come.
-const MOST_YIELDS: u32 = 1_000_000;
+const MAX_YIELDS: u32 = 1_000_000;
 
-/// The totals that a caller was answered, call by call.
+/// A caller, and the totals that it was answered, call by call.
 #[derive(Drop)]
-pub struct Told {
-    pub caller: u32,
+pub struct Caller {
+    pub number: u32,
     pub totals: Vec<u64>,
 }
 
-/// A counter after many calls, and what each of the callers was told.
+/// A counter after many calls, and its callers.
 #[derive(Drop)]
 pub struct Crowd {
     pub counter: Counter,
-    pub told: Vec<Told>,
+    pub callers: Vec<Caller>,
 }
 
 /// Where callers wait for one another before their first calls. None waits for ever, since there may be too few threads.
@@ -47,7 +45,7 @@ impl Start {
 
     pub fn meet(&self) {
         self.come.fetch_add(1, Ordering::SeqCst);
-        for _ in 0..MOST_YIELDS {
+        for _ in 0..MAX_YIELDS {
             if self.come.load(Ordering::SeqCst) >= self.callers {
                 return;
             }
@@ -57,38 +55,50 @@ impl Start {
 }
 
 impl Crowd {
-    /// Whether each entry tells its place, since each call adds 1, and the entries of each caller are what it was told, call by call.
-    pub fn is_told_right(&self) -> bool {
+    /// Whether each entry has its place as its total, since each call adds 1, and the entries of each caller are its answers,
+    /// call by call.
+    pub fn agrees_with_history(&self) -> bool {
         let history = self.counter.history();
-        let mut place: u64 = 0;
-        for entry in history {
-            place = place.wrapping_add(1);
-            if entry.reply != Answer::Total(place) {
-                return false;
-            }
-        }
-        self.told.iter().all(|told| is_told(history, told.caller, told.totals.as_slice()))
+        are_counted(history)
+            && self
+                .callers
+                .iter()
+                .all(|caller| caller.has_entries(history))
     }
 }
 
-/// Whether the entries of a caller are just its calls with these totals, in order.
-pub fn is_told(history: &[Entry<u64, Answer>], caller: u32, totals: &[u64]) -> bool {
-    let mut rest = totals;
-    let mut command: u32 = 0;
+/// Whether the totals of the entries are 1, 2 and so on.
+fn are_counted(history: &[Entry<u64, Answer>]) -> bool {
+    let mut place: u64 = 0;
     for entry in history {
-        if entry.tag.caller != caller {
-            continue;
-        }
-        let Some((first, others)) = rest.split_first() else {
-            return false;
-        };
-        if entry.tag.command != command || entry.reply != Answer::Total(*first) {
+        place = place.wrapping_add(1);
+        if entry.reply != Answer::Total(place) {
             return false;
         }
-        rest = others;
-        command = command.wrapping_add(1);
     }
-    rest.is_empty()
+    true
+}
+
+impl Caller {
+    /// Whether the caller's entries are just its calls with its totals, in order.
+    fn has_entries(&self, history: &[Entry<u64, Answer>]) -> bool {
+        let mut rest = self.totals.as_slice();
+        let mut command: u32 = 0;
+        for entry in history {
+            if entry.tag.caller != self.number {
+                continue;
+            }
+            let Some((first, others)) = rest.split_first() else {
+                return false;
+            };
+            if entry.tag.command != command || entry.reply != Answer::Total(*first) {
+                return false;
+            }
+            rest = others;
+            command = command.wrapping_add(1);
+        }
+        rest.is_empty()
+    }
 }
 
 /// So many calls of one caller, each of which adds 1. It ends early where there is no memory.
@@ -164,19 +174,19 @@ fn join_all(
     hall: &Hall<Counter>,
     first: &mut Pass<Counter>,
     mut ended: Vec<(Pass<Counter>, Vec<u64>)>,
-) -> Result<Vec<Told>, AllocError>
+) -> Result<Vec<Caller>, AllocError>
     requires hall { IsPassOf hall.now first.old × All (λ t. IsPassOf hall.now t.0) ended.items }
     requires first { first.old.caller ≡ 0 }
     ensures hall { IfOk result (λ _. IsPassOf hall.now first.new) }
     ensures first { IfOk result (λ _. (first.new.caller ≡ 0) × (first.old.out ≡ first.new.out + vec_len ended)) }
 {
-    let mut told = Vec::new(alloc);
+    let mut callers = Vec::new(alloc);
     while let Some((pass, totals)) = ended.pop() {
-        let caller = pass.caller();
+        let number = pass.caller();
         hall.join(first, pass);
-        told.push(Told { caller, totals })?;
+        callers.push(Caller { number, totals })?;
     }
-    Ok(told)
+    Ok(callers)
 }
 
 /// A hall round a counter, so many callers each in a thread, so many calls of each, and the hall closed.
@@ -191,12 +201,12 @@ pub fn run<R: Threads + Wait + Sync>(
     let (hall, mut first) = Hall::new(alloc, Counter::new(alloc, u64::MAX))?;
     let passes = split_all(alloc, &hall, &mut first, callers)?;
     let ended = call_all(rt, alloc, &hall, passes, calls, &Start::new(callers))?;
-    let told = join_all(alloc, &hall, &mut first, ended)?;
+    let callers = join_all(alloc, &hall, &mut first, ended)?;
     let Ok(Closed { machine }) = hall.close(first) else {
         unreachable!()
     };
     Ok(Crowd {
         counter: machine,
-        told,
+        callers,
     })
 }

@@ -2,8 +2,8 @@
 
 use crate::counter::{Answer, Counter};
 use crate::crowd;
-use osgi_hall::hall::{Closed, Hall, Open};
-use osgi_hall::machine::Machine;
+use osgi_hall::{Closed, Hall, Machine, Open};
+use std::alloc::AllocError;
 use std::process::Abort;
 use std::sync::atomic::{AtomicU64, Ordering};
 use std::test::Fail;
@@ -17,12 +17,10 @@ const TURNS: u32 = 20_000;
 #[test]
 fn two_callers_share_a_total_and_close_once_joined(rt: HostRuntime) -> Result<(), Fail> {
     let (hall, mut first) = Hall::new(rt.alloc(), Counter::new(rt.alloc(), 10))?;
-    let mut second = hall.split(&mut first)?;
-    assert_eq!(rt; first.caller(), 0);
-    assert_eq!(rt; second.caller(), 1);
-    assert_eq!(rt; first.made(), 2);
-    assert_eq!(rt; hall.call(&rt, &mut first, 0, 2)?, Answer::Total(2));
-    assert_eq!(rt; hall.call(&rt, &mut second, 0, 3)?, Answer::Total(5));
+    let mut second = hall.split(&mut first).expect(&rt, "memory for a pass");
+    assert_eq!(rt; (first.caller(), second.caller(), first.made()), (0, 1, 2));
+    assert_eq!(rt; hall.call(&rt, &mut first, 0, 2), Ok(Answer::Total(2)));
+    assert_eq!(rt; hall.call(&rt, &mut second, 0, 3), Ok(Answer::Total(5)));
     let Err(
         Open {
             hall,
@@ -33,8 +31,7 @@ fn two_callers_share_a_total_and_close_once_joined(rt: HostRuntime) -> Result<()
     else {
         panic!(rt; "closed with a pass out");
     };
-    assert_eq!(rt; out, 1);
-    assert_eq!(rt; pass.out(), 1);
+    assert_eq!(rt; (out, pass.out()), (1, 1));
     hall.join(&mut pass, second);
     let Ok(Closed { machine }) = hall.close(pass) else {
         panic!(rt; "not closed with all joined");
@@ -46,12 +43,13 @@ fn two_callers_share_a_total_and_close_once_joined(rt: HostRuntime) -> Result<()
 #[test]
 fn a_call_that_is_not_recorded_loses_nothing(rt: HostRuntime) -> Result<(), Fail> {
     let (hall, mut pass) = Hall::new(rt.alloc(), Counter::new(rt.alloc(), 1))?;
-    assert!(rt;
-        hall.call(&rt, &mut pass, 0, 0).is_err(),
+    assert_eq!(rt;
+        hall.call(&rt, &mut pass, 0, 0),
+        Err(AllocError),
         "adding 0 finds no memory"
     );
-    assert_eq!(rt; hall.call(&rt, &mut pass, 1, 7)?, Answer::Total(7));
-    assert_eq!(rt; hall.call(&rt, &mut pass, 2, 8)?, Answer::Full);
+    assert_eq!(rt; hall.call(&rt, &mut pass, 1, 7), Ok(Answer::Total(7)));
+    assert_eq!(rt; hall.call(&rt, &mut pass, 2, 8), Ok(Answer::Full));
     let Ok(Closed { machine }) = hall.close(pass) else {
         panic!(rt; "not closed with no pass out");
     };
@@ -84,6 +82,6 @@ fn each_waiter_is_woken(rt: HostRuntime) -> Result<(), Fail> {
     );
     let crowd = crowd?;
     assert_eq!(rt; crowd.counter.length(), 4000);
-    assert!(rt; crowd.is_told_right());
+    assert!(rt; crowd.agrees_with_history());
     Ok(())
 }

@@ -1,26 +1,29 @@
 -- A value is read as the clauses that it says, or as the fault that it has, and as nothing else.
 use Rattle.std.proofs.Common.{◌≡◌, ℕ, ◌+◌, ◌<◌, List, [], ◌∷◌, ◌++◌, length, ap, sym, ◌∙◌, refl, arith, append-nil, append_assoc, length-append, zero-add, subst}
-use Rattle.std.specs.Prelude.{All, Bool, true, false, map, not, None, Some, Option, Result, Ok, Err, IfOk, MatchResult}
+use Rattle.std.specs.Prelude.{All, Bool, true, false, map, not, None, Some, Option, Result, Ok, Err, MatchResult}
 use Rattle.std.specs.List.{AllPass, concat, join_with_byte, list_all}
-use Rattle.std.specs.declared.alloc.AllocError.{AllocError}
 use Rattle.std.proofs.lemmas.Bool.{and_left, and_right, cond-false, cond-true}
 use Rattle.std.proofs.lemmas.List.Folds.{list_all-append}
 use Rattle.std.proofs.lemmas.List.Elements.{All-cons, All-head, All-nil, All-tail}
 use Rattle.std.proofs.lemmas.List.Sums.{AllPass-from_list_all, list_all-from_AllPass}
 use Rattle.osgi_header.specs.declared.clause.Clause.{Clause}
+use Rattle.osgi_header.specs.declared.clause.ClauseAt.{ClauseAt}
+use Rattle.osgi_header.specs.declared.clause.ReadClauses.{ReadClauses}
 use Rattle.osgi_header.specs.declared.fault.HeaderFault.{HeaderFault}
 use Rattle.osgi_header.specs.declared.fault.HeaderKind.{HeaderKind}
 use Rattle.osgi_header.specs.declared.fault.HeaderKind.TheVariants.{BadClause, OpenQuote}
-use Rattle.osgi_header.specs.declared.parts.Place.{Place}
-use Rattle.osgi_header.specs.declared.parts.Place.TheVariants.{Bare, Quoted, Escaped}
+use Rattle.osgi_base.specs.declared.parts.QuoteState.{QuoteState}
+use Rattle.osgi_base.specs.declared.parts.QuoteState.TheVariants.{Bare, Escaped, Quoted}
 use Rattle.osgi_header.proofs.Closing.{closed_scan, is_open-scan, open_scan, scan_closed, scan_open}
 use Rattle.osgi_header.proofs.Gathering.{clause_read, clause_scan, clause_sound}
-use Rattle.osgi_header.proofs.Splitting.{AreWhole, cut_ended, cut_is, cut_joined, cut_last, cut_some, IsCut, join-cons, joined_cut, last, more, scan}
-use Rattle.osgi_header.specs.ClauseFaults.{bad, IsClauseFault, IsClosed, IsFaulty, more as more_behind, nothing as nothing_behind, StandsBehind, unended, with_comma}
-use Rattle.osgi_header.specs.ClauseReader.{clause_of, clause_or_kind, clauses_by, clauses_from, clauses_of, ok_or_bad}
+use Rattle.osgi_base.specs.Parts.{is_bare, scan}
+use Rattle.osgi_header.proofs.Splitting.{AreWhole, cut_ended, cut_is, cut_joined, cut_last, cut_some, IsCut, join-cons, joined_cut, last, more}
+use Rattle.osgi_header.specs.ClauseFaults.{bad, IsClauseFault, IsClosed, IsFaulty, more as more_behind, nothing as nothing_behind, FollowsText, unended, with_comma}
+use Rattle.osgi_header.specs.computed.ClauseReader.{all_or_fault, clause_of, clause_or_kind, ok_or_bad, read_by, read_from, read_of}
 use Rattle.osgi_header.specs.Clauses.{AreClauses, AreClausesOf, ArePaths, blank, IsClause, IsPath, joined}
-use Rattle.osgi_header.specs.Cutting.{cut, is_bare, is_open}
-use Rattle.osgi_header.specs.Quotes.{is_blank}
+use Rattle.osgi_header.specs.computed.Cutting.{cut, is_open}
+use Rattle.osgi_header.specs.Spaces.{is_space_or_tab}
+use Rattle.osgi_header.specs.ReadClauses.{AreClausesFrom, AreReadFrom, blank as read_blank, faulty as read_faulty, whole as read_whole}
 
 -- ---- one text
 
@@ -54,7 +57,7 @@ no_clause : (text : List ℕ) → clause_of text ≡ None → (clause : Clause) 
 no_clause text none clause is = cc (none, clause_read text clause is)
 
 -- a text with a fault, by where a scan of it ends
-closed_kind : (text : List ℕ) (kind : HeaderKind) (rest : List ℕ) → StandsBehind rest → scan 44 Bare text ≡ Some Bare → clause_or_kind text ≡ Err kind → IsFaulty text rest kind
+closed_kind : (text : List ℕ) (kind : HeaderKind) (rest : List ℕ) → FollowsText rest → scan 44 Bare text ≡ Some Bare → clause_or_kind text ≡ Err kind → IsFaulty text rest kind
 closed_kind text kind rest stands scanned e =
     let is = clause_kind_by text kind (clause_of text) refl (sym (cond-false (is_open text) (Err OpenQuote) (ok_or_bad (clause_of text)) (not_open text scanned)) ∙ e) in
     rw is.0 (bad (scan_closed text scanned) stands (no_clause text is.1))
@@ -62,12 +65,12 @@ closed_kind text kind rest stands scanned e =
 same_kinds : (answer : Result Clause HeaderKind) (first second : HeaderKind) → answer ≡ Err first → answer ≡ Err second → first ≡ second
 same_kinds answer first second e f = cc
 
-open_kind : (text : List ℕ) (kind : HeaderKind) (end : Place) → scan 44 Bare text ≡ Some end → is_bare end ≡ false → clause_or_kind text ≡ Err kind → IsFaulty text [] kind
+open_kind : (text : List ℕ) (kind : HeaderKind) (end : QuoteState) → scan 44 Bare text ≡ Some end → is_bare end ≡ false → clause_or_kind text ≡ Err kind → IsFaulty text [] kind
 open_kind text kind end scanned within e =
     let unclosed : is_open text ≡ true = is_open-scan text end scanned ∙ ap not within in
     rw (← same_kinds (clause_or_kind text) OpenQuote kind (cond-true (is_open text) (Err OpenQuote) (ok_or_bad (clause_of text)) unclosed) e) (unended (scan_open text end scanned within))
 
-last_kind : (text : List ℕ) (kind : HeaderKind) (end : Place) → scan 44 Bare text ≡ Some end → clause_or_kind text ≡ Err kind → IsFaulty text [] kind
+last_kind : (text : List ℕ) (kind : HeaderKind) (end : QuoteState) → scan 44 Bare text ≡ Some end → clause_or_kind text ≡ Err kind → IsFaulty text [] kind
 last_kind text kind Bare scanned e = closed_kind text kind [] nothing_behind scanned e
 last_kind text kind Quoted scanned e = open_kind text kind Quoted scanned refl e
 last_kind text kind Escaped scanned e = open_kind text kind Escaped scanned refl e
@@ -80,269 +83,258 @@ bad_read : (text : List ℕ) → IsClosed text → ((clause : Clause) → ¬ IsC
 bad_read text closed none =
     cond-false (is_open text) _ _ (not_open text (closed_scan closed)) ∙ none_by text (clause_of text) refl none
 
-open_read : (text : List ℕ) (end : Place) → scan 44 Bare text ≡ Some end → is_bare end ≡ false → clause_or_kind text ≡ Err OpenQuote
+open_read : (text : List ℕ) (end : QuoteState) → scan 44 Bare text ≡ Some end → is_bare end ≡ false → clause_or_kind text ≡ Err OpenQuote
 open_read text end scanned within = cond-true (is_open text) _ _ (is_open-scan text end scanned ∙ ap not within)
 
--- ---- all texts of a value
+-- ---- what is read of the texts of a value is what they say
 
--- the answer for the first text was a clause, and that for the others clauses
-record BothRead (at : ℕ) (first : Result Clause HeaderKind) (others : Result (List Clause) HeaderFault) (all : List Clause) : Type 0 where
-  clause : Clause
-  clauses : List Clause
-  is_clause : first ≡ Ok clause
-  are_clauses : others ≡ Ok clauses
-  is : all ≡ clause ∷ clauses
-
-both_read : (at : ℕ) (first : Result Clause HeaderKind) (others : Result (List Clause) HeaderFault) (all : List Clause) → clauses_by at first others ≡ Ok all → BothRead at first others all
-both_read at (Err kind) others all e = absurd (cc e)
-both_read at (Ok clause) (Err fault) all e = absurd (cc e)
-both_read at (Ok clause) (Ok clauses) all e = record { clause = clause; clauses = clauses; is_clause = refl; are_clauses = refl; is = cc e }
-
-clauses_sound : (at : ℕ) (texts : List (List ℕ)) (all : List Clause) → clauses_from at texts ≡ Ok all → AreClauses texts all
-clauses_sound at [] [] e = tt
-clauses_sound at [] (clause ∷ clauses) e = absurd (cc e)
-clauses_sound at (text ∷ texts) all e =
-    let read = both_read at (clause_or_kind text) (clauses_from (at + (length text + 1)) texts) all e in
-    rw read.is (ok_sound text read.clause read.is_clause, clauses_sound (at + (length text + 1)) texts read.clauses read.are_clauses)
-
-clauses_read : (at : ℕ) (texts : List (List ℕ)) (all : List Clause) → AreClauses texts all → clauses_from at texts ≡ Ok all
-clauses_read at [] [] are = refl
-clauses_read at [] (clause ∷ clauses) are = absurd are
-clauses_read at (text ∷ texts) [] are = absurd are
-clauses_read at (text ∷ texts) (clause ∷ clauses) are =
-    rw (ok_read text clause are.0, clauses_read (at + (length text + 1)) texts clauses are.1) refl
-
-whole_clauses : (texts : List (List ℕ)) (all : List Clause) → AreClauses texts all → AreWhole 44 texts
-whole_clauses [] all are = tt
-whole_clauses (text ∷ texts) [] are = absurd are
-whole_clauses (text ∷ texts) (clause ∷ clauses) are = (clause_scan text clause are.0, whole_clauses texts clauses are.1)
-
--- ---- the first fault
-
-data FaultRead (at : ℕ) (first : Result Clause HeaderKind) (others : Result (List Clause) HeaderFault) (fault : HeaderFault) : Type 0 where
-  here : (kind : HeaderKind) → first ≡ Err kind → fault.kind ≡ kind → fault.at ≡ at → FaultRead at first others fault
-  later : (clause : Clause) → first ≡ Ok clause → others ≡ Err fault → FaultRead at first others fault
-
-same_faults : (answer : Result (List Clause) HeaderFault) (first second : HeaderFault) → answer ≡ Err first → answer ≡ Err second → first ≡ second
-same_faults answer first second e f = cc
-
-same_lists : (answer : Result (List Clause) HeaderFault) (first second : List Clause) → answer ≡ Ok first → answer ≡ Ok second → first ≡ second
-same_lists answer first second e f = cc
-
-same_fault : (answer : Result (List Clause) HeaderFault) (kind : HeaderKind) (at : ℕ) (fault : HeaderFault) → answer ≡ Err (record { kind = kind; at = at }) → answer ≡ Err fault →
-    (fault.kind ≡ kind) × (fault.at ≡ at)
-same_fault answer kind at fault made e =
-    let same = same_faults answer (record { kind = kind; at = at }) fault made e in
-    (ap (λ f. f.kind) (sym same), ap (λ f. f.at) (sym same))
-
-fault_read : (at : ℕ) (first : Result Clause HeaderKind) (others : Result (List Clause) HeaderFault) (fault : HeaderFault) → clauses_by at first others ≡ Err fault →
-    FaultRead at first others fault
-fault_read at (Err kind) others fault e =
-    let same = same_fault (clauses_by at (Err kind) others) kind at fault refl e in
-    here kind refl same.0 same.1
-fault_read at (Ok clause) (Err other) fault e = later clause refl e
-fault_read at (Ok clause) (Ok clauses) fault e = absurd (cc e)
-
--- the first text that is no clause, where the texts begin at this place
-record FaultFrom (at : ℕ) (value : List ℕ) (fault : HeaderFault) : Type 0 where
+-- clauses at these places, and then a fault
+record FaultFrom (at : ℕ) (value : List ℕ) (clauses : List ClauseAt) (fault : HeaderFault) : Type 0 where
   before : List (List ℕ)
   text : List ℕ
   rest : List ℕ
   is : value ≡ concat (map with_comma before) ++ (text ++ rest)
-  clauses : All (λ t. (clause : Clause) × IsClause t clause) before
+  are : AreClausesFrom at before clauses
   faulty : IsFaulty text rest fault.kind
   place : fault.at ≡ at + length (concat (map with_comma before))
 
-fault_here : (at : ℕ) (text rest : List ℕ) (fault : HeaderFault) → IsFaulty text rest fault.kind → fault.at ≡ at → FaultFrom at (text ++ rest) fault
-fault_here at text rest fault faulty place = record {
-  before = [];
-  text = text;
-  rest = rest;
-  is = refl;
-  clauses = All-nil (λ t. (clause : Clause) × IsClause t clause);
-  faulty = faulty;
-  place = omega (arith, place);
-}
+-- what is read of a value whose texts are these, of which the first begins at this place
+data ReadsFrom (at : ℕ) (value : List ℕ) (texts : List (List ℕ)) : ReadClauses → Type 0 where
+  to_end : {clauses : List ClauseAt} → AreClausesFrom at texts clauses → ReadsFrom at value texts (record { clauses = clauses; fault = None })
+  to_fault : {clauses : List ClauseAt} {fault : HeaderFault} → FaultFrom at value clauses fault → ReadsFrom at value texts (record { clauses = clauses; fault = Some fault })
 
-comma_assoc : (text others behind : List ℕ) → (with_comma text ++ others) ++ behind ≡ text ++ 44 ∷ (others ++ behind)
-comma_assoc text others behind = append_assoc (text ++ 44 ∷ []) others behind ∙ append_assoc text (44 ∷ []) (others ++ behind)
+fault_here : (at : ℕ) (text rest : List ℕ) (texts : List (List ℕ)) (kind : HeaderKind) → IsFaulty text rest kind →
+    ReadsFrom at (text ++ rest) texts (record { clauses = []; fault = Some (record { kind = kind; at = at }) })
+fault_here at text rest texts kind faulty =
+    to_fault (record { before = []; text = text; rest = rest; is = refl; are = tt; faulty = faulty; place = omega arith })
 
-fault_later : (at : ℕ) (text rest : List ℕ) (clause : Clause) (fault : HeaderFault) → IsClause text clause → FaultFrom (at + (length text + 1)) rest fault →
-    FaultFrom at (text ++ 44 ∷ rest) fault
-fault_later at text rest clause fault is found =
-    let others : List ℕ = concat (map with_comma found.before) in
-    record {
+comma_assoc : (text others remainder : List ℕ) → (with_comma text ++ others) ++ remainder ≡ text ++ 44 ∷ (others ++ remainder)
+comma_assoc text others remainder = append_assoc (text ++ 44 ∷ []) others remainder ∙ append_assoc text (44 ∷ []) (others ++ remainder)
+
+-- after a clause
+after_clause : (at : ℕ) (text rest : List ℕ) (texts : List (List ℕ)) (clause : Clause) (others : ReadClauses) → IsClause text clause →
+    ReadsFrom (at + (length text + 1)) rest texts others → ReadsFrom at (text ++ 44 ∷ rest) (text ∷ texts) (read_by at (Ok clause) others)
+after_clause at text rest texts clause others is (to_end are) = to_end (refl, is, are)
+after_clause at text rest texts clause others is (to_fault found) =
+    let prefix : List ℕ = concat (map with_comma found.before) in
+    to_fault (record {
       before = text ∷ found.before;
       text = found.text;
       rest = found.rest;
-      is = ap (λ l. text ++ 44 ∷ l) found.is ∙ sym (comma_assoc text others (found.text ++ found.rest));
-      clauses = All-cons (λ t. (c : Clause) × IsClause t c) text found.before (clause, is) found.clauses;
+      is = ap (λ l. text ++ 44 ∷ l) found.is ∙ sym (comma_assoc text prefix (found.text ++ found.rest));
+      are = (refl, is, found.are);
       faulty = found.faulty;
-      place = omega (arith, found.place, length-append (with_comma text) others, length-append text (44 ∷ []));
-    }
+      place = omega (arith, found.place, length-append (with_comma text) prefix, length-append text (44 ∷ []));
+    })
 
-fault_last : (at : ℕ) (text : List ℕ) (end : Place) (fault : HeaderFault) → scan 44 Bare text ≡ Some end → FaultRead at (clause_or_kind text) (Ok []) fault →
-    FaultFrom at text fault
-fault_last at text end fault scanned (here kind is same place) =
-    subst (λ l. FaultFrom at l fault) (append-nil text) (fault_here at text [] fault (rw same (last_kind text kind end scanned is)) place)
-fault_last at text end fault scanned (later clause is others) = absurd (cc others)
+last_by : (at : ℕ) (text : List ℕ) (end : QuoteState) (read : Result Clause HeaderKind) → scan 44 Bare text ≡ Some end → clause_or_kind text ≡ read →
+    ReadsFrom at text (text ∷ []) (read_by at read (record { clauses = []; fault = None }))
+last_by at text end (Ok clause) scanned is = to_end (refl, ok_sound text clause is, tt)
+last_by at text end (Err kind) scanned is =
+    subst (λ l. ReadsFrom at l (text ∷ []) (record { clauses = []; fault = Some (record { kind = kind; at = at }) })) (append-nil text)
+    (fault_here at text [] (text ∷ []) kind (last_kind text kind end scanned is))
 
-fault_more : (at : ℕ) (text rest : List ℕ) (parts : List (List ℕ)) (fault : HeaderFault) → scan 44 Bare text ≡ Some Bare →
-    FaultRead at (clause_or_kind text) (clauses_from (at + (length text + 1)) parts) fault →
-    (clauses_from (at + (length text + 1)) parts ≡ Err fault → FaultFrom (at + (length text + 1)) rest fault) → FaultFrom at (text ++ 44 ∷ rest) fault
-fault_more at text rest parts fault scanned (here kind is same place) go =
-    fault_here at text (44 ∷ rest) fault (rw same (closed_kind text kind (44 ∷ rest) more_behind scanned is)) place
-fault_more at text rest parts fault scanned (later clause is others) go =
-    fault_later at text rest clause fault (ok_sound text clause is) (go others)
+more_by : (at : ℕ) (text rest : List ℕ) (texts : List (List ℕ)) (read : Result Clause HeaderKind) (others : ReadClauses) → scan 44 Bare text ≡ Some Bare →
+    clause_or_kind text ≡ read → ReadsFrom (at + (length text + 1)) rest texts others → ReadsFrom at (text ++ 44 ∷ rest) (text ∷ texts) (read_by at read others)
+more_by at text rest texts (Ok clause) others scanned is others_read = after_clause at text rest texts clause others (ok_sound text clause is) others_read
+more_by at text rest texts (Err kind) others scanned is others_read =
+    fault_here at text (44 ∷ rest) (text ∷ texts) kind (closed_kind text kind (44 ∷ rest) more_behind scanned is)
 
-fault_from : (at : ℕ) (fault : HeaderFault) (place : Place) {value : List ℕ} {parts : List (List ℕ)} → place ≡ Bare → IsCut 44 place value parts → clauses_from at parts ≡ Err fault →
-    FaultFrom at value fault
-fault_from at fault place is_bare (last {text = text} end scanned) e =
-    fault_last at text end fault (rw is_bare at scanned) (fault_read at (clause_or_kind text) (Ok []) fault e)
-fault_from at fault place is_bare (more {part = part} {rest = rest} {parts = parts} scanned are) e =
-    fault_more at part rest parts fault (rw is_bare at scanned)
-    (fault_read at (clause_or_kind part) (clauses_from (at + (length part + 1)) parts) fault e)
-    (λ h. fault_from (at + (length part + 1)) fault Bare refl are h)
+reads_from : (at : ℕ) (place : QuoteState) {value : List ℕ} {parts : List (List ℕ)} → place ≡ Bare → IsCut 44 place value parts → ReadsFrom at value parts (read_from at parts)
+reads_from at place is_bare (last {text = text} end scanned) =
+    last_by at text end (clause_or_kind text) (rw is_bare at scanned) refl
+reads_from at place is_bare (more {part = part} {rest = rest} {parts = parts} scanned are) =
+    more_by at part rest parts (clause_or_kind part) (read_from (at + (length part + 1)) parts) (rw is_bare at scanned) refl
+    (reads_from (at + (length part + 1)) Bare refl are)
 
--- ---- and each fault is answered
+-- ---- and all that they say is read
 
-faulty_read : (at : ℕ) (text rest : List ℕ) (kind : HeaderKind) → IsFaulty text rest kind → clauses_from at (cut 44 (text ++ rest)) ≡ Err (record { kind = kind; at = at })
+same_place : (clause : ClauseAt) (at : ℕ) → clause.at ≡ at → ◌≡◌ {A = ClauseAt} (record { at = at; clause = clause.clause }) clause
+same_place clause at is = ap (λ n. record { at = n; clause = clause.clause }) (sym is)
+
+clauses_read : (at : ℕ) (texts : List (List ℕ)) (clauses : List ClauseAt) → AreClausesFrom at texts clauses →
+    read_from at texts ≡ record { clauses = clauses; fault = None }
+clauses_read at [] [] are = refl
+clauses_read at [] (clause ∷ clauses) are = absurd are
+clauses_read at (text ∷ texts) [] are = absurd are
+clauses_read at (text ∷ texts) (clause ∷ clauses) are =
+    rw (ok_read text clause.clause are.1, clauses_read (at + (length text + 1)) texts clauses are.2)
+    (ap (λ c. record { clauses = c ∷ clauses; fault = None }) (same_place clause at are.0))
+
+whole_clauses : (at : ℕ) (texts : List (List ℕ)) (clauses : List ClauseAt) → AreClausesFrom at texts clauses → AreWhole 44 texts
+whole_clauses at [] clauses are = tt
+whole_clauses at (text ∷ texts) [] are = absurd are
+whole_clauses at (text ∷ texts) (clause ∷ clauses) are =
+    (clause_scan text clause.clause are.1, whole_clauses (at + (length text + 1)) texts clauses are.2)
+
+faulty_read : (at : ℕ) (text rest : List ℕ) (kind : HeaderKind) → IsFaulty text rest kind →
+    read_from at (cut 44 (text ++ rest)) ≡ record { clauses = []; fault = Some (record { kind = kind; at = at }) }
 faulty_read at text rest kind (unended is) =
     let scanned = open_scan text is in
-    ap (λ l. clauses_from at (cut 44 l)) (append-nil text)
-    ∙ ap (clauses_from at) (cut_last 44 Bare scanned.end text scanned.scanned)
-    ∙ ap (λ r. clauses_by at r (Ok [])) (open_read text scanned.end scanned.scanned scanned.within)
+    ap (λ l. read_from at (cut 44 l)) (append-nil text)
+    ∙ ap (read_from at) (cut_last 44 Bare scanned.end text scanned.scanned)
+    ∙ ap (λ r. read_by at r (record { clauses = []; fault = None })) (open_read text scanned.end scanned.scanned scanned.within)
 faulty_read at text rest kind (bad closed nothing_behind none) =
-    ap (λ l. clauses_from at (cut 44 l)) (append-nil text)
-    ∙ ap (clauses_from at) (cut_last 44 Bare Bare text (closed_scan closed))
-    ∙ ap (λ r. clauses_by at r (Ok [])) (bad_read text closed none)
-faulty_read at text rest kind (bad closed (more_behind {rest = behind}) none) =
-    ap (clauses_from at) (cut_ended 44 Bare text behind (closed_scan closed))
-    ∙ ap (λ r. clauses_by at r (clauses_from (at + (length text + 1)) (cut 44 behind))) (bad_read text closed none)
+    ap (λ l. read_from at (cut 44 l)) (append-nil text)
+    ∙ ap (read_from at) (cut_last 44 Bare Bare text (closed_scan closed))
+    ∙ ap (λ r. read_by at r (record { clauses = []; fault = None })) (bad_read text closed none)
+faulty_read at text rest kind (bad closed (more_behind {rest = remainder}) none) =
+    ap (read_from at) (cut_ended 44 Bare text remainder (closed_scan closed))
+    ∙ ap (λ r. read_by at r (read_from (at + (length text + 1)) (cut 44 remainder))) (bad_read text closed none)
 
-fault_by : (at : ℕ) (text behind : List ℕ) (before : List (List ℕ)) (clause : Clause) (fault : HeaderFault) → IsClause text clause →
-    clauses_from (at + (length text + 1)) (cut 44 (concat (map with_comma before) ++ behind)) ≡ Err fault →
-    clauses_from at (cut 44 (concat (map with_comma (text ∷ before)) ++ behind)) ≡ Err fault
-fault_by at text behind before clause fault is rest_is =
-    let others : List ℕ = concat (map with_comma before) in
-    ap (λ l. clauses_from at (cut 44 l)) (comma_assoc text others behind)
-    ∙ ap (clauses_from at) (cut_ended 44 Bare text (others ++ behind) (clause_scan text clause is))
-    ∙ ap (λ r. clauses_by at r (clauses_from (at + (length text + 1)) (cut 44 (others ++ behind)))) (ok_read text clause is)
-    ∙ ap (clauses_by at (Ok clause)) rest_is
-
-fault_answer : (at : ℕ) (before : List (List ℕ)) (text rest : List ℕ) (kind : HeaderKind) → All (λ t. (clause : Clause) × IsClause t clause) before → IsFaulty text rest kind →
-    clauses_from at (cut 44 (concat (map with_comma before) ++ (text ++ rest))) ≡ Err (record { kind = kind; at = at + length (concat (map with_comma before)) })
-fault_answer at [] text rest kind clauses faulty =
-    faulty_read at text rest kind faulty ∙ ap (λ n. Err (record { kind = kind; at = n })) (omega arith)
-fault_answer at (first ∷ before) text rest kind clauses faulty =
-    let head = All-head (λ t. (clause : Clause) × IsClause t clause) first before clauses in
-    let tail = All-tail (λ t. (clause : Clause) × IsClause t clause) first before clauses in
-    let others : List ℕ = concat (map with_comma before) in
-    fault_by at first (text ++ rest) before head.0 (record { kind = kind; at = at + (length first + 1) + length others }) head.1
-    (fault_answer (at + (length first + 1)) before text rest kind tail faulty)
-    ∙ ap (λ n. Err (record { kind = kind; at = n })) (omega (arith, length-append (with_comma first) others, length-append first (44 ∷ [])))
+fault_read : (at : ℕ) (before : List (List ℕ)) (clauses : List ClauseAt) (text rest : List ℕ) (kind : HeaderKind) → AreClausesFrom at before clauses →
+    IsFaulty text rest kind →
+    read_from at (cut 44 (concat (map with_comma before) ++ (text ++ rest)))
+    ≡ record { clauses = clauses; fault = Some (record { kind = kind; at = at + length (concat (map with_comma before)) }) }
+fault_read at [] [] text rest kind are faulty =
+    faulty_read at text rest kind faulty ∙ ap (λ n. record { clauses = []; fault = Some (record { kind = kind; at = n }) }) (omega arith)
+fault_read at [] (clause ∷ clauses) text rest kind are faulty = absurd are
+fault_read at (first ∷ before) [] text rest kind are faulty = absurd are
+fault_read at (first ∷ before) (clause ∷ clauses) text rest kind are faulty =
+    let prefix : List ℕ = concat (map with_comma before) in
+    let next : ℕ = at + (length first + 1) in
+    ap (λ l. read_from at (cut 44 l)) (comma_assoc first prefix (text ++ rest))
+    ∙ ap (read_from at) (cut_ended 44 Bare first (prefix ++ (text ++ rest)) (clause_scan first clause.clause are.1))
+    ∙ ap (λ r. read_by at r (read_from next (cut 44 (prefix ++ (text ++ rest))))) (ok_read first clause.clause are.1)
+    ∙ ap (read_by at (Ok clause.clause)) (fault_read next before clauses text rest kind are.2 faulty)
+    ∙ ap (λ c. record { clauses = c ∷ clauses; fault = Some (record { kind = kind; at = next + length prefix }) }) (same_place clause at are.0)
+    ∙ ap (λ n. record { clauses = clause ∷ clauses; fault = Some (record { kind = kind; at = n }) })
+    (omega (arith, length-append (with_comma first) prefix, length-append first (44 ∷ [])))
 
 -- ---- values of blanks alone
 
-not_blank-front : (front rest : List ℕ) → list_all is_blank front ≡ false → list_all is_blank (front ++ rest) ≡ false
-not_blank-front front rest some = list_all-append is_blank front rest ∙ and_left (list_all is_blank front) (list_all is_blank rest) some
+not_blank-front : (prefix rest : List ℕ) → list_all is_space_or_tab prefix ≡ false → list_all is_space_or_tab (prefix ++ rest) ≡ false
+not_blank-front prefix rest some = list_all-append is_space_or_tab prefix rest ∙ and_left (list_all is_space_or_tab prefix) (list_all is_space_or_tab rest) some
 
-not_blank-behind : (front rest : List ℕ) → list_all is_blank rest ≡ false → list_all is_blank (front ++ rest) ≡ false
-not_blank-behind front rest some = list_all-append is_blank front rest ∙ and_right (list_all is_blank front) (list_all is_blank rest) some
+not_blank-behind : (prefix rest : List ℕ) → list_all is_space_or_tab rest ≡ false → list_all is_space_or_tab (prefix ++ rest) ≡ false
+not_blank-behind prefix rest some = list_all-append is_space_or_tab prefix rest ∙ and_right (list_all is_space_or_tab prefix) (list_all is_space_or_tab rest) some
 
-path_not_blank : (text path : List ℕ) → IsPath text path → list_all is_blank text ≡ false
+path_not_blank : (text path : List ℕ) → IsPath text path → list_all is_space_or_tab text ≡ false
 path_not_blank text [] is = absurd (omega (arith, is.some))
 path_not_blank text (b ∷ path) is =
-    ap (list_all is_blank) is.trimmed.is
-    ∙ not_blank-behind is.trimmed.before ((b ∷ path) ++ is.trimmed.behind)
-    (not_blank-front (b ∷ path) is.trimmed.behind (and_left (is_blank b) (list_all is_blank path) (is.trimmed.first b path refl)))
+    ap (list_all is_space_or_tab) is.trimmed.is
+    ∙ not_blank-behind is.trimmed.before ((b ∷ path) ++ is.trimmed.remainder)
+    (not_blank-front (b ∷ path) is.trimmed.remainder (and_left (is_space_or_tab b) (list_all is_space_or_tab path) (is.trimmed.first b path refl)))
 
-paths_not_blank : (texts paths others : List (List ℕ)) → ArePaths texts paths → 0 < length texts → list_all is_blank (join_with_byte 59 (texts ++ others)) ≡ false
+paths_not_blank : (texts paths others : List (List ℕ)) → ArePaths texts paths → 0 < length texts → list_all is_space_or_tab (join_with_byte 59 (texts ++ others)) ≡ false
 paths_not_blank [] paths others are some = absurd (omega (arith, some))
 paths_not_blank (text ∷ texts) [] others are some = absurd are
 paths_not_blank (text ∷ texts) (path ∷ paths) others are some =
-    ap (list_all is_blank) (join-cons 59 text (texts ++ others))
+    ap (list_all is_space_or_tab) (join-cons 59 text (texts ++ others))
     ∙ not_blank-front text (concat (map (λ p. 59 ∷ p) (texts ++ others))) (path_not_blank text path are.0)
 
-clauses_not_blank : (texts : List (List ℕ)) (all : List Clause) → AreClauses texts all → 0 < length texts → list_all is_blank (join_with_byte 44 texts) ≡ false
-clauses_not_blank [] all are some = absurd (omega (arith, some))
-clauses_not_blank (text ∷ texts) [] are some = absurd are
-clauses_not_blank (text ∷ texts) (clause ∷ clauses) are some =
-    let is = are.0 in
-    ap (list_all is_blank) (join-cons 44 text texts)
+clauses_not_blank : (at : ℕ) (texts : List (List ℕ)) (clauses : List ClauseAt) → AreClausesFrom at texts clauses → 0 < length texts →
+    list_all is_space_or_tab (join_with_byte 44 texts) ≡ false
+clauses_not_blank at [] clauses are some = absurd (omega (arith, some))
+clauses_not_blank at (text ∷ texts) [] are some = absurd are
+clauses_not_blank at (text ∷ texts) (clause ∷ clauses) are some =
+    let is = are.1 in
+    ap (list_all is_space_or_tab) (join-cons 44 text texts)
     ∙ not_blank-front text (concat (map (λ p. 44 ∷ p) texts))
-    (ap (list_all is_blank) is.is ∙ paths_not_blank is.paths clause.paths is.parameters is.are_paths is.some)
+    (ap (list_all is_space_or_tab) is.is ∙ paths_not_blank is.paths clause.clause.paths is.parameters is.are_paths is.some)
 
 -- ---- the whole value
 
-value_by : (value : List ℕ) (all : List Clause) (test : Bool) → list_all is_blank value ≡ test → clauses_of value ≡ Ok all → AreClausesOf value all
-value_by value all true is e =
-    rw (← same_lists (clauses_of value) [] all (cond-true (list_all is_blank value) (Ok []) (clauses_from 0 (cut 44 value)) is) e) (blank (AllPass-from_list_all is_blank value is))
-value_by value all false is e =
+-- the texts before a fault are clauses
+all_clauses : (at : ℕ) (texts : List (List ℕ)) (clauses : List ClauseAt) → AreClausesFrom at texts clauses → All (λ t. (clause : Clause) × IsClause t clause) texts
+all_clauses at [] clauses are = All-nil (λ t. (clause : Clause) × IsClause t clause)
+all_clauses at (text ∷ texts) [] are = absurd are
+all_clauses at (text ∷ texts) (clause ∷ clauses) are =
+    All-cons (λ t. (c : Clause) × IsClause t c) text texts (clause.clause, are.1) (all_clauses (at + (length text + 1)) texts clauses are.2)
+
+whole_by : (value : List ℕ) (read : ReadClauses) → list_all is_space_or_tab value ≡ false → ReadsFrom 0 value (cut 44 value) read → AreReadFrom value read
+whole_by value read some (to_end are) =
     let parts = cut_is 44 Bare value in
-    joined (cut 44 value) (cut_some parts) (cut_joined parts)
-    (clauses_sound 0 (cut 44 value) all (sym (cond-false (list_all is_blank value) (Ok []) (clauses_from 0 (cut 44 value)) is) ∙ e))
+    read_whole (cut 44 value) (cut_some parts) (cut_joined parts) are
+whole_by value read some (to_fault found) =
+    read_faulty (record {
+      before = found.before;
+      text = found.text;
+      rest = found.rest;
+      is = found.is;
+      clauses = all_clauses 0 found.before _ found.are;
+      faulty = found.faulty;
+      at = found.place ∙ zero-add (length (concat (map with_comma found.before)));
+      not_blank = λ all. cc (some, list_all-from_AllPass is_space_or_tab value all);
+    }) found.are
 
-value_sound : (value : List ℕ) (all : List Clause) → clauses_of value ≡ Ok all → AreClausesOf value all
-value_sound value all e = value_by value all (list_all is_blank value) refl e
+value_by : (value : List ℕ) (test : Bool) → list_all is_space_or_tab value ≡ test → AreReadFrom value (read_of value)
+value_by value true is =
+    rw (cond-true (list_all is_space_or_tab value) (record { clauses = []; fault = None }) (read_from 0 (cut 44 value)) is)
+    (read_blank (AllPass-from_list_all is_space_or_tab value is))
+value_by value false is =
+    rw (cond-false (list_all is_space_or_tab value) (record { clauses = []; fault = None }) (read_from 0 (cut 44 value)) is)
+    (whole_by value (read_from 0 (cut 44 value)) is (reads_from 0 Bare refl (cut_is 44 Bare value)))
 
-value_read : (value : List ℕ) (all : List Clause) → AreClausesOf value all → clauses_of value ≡ Ok all
-value_read value all (blank is) = cond-true (list_all is_blank value) _ _ (list_all-from_AllPass is_blank value is)
-value_read value all (joined texts some is are) =
-    cond-false (list_all is_blank value) _ _ (ap (list_all is_blank) is ∙ clauses_not_blank texts all are some)
-    ∙ ap (clauses_from 0) (ap (cut 44) is ∙ joined_cut 44 texts some (whole_clauses texts all are))
-    ∙ clauses_read 0 texts all are
+pub value_reads : (value : List ℕ) → AreReadFrom value (read_of value)
+value_reads value = value_by value (list_all is_space_or_tab value) refl
 
-whole_fault : (value : List ℕ) (fault : HeaderFault) → list_all is_blank value ≡ false → FaultFrom 0 value fault → IsClauseFault value fault
-whole_fault value fault some found = record {
-  before = found.before;
-  text = found.text;
-  rest = found.rest;
-  is = found.is;
-  clauses = found.clauses;
-  faulty = found.faulty;
-  at = found.place ∙ zero-add (length (concat (map with_comma found.before)));
-  not_blank = λ all. cc (some, list_all-from_AllPass is_blank value all);
-}
-
-fault_value_by : (value : List ℕ) (fault : HeaderFault) (test : Bool) → list_all is_blank value ≡ test → clauses_of value ≡ Err fault → IsClauseFault value fault
-fault_value_by value fault true is e =
-    absurd (cc (e, cond-true (list_all is_blank value) (Ok []) (clauses_from 0 (cut 44 value)) is))
-fault_value_by value fault false is e =
-    whole_fault value fault is
-    (fault_from 0 fault Bare refl (cut_is 44 Bare value) (sym (cond-false (list_all is_blank value) (Ok []) (clauses_from 0 (cut 44 value)) is) ∙ e))
-
-fault_sound : (value : List ℕ) (fault : HeaderFault) → clauses_of value ≡ Err fault → IsClauseFault value fault
-fault_sound value fault e = fault_value_by value fault (list_all is_blank value) refl e
-
-not_all : (value : List ℕ) (test : Bool) → list_all is_blank value ≡ test → ¬ AllPass is_blank value → test ≡ false
-not_all value true is not = absurd (not (AllPass-from_list_all is_blank value is))
+not_all : (value : List ℕ) (test : Bool) → list_all is_space_or_tab value ≡ test → ¬ AllPass is_space_or_tab value → test ≡ false
+not_all value true is not = absurd (not (AllPass-from_list_all is_space_or_tab value is))
 not_all value false is not = refl
 
-fault_value_read : (value : List ℕ) (fault : HeaderFault) → IsClauseFault value fault → clauses_of value ≡ Err fault
-fault_value_read value fault is =
-    cond-false (list_all is_blank value) _ _ (not_all value (list_all is_blank value) refl is.not_blank)
-    ∙ ap (λ l. clauses_from 0 (cut 44 l)) is.is
-    ∙ fault_answer 0 is.before is.text is.rest fault.kind is.clauses is.faulty
-    ∙ ap (λ n. Err (record { kind = fault.kind; at = n })) (zero-add (length (concat (map with_comma is.before))) ∙ sym is.at)
+pub value_read : (value : List ℕ) (read : ReadClauses) → AreReadFrom value read → read_of value ≡ read
+value_read value read (read_blank is) = cond-true (list_all is_space_or_tab value) _ _ (list_all-from_AllPass is_space_or_tab value is)
+value_read value read (read_whole {clauses = clauses} texts some is are) =
+    cond-false (list_all is_space_or_tab value) _ _ (ap (list_all is_space_or_tab) is ∙ clauses_not_blank 0 texts clauses are some)
+    ∙ ap (read_from 0) (ap (cut 44) is ∙ joined_cut 44 texts some (whole_clauses 0 texts clauses are))
+    ∙ clauses_read 0 texts clauses are
+value_read value read (read_faulty {clauses = clauses} {fault = fault} is are) =
+    cond-false (list_all is_space_or_tab value) _ _ (not_all value (list_all is_space_or_tab value) refl is.not_blank)
+    ∙ ap (λ l. read_from 0 (cut 44 l)) is.is
+    ∙ fault_read 0 is.before clauses is.text is.rest fault.kind are is.faulty
+    ∙ ap (λ n. record { clauses = clauses; fault = Some (record { kind = fault.kind; at = n }) })
+    (zero-add (length (concat (map with_comma is.before))) ∙ sym is.at)
 
--- ---- what the reader answers
+-- ---- all clauses or the fault
 
-answer_by : (value : List ℕ) (r : Result (List Clause) HeaderFault) → clauses_of value ≡ r → MatchResult r (AreClausesOf value) (IsClauseFault value)
-answer_by value (Ok all) is = value_sound value all is
-answer_by value (Err fault) is = fault_sound value fault is
+are_clauses : (at : ℕ) (texts : List (List ℕ)) (clauses : List ClauseAt) → AreClausesFrom at texts clauses → AreClauses texts (map (λ c. c.clause) clauses)
+are_clauses at [] [] are = tt
+are_clauses at [] (clause ∷ clauses) are = absurd are
+are_clauses at (text ∷ texts) [] are = absurd are
+are_clauses at (text ∷ texts) (clause ∷ clauses) are = (are.1, are_clauses (at + (length text + 1)) texts clauses are.2)
 
-pub answer_reads : (value : List ℕ) (r : Result (Result (List Clause) HeaderFault) AllocError) → IfOk r (λ a. a ≡ clauses_of value) →
-    IfOk r (λ a. MatchResult a (AreClausesOf value) (IsClauseFault value))
-answer_reads value (Ok a) is = answer_by value a (sym is)
-answer_reads value (Err e) is = tt
+pub all_reads : (value : List ℕ) (read : ReadClauses) → AreReadFrom value read → MatchResult (all_or_fault read) (AreClausesOf value) (IsClauseFault value)
+all_reads value read (read_blank is) = blank is
+all_reads value read (read_whole {clauses = clauses} texts some is are) = joined texts some is (are_clauses 0 texts clauses are)
+all_reads value read (read_faulty is are) = is
 
-pub answer_only : (value : List ℕ) (r : Result (Result (List Clause) HeaderFault) AllocError) → IfOk r (λ a. a ≡ clauses_of value) →
-    (others : List Clause) → AreClausesOf value others → IfOk r (λ a. a ≡ Ok others)
-answer_only value (Ok a) is others are = is ∙ value_read value others are
-answer_only value (Err e) is others are = tt
+-- clauses, with the place of each
+record Placed (at : ℕ) (texts : List (List ℕ)) (all : List Clause) : Type 0 where
+  clauses : List ClauseAt
+  are : AreClausesFrom at texts clauses
+  same : map (λ c. c.clause) clauses ≡ all
 
-pub answer_only_fault : (value : List ℕ) (r : Result (Result (List Clause) HeaderFault) AllocError) → IfOk r (λ a. a ≡ clauses_of value) →
-    (other : HeaderFault) → IsClauseFault value other → IfOk r (λ a. a ≡ Err other)
-answer_only_fault value (Ok a) is other fault = is ∙ fault_value_read value other fault
-answer_only_fault value (Err e) is other fault = tt
+placed : (at : ℕ) (texts : List (List ℕ)) (all : List Clause) → AreClauses texts all → Placed at texts all
+placed at [] [] are = record { clauses = []; are = tt; same = refl }
+placed at [] (clause ∷ all) are = absurd are
+placed at (text ∷ texts) [] are = absurd are
+placed at (text ∷ texts) (clause ∷ all) are =
+    let others = placed (at + (length text + 1)) texts all are.1 in
+    record { clauses = record { at = at; clause = clause } ∷ others.clauses; are = (refl, are.0, others.are); same = ap (λ l. clause ∷ l) others.same }
+
+record Found (texts : List (List ℕ)) : Type 0 where
+  all : List Clause
+  are : AreClauses texts all
+
+found_all : (texts : List (List ℕ)) → All (λ t. (clause : Clause) × IsClause t clause) texts → Found texts
+found_all [] clauses = record { all = []; are = tt }
+found_all (text ∷ texts) clauses =
+    let head = All-head (λ t. (clause : Clause) × IsClause t clause) text texts clauses in
+    let tail = found_all texts (All-tail (λ t. (clause : Clause) × IsClause t clause) text texts clauses) in
+    record { all = head.0 ∷ tail.all; are = (head.1, tail.are) }
+
+-- the one reading of a value, by what else is said of the value
+pub all_only : (value : List ℕ) (read : ReadClauses) (others : List Clause) → ((other : ReadClauses) → AreReadFrom value other → read ≡ other) → AreClausesOf value others →
+    all_or_fault read ≡ Ok others
+all_only value read others only (blank is) = ap all_or_fault (only (record { clauses = []; fault = None }) (read_blank is))
+all_only value read others only (joined texts some is are) =
+    let at = placed 0 texts others are in
+    ap all_or_fault (only (record { clauses = at.clauses; fault = None }) (read_whole texts some is at.are)) ∙ ap Ok at.same
+
+pub fault_only : (value : List ℕ) (read : ReadClauses) (fault : HeaderFault) → ((other : ReadClauses) → AreReadFrom value other → read ≡ other) → IsClauseFault value fault →
+    all_or_fault read ≡ Err fault
+fault_only value read fault only is =
+    let found = found_all is.before is.clauses in
+    let at = placed 0 is.before found.all found.are in
+    ap all_or_fault (only (record { clauses = at.clauses; fault = Some fault }) (read_faulty is at.are))

@@ -1,4 +1,4 @@
--- The items at the front of a list that pass a test, and what stands behind them.
+-- The items at the start of a list that pass a test, and what follows them.
 use Rattle.std.proofs.Common.{◌≡◌, suc, List, [], ◌∷◌, ◌++◌, length, take, drop, ap, sym, ◌∙◌, refl, arith}
 use Rattle.std.specs.Prelude.{Bool, true, false}
 use Rattle.std.specs.List.{AllPass, prefix_len}
@@ -20,7 +20,7 @@ fronts_pass p x rest e more =
     let len = prefix_len-pass p x rest e in
     record {
       all = rw len (All-cons (λ y. p y ≡ true) x (take (prefix_len p rest) rest) e more.all);
-      stops = λ y behind is. more.stops y behind (ap (λ n. drop n (x ∷ rest)) (sym len) ∙ is);
+      stops = λ y remainder is. more.stops y remainder (ap (λ n. drop n (x ∷ rest)) (sym len) ∙ is);
     }
 
 fronts_fail : {X : Type 0} (p : X → Bool) (x : X) (rest : List X) → p x ≡ false → Fronts p (x ∷ rest)
@@ -28,8 +28,8 @@ fronts_fail p x rest e =
     let len = prefix_len-fail p x rest e in
     record {
       all = rw len (All-nil (λ y. p y ≡ true));
-      stops = λ y behind is.
-          let same : x ∷ rest ≡ y ∷ behind = ap (λ n. drop n (x ∷ rest)) (sym len) ∙ is in
+      stops = λ y remainder is.
+          let same : x ∷ rest ≡ y ∷ remainder = ap (λ n. drop n (x ∷ rest)) (sym len) ∙ is in
           let here : x ≡ y = cc same in
           ap p (sym here) ∙ e;
     }
@@ -39,12 +39,12 @@ fronts_by p x rest true e more = fronts_pass p x rest e more
 fronts_by p x rest false e more = fronts_fail p x rest e
 
 pub fronts : {X : Type 0} (p : X → Bool) (xs : List X) → Fronts p xs
-fronts p [] = record { all = All-nil (λ y. p y ≡ true); stops = λ y behind is. absurd (cc is) }
+fronts p [] = record { all = All-nil (λ y. p y ≡ true); stops = λ y remainder is. absurd (cc is) }
 fronts p (x ∷ rest) = fronts_by p x rest (p x) refl (fronts p rest)
 
--- a front that passes, before what does not
-pub prefix_len-front : {X : Type 0} (p : X → Bool) (front rest : List X) → AllPass p front → prefix_len p rest ≡ 0 → prefix_len p (front ++ rest) ≡ length front
+-- a prefix that passes, before what does not
+pub prefix_len-front : {X : Type 0} (p : X → Bool) (prefix rest : List X) → AllPass p prefix → prefix_len p rest ≡ 0 → prefix_len p (prefix ++ rest) ≡ length prefix
 prefix_len-front p [] rest all stops = stops
-prefix_len-front p (x ∷ front) rest all stops =
-    let more : prefix_len p (front ++ rest) ≡ length front = prefix_len-front p front rest (All-tail (λ y. p y ≡ true) x front all) stops in
-    cond-true (p x) _ _ (All-head (λ y. p y ≡ true) x front all) ∙ omega (arith, more)
+prefix_len-front p (x ∷ prefix) rest all stops =
+    let more : prefix_len p (prefix ++ rest) ≡ length prefix = prefix_len-front p prefix rest (All-tail (λ y. p y ≡ true) x prefix all) stops in
+    cond-true (p x) _ _ (All-head (λ y. p y ≡ true) x prefix all) ∙ omega (arith, more)

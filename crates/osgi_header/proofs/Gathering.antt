@@ -9,13 +9,14 @@ use Rattle.osgi_header.specs.declared.clause.Pair.{Pair}
 use Rattle.osgi_header.specs.declared.clause.Typed.{Typed}
 use Rattle.osgi_header.specs.declared.parameters.Part.{Part}
 use Rattle.osgi_header.specs.declared.parameters.Part.TheVariants.{Path, Directive, Attribute}
-use Rattle.osgi_header.specs.declared.parts.Place.TheVariants.{Bare}
+use Rattle.osgi_base.specs.declared.parts.QuoteState.TheVariants.{Bare}
 use Rattle.osgi_header.proofs.PartReading.{directive as is_directive, IsPart, part_read, part_sound, path as is_path, plain as is_plain, typed as is_typed}
 use Rattle.osgi_header.proofs.Scanning.{joined_scan, part_in_clause, part_in_value}
-use Rattle.osgi_header.proofs.Splitting.{AreWhole, cut_is, cut_joined, cut_some, joined_cut, scan}
-use Rattle.osgi_header.specs.ClauseReader.{clause_after, clause_of, empty_clause, may_take, part_of, with_part}
+use Rattle.osgi_base.specs.Parts.{scan}
+use Rattle.osgi_header.proofs.Splitting.{AreWhole, cut_is, cut_joined, cut_some, joined_cut}
+use Rattle.osgi_header.specs.computed.ClauseReader.{clause_after, clause_of, empty_clause, may_take, part_of, with_part}
 use Rattle.osgi_header.specs.Clauses.{AreParameters, ArePaths, directive, IsClause, none, plain, typed}
-use Rattle.osgi_header.specs.Cutting.{cut}
+use Rattle.osgi_header.specs.computed.Cutting.{cut}
 
 -- whether a clause has no parameters yet
 abbrev is_fresh : Clause → Bool
@@ -36,7 +37,7 @@ has_items xs some = ap not (ne_eqb (length xs) 0 (λ e. absurd (omega (arith, e,
 
 -- ---- parameters
 
--- behind a clause with parameters stand parameters
+-- after a clause with parameters stand parameters
 record GoesOn (clause : Clause) (texts : List (List ℕ)) (whole : Clause) : Type 0 where
   directives : List Pair
   attributes : List Typed
@@ -78,7 +79,7 @@ onto_attribute clause text texts one whole (is_typed is) more = record {
       ∙ more.is;
 }
 
--- the clause behind a parameter has some
+-- the clause after a parameter has some
 used_directive : (clause : Clause) (pair : Pair) → is_fresh (with_part clause (Directive pair)) ≡ false
 used_directive clause pair = and_left (length (clause.directives ++ pair ∷ []) == 0) (length clause.attributes == 0) (pushed_some clause.directives pair)
 
@@ -117,7 +118,7 @@ goes_on clause (text ∷ texts) whole used e =
     option_and_then_some (λ part. cond (may_take clause part) (clause_after (with_part clause part) texts) None) (part_of text) whole e
     (λ part was made. goes_on_by clause text texts part whole used (part_sound text part was) made (λ next n h. goes_on next texts whole n h))
 
--- ---- paths, and parameters behind them
+-- ---- paths, and parameters after them
 
 record Gathers (clause : Clause) (texts : List (List ℕ)) (whole : Clause) : Type 0 where
   paths : List (List ℕ)

@@ -9,7 +9,7 @@ use Rattle.std.proofs.lemmas.List.Sums.{prefix_len-le-length}
 use Rattle.std.proofs.lemmas.List.Elements.{All-cons, All-head, All-nil, All-tail}
 use Rattle.osgi_header.specs.declared.lines.Line as code
 use Rattle.osgi_header.proofs.Fronts.{prefix_len-fail, prefix_len-pass}
-use Rattle.osgi_header.specs.HeaderReader.{BeginsWithGroup, following, group, groups_of, leading, line_seen, lines_seen}
+use Rattle.osgi_header.specs.computed.HeaderReader.{BeginsWithGroup, following, group, groups_of, leading, line_seen, lines_seen}
 use Rattle.osgi_header.specs.Lines.{another, AreGrouped, at_end, continues, Group, header, Line, none, StopsGroup}
 
 -- ---- what is taken together is the lines of one header
@@ -51,14 +51,14 @@ behind_by : (line : Line) (rest : List Line) (test : Bool) → continues line �
 behind_by line rest true e more = behind_pass line rest e more
 behind_by line rest false e more = behind_fail line rest e more
 
-behind : (lines : List Line) → Behind lines
-behind [] = record { after = []; is = refl; all = All-nil (λ l. continues l ≡ true); stops = at_end; grouped = none }
-behind (line ∷ rest) = behind_by line rest (continues line) refl (behind rest)
+remainder : (lines : List Line) → Behind lines
+remainder [] = record { after = []; is = refl; all = All-nil (λ l. continues l ≡ true); stops = at_end; grouped = none }
+remainder (line ∷ rest) = behind_by line rest (continues line) refl (remainder rest)
 
 pub grouped : (lines : List Line) → AreGrouped lines (groups_of lines)
 grouped [] = none
 grouped (line ∷ rest) =
-    let more = behind rest in
+    let more = remainder rest in
     subst (λ l. AreGrouped (line ∷ l) (groups_of (line ∷ rest))) (sym more.is) (header line (leading rest) more.all more.stops more.grouped)
 
 -- ---- and no other lines are
@@ -113,12 +113,12 @@ seen_drop : (n : ℕ) (lines : List code.Line) → lines_seen (drop n lines) ≡
 seen_drop n lines = sym (drop-map line_seen n lines)
 
 -- lines that begin with this one and those that continue it
-pub groups_cut : (first : code.Line) (behind : List code.Line) (n : ℕ) → n ≡ prefix_len continues (lines_seen behind) →
-    groups_of (lines_seen (first ∷ behind)) ≡ group (line_seen first) (lines_seen (take n behind)) ∷ groups_of (lines_seen (drop n behind))
-groups_cut first behind n is =
-    ap (λ l. group (line_seen first) l ∷ following (lines_seen behind)) (leading-take (lines_seen behind) ∙ ap (λ k. take k (lines_seen behind)) (sym is) ∙ sym (seen_take n behind))
-    ∙ ap (λ l. group (line_seen first) (lines_seen (take n behind)) ∷ l)
-    (following-drop (lines_seen behind) ∙ ap (λ k. groups_of (drop k (lines_seen behind))) (sym is) ∙ ap groups_of (sym (seen_drop n behind)))
+pub groups_cut : (first : code.Line) (remainder : List code.Line) (n : ℕ) → n ≡ prefix_len continues (lines_seen remainder) →
+    groups_of (lines_seen (first ∷ remainder)) ≡ group (line_seen first) (lines_seen (take n remainder)) ∷ groups_of (lines_seen (drop n remainder))
+groups_cut first remainder n is =
+    ap (λ l. group (line_seen first) l ∷ following (lines_seen remainder)) (leading-take (lines_seen remainder) ∙ ap (λ k. take k (lines_seen remainder)) (sym is) ∙ sym (seen_take n remainder))
+    ∙ ap (λ l. group (line_seen first) (lines_seen (take n remainder)) ∷ l)
+    (following-drop (lines_seen remainder) ∙ ap (λ k. groups_of (drop k (lines_seen remainder))) (sym is) ∙ ap groups_of (sym (seen_drop n remainder)))
 
 -- the rest of a list of lines, cut at its first
 pub cut_first : (rest : List code.Line) (d : code.Line) → 1 ≤ length rest → rest ≡ get_or rest 0 d ∷ take (length rest - 1) (drop 1 rest)
@@ -133,19 +133,19 @@ pub begins_group : (lines rest : List code.Line) (start n : ℕ) (d : code.Line)
     BeginsWithGroup lines start (line_seen (get_or rest 0 d)) (take n (take (length rest - 1) (drop 1 rest)))
 begins_group lines rest start n d within is some count =
     let first : code.Line = get_or rest 0 d in
-    let behind : List code.Line = take (length rest - 1) (drop 1 rest) in
-    let split : rest ≡ first ∷ behind = cut_first rest d some in
-    let seen_len : length (lines_seen behind) ≡ length behind = length-map behind line_seen in
-    let most : n ≤ length behind = omega (arith, count, seen_len, prefix_len-le-length continues (lines_seen behind)) in
-    let len : length (take n behind) ≡ n = length-take-le n behind most in
-    let left : drop (start + (length (take n behind) + 1)) lines ≡ drop n behind
+    let remainder : List code.Line = take (length rest - 1) (drop 1 rest) in
+    let split : rest ≡ first ∷ remainder = cut_first rest d some in
+    let seen_len : length (lines_seen remainder) ≡ length remainder = length-map remainder line_seen in
+    let most : n ≤ length remainder = omega (arith, count, seen_len, prefix_len-le-length continues (lines_seen remainder)) in
+    let len : length (take n remainder) ≡ n = length-take-le n remainder most in
+    let left : drop (start + (length (take n remainder) + 1)) lines ≡ drop n remainder
     = ap (λ k. drop k lines) (omega (arith, len)) ∙ sym (drop-drop (suc n) start lines) ∙ ap (drop (suc n)) (sym is ∙ split) in
     record {
       groups =
-          ap (λ l. groups_of (lines_seen l)) (sym is ∙ split) ∙ groups_cut first behind n count
-          ∙ ap (λ l. group (line_seen first) (lines_seen (take n behind)) ∷ groups_of (lines_seen l)) (sym left);
+          ap (λ l. groups_of (lines_seen l)) (sym is ∙ split) ∙ groups_cut first remainder n count
+          ∙ ap (λ l. group (line_seen first) (lines_seen (take n remainder)) ∷ groups_of (lines_seen l)) (sym left);
       within = omega (arith, within, most, len, ap length split, ap length is, length-drop start lines);
     }
 
-pub count_within : (behind : List code.Line) (n : ℕ) → n ≡ prefix_len continues (lines_seen behind) → n ≤ length behind
-count_within behind n is = omega (arith, is, length-map behind line_seen, prefix_len-le-length continues (lines_seen behind))
+pub count_within : (remainder : List code.Line) (n : ℕ) → n ≡ prefix_len continues (lines_seen remainder) → n ≤ length remainder
+count_within remainder n is = omega (arith, is, length-map remainder line_seen, prefix_len-le-length continues (lines_seen remainder))

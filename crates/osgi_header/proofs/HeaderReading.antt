@@ -15,10 +15,10 @@ use Rattle.osgi_header.specs.declared.fault.HeaderKind.TheVariants.{BadName, Bad
 use Rattle.osgi_header.specs.declared.header.Header.{Header}
 use Rattle.osgi_header.proofs.Grouping.{grouped, only_groups}
 use Rattle.osgi_header.proofs.LineReading.{only_lines}
-use Rattle.osgi_header.proofs.Places.{Fails, Found, found, nowhere, position-front, position-none, somewhere}
-use Rattle.osgi_header.proofs.Values.{other_byte}
-use Rattle.osgi_header.specs.HeaderReader.{counted, first_long, groups_of, header_by, header_of, headers_by, headers_from, headers_onto, if_short, is_colon, is_header_name, is_long, parsed, parsed_at, without_space}
-use Rattle.osgi_header.specs.Headers.{AreHeaders, AreHeadersOf, bad_name, bad_utf8, bare, first_long as is_first_long, is_name_byte, IsGroupFault, IsHeader, IsHeaderFault, IsHeaderName, IsHeaderValue, IsNamed, IsShort, more_long, no_colon, spaced}
+use Rattle.osgi_base.specs.laws.Places.{Fails, Found, found, nowhere, position-front, position-none, somewhere}
+use Rattle.osgi_base.specs.laws.Scans.{other_byte}
+use Rattle.osgi_header.specs.computed.HeaderReader.{counted, first_long, groups_of, header_by, header_of, headers_by, headers_from, headers_onto, if_short, is_colon, is_header_name, is_long, parsed, parsed_at, without_space}
+use Rattle.osgi_header.specs.Headers.{AreHeaders, AreHeadersOf, bad_name, bad_utf8, bare, first_long as is_first_long, is_header_name_byte, IsGroupFault, IsHeader, IsHeaderFault, IsHeaderName, IsHeaderValue, IsNamed, IsShort, more_long, no_colon, spaced}
 use Rattle.osgi_header.specs.Lines.{AreGrouped, AreLines, Group, joined, Line}
 
 -- ---- one header more
@@ -38,37 +38,37 @@ headers_more so_far pushed header lines groups rest whole begun is added read =
 
 -- ---- names and values
 
-name_byte_no_colon : (b : ℕ) → is_name_byte b ≡ true → is_colon b ≡ false
-name_byte_no_colon b passes = other_byte is_name_byte 58 b refl passes
+name_byte_no_colon : (b : ℕ) → is_header_name_byte b ≡ true → is_colon b ≡ false
+name_byte_no_colon b passes = other_byte is_header_name_byte 58 b refl passes
 
 name_no_colon : (name : List ℕ) → IsHeaderName name → Fails is_colon name
 name_no_colon name is = λ k d below. name_byte_no_colon (get_or name k d) (is.bytes k d below)
 
-name_by : (b : ℕ) (rest : List ℕ) (underscore dash all : Bool) → (b == 95) ≡ underscore → (b == 45) ≡ dash → list_all is_name_byte (b ∷ rest) ≡ all →
+name_by : (b : ℕ) (rest : List ℕ) (underscore dash all : Bool) → (b == 95) ≡ underscore → (b == 45) ≡ dash → list_all is_header_name_byte (b ∷ rest) ≡ all →
     is_header_name (b ∷ rest) ≡ true → IsHeaderName (b ∷ rest)
 name_by b rest true dash all e f g is =
-    absurd (cc (is, cond-true ((b == 95) || (b == 45)) false (list_all is_name_byte (b ∷ rest)) (or_left (b == 95) (b == 45) e)))
+    absurd (cc (is, cond-true ((b == 95) || (b == 45)) false (list_all is_header_name_byte (b ∷ rest)) (or_left (b == 95) (b == 45) e)))
 name_by b rest false true all e f g is =
-    absurd (cc (is, cond-true ((b == 95) || (b == 45)) false (list_all is_name_byte (b ∷ rest)) (or_right (b == 95) (b == 45) f)))
+    absurd (cc (is, cond-true ((b == 95) || (b == 45)) false (list_all is_header_name_byte (b ∷ rest)) (or_right (b == 95) (b == 45) f)))
 name_by b rest false false all e f g is = record {
   first = b;
   rest = rest;
   is = refl;
-  bytes = AllPass-from_list_all is_name_byte (b ∷ rest) (sym (cond-false ((b == 95) || (b == 45)) false (list_all is_name_byte (b ∷ rest)) (or_from (b == 95) (b == 45) e f)) ∙ is);
+  bytes = AllPass-from_list_all is_header_name_byte (b ∷ rest) (sym (cond-false ((b == 95) || (b == 45)) false (list_all is_header_name_byte (b ∷ rest)) (or_from (b == 95) (b == 45) e f)) ∙ is);
   no_underscore = eqb-false b 95 e;
   no_dash = eqb-false b 45 f;
 }
 
 name_sound : (name : List ℕ) → is_header_name name ≡ true → IsHeaderName name
 name_sound [] is = absurd (cc is)
-name_sound (b ∷ rest) is = name_by b rest (b == 95) (b == 45) (list_all is_name_byte (b ∷ rest)) refl refl refl is
+name_sound (b ∷ rest) is = name_by b rest (b == 95) (b == 45) (list_all is_header_name_byte (b ∷ rest)) refl refl refl is
 
 name_read : (name : List ℕ) → IsHeaderName name → is_header_name name ≡ true
 name_read name is =
     ap is_header_name is.is
-    ∙ cond-false ((is.first == 95) || (is.first == 45)) false (list_all is_name_byte (is.first ∷ is.rest))
+    ∙ cond-false ((is.first == 95) || (is.first == 45)) false (list_all is_header_name_byte (is.first ∷ is.rest))
     (or_from (is.first == 95) (is.first == 45) (ne_eqb is.first 95 is.no_underscore) (ne_eqb is.first 45 is.no_dash))
-    ∙ ap (list_all is_name_byte) (sym is.is) ∙ list_all-from_AllPass is_name_byte name is.bytes
+    ∙ ap (list_all is_header_name_byte) (sym is.is) ∙ list_all-from_AllPass is_header_name_byte name is.bytes
 
 value_by : (b : ℕ) (rest : List ℕ) (space : Bool) → (b == 32) ≡ space → IsHeaderValue (b ∷ rest) (without_space (b ∷ rest))
 value_by b rest true e = rw (cond-true (b == 32) rest (b ∷ rest) e, eqb-true b 32 e) spaced
@@ -76,7 +76,7 @@ value_by b rest false e =
     let other : b ≢ 32 = eqb-false b 32 e in
     rw (cond-false (b == 32) rest (b ∷ rest) e) (bare {value = b ∷ rest} (λ more same. other (cc same)))
 
-value_sound : (behind : List ℕ) → IsHeaderValue behind (without_space behind)
+value_sound : (remainder : List ℕ) → IsHeaderValue remainder (without_space remainder)
 value_sound [] = bare {value = []} (λ more same. cc same)
 value_sound (b ∷ rest) = value_by b rest (b == 32) refl
 
@@ -84,27 +84,27 @@ bare_value : (value : List ℕ) → ((rest : List ℕ) → value ≢ 32 ∷ rest
 bare_value [] stops = refl
 bare_value (b ∷ rest) stops = cond-false (b == 32) _ _ (ne_eqb b 32 (λ e. absurd (stops rest (ap (λ x. x ∷ rest) e))))
 
-value_read : (behind value : List ℕ) → IsHeaderValue behind value → without_space behind ≡ value
-value_read behind value spaced = refl
-value_read behind value (bare stops) = bare_value value stops
+value_read : (remainder value : List ℕ) → IsHeaderValue remainder value → without_space remainder ≡ value
+value_read remainder value spaced = refl
+value_read remainder value (bare stops) = bare_value value stops
 
 -- ---- joined lines
 
 -- what joined lines are read as
 data IsParsed (text : List ℕ) : Result Header HeaderKind → Type 0 where
-  parsed_as : (one : Header) (behind : List ℕ) → IsNamed text one.name behind → IsHeaderValue behind one.value → IsUtf8 text → IsParsed text (Ok one)
+  parsed_as : (one : Header) (remainder : List ℕ) → IsNamed text one.name remainder → IsHeaderValue remainder one.value → IsUtf8 text → IsParsed text (Ok one)
   colonless : All (λ b. b ≢ 58) text → IsParsed text (Err NoColon)
-  misnamed : (name behind : List ℕ) → text ≡ name ++ 58 ∷ behind → All (λ b. b ≢ 58) name → ¬ IsHeaderName name → IsParsed text (Err BadName)
-  misspelled : (name behind : List ℕ) → IsNamed text name behind → ¬ IsUtf8 text → IsParsed text (Err BadUtf8)
+  misnamed : (name remainder : List ℕ) → text ≡ name ++ 58 ∷ remainder → All (λ b. b ≢ 58) name → ¬ IsHeaderName name → IsParsed text (Err BadName)
+  misspelled : (name remainder : List ℕ) → IsNamed text name remainder → ¬ IsUtf8 text → IsParsed text (Err BadUtf8)
 
 -- the answer where the name and the bytes pass or do not
 abbrev answer : Bool → Bool → List ℕ → List ℕ → Result Header HeaderKind
-answer named utf8 name behind = cond named (cond utf8 (Ok (record { name = name; value = without_space behind })) (Err BadUtf8)) (Err BadName)
+answer named utf8 name remainder = cond named (cond utf8 (Ok (record { name = name; value = without_space remainder })) (Err BadUtf8)) (Err BadName)
 
-parsed_split : (name behind : List ℕ) → Fails is_colon name →
-    parsed (name ++ 58 ∷ behind) ≡ answer (is_header_name name) (is_utf8 (name ++ 58 ∷ behind)) name behind
-parsed_split name behind fails =
-    rw (position-front is_colon name 58 behind fails refl, take-append_seam name (58 ∷ behind), drop-append-add name (58 ∷ behind) 1) refl
+parsed_split : (name remainder : List ℕ) → Fails is_colon name →
+    parsed (name ++ 58 ∷ remainder) ≡ answer (is_header_name name) (is_utf8 (name ++ 58 ∷ remainder)) name remainder
+parsed_split name remainder fails =
+    rw (position-front is_colon name 58 remainder fails refl, take-append_seam name (58 ∷ remainder), drop-append-add name (58 ∷ remainder) 1) refl
 
 no_colon_in : (name : List ℕ) → Fails is_colon name → All (λ b. b ≢ 58) name
 no_colon_in name fails = λ k d below. eqb-false (get_or name k d) 58 (fails k d below)
@@ -112,21 +112,21 @@ no_colon_in name fails = λ k d below. eqb-false (get_or name k d) 58 (fails k d
 colon_fails : (name : List ℕ) → All (λ b. b ≢ 58) name → Fails is_colon name
 colon_fails name none = λ k d below. ne_eqb (get_or name k d) 58 (none k d below)
 
-split_by : (text name behind : List ℕ) (named utf8 : Bool) → text ≡ name ++ 58 ∷ behind → Fails is_colon name → is_header_name name ≡ named → is_utf8 text ≡ utf8 →
-    IsParsed text (answer named utf8 name behind)
-split_by text name behind false utf8 is fails e f =
-    misnamed name behind is (no_colon_in name fails) (λ named. cc (e, name_read name named))
-split_by text name behind true false is fails e f =
-    misspelled name behind (record { is = is; named = name_sound name e }) (λ spelled. cc (f, is_utf8-from_IsUtf8 text spelled))
-split_by text name behind true true is fails e f =
-    parsed_as (record { name = name; value = without_space behind }) behind (record { is = is; named = name_sound name e }) (value_sound behind) (IsUtf8-from_is_utf8 text f)
+split_by : (text name remainder : List ℕ) (named utf8 : Bool) → text ≡ name ++ 58 ∷ remainder → Fails is_colon name → is_header_name name ≡ named → is_utf8 text ≡ utf8 →
+    IsParsed text (answer named utf8 name remainder)
+split_by text name remainder false utf8 is fails e f =
+    misnamed name remainder is (no_colon_in name fails) (λ named. cc (e, name_read name named))
+split_by text name remainder true false is fails e f =
+    misspelled name remainder (record { is = is; named = name_sound name e }) (λ spelled. cc (f, is_utf8-from_IsUtf8 text spelled))
+split_by text name remainder true true is fails e f =
+    parsed_as (record { name = name; value = without_space remainder }) remainder (record { is = is; named = name_sound name e }) (value_sound remainder) (IsUtf8-from_is_utf8 text f)
 
 parsed_found : (text : List ℕ) → Found is_colon text → IsParsed text (parsed text)
 parsed_found text (nowhere fails) = subst (IsParsed text) (ap (parsed_at text) (sym (position-none is_colon text fails))) (colonless (no_colon_in text fails))
-parsed_found text (somewhere name b behind fails passes is) =
-    let split : text ≡ name ++ 58 ∷ behind = is ∙ ap (λ x. name ++ x ∷ behind) (eqb-true b 58 passes) in
-    subst (IsParsed text) (sym (ap parsed split ∙ parsed_split name behind fails ∙ ap (λ l. answer (is_header_name name) (is_utf8 l) name behind) (sym split)))
-    (split_by text name behind (is_header_name name) (is_utf8 text) split fails refl refl)
+parsed_found text (somewhere name b remainder fails passes is) =
+    let split : text ≡ name ++ 58 ∷ remainder = is ∙ ap (λ x. name ++ x ∷ remainder) (eqb-true b 58 passes) in
+    subst (IsParsed text) (sym (ap parsed split ∙ parsed_split name remainder fails ∙ ap (λ l. answer (is_header_name name) (is_utf8 l) name remainder) (sym split)))
+    (split_by text name remainder (is_header_name name) (is_utf8 text) split fails refl refl)
 
 parsed_is : (text : List ℕ) → IsParsed text (parsed text)
 parsed_is text = parsed_found text (found is_colon text)
@@ -139,23 +139,23 @@ not_utf8 : (text : List ℕ) (test : Bool) → is_utf8 text ≡ test → ¬ IsUt
 not_utf8 text true e none = absurd (none (IsUtf8-from_is_utf8 text e))
 not_utf8 text false e none = refl
 
-parsed_named : (text name behind : List ℕ) → IsNamed text name behind → parsed text ≡ answer true (is_utf8 text) name behind
-parsed_named text name behind is =
-    ap parsed is.is ∙ parsed_split name behind (name_no_colon name is.named)
-    ∙ ap (λ t. answer t (is_utf8 (name ++ 58 ∷ behind)) name behind) (name_read name is.named)
-    ∙ ap (λ l. answer true (is_utf8 l) name behind) (sym is.is)
+parsed_named : (text name remainder : List ℕ) → IsNamed text name remainder → parsed text ≡ answer true (is_utf8 text) name remainder
+parsed_named text name remainder is =
+    ap parsed is.is ∙ parsed_split name remainder (name_no_colon name is.named)
+    ∙ ap (λ t. answer t (is_utf8 (name ++ 58 ∷ remainder)) name remainder) (name_read name is.named)
+    ∙ ap (λ l. answer true (is_utf8 l) name remainder) (sym is.is)
 
 is_parsed : (text : List ℕ) (r : Result Header HeaderKind) → IsParsed text r → parsed text ≡ r
-is_parsed text r (parsed_as one behind named valued utf8) =
-    parsed_named text one.name behind named
-    ∙ ap (λ t. answer true t one.name behind) (is_utf8-from_IsUtf8 text utf8)
-    ∙ ap (λ v. Ok (record { name = one.name; value = v })) (value_read behind one.value valued)
+is_parsed text r (parsed_as one remainder named valued utf8) =
+    parsed_named text one.name remainder named
+    ∙ ap (λ t. answer true t one.name remainder) (is_utf8-from_IsUtf8 text utf8)
+    ∙ ap (λ v. Ok (record { name = one.name; value = v })) (value_read remainder one.value valued)
 is_parsed text r (colonless none) = ap (parsed_at text) (position-none is_colon text (colon_fails text none))
-is_parsed text r (misnamed name behind is none no_name) =
-    ap parsed is ∙ parsed_split name behind (colon_fails name none)
-    ∙ ap (λ t. answer t (is_utf8 (name ++ 58 ∷ behind)) name behind) (not_named name (is_header_name name) refl no_name)
-is_parsed text r (misspelled name behind named no_utf8) =
-    parsed_named text name behind named ∙ ap (λ t. answer true t name behind) (not_utf8 text (is_utf8 text) refl no_utf8)
+is_parsed text r (misnamed name remainder is none no_name) =
+    ap parsed is ∙ parsed_split name remainder (colon_fails name none)
+    ∙ ap (λ t. answer t (is_utf8 (name ++ 58 ∷ remainder)) name remainder) (not_named name (is_header_name name) refl no_name)
+is_parsed text r (misspelled name remainder named no_utf8) =
+    parsed_named text name remainder named ∙ ap (λ t. answer true t name remainder) (not_utf8 text (is_utf8 text) refl no_utf8)
 
 -- ---- lines that are too long
 
@@ -172,7 +172,7 @@ data FirstLong (lines : List Line) : Option ℕ → Type 0 where
 
 long_later : (line : Line) (rest : List Line) (at : Option ℕ) → IsShort line → FirstLong rest at → FirstLong (line ∷ rest) at
 long_later line rest at short (none_long_in all) = none_long_in (All-cons IsShort line rest short all)
-long_later line rest at short (long_at before one behind is all over) = long_at (line ∷ before) one behind (ap (λ l. line ∷ l) is) (All-cons IsShort line before short all) over
+long_later line rest at short (long_at before one remainder is all over) = long_at (line ∷ before) one remainder (ap (λ l. line ∷ l) is) (All-cons IsShort line before short all) over
 
 long_by : (line : Line) (rest : List Line) (test : Bool) → is_long line ≡ test → FirstLong rest (first_long rest) → FirstLong (line ∷ rest) (first_long (line ∷ rest))
 long_by line rest true e more =
@@ -202,18 +202,18 @@ abbrev IsRead : Group → Result Header HeaderFault → Type 0
 IsRead lines (Ok header) = IsHeader lines header
 IsRead lines (Err fault) = IsGroupFault lines fault
 
-more_by : (lines : Group) (one : Header) (behind : List ℕ) (at : Option ℕ) → IsShort lines.first → IsNamed (joined lines) one.name behind → IsHeaderValue behind one.value →
+more_by : (lines : Group) (one : Header) (remainder : List ℕ) (at : Option ℕ) → IsShort lines.first → IsNamed (joined lines) one.name remainder → IsHeaderValue remainder one.value →
     IsUtf8 (joined lines) → FirstLong lines.more at → IsRead lines (if_short one at)
-more_by lines one behind None short named valued utf8 (none_long_in all) =
-    record { behind = behind; named = named; value = valued; utf8 = utf8; short = short; all_short = all }
-more_by lines one behind (Some at) short named valued utf8 (long_at before over_long rest is all over) =
-    more_long one.name behind before over_long rest short named utf8 is all over
+more_by lines one remainder None short named valued utf8 (none_long_in all) =
+    record { remainder = remainder; named = named; value = valued; utf8 = utf8; short = short; all_short = all }
+more_by lines one remainder (Some at) short named valued utf8 (long_at before over_long rest is all over) =
+    more_long one.name remainder before over_long rest short named utf8 is all over
 
 parsed_by : (lines : Group) (r : Result Header HeaderKind) → IsShort lines.first → IsParsed (joined lines) r → IsRead lines (header_by lines r)
-parsed_by lines r short (parsed_as one behind named valued utf8) = more_by lines one behind (first_long lines.more) short named valued utf8 (long_is lines.more)
+parsed_by lines r short (parsed_as one remainder named valued utf8) = more_by lines one remainder (first_long lines.more) short named valued utf8 (long_is lines.more)
 parsed_by lines r short (colonless none) = no_colon short none
-parsed_by lines r short (misnamed name behind is none no_name) = bad_name name behind short is none no_name
-parsed_by lines r short (misspelled name behind named no_utf8) = bad_utf8 name behind short named no_utf8
+parsed_by lines r short (misnamed name remainder is none no_name) = bad_name name remainder short is none no_name
+parsed_by lines r short (misspelled name remainder named no_utf8) = bad_utf8 name remainder short named no_utf8
 
 read_by : (lines : Group) (test : Bool) → is_long lines.first ≡ test → IsRead lines (header_of lines)
 read_by lines true e =
@@ -232,20 +232,20 @@ short_first lines r short is =
 
 header_read : (lines : Group) (one : Header) → IsHeader lines one → header_of lines ≡ Ok one
 header_read lines one is =
-    short_first lines (Ok one) is.short (parsed_as one is.behind is.named is.value is.utf8) ∙ ap (if_short one) (none_long lines.more is.all_short)
+    short_first lines (Ok one) is.short (parsed_as one is.remainder is.named is.value is.utf8) ∙ ap (if_short one) (none_long lines.more is.all_short)
 
 -- a header whose name stands before the colon
 abbrev named_header : List ℕ → List ℕ → Header
-named_header name behind = record { name = name; value = without_space behind }
+named_header name remainder = record { name = name; value = without_space remainder }
 
 fault_read : (lines : Group) (fault : HeaderFault) → IsGroupFault lines fault → header_of lines ≡ Err fault
 fault_read lines fault (is_first_long over) = cond-true (is_long lines.first) _ _ (lt-ltb 65536 (length lines.first.text) over)
 fault_read lines fault (no_colon short none) = short_first lines (Err NoColon) short (colonless none)
-fault_read lines fault (bad_name name behind short is none no_name) = short_first lines (Err BadName) short (misnamed name behind is none no_name)
-fault_read lines fault (bad_utf8 name behind short named no_utf8) = short_first lines (Err BadUtf8) short (misspelled name behind named no_utf8)
-fault_read lines fault (more_long name behind before over_long rest short named utf8 is all over) =
-    short_first lines (Ok (named_header name behind)) short (parsed_as (named_header name behind) behind named (value_sound behind) utf8)
-    ∙ ap (if_short (named_header name behind)) (ap first_long is ∙ one_long before over_long rest all over)
+fault_read lines fault (bad_name name remainder short is none no_name) = short_first lines (Err BadName) short (misnamed name remainder is none no_name)
+fault_read lines fault (bad_utf8 name remainder short named no_utf8) = short_first lines (Err BadUtf8) short (misspelled name remainder named no_utf8)
+fault_read lines fault (more_long name remainder before over_long rest short named utf8 is all over) =
+    short_first lines (Ok (named_header name remainder)) short (parsed_as (named_header name remainder) remainder named (value_sound remainder) utf8)
+    ∙ ap (if_short (named_header name remainder)) (ap first_long is ∙ one_long before over_long rest all over)
 
 -- ---- all headers
 

@@ -7,8 +7,6 @@ pub mod Grouping
 pub mod HeaderReading
 pub mod LineReading
 pub mod PartReading
-pub mod Places
-pub mod Quoting
 pub mod Repeating
 pub mod Scanning
 pub mod Splitting

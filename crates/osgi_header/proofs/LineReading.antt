@@ -8,18 +8,18 @@ use Rattle.std.proofs.lemmas.List.{length-take-le, map-append, take-append-drop}
 use Rattle.std.proofs.lemmas.List.Sums.{prefix_len-le-length}
 use Rattle.osgi_header.specs.declared.lines.Line as code
 use Rattle.osgi_header.proofs.Fronts.{fronts, prefix_len-fail, prefix_len-front, prefix_len-pass}
-use Rattle.osgi_header.specs.HeaderReader.{behind_end, line_seen, lines_seen, without_line_feed}
+use Rattle.osgi_header.specs.computed.HeaderReader.{after_end, line_seen, lines_seen, without_line_feed}
 use Rattle.osgi_header.specs.Lines.{AreLines, BeginsWithLine, cr, crlf, empty_line, EndsLine, EndsSection, is_line_byte, lf, Line, next, no_bytes, nothing, over}
 
 -- ---- a line split off
 
--- what stands behind a line, and the end of the line there
-record HasEnd (behind : List ℕ) : Type 0 where
+-- what follows a line, and the end of the line there
+record HasEnd (remainder : List ℕ) : Type 0 where
   end : List ℕ
-  is : behind ≡ end ++ behind_end behind
-  ends : EndsLine end (behind_end behind)
+  is : remainder ≡ end ++ after_end remainder
+  ends : EndsLine end (after_end remainder)
 
--- behind a CR
+-- after a CR
 data BehindReturn (rest : List ℕ) : Type 0 where
   alone : rest ≡ without_line_feed rest → ((more : List ℕ) → rest ≢ 10 ∷ more) → BehindReturn rest
   with_feed : rest ≡ 10 ∷ without_line_feed rest → BehindReturn rest
@@ -45,21 +45,21 @@ end_by b rest false false is_return is_feed no_line =
     let passes : is_line_byte b ≡ true = ap not (ap (λ x. x || (b == 10)) is_return ∙ is_feed) in
     absurd (cc (passes, no_line))
 
-has_end : (behind : List ℕ) → ((b : ℕ) (rest : List ℕ) → behind ≡ b ∷ rest → is_line_byte b ≡ false) → HasEnd behind
+has_end : (remainder : List ℕ) → ((b : ℕ) (rest : List ℕ) → remainder ≡ b ∷ rest → is_line_byte b ≡ false) → HasEnd remainder
 has_end [] stops = record { end = []; is = refl; ends = nothing }
 has_end (b ∷ rest) stops = end_by b rest (b == 13) (b == 10) refl refl (stops b rest refl)
 
 pub begins : (bytes : List ℕ) → 0 < prefix_len is_line_byte bytes →
-    BeginsWithLine bytes (take (prefix_len is_line_byte bytes) bytes) (behind_end (drop (prefix_len is_line_byte bytes) bytes))
+    BeginsWithLine bytes (take (prefix_len is_line_byte bytes) bytes) (after_end (drop (prefix_len is_line_byte bytes) bytes))
 begins bytes some =
     let n : ℕ = prefix_len is_line_byte bytes in
-    let front = fronts is_line_byte bytes in
-    let ended = has_end (drop n bytes) front.stops in
+    let prefix = fronts is_line_byte bytes in
+    let ended = has_end (drop n bytes) prefix.stops in
     record {
       end = ended.end;
       is = sym (take-append-drop n bytes) ∙ ap (λ l. take n bytes ++ l) ended.is;
       some = omega (arith, some, length-take-le n bytes (prefix_len-le-length is_line_byte bytes));
-      line_bytes = front.all;
+      line_bytes = prefix.all;
       ends = ended.ends;
     }
 
@@ -100,7 +100,7 @@ behind_feedless : (left : List ℕ) → ((more : List ℕ) → left ≢ 10 ∷ m
 behind_feedless [] stops = refl
 behind_feedless (b ∷ rest) stops = cond-false (b == 10) _ _ (ne_eqb b 10 (λ e. absurd (stops rest (ap (λ x. x ∷ rest) e))))
 
-end_is : (end left : List ℕ) → EndsLine end left → behind_end (end ++ left) ≡ left
+end_is : (end left : List ℕ) → EndsLine end left → after_end (end ++ left) ≡ left
 end_is end left crlf = refl
 end_is end left lf = refl
 end_is end left (cr stops) = behind_feedless left stops
@@ -115,7 +115,7 @@ end_stops end left nothing = refl
 record IsFirst (bytes text left : List ℕ) : Type 0 where
   len : prefix_len is_line_byte bytes ≡ length text
   text_is : text ≡ take (prefix_len is_line_byte bytes) bytes
-  left_is : left ≡ behind_end (drop (prefix_len is_line_byte bytes) bytes)
+  left_is : left ≡ after_end (drop (prefix_len is_line_byte bytes) bytes)
 
 first_is : (bytes text left : List ℕ) → BeginsWithLine bytes text left → IsFirst bytes text left
 first_is bytes text left is =
@@ -126,7 +126,7 @@ first_is bytes text left is =
       text_is = sym (ap (λ n. take n bytes) len ∙ ap (take (length text)) is.is ∙ take-append_seam text (is.end ++ left));
       left_is =
           sym
-          (ap (λ n. behind_end (drop n bytes)) len ∙ ap (λ l. behind_end (drop (length text) l)) is.is ∙ ap behind_end (drop-append_seam text (is.end ++ left))
+          (ap (λ n. after_end (drop n bytes)) len ∙ ap (λ l. after_end (drop (length text) l)) is.is ∙ ap after_end (drop-append_seam text (is.end ++ left))
           ∙ end_is is.end left is.ends);
     }
 
@@ -155,7 +155,7 @@ lines_same {at = at} {other = other} {bytes = bytes} {another = another} e f (ne
     let first = first_is bytes text left is in
     let second = first_is another text_too left_too is_too in
     let same_text : text ≡ text_too = first.text_is ∙ ap (λ b. take (prefix_len is_line_byte b) b) f ∙ sym second.text_is in
-    let same_left : left ≡ left_too = first.left_is ∙ ap (λ b. behind_end (drop (prefix_len is_line_byte b) b)) f ∙ sym second.left_is in
+    let same_left : left ≡ left_too = first.left_is ∙ ap (λ b. after_end (drop (prefix_len is_line_byte b) b)) f ∙ sym second.left_is in
     let place : at + (length text + length is.end) ≡ other + (length text_too + length is_too.end)
     = omega (arith, e, ap length f, begins-len bytes text left is, begins-len another text_too left_too is_too, ap length same_left, ap length same_text) in
     cons_same at other text text_too lines others e same_text (lines_same place same_left more more_too)

@@ -1,28 +1,24 @@
 -- Paths, names and values are read as what they are, and nothing else is.
 use Rattle.std.proofs.Common.{◌≡◌, ◌≢◌, ℕ, ◌<◌, List, [], ◌∷◌, ◌++◌, length, ap, sym, ◌∙◌, refl, arith}
-use Rattle.std.specs.Prelude.{Bool, true, false, cond, not, ◌==◌, ◌||◌, Option, None, Some}
+use Rattle.std.specs.Prelude.{All, Bool, cond, false, None, not, Option, Some, true, ◌==◌, ◌||◌}
 use Rattle.std.specs.List.{AllPass, list_all}
 use Rattle.std.proofs.lemmas.Bool.{cond-false, cond-true, eqb-false, ne_eqb, or_from, or_left, or_right}
 use Rattle.std.proofs.lemmas.List.Elements.{All-append, All-head}
 use Rattle.std.proofs.lemmas.List.Sums.{AllPass-from_list_all, list_all-from_AllPass}
 use Rattle.std.proofs.lemmas.Option.{cond_some}
-use Rattle.std.specs.Prelude.{All}
-use Rattle.osgi_header.proofs.Quoting.{quoted_read, quoted_sound}
+use Rattle.osgi_base.specs.laws.Scans.{other_byte}
+use Rattle.osgi_base.specs.laws.Quoting.{quoted_read, quoted_sound}
 use Rattle.osgi_header.proofs.Trimming.{trimmed-is, trims}
-use Rattle.osgi_header.specs.ClauseReader.{begins_with_quote, name_if, name_of, path_if, path_of, trimmed, value_from, value_of}
-use Rattle.osgi_header.specs.Clauses.{bare, is_bare_byte, is_name_byte, is_path_byte, IsName, IsPath, IsSpelled, IsValue, quoted}
-use Rattle.osgi_header.specs.Quotes.{is_blank, IsTrimmed}
-
--- a byte that passes is none that does not
-pub other_byte : (p : ℕ → Bool) (byte b : ℕ) → p byte ≡ false → p b ≡ true → (b == byte) ≡ false
-other_byte p byte b none passes = ne_eqb b byte (λ e. absurd (cc (none, passes, ap p e)))
+use Rattle.osgi_header.specs.computed.ClauseReader.{begins_with_quote, name_if, name_of, path_if, path_of, trimmed, value_from, parameter_value}
+use Rattle.osgi_header.specs.Clauses.{bare, is_bare_byte, is_parameter_name_byte, is_path_byte, IsParameterName, IsPath, IsSpelled, IsValue, quoted}
+use Rattle.osgi_header.specs.Spaces.{is_space_or_tab, IsTrimmed}
 
 -- what holds of blanks and of each byte of what they stand round
-pub trimmed_each : (P : ℕ → Type 0) (text inner : List ℕ) → ((b : ℕ) → is_blank b ≡ true → P b) → IsTrimmed text inner → All P inner → All P text
+pub trimmed_each : (P : ℕ → Type 0) (text inner : List ℕ) → ((b : ℕ) → is_space_or_tab b ≡ true → P b) → IsTrimmed text inner → All P inner → All P text
 trimmed_each P text inner blank is each =
     rw is.is
-    (All-append P is.before (inner ++ is.behind) (λ k d below. blank _ (is.blank_before k d below))
-    (All-append P inner is.behind each (λ k d below. blank _ (is.blank_behind k d below))))
+    (All-append P is.before (inner ++ is.remainder) (λ k d below. blank _ (is.blank_before k d below))
+    (All-append P inner is.remainder each (λ k d below. blank _ (is.blank_after k d below))))
 
 -- ---- one or more bytes that pass
 
@@ -63,13 +59,13 @@ path_sound text path e =
 pub path_read : (text path : List ℕ) → IsPath text path → path_of text ≡ Some path
 path_read text path is = ap path_if (trimmed-is text path is.trimmed) ∙ some_read is_path_byte path is.some is.bytes
 
-pub name_sound : (text name : List ℕ) → name_of text ≡ Some name → IsName text name
+pub name_sound : (text name : List ℕ) → name_of text ≡ Some name → IsParameterName text name
 name_sound text name e =
-    let is = some_sound is_name_byte (trimmed text) name e in
+    let is = some_sound is_parameter_name_byte (trimmed text) name e in
     record { trimmed = rw (← is.is) (trims text); some = is.some; bytes = is.bytes }
 
-pub name_read : (text name : List ℕ) → IsName text name → name_of text ≡ Some name
-name_read text name is = ap name_if (trimmed-is text name is.trimmed) ∙ some_read is_name_byte name is.some is.bytes
+pub name_read : (text name : List ℕ) → IsParameterName text name → name_of text ≡ Some name
+name_read text name is = ap name_if (trimmed-is text name is.trimmed) ∙ some_read is_parameter_name_byte name is.some is.bytes
 
 -- ---- values
 
@@ -89,12 +85,12 @@ spelled_read spelled value (quoted is) =
 spelled_read spelled value (bare all) =
     cond-false (begins_with_quote value) _ _ (no_quote value all) ∙ cond-true (list_all is_bare_byte value) _ _ (list_all-from_AllPass is_bare_byte value all)
 
-pub value_sound : (text value : List ℕ) → value_of text ≡ Some value → IsValue text value
+pub value_sound : (text value : List ℕ) → parameter_value text ≡ Some value → IsValue text value
 value_sound text value e = record {
   spelled = trimmed text;
   trimmed = trims text;
   spells = spelled_by (trimmed text) value (begins_with_quote (trimmed text)) refl e;
 }
 
-pub value_read : (text value : List ℕ) → IsValue text value → value_of text ≡ Some value
+pub value_read : (text value : List ℕ) → IsValue text value → parameter_value text ≡ Some value
 value_read text value is = ap value_from (trimmed-is text is.spelled is.trimmed) ∙ spelled_read is.spelled value is.spells

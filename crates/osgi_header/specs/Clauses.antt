@@ -4,7 +4,8 @@ use Rattle.std.specs.List.{AllPass, join_with_byte}
 use Rattle.osgi_header.specs.declared.clause.Clause.{Clause}
 use Rattle.osgi_header.specs.declared.clause.Pair.{Pair}
 use Rattle.osgi_header.specs.declared.clause.Typed.{Typed}
-use Rattle.osgi_header.specs.Quotes.{is_blank, IsQuoted, IsTrimmed}
+use Rattle.osgi_base.specs.Quotes.{IsQuoted}
+use Rattle.osgi_header.specs.Spaces.{is_space_or_tab, IsTrimmed}
 
 -- ---- paths, names, types and values, each with spaces and tabs round it or none. Those are dropped first, so spaces and tabs
 -- alone are no path, name or type, and stand for the empty value
@@ -20,15 +21,15 @@ pub record IsPath (text path : List ℕ) : Type 0 where
   pub bytes : AllPass is_path_byte path
 
 -- a letter, a digit, `_`, `-` or `.`
-abbrev pub is_name_byte : ℕ → Bool
-is_name_byte b =
+abbrev pub is_parameter_name_byte : ℕ → Bool
+is_parameter_name_byte b =
     (nat_le 97 b && nat_le b 122) || (nat_le 65 b && nat_le b 90) || (nat_le 48 b && nat_le b 57) || (b == 95) || (b == 45) || (b == 46)
 
 -- the name of a parameter: one or more such bytes
-pub record IsName (text name : List ℕ) : Type 0 where
+pub record IsParameterName (text name : List ℕ) : Type 0 where
   pub trimmed : IsTrimmed text name
   pub some : 0 < length name
-  pub bytes : AllPass is_name_byte name
+  pub bytes : AllPass is_parameter_name_byte name
 
 -- any byte other than `,`, `;` and `"`
 abbrev pub is_bare_byte : ℕ → Bool
@@ -51,7 +52,7 @@ pub record IsDirective (text : List ℕ) (directive : Pair) : Type 0 where
   pub name : List ℕ
   pub value : List ℕ
   pub is : text ≡ name ++ 58 ∷ 61 ∷ value
-  pub named : IsName name directive.name
+  pub named : IsParameterName name directive.name
   pub valued : IsValue value directive.value
 
 -- `name=value`, which has the type `String`
@@ -59,7 +60,7 @@ pub record IsPlainAttribute (text : List ℕ) (attribute : Typed) : Type 0 where
   pub name : List ℕ
   pub value : List ℕ
   pub is : text ≡ name ++ 61 ∷ value
-  pub named : IsName name attribute.name
+  pub named : IsParameterName name attribute.name
   pub kind : attribute.kind ≡ codes "String"
   pub valued : IsValue value attribute.value
 
@@ -69,7 +70,7 @@ pub record IsTypedAttribute (text : List ℕ) (attribute : Typed) : Type 0 where
   pub type : List ℕ
   pub value : List ℕ
   pub is : text ≡ name ++ (58 ∷ type ++ 61 ∷ value)
-  pub named : IsName name attribute.name
+  pub named : IsParameterName name attribute.name
   pub kind : IsPath type attribute.kind
   pub valued : IsValue value attribute.value
 
@@ -91,7 +92,7 @@ pub data AreParameters : List (List ℕ) → List Pair → List Typed → Type 0
   typed : {text : List ℕ} {texts : List (List ℕ)} {typed : Typed} {directives : List Pair} {attributes : List Typed} →
       IsTypedAttribute text typed → AreParameters texts directives attributes → AreParameters (text ∷ texts) directives (typed ∷ attributes)
 
--- a clause is one or more paths and then parameters, all joined by `;`. Nothing between two of them, or behind the last, is no
+-- a clause is one or more paths and then parameters, all joined by `;`. Nothing between two of them, or after the last, is no
 -- part, so `a;` and `a;;b` are no clauses
 pub record IsClause (text : List ℕ) (clause : Clause) : Type 0 where
   pub paths : List (List ℕ)
@@ -109,6 +110,6 @@ AreClauses _ _ = ⊥
 
 -- the clauses of a value: one or more, joined by `,`; a value of spaces and tabs alone has none
 pub data AreClausesOf : List ℕ → List Clause → Type 0 where
-  blank : {value : List ℕ} → AllPass is_blank value → AreClausesOf value []
+  blank : {value : List ℕ} → AllPass is_space_or_tab value → AreClausesOf value []
   joined : {value : List ℕ} {clauses : List Clause} (texts : List (List ℕ)) → 0 < length texts → value ≡ join_with_byte 44 texts → AreClauses texts clauses →
       AreClausesOf value clauses

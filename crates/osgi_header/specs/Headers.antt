@@ -8,26 +8,26 @@ use Rattle.osgi_header.specs.declared.header.Header.{Header}
 use Rattle.osgi_header.specs.Lines.{AreGrouped, AreLines, Group, joined, Line}
 
 -- a letter, a digit, `-` or `_`
-abbrev pub is_name_byte : ℕ → Bool
-is_name_byte b = (nat_le 97 b && nat_le b 122) || (nat_le 65 b && nat_le b 90) || (nat_le 48 b && nat_le b 57) || (b == 95) || (b == 45)
+abbrev pub is_header_name_byte : ℕ → Bool
+is_header_name_byte b = (nat_le 97 b && nat_le b 122) || (nat_le 65 b && nat_le b 90) || (nat_le 48 b && nat_le b 57) || (b == 95) || (b == 45)
 
 -- the name of a header: such bytes, of which the first is a letter or a digit
 pub record IsHeaderName (name : List ℕ) : Type 0 where
   pub first : ℕ
   pub rest : List ℕ
   pub is : name ≡ first ∷ rest
-  pub bytes : AllPass is_name_byte name
+  pub bytes : AllPass is_header_name_byte name
   pub no_underscore : first ≢ 95
   pub no_dash : first ≢ 45
 
--- the value of a header by what stands behind the colon: one space at its front is dropped
+-- the value of a header by what follows the colon: one space at its start is dropped
 pub data IsHeaderValue : List ℕ → List ℕ → Type 0 where
   spaced : {value : List ℕ} → IsHeaderValue (32 ∷ value) value
   bare : {value : List ℕ} → ((rest : List ℕ) → value ≢ 32 ∷ rest) → IsHeaderValue value value
 
--- the text is a name, a colon and something behind it. No name has a colon, so it is the first one
-pub record IsNamed (text name behind : List ℕ) : Type 0 where
-  pub is : text ≡ name ++ 58 ∷ behind
+-- the text is a name, a colon and something after it. No name has a colon, so it is the first one
+pub record IsNamed (text name remainder : List ℕ) : Type 0 where
+  pub is : text ≡ name ++ 58 ∷ remainder
   pub named : IsHeaderName name
 
 -- at most 65,536 bytes
@@ -36,9 +36,9 @@ IsShort line = length line.text ≤ 65536
 
 -- the header that a group of lines is
 pub record IsHeader (lines : Group) (header : Header) : Type 0 where
-  pub behind : List ℕ
-  pub named : IsNamed (joined lines) header.name behind
-  pub value : IsHeaderValue behind header.value
+  pub remainder : List ℕ
+  pub named : IsNamed (joined lines) header.name remainder
+  pub value : IsHeaderValue remainder header.value
   pub utf8 : IsUtf8 (joined lines)
   pub short : IsShort lines.first
   pub all_short : All IsShort lines.more
@@ -48,11 +48,11 @@ pub record IsHeader (lines : Group) (header : Header) : Type 0 where
 pub data IsGroupFault : Group → HeaderFault → Type 0 where
   first_long : {lines : Group} → 65536 < length lines.first.text → IsGroupFault lines (record { kind = LongLine; at = lines.first.at })
   no_colon : {lines : Group} → IsShort lines.first → All (λ b. b ≢ 58) (joined lines) → IsGroupFault lines (record { kind = NoColon; at = lines.first.at })
-  bad_name : {lines : Group} (name behind : List ℕ) → IsShort lines.first → joined lines ≡ name ++ 58 ∷ behind → All (λ b. b ≢ 58) name → ¬ IsHeaderName name →
+  bad_name : {lines : Group} (name remainder : List ℕ) → IsShort lines.first → joined lines ≡ name ++ 58 ∷ remainder → All (λ b. b ≢ 58) name → ¬ IsHeaderName name →
       IsGroupFault lines (record { kind = BadName; at = lines.first.at })
-  bad_utf8 : {lines : Group} (name behind : List ℕ) → IsShort lines.first → IsNamed (joined lines) name behind → ¬ IsUtf8 (joined lines) →
+  bad_utf8 : {lines : Group} (name remainder : List ℕ) → IsShort lines.first → IsNamed (joined lines) name remainder → ¬ IsUtf8 (joined lines) →
       IsGroupFault lines (record { kind = BadUtf8; at = lines.first.at })
-  more_long : {lines : Group} (name behind : List ℕ) (before : List Line) (long : Line) (rest : List Line) → IsShort lines.first → IsNamed (joined lines) name behind →
+  more_long : {lines : Group} (name remainder : List ℕ) (before : List Line) (long : Line) (rest : List Line) → IsShort lines.first → IsNamed (joined lines) name remainder →
       IsUtf8 (joined lines) → lines.more ≡ before ++ long ∷ rest → All IsShort before → 65536 < length long.text →
       IsGroupFault lines (record { kind = LongLine; at = long.at })
 

@@ -1,9 +1,8 @@
 -- The grammar of headers and their values, and what the readers compute.
 pub mod ClauseFaults
-pub mod ClauseReader
 pub mod Clauses
-pub mod Cutting
-pub mod HeaderReader
 pub mod Headers
 pub mod Lines
-pub mod Quotes
+pub mod ReadClauses
+pub mod Spaces
+pub mod computed

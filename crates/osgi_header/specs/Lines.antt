@@ -19,7 +19,7 @@ pub data EndsLine : List ℕ → List ℕ → Type 0 where
   cr : {rest : List ℕ} → ((more : List ℕ) → rest ≢ 10 ∷ more) → EndsLine (13 ∷ []) rest
   nothing : EndsLine [] []
 
--- the bytes begin with this line, which is not empty, and this is left behind its end
+-- the bytes begin with this line, which is not empty, and this is left after its end
 pub record BeginsWithLine (bytes text left : List ℕ) : Type 0 where
   pub end : List ℕ
   pub is : bytes ≡ text ++ (end ++ left)
@@ -38,7 +38,7 @@ pub data AreLines : ℕ → List ℕ → List Line → Type 0 where
   next : {at : ℕ} {bytes text left : List ℕ} {lines : List Line} (begins : BeginsWithLine bytes text left) →
       AreLines (at + (length text + length begins.end)) left lines → AreLines at bytes (record { at = at; text = text } ∷ lines)
 
--- a line that begins with a space continues the line before it, also where nothing stands behind the space: such a line is
+-- a line that begins with a space continues the line before it, also where nothing follows the space: such a line is
 -- not empty, and ends no section
 abbrev pub begins_with_space : List ℕ → Bool
 begins_with_space [] = false
@@ -52,7 +52,7 @@ pub record Group : Type 0 where
   pub first : Line
   pub more : List Line
 
--- what stands behind a header's lines: nothing, or a line that continues none
+-- what follows a header's lines: nothing, or a line that continues none
 pub data StopsGroup : List Line → Type 0 where
   at_end : StopsGroup []
   another : {line : Line} {rest : List Line} → continues line ≡ false → StopsGroup (line ∷ rest)
@@ -63,6 +63,6 @@ pub data AreGrouped : List Line → List Group → Type 0 where
   header : {rest : List Line} {groups : List Group} (first : Line) (more : List Line) → AllPass continues more → StopsGroup rest → AreGrouped rest groups →
       AreGrouped (first ∷ more ++ rest) (record { first = first; more = more } ∷ groups)
 
--- a header's lines in one: those that continue the first go without the space at their front
+-- a header's lines in one: those that continue the first go without the space at their start
 abbrev pub joined : Group → List ℕ
 joined group = group.first.text ++ concat (map (λ line. drop 1 line.text) group.more)

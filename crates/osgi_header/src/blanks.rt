@@ -2,16 +2,16 @@
 
 ghost use Rattle.std.specs.Prelude.{◌≡◌};
 ghost use Rattle.std.specs.List.{list_all};
-ghost use Rattle.osgi_header.specs.Quotes.{is_blank};
-ghost use Rattle.osgi_header.specs.ClauseReader.{after_blanks, before_blanks, trimmed};
+ghost use Rattle.osgi_header.specs.Spaces.{is_space_or_tab};
+ghost use Rattle.osgi_header.specs.computed.ClauseReader.{after_blanks, before_blanks, trimmed};
 
-/// Drops the spaces and tabs at the front.
+/// Drops the spaces and tabs at the start.
 fn trim_start(text: &[u8]) -> &[u8]
     ensures rest { result.now ≡ after_blanks text.now }
 {
     let mut rest = text;
-    while let [b' ' | b'\t', behind @ ..] = rest {
-        rest = behind;
+    while let [b' ' | b'\t', remainder @ ..] = rest {
+        rest = remainder;
     }
     rest
 }
@@ -21,8 +21,8 @@ fn trim_end(text: &[u8]) -> &[u8]
     ensures rest { result.now ≡ before_blanks text.now }
 {
     let mut rest = text;
-    while let [front @ .., b' ' | b'\t'] = rest {
-        rest = front;
+    while let [prefix @ .., b' ' | b'\t'] = rest {
+        rest = prefix;
     }
     rest
 }
@@ -36,7 +36,7 @@ pub fn trim(text: &[u8]) -> &[u8]
 
 /// Whether a text is spaces and tabs alone.
 pub fn is_blank(text: &[u8]) -> bool
-    ensures blank { result ≡ list_all is_blank text.now }
+    ensures blank { result ≡ list_all is_space_or_tab text.now }
 {
     text.iter().all(|b| matches!(*b, b' ' | b'\t'))
 }

@@ -2,6 +2,7 @@
 
 ghost use Rattle.std.specs.Prelude.{◌≡◌, IfOk};
 
+use crate::fault::HeaderFault;
 use osgi_base::copied::Copied;
 use osgi_base::list::List;
 use osgi_base::text::Text;
@@ -81,4 +82,18 @@ impl Copied for Clause {
     fn copied(&self, alloc: Global) -> Result<Clause, AllocError> {
         self.copy(alloc)
     }
+}
+
+/// A clause, and the byte at which it begins: 0, or right after the `,` before it.
+#[derive(Debug, Drop, PartialEq, Eq)]
+pub struct ClauseAt {
+    pub at: u64,
+    pub clause: Clause,
+}
+
+/// The clauses of a value before its first fault, and that fault if it has one.
+#[derive(Debug, Drop, PartialEq, Eq)]
+pub struct ReadClauses {
+    pub clauses: List<ClauseAt>,
+    pub fault: Option<HeaderFault>,
 }

@@ -8,7 +8,9 @@ pub mod header;
 mod lines;
 mod parameters;
 mod parts;
-mod quoted;
-pub mod reading;
+mod reading;
 mod repeated;
-pub mod unfolding;
+mod unfolding;
+
+pub use reading::{clauses, read_clauses};
+pub use unfolding::unfold;

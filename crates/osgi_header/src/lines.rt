@@ -3,7 +3,7 @@
 ghost use Rattle.std.specs.Prelude.{◌≡◌, IfOk, MatchOption};
 ghost use Rattle.std.specs.List.{prefix_len};
 ghost use Rattle.osgi_header.specs.Lines.{is_line_byte, AreLines, BeginsWithLine, EndsSection};
-ghost use Rattle.osgi_header.specs.HeaderReader.{behind_end, lines_seen, without_line_feed};
+ghost use Rattle.osgi_header.specs.computed.HeaderReader.{after_end, lines_seen, without_line_feed};
 
 use std::alloc::{AllocError, Global};
 
@@ -14,7 +14,7 @@ pub struct Line<'a> {
     pub text: &'a [u8],
 }
 
-/// The length of the line at the front, without its end.
+/// The length of the line at the start, without its end.
 fn line_len(bytes: &[u8]) -> usize
     ensures len { result ≡ prefix_len is_line_byte bytes.now }
 {
@@ -35,9 +35,9 @@ fn skip_line_feed(bytes: &[u8]) -> &[u8]
     }
 }
 
-/// What is left behind the line end that stands at the front: CRLF, LF or CR.
+/// What is left after the line end that stands at the start: CRLF, LF or CR.
 fn skip_end(bytes: &[u8]) -> &[u8]
-    ensures rest { result.now ≡ behind_end bytes.now }
+    ensures rest { result.now ≡ after_end bytes.now }
 {
     match bytes {
         [b'\r', rest @ ..] => skip_line_feed(rest),
@@ -46,15 +46,15 @@ fn skip_end(bytes: &[u8]) -> &[u8]
     }
 }
 
-/// Splits off the first line: the line, and what is left behind its end. None where the section is over.
+/// Splits off the first line: the line, and what is left after its end. None where the section is over.
 fn split_line(bytes: &[u8]) -> Option<(&[u8], &[u8])>
     ensures line { MatchOption result (EndsSection bytes.now) (λ split. BeginsWithLine bytes.now split.0.now split.1.now) }
 {
-    let (text, behind) = bytes.split_at(line_len(bytes));
+    let (text, remainder) = bytes.split_at(line_len(bytes));
     if text.is_empty() {
         return None;
     }
-    Some((text, skip_end(behind)))
+    Some((text, skip_end(remainder)))
 }
 
 /// All lines of the main section, in order.

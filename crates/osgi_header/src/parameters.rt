@@ -2,12 +2,12 @@
 
 ghost use Rattle.std.specs.Prelude.{◌≡◌, IfOk};
 ghost use Rattle.std.specs.List.{list_all, position};
-ghost use Rattle.osgi_header.specs.Clauses.{is_bare_byte, is_name_byte, is_path_byte};
-ghost use Rattle.osgi_header.specs.ClauseReader.{attribute_of, directive_of, ends_kind, ends_name, name_of, parameter_of, part_of, path_of, typed_of, value_of};
+ghost use Rattle.osgi_header.specs.Clauses.{is_bare_byte, is_parameter_name_byte, is_path_byte};
+ghost use Rattle.osgi_header.specs.computed.ClauseReader.{attribute_of, directive_of, ends_kind, ends_name, name_of, parameter_of, part_of, path_of, typed_of, parameter_value};
 
 use crate::blanks::trim;
 use crate::clause::{Pair, Typed};
-use crate::quoted::quoted;
+use osgi_base::quoted::quoted;
 use osgi_base::text::Text;
 use std::alloc::{AllocError, Global};
 
@@ -27,7 +27,7 @@ fn has_path_bytes(text: &[u8]) -> bool
 }
 
 fn has_name_bytes(text: &[u8]) -> bool
-    ensures all { result ≡ list_all is_name_byte text.now }
+    ensures all { result ≡ list_all is_parameter_name_byte text.now }
 {
     text.iter().all(|b| matches!(*b, b'a'..=b'z' | b'A'..=b'Z' | b'0'..=b'9' | b'_' | b'-' | b'.'))
 }
@@ -62,7 +62,7 @@ fn name(alloc: Global, text: &[u8]) -> Result<Option<Text>, AllocError>
 
 /// The value of a parameter, between quotes or as it stands; none where the text is none.
 fn value(alloc: Global, text: &[u8]) -> Result<Option<Text>, AllocError>
-    ensures value { IfOk result (λ value. value ≡ value_of text.now) }
+    ensures value { IfOk result (λ value. value ≡ parameter_value text.now) }
 {
     let value = trim(text);
     if let [b'"', ..] = value {
@@ -103,22 +103,22 @@ fn kind_end(text: &[u8]) -> Option<usize>
     text.iter().position(|b| *b == b'=')
 }
 
-/// An attribute with a type, from what stands behind the `:` between name and type.
+/// An attribute with a type, from what follows the `:` between name and type.
 fn typed_attribute(alloc: Global, name: Text, rest: &[u8]) -> Result<Option<Part>, AllocError>
     ensures attribute { IfOk result (λ part. part ≡ typed_of name rest.now) }
 {
     let Some(end) = kind_end(rest) else {
         return Ok(None);
     };
-    let (front, _) = rest.split_at(end);
+    let (prefix, _) = rest.split_at(end);
     let (_, spelled) = rest.split_at(end + 1);
-    let Some(kind) = path(alloc, front)? else {
+    let Some(kind) = path(alloc, prefix)? else {
         return Ok(None);
     };
     attribute(alloc, name, kind, spelled)
 }
 
-/// A parameter by its name and what stands behind that.
+/// A parameter by its name and what follows that.
 fn parameter(alloc: Global, name: Text, rest: &[u8]) -> Result<Option<Part>, AllocError>
     ensures part { IfOk result (λ part. part ≡ parameter_of name rest.now) }
 {
@@ -136,15 +136,15 @@ fn name_end(text: &[u8]) -> Option<usize>
     text.iter().position(|b| matches!(*b, b':' | b'='))
 }
 
-/// A part of a clause: a path, or a parameter, which has a `:` or `=` behind its name. None where the text is none.
+/// A part of a clause: a path, or a parameter, which has a `:` or `=` after its name. None where the text is none.
 pub fn read_part(alloc: Global, text: &[u8]) -> Result<Option<Part>, AllocError>
     ensures part { IfOk result (λ part. part ≡ part_of text.now) }
 {
     let Some(end) = name_end(text) else {
         return Ok(path(alloc, text)?.map(Part::Path));
     };
-    let (front, rest) = text.split_at(end);
-    match name(alloc, front)? {
+    let (prefix, rest) = text.split_at(end);
+    match name(alloc, prefix)? {
         Some(name) => parameter(alloc, name, rest),
         None => Ok(None),
     }

@@ -6,7 +6,7 @@ ghost use Rattle.osgi_header.specs.Headers.{counting};
 
 use crate::header::Header;
 use std::alloc::{AllocError, Global};
-use std::collections::HashSet;
+use std::collections::BTreeSet;
 
 fn lowercase(alloc: Global, name: &[u8]) -> Result<Vec<u8>, AllocError>
     ensures lowercase { IfOk result (λ low. low.items ≡ str_to_ascii_lowercase name.now) }
@@ -26,12 +26,12 @@ fn push_if(kept: &mut Vec<Header>, header: Header, counts: bool) -> Result<(), A
     Ok(())
 }
 
-/// The headers that count: those whose name does not come again behind them, in whatever case.
+/// The headers that count: those whose name does not come again after them, in whatever case.
 pub fn keep_last(alloc: Global, headers: Vec<Header>) -> Result<Vec<Header>, AllocError>
     ensures kept { IfOk result (λ kept. kept.items ≡ counting headers.items) }
 {
     let mut left = headers;
-    let mut seen = HashSet::new(alloc);
+    let mut seen = BTreeSet::new(alloc);
     let mut kept = Vec::new(alloc);
     while let Some(header) = left.pop() {
         let name = lowercase(alloc, header.name.bytes())?;

@@ -3,9 +3,9 @@
 ghost use Rattle.std.specs.Prelude.{◌≡◌, ◌≤◌, List, [], drop, length, IfOk, MatchOption, MatchResult, Ok, Err};
 ghost use Rattle.std.specs.List.{list_all, position, prefix_len};
 ghost use Rattle.std.specs.Str.{is_utf8};
-ghost use Rattle.osgi_header.specs.Headers.{is_name_byte, AreHeadersOf, IsHeaderFault};
+ghost use Rattle.osgi_header.specs.Headers.{is_header_name_byte, AreHeadersOf, IsHeaderFault};
 ghost use Rattle.osgi_header.specs.Lines.{continues, joined};
-ghost use Rattle.osgi_header.specs.HeaderReader.{counted, first_long, group, groups_of, header_of, headers_from, is_colon, is_header_name, is_long, items_read, line_seen, lines_seen, parsed, without_space, BeginsWithGroup};
+ghost use Rattle.osgi_header.specs.computed.HeaderReader.{counted, first_long, group, groups_of, header_of, headers_from, is_colon, is_header_name, is_long, items_read, line_seen, lines_seen, parsed, without_space, BeginsWithGroup};
 
 use crate::fault::{HeaderFault, HeaderKind};
 use crate::header::Header;
@@ -32,7 +32,7 @@ fn continues(line: &Line) -> bool
     matches!(line.text, [b' ', ..])
 }
 
-/// How many lines at the front go on with the line before them.
+/// How many lines at the start go on with the line before them.
 fn continued(lines: &[Line]) -> usize
     ensures count { result ≡ prefix_len continues (lines_seen lines.now) }
 {
@@ -56,7 +56,7 @@ fn first_long(lines: &[Line]) -> Option<u64>
     None
 }
 
-/// A header's lines in one: the first, and those that go on with it, each without the space at its front.
+/// A header's lines in one: the first, and those that go on with it, each without the space at its start.
 fn join(alloc: Global, first: &Line, more: &[Line]) -> Result<Vec<u8>, AllocError>
     ensures joined { IfOk result (λ text. text.items ≡ joined (group (line_seen first.now) (lines_seen more.now))) }
 {
@@ -76,7 +76,7 @@ fn colon_at(text: &[u8]) -> Option<usize>
 }
 
 fn has_name_bytes(text: &[u8]) -> bool
-    ensures all { result ≡ list_all is_name_byte text.now }
+    ensures all { result ≡ list_all is_header_name_byte text.now }
 {
     text.iter().all(|b| matches!(*b, b'a'..=b'z' | b'A'..=b'Z' | b'0'..=b'9' | b'_' | b'-'))
 }
@@ -97,7 +97,7 @@ fn is_utf8(text: &[u8]) -> bool
     str::from_utf8(text).is_ok()
 }
 
-/// A text without the one space at its front, if it has one.
+/// A text without the one space at its start, if it has one.
 fn skip_space(text: &[u8]) -> &[u8]
     ensures rest { result.now ≡ without_space text.now }
 {
@@ -121,10 +121,10 @@ fn parse_header(alloc: Global, text: &[u8]) -> Result<Result<Header, HeaderKind>
     if !is_utf8(text) {
         return Ok(Err(HeaderKind::BadUtf8));
     }
-    let (_, behind) = text.split_at(colon + 1);
+    let (_, remainder) = text.split_at(colon + 1);
     Ok(Ok(Header {
         name: Text::of(alloc, name)?,
-        value: Text::of(alloc, skip_space(behind))?,
+        value: Text::of(alloc, skip_space(remainder))?,
     }))
 }
 
@@ -164,10 +164,10 @@ fn header_lines<'s, 'a>(
     ensures header { MatchOption result (drop start lines.now ≡ []) (λ s. BeginsWithGroup lines.now start (line_seen s.0.now) s.1.now) }
 {
     let (_, rest) = lines.split_at(start);
-    let [first, behind @ ..] = rest else {
+    let [first, remainder @ ..] = rest else {
         return None;
     };
-    let (more, _) = behind.split_at(continued(behind));
+    let (more, _) = remainder.split_at(continued(remainder));
     Some((first, more))
 }
 
@@ -210,7 +210,7 @@ fn read_counting(
 pub fn unfold(alloc: Global, bytes: &[u8]) -> Result<Result<List<Header>, HeaderFault>, AllocError>
     ensures reads { IfOk result (λ r. MatchResult r (AreHeadersOf bytes.now) (IsHeaderFault bytes.now)) }
     ensures only { (others : List Header) → AreHeadersOf bytes.now others → IfOk result (λ r. r ≡ Ok others) }
-    ensures only_fault { (other : HeaderFault) → IsHeaderFault bytes.now other → IfOk result (λ r. r ≡ Err other) }
+    ensures fault { (other : HeaderFault) → IsHeaderFault bytes.now other → IfOk result (λ r. r ≡ Err other) }
 {
     let lines = read_lines(alloc, bytes)?;
     read_counting(alloc, lines.as_slice())

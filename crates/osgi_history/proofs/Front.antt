@@ -1,4 +1,4 @@
--- The services of a history with one more entry at its front.
+-- The services of a history with one more entry at its start.
 use Rattle.std.proofs.Common.{◌≡◌, ℕ, ◌+◌, ◌-◌, ◌<◌, List, [], ◌∷◌, ◌++◌, length, length-drop, get_or, drop, take, map, ap, sym, ◌∙◌, refl, arith, eq-eqb}
 use Rattle.std.specs.Prelude.{Bool, true, false, cond, nat_eq, Option, None, Some, filter, find}
 use Rattle.std.specs.Option.{option_eq, option_map_or, option_to_list}
@@ -13,12 +13,12 @@ use Rattle.osgi_ops.specs.declared.op.Op.{Op}
 use Rattle.osgi_ops.specs.declared.op.Op.TheVariants.{Register}
 use Rattle.osgi_ops.specs.declared.reply.Reply.{Reply}
 use Rattle.osgi_ops.specs.declared.entry.Entry.{Entry}
-use Rattle.osgi_history.specs.Scans.{held, is_registration}
+use Rattle.osgi_history.specs.computed.Scans.{held, is_registration}
 
 abbrev pub ids_of : List Registered → List ServiceId
 ids_of list = map (λ r. r.service) list
 
--- the live services of entries that stand behind so many registrations
+-- the live services of entries that follow so many registrations
 abbrev pub live_after : ℕ → List Entry → List Registered
 live_after earlier entries = filter is_live (registered_after earlier entries)
 
@@ -101,7 +101,7 @@ uses_by user service earlier (Register owner classes object properties) reply si
 uses_by user service earlier op reply since rest None same ids is = ap (λ b. cond b (held user service since) (uses_in user service rest)) is
 uses_by user service earlier op reply since rest (Some new) same ids is = absurd (cc)
 
--- how often the user holds the service by entries that stand behind so many registrations
+-- how often the user holds the service by entries that follow so many registrations
 abbrev pub uses_after : BundleId → ServiceId → ℕ → List Entry → ℕ
 uses_after user service earlier entries = uses_in user service (live_after earlier entries)
 

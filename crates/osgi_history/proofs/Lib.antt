@@ -1,2 +1,2 @@
--- Lemmas on histories, read from their front.
+-- Lemmas on histories, read from their start.
 pub mod Front

@@ -1,2 +1,2 @@
 -- What the scans compute.
-pub mod Scans
+pub mod computed

@@ -1,4 +1,6 @@
 //! What a history says, read off its entries by plain scans.
 #![tactic(auto)]
 
-pub mod scans;
+mod scans;
+
+pub use scans::{live, uses};

@@ -4,7 +4,7 @@ ghost use Rattle.std.specs.Prelude.{◌≡◌, ◌<◌, count_by, filter, map, I
 ghost use Rattle.std.specs.List.{list_any};
 ghost use Rattle.std.specs.Option.{option_map_or, option_to_list};
 ghost use Rattle.osgi_ops.specs.Services.{is_get, is_live, is_unget, live, registered_by, takes_out, uses};
-ghost use Rattle.osgi_history.specs.Scans.{held, is_registration};
+ghost use Rattle.osgi_history.specs.computed.Scans.{held, is_registration};
 
 use osgi_base::ids::{BundleId, ServiceId};
 use osgi_base::list::List;
@@ -40,7 +40,7 @@ fn is_registration(entry: &Entry) -> bool
     }
 }
 
-/// The service that the entry registered behind so many earlier ones, where the entries since leave it live.
+/// The service that the entry registered after so many earlier ones, where the entries since leave it live.
 fn registered(earlier: u64, entry: &Entry, since: &[Entry]) -> Option<ServiceId>
     requires countable { earlier < 18446744073709551615 }
     ensures registered { option_to_list result ≡ map (λ r. r.service) (filter is_live (registered_by earlier entry.now.op entry.now.reply since.now)) }

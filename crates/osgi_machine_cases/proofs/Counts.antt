@@ -6,7 +6,7 @@ use Rattle.std.proofs.lemmas.Bool.{cond-true}
 use Rattle.osgi_base.specs.declared.ids.BundleId.{BundleId}
 use Rattle.osgi_base.specs.declared.ids.ServiceId.{ServiceId}
 use Rattle.osgi_ops.specs.declared.refusal.Refusal.{Refusal}
-use Rattle.osgi_registry.proofs.Standing.{count-with}
+use Rattle.osgi_registry.specs.laws.Standing.{count-with}
 use Rattle.osgi_registry.specs.Rows.{change, count_of, is_service, RegistryRows, Row, use_count, used_more}
 
 more_here : (user : BundleId) (row : Row) → count_of user (used_more user row).uses ≡ count_of user row.uses + 1

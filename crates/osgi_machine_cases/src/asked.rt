@@ -3,7 +3,7 @@
 use crate::shown::is_as_its_copy;
 use osgi_base::ids::BundleId;
 use osgi_base::list::List;
-use osgi_console::reading::parse;
+use osgi_console::parse;
 use osgi_ops::command::Command;
 use osgi_ops::line::{Content, Line};
 use osgi_ops::op::Op;

@@ -1,6 +1,6 @@
 //! The calls of the registry that operations come to.
 
-ghost use Rattle.std.specs.Prelude.{◌≡◌, ◌+◌, ◌<◌, ◌≤◌};
+ghost use Rattle.std.specs.Prelude.{◌+◌, ◌<◌, ◌≤◌};
 
 use crate::assignable::Assignable;
 use crate::uses::get;
@@ -8,13 +8,12 @@ use osgi_base::ids::{BundleId, ServiceId};
 use osgi_base::list::List;
 use osgi_base::text::Text;
 use osgi_model::filter::Filter;
-use osgi_model::value::Attributes;
 use osgi_ops::op::Op;
 use osgi_ops::refusal::Refusal;
 use osgi_ops::reply::Reply;
 use osgi_ops::service::{Service, ServiceRow};
+use osgi_registry::Registry;
 use osgi_registry::properties::ranking;
-use osgi_registry::registry::Registry;
 use std::alloc::{AllocError, Global};
 
 fn done(answer: Result<(), Refusal>) -> Reply {
@@ -24,61 +23,31 @@ fn done(answer: Result<(), Refusal>) -> Reply {
     }
 }
 
-fn register(
-    alloc: Global,
-    registry: &mut Registry,
-    owner: BundleId,
-    classes: &List<Text>,
-    object: &Text,
-    properties: &Attributes,
-) -> Result<Reply, AllocError>
-    requires { registry.old.given < 4294967295 }
-    ensures given { registry.new.given ≤ registry.old.given + 1 }
-{
-    let classes = classes.copy(alloc)?;
-    let object = object.copy(alloc)?;
-    match registry.register(owner, classes, object, properties.copy(alloc)?)? {
-        Ok(service) => Ok(Reply::Service { service }),
-        Err(refusal) => Ok(Reply::Refused { refusal }),
+fn registered(answer: Result<ServiceId, Refusal>) -> Reply {
+    match answer {
+        Ok(service) => Reply::Service { service },
+        Err(refusal) => Reply::Refused { refusal },
     }
 }
 
-fn modify(
-    alloc: Global,
-    registry: &mut Registry,
-    owner: BundleId,
-    service: ServiceId,
-    properties: &Attributes,
-) -> Result<Reply, AllocError>
-    ensures given { registry.new.given ≡ registry.old.given }
-{
-    Ok(done(registry.modify(owner, service, properties.copy(alloc)?)?))
+fn object(answer: Result<Text, Refusal>) -> Reply {
+    match answer {
+        Ok(text) => Reply::Object { text },
+        Err(refusal) => Reply::Refused { refusal },
+    }
 }
 
 fn find(
     registry: &Registry,
     class: &Text,
     filter: Option<&Filter>,
-    assignable: &Assignable,
+    assignable: Assignable<'_>,
 ) -> Option<ServiceId> {
     registry.find(
         class,
         filter,
         |registrant: BundleId, class: &Text| -> bool { assignable.allows(registrant, class) },
     )
-}
-
-fn get_object(
-    registry: &mut Registry,
-    user: BundleId,
-    service: ServiceId,
-) -> Result<Reply, AllocError>
-    ensures given { registry.new.given ≡ registry.old.given }
-{
-    match get(registry, user, service)? {
-        Ok(text) => Ok(Reply::Object { text }),
-        Err(refusal) => Ok(Reply::Refused { refusal }),
-    }
 }
 
 /// What a list of services shows of one.
@@ -104,11 +73,11 @@ fn rows(alloc: Global, registry: &Registry) -> Result<List<ServiceRow>, AllocErr
 pub fn reply_to(
     alloc: Global,
     registry: &mut Registry,
-    op: &Op,
-    assignable: &Assignable,
+    op: Op,
+    assignable: Assignable<'_>,
 ) -> Result<Reply, AllocError>
-    requires { registry.old.given < 4294967295 }
-    ensures given { registry.new.given ≤ registry.old.given + 1 }
+    requires { registry.old.issued < 4294967295 }
+    ensures issued { registry.new.issued ≤ registry.old.issued + 1 }
 {
     match op {
         Op::Register {
@@ -116,22 +85,22 @@ pub fn reply_to(
             classes,
             object,
             properties,
-        } => register(alloc, registry, *owner, classes, object, properties),
+        } => Ok(registered(registry.register(owner, classes, object, properties)?)),
         Op::Modify {
             owner,
             service,
             properties,
-        } => modify(alloc, registry, *owner, *service, properties),
-        Op::Unregister { owner, service } => Ok(done(registry.unregister(*owner, *service))),
+        } => Ok(done(registry.modify(owner, service, properties)?)),
+        Op::Unregister { owner, service } => Ok(done(registry.unregister(owner, service))),
         Op::Find { class, filter, .. } => Ok(Reply::Best {
-            service: find(registry, class, filter.as_ref(), assignable),
+            service: find(registry, &class, filter.as_ref(), assignable),
         }),
         Op::FindAll { class, filter, .. } => Ok(Reply::Services {
-            services: registry.find_all(class, filter.as_ref())?,
+            services: registry.find_all(&class, filter.as_ref())?,
         }),
-        Op::Get { user, service } => get_object(registry, *user, *service),
+        Op::Get { user, service } => Ok(object(get(registry, user, service)?)),
         Op::Unget { user, service } => Ok(Reply::Flag {
-            value: registry.unget(*user, *service),
+            value: registry.unget(user, service),
         }),
         Op::ListServices => Ok(Reply::ServiceRows {
             rows: rows(alloc, registry)?,

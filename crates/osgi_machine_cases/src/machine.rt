@@ -1,12 +1,12 @@
-//! Rows that ask the machine.
+//! What the machine answers, and its history.
 
-use crate::asked::asked;
-use crate::shown::{shown, told, unless};
-use osgi_base::ids::{BundleId, Tag};
-use osgi_core::machine::Core;
+use crate::shown::{add_checked, add_shown};
+use osgi_base::ids::Tag;
+use osgi_core::Core;
 use osgi_ops::entry::Entry;
 use osgi_ops::op::Op;
 use std::alloc::{AllocError, Global};
+use std::fmt::Write;
 
 /// Applies an operation; the entry that it comes to.
 fn applied(alloc: Global, core: &mut Core, tag: Tag, op: Op) -> Result<Entry, AllocError> {
@@ -14,32 +14,19 @@ fn applied(alloc: Global, core: &mut Core, tag: Tag, op: Op) -> Result<Entry, Al
     Ok(Entry { tag, op, reply })
 }
 
-/// Whether the entry is the last of the history.
-fn is_last(core: &Core, entry: &Entry) -> bool {
-    match core.entries().last() {
-        Some(last) => *last == *entry,
-        None => false,
-    }
-}
-
-fn answer(alloc: Global, core: &mut Core, tag: Tag, op: Op) -> Result<String, AllocError> {
-    let entry = applied(alloc, core, tag, op)?;
-    let text = told(alloc, &entry)?;
-    let recorded = unless(is_last(core, &entry), ", not recorded");
-    format!(in alloc; "{text}{recorded}")
-}
-
-/// What the machine answers to a command that the bundle asks for.
-pub fn ask(
+/// Adds what the machine answers to an operation, and whether it is the last of the history.
+pub fn add_recorded(
     alloc: Global,
+    out: &mut String,
     core: &mut Core,
     tag: Tag,
-    bundle: BundleId,
-    command: &str,
-) -> Result<String, AllocError> {
-    match asked(alloc, bundle, command)? {
-        Ok(op) => answer(alloc, core, tag, op),
-        Err(why) => String::from_str(alloc, why),
+    op: Op,
+) -> Result<(), AllocError> {
+    let entry = applied(alloc, core, tag, op)?;
+    add_checked(alloc, out, &entry)?;
+    match core.entries() {
+        [.., last] if *last == entry => Ok(()),
+        _ => out.push_str(", not recorded"),
     }
 }
 
@@ -57,20 +44,18 @@ fn kind(op: &Op) -> (&'static str, u32) {
     }
 }
 
-fn in_history(alloc: Global, entry: &Entry) -> Result<String, AllocError> {
-    let text = shown(alloc, entry)?;
+fn add_entry(alloc: Global, out: &mut String, entry: &Entry) -> Result<(), AllocError> {
     let tag = entry.tag;
     let (kind, bundle) = kind(&entry.op);
-    format!(in alloc; "{}.{} {bundle} {kind}: {text}", tag.caller, tag.command)
+    write!(out, " | {}.{} {bundle} {kind}: ", tag.caller, tag.command)?;
+    add_shown(alloc, out, entry)
 }
 
-/// The machine's history.
-pub fn history(alloc: Global, core: &Core) -> Result<String, AllocError> {
-    let entries = core.entries();
-    let mut out = format!(in alloc; "{}", entries.len())?;
+/// Adds the entries of a history.
+pub fn add_history(alloc: Global, out: &mut String, entries: &[Entry]) -> Result<(), AllocError> {
+    write!(out, "{}", entries.len())?;
     for entry in entries {
-        let text = in_history(alloc, entry)?;
-        write!(out, " | {text}")?;
+        add_entry(alloc, out, entry)?;
     }
-    Ok(out)
+    Ok(())
 }

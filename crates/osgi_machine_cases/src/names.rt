@@ -1,11 +1,12 @@
 //! Rows about names and numbers: refusals, what there can be too many of, the standard limits; and a line that joins.
 
-use crate::shown::{is_as_its_copy, unless};
+use crate::shown::{complain, is_as_its_copy};
 use osgi_base::ids::BundleId;
 use osgi_ops::limits::Limits;
 use osgi_ops::line::{Content, Line};
 use osgi_ops::refusal::{Many, Refusal};
 use std::alloc::{AllocError, Global};
+use std::fmt::Write;
 
 fn many_named(name: &str) -> Option<Many> {
     match name {
@@ -29,42 +30,41 @@ fn refusal_named(name: &str) -> Option<Refusal> {
     }
 }
 
-/// The number and the name of a refusal. The name of what there is too many of stands for TooMany.
-pub fn refusal(alloc: Global, name: &str) -> Result<String, AllocError> {
+/// Adds the number and the name of a refusal. The name of what there is too many of stands for TooMany.
+pub fn add_refusal(alloc: Global, out: &mut String, name: &str) -> Result<(), AllocError> {
     let Some(refusal) = refusal_named(name) else {
-        return String::from_str(alloc, "no refusal");
+        return out.push_str("no refusal");
     };
-    let copied = unless(is_as_its_copy(alloc, &refusal)?, ", its copy differs");
-    format!(in alloc; "{} {}{copied}", refusal.number(), refusal.name())
+    write!(out, "{} {}", refusal.number(), refusal.name())?;
+    complain(out, is_as_its_copy(alloc, &refusal)?, ", its copy differs")
 }
 
-pub fn many(alloc: Global, name: &str) -> Result<String, AllocError> {
-    String::from_str(
-        alloc,
-        many_named(name).map_or("nothing", |kind| kind.name()),
-    )
+/// Adds the name of what there can be too many of.
+pub fn add_many(out: &mut String, name: &str) -> Result<(), AllocError> {
+    out.push_str(many_named(name).map_or("nothing", |kind| kind.name()))
 }
 
-/// A line that joins, beside its copy.
-pub fn joined(alloc: Global) -> Result<String, AllocError> {
+/// Adds whether a line that joins is as its copy.
+pub fn add_join(alloc: Global, out: &mut String) -> Result<(), AllocError> {
     let line = Line {
         number: 4,
         lane: 2,
         content: Content::Join,
     };
-    let copied = is_as_its_copy(alloc, &line)?;
-    String::from_str(
-        alloc,
-        if copied {
-            "as its copy"
-        } else {
-            "its copy differs"
-        },
-    )
+    let is_same = is_as_its_copy(alloc, &line)?;
+    out.push_str(if is_same {
+        "as its copy"
+    } else {
+        "its copy differs"
+    })
 }
 
-/// The standard limits: the budget, the handings and the entries.
-pub fn limits(alloc: Global) -> Result<String, AllocError> {
+/// Adds the standard limits: the budget, the handings and the entries.
+pub fn add_limits(out: &mut String) -> Result<(), AllocError> {
     let limits = Limits::standard();
-    format!(in alloc; "{} {} {}", limits.budget, limits.handings, limits.entries)
+    write!(
+        out,
+        "{} {} {}",
+        limits.budget, limits.handings, limits.entries
+    )
 }

@@ -1,38 +1,54 @@
-//! Entries, ids and properties as the answers show them.
+//! Entries and ids as the answers show them.
 
 use osgi_base::copied::Copied;
 use osgi_base::ids::ServiceId;
 use osgi_base::text::Text;
-use osgi_console::rendering::render;
-use osgi_model::value::{Attribute, Value};
+use osgi_console::render;
 use osgi_ops::command::Command;
 use osgi_ops::entry::Entry;
 use osgi_ops::line::{Content, Line};
 use std::alloc::{AllocError, Global};
+use std::fmt::Write;
 use std::{slice, str};
 
 pub fn is_as_its_copy<T: Copied + PartialEq>(alloc: Global, value: &T) -> Result<bool, AllocError> {
     Ok(value.copied(alloc)? == *value)
 }
 
-/// Nothing where all is well, and else what is not.
-pub fn unless(well: bool, complaint: &'static str) -> &'static str {
-    if well { "" } else { complaint }
+/// Adds a complaint, unless all is well.
+pub fn complain(out: &mut String, well: bool, complaint: &str) -> Result<(), AllocError> {
+    if well {
+        Ok(())
+    } else {
+        out.push_str(complaint)
+    }
 }
 
-fn as_str(bytes: &[u8]) -> &str {
-    str::from_utf8(bytes).unwrap_or("(no UTF-8)")
-}
-
-/// What the console writes of an entry, in one line.
-pub fn shown(alloc: Global, entry: &Entry) -> Result<String, AllocError> {
+/// What the console writes of an entry.
+fn written(alloc: Global, entry: &Entry) -> Result<Text, AllocError> {
     let line = Line {
         number: entry.tag.command,
         lane: entry.tag.caller,
         content: Content::Run(Command::Services),
     };
-    let text = render(alloc, slice::from_ref(&line), slice::from_ref(entry))?;
-    as_str(text.bytes()).trim_end().replace(alloc, '\n', "; ")
+    render(alloc, slice::from_ref(&line), slice::from_ref(entry))
+}
+
+/// Adds lines in one.
+fn add_joined(out: &mut String, lines: &str) -> Result<(), AllocError> {
+    for (at, line) in lines.lines().enumerate() {
+        if at > 0 {
+            out.push_str("; ")?;
+        }
+        out.push_str(line)?;
+    }
+    Ok(())
+}
+
+/// Adds what the console writes of an entry, in one line.
+pub fn add_shown(alloc: Global, out: &mut String, entry: &Entry) -> Result<(), AllocError> {
+    let text = written(alloc, entry)?;
+    add_joined(out, str::from_utf8(text.bytes()).unwrap_or("(no UTF-8)"))
 }
 
 /// Whether the operation, the reply and the entry are as their copies.
@@ -44,68 +60,30 @@ fn are_as_copies(alloc: Global, entry: &Entry) -> Result<bool, AllocError> {
     )
 }
 
-/// What the console writes of an entry, and what is wrong with its copies and its reply.
-pub fn told(alloc: Global, entry: &Entry) -> Result<String, AllocError> {
-    let text = shown(alloc, entry)?;
-    let copied = unless(are_as_copies(alloc, entry)?, ", a copy differs");
-    let is_refusal = text.as_str().starts_with("refused ");
-    let refusal = unless(
+/// Adds what the console writes of an entry, and what is wrong with its copies and its reply.
+pub fn add_checked(alloc: Global, out: &mut String, entry: &Entry) -> Result<(), AllocError> {
+    let start = out.len();
+    add_shown(alloc, out, entry)?;
+    let is_refusal = out
+        .as_str()
+        .get(start..)
+        .is_some_and(|shown| shown.starts_with("refused "));
+    complain(
+        out,
         entry.reply.is_refusal() == is_refusal,
         ", is_refusal differs",
-    );
-    format!(in alloc; "{text}{copied}{refusal}")
+    )?;
+    complain(out, are_as_copies(alloc, entry)?, ", a copy differs")
 }
 
-pub fn ids(alloc: Global, ids: &[ServiceId]) -> Result<String, AllocError> {
+pub fn add_ids(out: &mut String, ids: &[ServiceId]) -> Result<(), AllocError> {
     if ids.is_empty() {
-        return String::from_str(alloc, "none");
+        return out.push_str("none");
     }
-    let mut out = String::new(alloc);
+    let mut separator = "";
     for id in ids {
-        write!(out, " {}", id.0)?;
+        write!(out, "{separator}{}", id.0)?;
+        separator = " ";
     }
-    String::from_str(alloc, out.as_str().trim_start())
-}
-
-/// A value that is no list.
-fn scalar(alloc: Global, value: &Value) -> Result<String, AllocError> {
-    match value {
-        Value::Text(text) => format!(in alloc; "{:?}", as_str(text.bytes())),
-        Value::Long(number) => format!(in alloc; "{number}"),
-        Value::Version(version) => {
-            let text = version.print(alloc)?;
-            format!(in alloc; "version {}", as_str(text.as_slice()))
-        }
-        Value::List(_) => String::from_str(alloc, "list"),
-    }
-}
-
-fn list(alloc: Global, values: &[Value]) -> Result<String, AllocError> {
-    let mut out = String::from_str(alloc, "[")?;
-    for value in values {
-        let text = scalar(alloc, value)?;
-        write!(out, " {text}")?;
-    }
-    out.push_str(" ]")?;
-    Ok(out)
-}
-
-fn value(alloc: Global, value: &Value) -> Result<String, AllocError> {
-    match value {
-        Value::List(values) => list(alloc, values.items()),
-        _ => scalar(alloc, value),
-    }
-}
-
-fn name(name: &Text) -> &str {
-    as_str(name.bytes())
-}
-
-pub fn properties(alloc: Global, properties: &[Attribute]) -> Result<String, AllocError> {
-    let mut out = String::new(alloc);
-    for property in properties {
-        let text = value(alloc, &property.value)?;
-        write!(out, " {}={text}", name(&property.name))?;
-    }
-    Ok(out)
+    Ok(())
 }

@@ -1,22 +1,21 @@
-//! Rows that ask the registry.
+//! A registry beside the entries that its calls leave.
 
-ghost use Rattle.std.specs.Prelude.{◌+◌, ◌≤◌};
+ghost use Rattle.std.specs.Prelude.{◌+◌, ◌<◌, ◌≤◌};
 
-use crate::asked::asked;
 use crate::assignable::Assignable;
 use crate::calls::reply_to;
-use crate::scanned::{BUNDLES, TAG, registered, release, uses};
-use crate::shown::{ids, is_as_its_copy, properties, told, unless};
-use crate::uses::count;
+use crate::scanned::{TAG, add_release, add_uses};
+use crate::shown::{add_checked, add_ids, complain, is_as_its_copy};
 use osgi_base::ids::{BundleId, ServiceId};
 use osgi_base::list::List;
 use osgi_base::text::Text;
-use osgi_history::scans;
+use osgi_model::value::Attributes;
 use osgi_ops::entry::Entry;
 use osgi_ops::op::Op;
 use osgi_ops::service::Service;
-use osgi_registry::registry::Registry;
+use osgi_registry::Registry;
 use std::alloc::{AllocError, Global};
+use std::fmt::Write;
 
 /// The classes that a check looks for.
 const CLASSES: [&str; 3] = ["a.A", "a.B", "b.C"];
@@ -29,13 +28,13 @@ pub struct Trial {
     entries: Vec<Entry>,
     /// How many calls are left.
     left: u32,
-    ghost ids_left: { registry.given + left ≤ 4294967295 },
+    ghost ids_left: { registry.issued + left ≤ 4294967295 },
 }
 
 /// The row of a service, if it is live.
-fn live<'a>(registry: &'a Registry, service: u64) -> Option<&'a Service> {
+fn live(registry: &Registry, service: ServiceId) -> Option<&Service> {
     for row in registry.services() {
-        if row.service.0 == service {
+        if row.service == service {
             return Some(row);
         }
     }
@@ -51,21 +50,48 @@ fn live_ids(alloc: Global, registry: &Registry) -> Result<List<ServiceId>, Alloc
     Ok(ids)
 }
 
-/// All services of a class.
-fn found(alloc: Global, registry: &Registry, class: &str) -> Result<String, AllocError> {
-    let name = Text::of(alloc, class.as_bytes())?;
-    let found = registry.find_all(&name, None)?;
-    ids(alloc, found.items())
+/// Adds the live services, which have to be those that scans find.
+fn add_live(
+    alloc: Global,
+    out: &mut String,
+    registry: &Registry,
+    entries: &[Entry],
+) -> Result<(), AllocError> {
+    let ids = live_ids(alloc, registry)?;
+    add_ids(out, ids.items())?;
+    complain(
+        out,
+        osgi_history::live(alloc, entries)? == ids,
+        ", scans find others",
+    )
 }
 
-/// The services of each class.
-fn all_found(alloc: Global, registry: &Registry) -> Result<String, AllocError> {
-    let mut out = String::new(alloc);
+/// All services of a class.
+fn found(alloc: Global, registry: &Registry, class: &str) -> Result<List<ServiceId>, AllocError> {
+    let class = Text::of(alloc, class.as_bytes())?;
+    registry.find_all(&class, None)
+}
+
+/// Adds the services of each class.
+fn add_found(alloc: Global, out: &mut String, registry: &Registry) -> Result<(), AllocError> {
     for class in CLASSES {
-        let found = found(alloc, registry, class)?;
-        write!(out, " | {class} {found}")?;
+        write!(out, " | {class} ")?;
+        add_ids(out, found(alloc, registry, class)?.items())?;
     }
-    Ok(out)
+    Ok(())
+}
+
+/// Adds whether the bundle owns the service, and just these are its properties.
+fn add_has(
+    alloc: Global,
+    out: &mut String,
+    service: &Service,
+    owner: BundleId,
+    properties: &Attributes,
+) -> Result<(), AllocError> {
+    let has = service.owner == owner && service.properties == *properties;
+    out.push_str(if has { "yes" } else { "no" })?;
+    complain(out, is_as_its_copy(alloc, service)?, ", its copy differs")
 }
 
 impl Trial {
@@ -78,87 +104,72 @@ impl Trial {
         })
     }
 
-    /// What the registry answers to a command that the bundle asks for.
+    /// Adds what the registry answers to an operation.
     pub fn ask(
         &mut self,
-        bundle: BundleId,
-        command: &str,
-        assignable: &Assignable,
-    ) -> Result<String, AllocError> {
-        match asked(self.alloc, bundle, command)? {
-            Ok(op) => self.answer(op, assignable),
-            Err(why) => String::from_str(self.alloc, why),
-        }
-    }
-
-    fn answer(&mut self, op: Op, assignable: &Assignable) -> Result<String, AllocError> {
+        out: &mut String,
+        op: Op,
+        assignable: Assignable<'_>,
+    ) -> Result<(), AllocError> {
         let Some(left) = self.left.checked_sub(1) else {
-            return String::from_str(self.alloc, "no calls left");
+            return out.push_str("no calls left");
         };
         self.left = left;
-        let reply = reply_to(self.alloc, &mut self.registry, &op, assignable)?;
-        let entry = Entry {
-            tag: TAG,
-            op,
-            reply,
-        };
-        let text = told(self.alloc, &entry)?;
+        let entry = answered(self.alloc, &mut self.registry, op, assignable)?;
+        add_checked(self.alloc, out, &entry)?;
         self.entries.push(entry)?;
-        Ok(text)
+        Ok(())
     }
 
     /// Releases a bundle. Its entries are the ungets and the unregisters that come to the same.
-    pub fn release(&mut self, bundle: BundleId) -> Result<String, AllocError> {
+    pub fn release(&mut self, out: &mut String, bundle: BundleId) -> Result<(), AllocError> {
         let services = self.registry.release(bundle)?;
-        release(self.alloc, &mut self.entries, bundle, &services)?;
-        ids(self.alloc, services.items())
+        add_release(self.alloc, &mut self.entries, bundle, services.items())?;
+        add_ids(out, services.items())
     }
 
-    pub fn count(&self) -> Result<String, AllocError> {
-        format!(in self.alloc; "{}", self.registry.count())
+    pub fn count(&self, out: &mut String) -> Result<(), AllocError> {
+        write!(out, "{}", self.registry.count())
     }
 
-    /// The properties of a service, and whether it is as its copy.
-    pub fn properties(&self, service: u64) -> Result<String, AllocError> {
-        let Some(service) = live(&self.registry, service) else {
-            return String::from_str(self.alloc, "none");
+    /// Adds whether a service is as an operation that modifies it would make it.
+    pub fn has(&self, out: &mut String, op: &Op) -> Result<(), AllocError> {
+        let Op::Modify {
+            owner,
+            service,
+            properties,
+        } = op
+        else {
+            return out.push_str("nothing");
         };
-        let text = properties(self.alloc, service.properties.items())?;
-        let copied = unless(is_as_its_copy(self.alloc, service)?, ", its copy differs");
-        format!(in self.alloc; "owner {}{text}{copied}", service.owner.0)
-    }
-
-    /// The uses by the first bundles of all services, as the registry counts them.
-    fn held(&mut self) -> Result<String, AllocError> {
-        let mut out = String::new(self.alloc);
-        for place in 0..registered(self.entries.as_slice()).saturating_mul(BUNDLES) {
-            let (service, user) = (place / BUNDLES + 1, place % BUNDLES);
-            let uses = self.held_by(BundleId(user), ServiceId(u64::from(service)))?;
-            if uses > 0 {
-                write!(out, " {service}:{user}*{uses}")?;
-            }
+        match live(&self.registry, *service) {
+            Some(service) => add_has(self.alloc, out, service, *owner, properties),
+            None => out.push_str("none"),
         }
-        Ok(out)
     }
 
-    fn held_by(&mut self, user: BundleId, service: ServiceId) -> Result<u64, AllocError> {
-        Ok(count(&mut self.registry, user, service)?.unwrap_or(u64::MAX))
+    /// Adds the live services, their uses, and the services of each class.
+    pub fn check(&mut self, out: &mut String) -> Result<(), AllocError> {
+        add_live(self.alloc, out, &self.registry, self.entries.as_slice())?;
+        add_uses(out, &mut self.registry, self.entries.as_slice())?;
+        add_found(self.alloc, out, &self.registry)
     }
+}
 
-    /// The live services and their uses, as the registry tells them and as the entries do.
-    fn check_entries(&mut self) -> Result<String, AllocError> {
-        let held = self.held()?;
-        let entries = self.entries.as_slice();
-        let live = ids(self.alloc, scans::live(self.alloc, entries)?.items())?;
-        let used = uses(self.alloc, entries)?;
-        format!(in self.alloc; "held{held} | scanned {live} | uses{used}")
-    }
-
-    pub fn check(&mut self) -> Result<String, AllocError> {
-        let checked = self.check_entries()?;
-        let live = live_ids(self.alloc, &self.registry)?;
-        let live = ids(self.alloc, live.items())?;
-        let found = all_found(self.alloc, &self.registry)?;
-        format!(in self.alloc; "{live} | {checked}{found}")
-    }
+/// Does an operation; the entry that it comes to.
+fn answered(
+    alloc: Global,
+    registry: &mut Registry,
+    op: Op,
+    assignable: Assignable<'_>,
+) -> Result<Entry, AllocError>
+    requires { registry.old.issued < 4294967295 }
+    ensures issued { registry.new.issued ≤ registry.old.issued + 1 }
+{
+    let reply = reply_to(alloc, registry, op.copy(alloc)?, assignable)?;
+    Ok(Entry {
+        tag: TAG,
+        op,
+        reply,
+    })
 }

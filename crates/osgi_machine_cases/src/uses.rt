@@ -6,17 +6,17 @@ ghost use Rattle.osgi_registry.specs.Rows.{use_count};
 use osgi_base::ids::{BundleId, ServiceId};
 use osgi_base::text::Text;
 use osgi_ops::refusal::Refusal;
-use osgi_registry::registry::Registry;
+use osgi_registry::Registry;
 use std::alloc::AllocError;
 
 /// No user holds a service as often.
 const MANY: u64 = 1000;
 
-/// Takes back all uses of the service by the user, and tells how many there were; none where there are too many.
+/// Takes back all uses of the service by the user, and says how many there were; none where there are too many.
 fn take_back(registry: &mut Registry, user: BundleId, service: ServiceId) -> Option<u64>
     ensures none { IfSome result (λ uses. use_count user service registry.new.rows ≡ 0) }
     ensures few { IfSome result (λ uses. uses < 1000) }
-    ensures given { registry.new.given ≡ registry.old.given }
+    ensures issued { registry.new.issued ≡ registry.old.issued }
 {
     for uses in 0..MANY {
         if !registry.unget(user, service) {
@@ -34,7 +34,7 @@ fn take_one(
 ) -> Result<Result<Text, Refusal>, AllocError>
     requires { use_count user service registry.old.rows < 1000 }
     ensures more { use_count user service registry.new.rows ≤ use_count user service registry.old.rows + 1 }
-    ensures given { registry.new.given ≡ registry.old.given }
+    ensures issued { registry.new.issued ≡ registry.old.issued }
 {
     registry.get(user, service)
 }
@@ -49,7 +49,7 @@ fn take(
     requires none { use_count user service registry.old.rows ≡ 0 }
     requires few { uses < 1000 }
     ensures few { OnOk result (use_count user service registry.new.rows < 1000) }
-    ensures given { registry.new.given ≡ registry.old.given }
+    ensures issued { registry.new.issued ≡ registry.old.issued }
 {
     for _ in 0..uses {
         let _ = take_one(registry, user, service)?;
@@ -64,7 +64,7 @@ pub fn count(
     service: ServiceId,
 ) -> Result<Option<u64>, AllocError>
     ensures few { IfOk result (λ count. IfSome count (λ _. use_count user service registry.new.rows < 1000)) }
-    ensures given { registry.new.given ≡ registry.old.given }
+    ensures issued { registry.new.issued ≡ registry.old.issued }
 {
     let Some(uses) = take_back(registry, user, service) else {
         return Ok(None);
@@ -73,13 +73,13 @@ pub fn count(
     Ok(Some(uses))
 }
 
-/// Counts one more use, and tells what the registry answered; out of memory where there are too many.
+/// Counts one more use, and answers as the registry does; out of memory where there are too many.
 pub fn get(
     registry: &mut Registry,
     user: BundleId,
     service: ServiceId,
 ) -> Result<Result<Text, Refusal>, AllocError>
-    ensures given { registry.new.given ≡ registry.old.given }
+    ensures issued { registry.new.issued ≡ registry.old.issued }
 {
     match count(registry, user, service)? {
         Some(_) => take_one(registry, user, service),

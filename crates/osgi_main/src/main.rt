@@ -5,7 +5,7 @@ use osgi_base::text::Text;
 use osgi_outside::gate::OpenGate;
 use osgi_outside::memory_shelf::MemoryShelf;
 use osgi_outside::std_ends::{StdSink, StdSource};
-use osgi_program::framework::framework_main;
+use osgi_program::framework_main;
 use std::io::{ErrorKind, writer};
 use std::process::ExitCode;
 use std::rt::Env;
@@ -43,7 +43,7 @@ fn main(rt: HostRuntime) -> ExitCode {
         &OpenGate,
     );
     if finished.status == 2 {
-        // Where standard error takes nothing, the status alone has to tell.
+        // Where standard error takes nothing, the status alone has to say it.
         let _ = eprintln!(rt; "{USAGE}");
     }
     ExitCode::from(finished.status)

@@ -5,7 +5,7 @@ use Rattle.std.specs.Cmp.Lexicographic.{pointwise}
 use Rattle.std.specs.List.{starts_with}
 use Rattle.std.proofs.lemmas.List.{take_rest}
 use Rattle.std.proofs.lemmas.Slice.Eq.{bytes_eq-Decides}
-use Rattle.osgi_model.specs.MatchReader.{somewhere, stand}
+use Rattle.osgi_model.specs.computed.MatchReader.{somewhere, stand}
 
 -- the pieces stand in the text where the others stand somewhere after the first
 pub stand_after : (pieces : List (List ℕ)) (piece other text after : List ℕ) → 2 ≤ length pieces → piece ≡ get_or pieces 0 other → pointwise nat_eq (take (length piece) text) piece ≡ true →

@@ -2,11 +2,11 @@
 
 use crate::generated::Generator;
 use crate::slow_matching::matches_slowly;
-use osgi_filter::case::Case;
-use osgi_filter::matching::matches;
+use osgi_filter::{Case, matches};
 use osgi_model::filter::Filter;
 use osgi_model::value::Attributes;
 use std::alloc::{AllocError, Global};
+use std::fmt::Write;
 
 /// What is generated, with its attributes.
 #[derive(Clone, Copy)]
@@ -96,8 +96,14 @@ fn agree_on(
     }
 }
 
-/// Compares so many, and says how it went.
-fn compare(alloc: Global, what: Generated, seed: u64, count: u32) -> Result<String, AllocError> {
+/// Compares so many, and adds how it went.
+fn compare(
+    alloc: Global,
+    out: &mut String,
+    what: Generated,
+    seed: u64,
+    count: u32,
+) -> Result<(), AllocError> {
     let mut generator = Generator::new(alloc, seed);
     let mut tally = Tally {
         asked: 0,
@@ -105,26 +111,26 @@ fn compare(alloc: Global, what: Generated, seed: u64, count: u32) -> Result<Stri
     };
     for number in 0..count {
         if !agree_on(what, &mut generator, alloc, &mut tally)? {
-            return format!(in alloc; "number {number} differs");
+            return write!(out, "number {number} differs");
         }
     }
     if tally.is_mixed(what.share()) {
-        format!(in alloc; "{count} agree")
+        write!(out, "{count} agree")
     } else {
-        format!(in alloc; "{count} agree, but too few match or too few do not")
+        write!(out, "{count} agree, but too few match or too few do not")
     }
 }
 
-/// What a line is answered.
-pub fn compared(alloc: Global, line: &str) -> Result<String, AllocError> {
+/// Adds what a line is answered.
+pub fn add_answer(alloc: Global, out: &mut String, line: &str) -> Result<(), AllocError> {
     let (word, numbers) = line.split_once(' ').unwrap_or((line, ""));
     let (seed, count) = numbers.split_once(' ').unwrap_or((numbers, ""));
     let (Ok(seed), Ok(count)) = (seed.parse::<u64>(), count.parse::<u32>()) else {
-        return String::from_str(alloc, "no seed and count");
+        return out.push_str("no seed and count");
     };
     match word {
-        "filters" => compare(alloc, Generated::Filters, seed, count),
-        "pieces" => compare(alloc, Generated::Pieces, seed, count),
-        _ => String::from_str(alloc, "no such word"),
+        "filters" => compare(alloc, out, Generated::Filters, seed, count),
+        "pieces" => compare(alloc, out, Generated::Pieces, seed, count),
+        _ => out.push_str("no such word"),
     }
 }

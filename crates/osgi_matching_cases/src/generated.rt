@@ -23,7 +23,7 @@ const VERSIONS: [&str; 5] = ["", "1", "1.0.0.a", "1.0.0.b", "2"];
 
 /// The types of values that are no lists.
 #[derive(Clone, Copy)]
-enum Kind {
+enum ValueType {
     Text,
     Version,
     Long,
@@ -85,24 +85,24 @@ impl Generator {
         }
     }
 
-    fn kind(&mut self) -> Kind {
+    fn kind(&mut self) -> ValueType {
         match self.below(3) {
-            0 => Kind::Text,
-            1 => Kind::Version,
-            _ => Kind::Long,
+            0 => ValueType::Text,
+            1 => ValueType::Version,
+            _ => ValueType::Long,
         }
     }
 
-    fn scalar(&mut self, kind: Kind) -> Result<Value, AllocError> {
+    fn scalar(&mut self, kind: ValueType) -> Result<Value, AllocError> {
         match kind {
-            Kind::Text => Ok(Value::Text(self.any_text()?)),
-            Kind::Version => self.version(),
-            Kind::Long => Ok(Value::Long(i64::from(self.below(4)) - 1)),
+            ValueType::Text => Ok(Value::Text(self.any_text()?)),
+            ValueType::Version => self.version(),
+            ValueType::Long => Ok(Value::Long(i64::from(self.below(4)) - 1)),
         }
     }
 
     /// Up to three values of one type.
-    fn scalars(&mut self, kind: Kind) -> Result<List<Value>, AllocError> {
+    fn scalars(&mut self, kind: ValueType) -> Result<List<Value>, AllocError> {
         let mut values = List::new(self.alloc)?;
         for _ in 0..self.below(4) {
             values.push(self.scalar(kind)?)?;

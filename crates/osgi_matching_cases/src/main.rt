@@ -9,7 +9,7 @@ mod comparing;
 mod generated;
 mod slow_matching;
 
-use crate::comparing::compared;
+use crate::comparing::add_answer;
 use std::io;
 
 fn main(rt: HostRuntime) -> io::Result<()> {
@@ -19,7 +19,8 @@ fn main(rt: HostRuntime) -> io::Result<()> {
         if line.starts_with('#') {
             println!(rt; "{line}")?;
         } else {
-            let answer = compared(rt.alloc(), line)?;
+            let mut answer = String::new(rt.alloc());
+            add_answer(rt.alloc(), &mut answer, line)?;
             println!(rt; "{line} => {answer}")?;
         }
     }

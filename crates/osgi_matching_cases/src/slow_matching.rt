@@ -4,12 +4,12 @@ ghost use Rattle.std.specs.Prelude.{◌≡◌, ◌↔◌, IfOk, IsTrue, map};
 ghost use Rattle.std.specs.Option.{option_copied};
 ghost use Rattle.std.specs.Str.{bytes_eq};
 ghost use Rattle.osgi_version.specs.VersionValues.{parts};
-ghost use Rattle.osgi_model.specs.Matching.{squeezed, value_of, Matches};
-ghost use Rattle.osgi_model.specs.MatchReader as reader;
+ghost use Rattle.osgi_model.specs.Matching.{approx_form, attribute_value, Matches};
+ghost use Rattle.osgi_model.specs.computed.MatchReader as reader;
 ghost use Rattle.osgi_filter.specs.Names.{same_name};
 
 use osgi_base::text::Text;
-use osgi_filter::case::Case;
+use osgi_filter::Case;
 use osgi_model::filter::{Filter, Test};
 use osgi_model::reading::read_long;
 use osgi_model::value::{Attribute, Value};
@@ -18,8 +18,8 @@ use std::alloc::{AllocError, Global};
 use std::cmp::Ordering;
 
 /// The value of the first attribute of the name.
-fn value_of<'a>(name: &Text, attributes: &'a [Attribute], case: Case) -> Option<&'a Value>
-    ensures value { option_copied result ≡ value_of (same_name case) name.now attributes.now }
+fn attribute_value<'a>(name: &Text, attributes: &'a [Attribute], case: Case) -> Option<&'a Value>
+    ensures value { option_copied result ≡ attribute_value (same_name case) name.now attributes.now }
 {
     for attribute in attributes {
         if case.is_same(&attribute.name, name) {
@@ -30,8 +30,8 @@ fn value_of<'a>(name: &Text, attributes: &'a [Attribute], case: Case) -> Option<
 }
 
 /// The text without white space and case.
-fn squeezed(alloc: Global, text: &[u8]) -> Result<Vec<u8>, AllocError>
-    ensures squeezed { IfOk result (λ left. left.items ≡ squeezed text.now) }
+fn approx_form(alloc: Global, text: &[u8]) -> Result<Vec<u8>, AllocError>
+    ensures approx_form { IfOk result (λ left. left.items ≡ approx_form text.now) }
 {
     let mut left = Vec::new(alloc);
     for b in text {
@@ -43,10 +43,10 @@ fn squeezed(alloc: Global, text: &[u8]) -> Result<Vec<u8>, AllocError>
 }
 
 fn is_approx(alloc: Global, a: &[u8], b: &[u8]) -> Result<bool, AllocError>
-    ensures approx { IfOk result (λ r. r ≡ bytes_eq (squeezed a.now) (squeezed b.now)) }
+    ensures approx { IfOk result (λ r. r ≡ bytes_eq (approx_form a.now) (approx_form b.now)) }
 {
-    let left = squeezed(alloc, a)?;
-    let right = squeezed(alloc, b)?;
+    let left = approx_form(alloc, a)?;
+    let right = approx_form(alloc, b)?;
     Ok(left.as_slice() == right.as_slice())
 }
 
@@ -194,7 +194,11 @@ fn is_match(
         Filter::And(filters) => all_match(alloc, filters.items(), attributes, case),
         Filter::Or(filters) => one_matches(alloc, filters.items(), attributes, case),
         Filter::Not(filter) => Ok(!is_match(alloc, filter.get(), attributes, case)?),
-        Filter::Item { name, test } => item_passes(alloc, test, value_of(name, attributes, case)),
+        Filter::Item { name, test } => item_passes(
+            alloc,
+            test,
+            attribute_value(name, attributes, case),
+        ),
     }
 }
 

@@ -1,4 +1,4 @@
--- Values and attributes compared: what is computed of two, and that it tells whether they are the same.
+-- Values and attributes compared: what is computed of two, and that this says whether they are the same.
 use Rattle.std.specs.Prelude.{◌≡◌, ◌&&◌, ◌==◌, Bool, true, false, List, [], ◌∷◌, map}
 use Rattle.std.specs.Cmp.{first_so, second_so}
 use Rattle.std.specs.Cmp.Lexicographic.{pointwise, bytes_decides}
@@ -6,7 +6,7 @@ use Rattle.std.specs.Ordering.{int_eq}
 use Rattle.std.proofs.Common.{refl, sym, ap, subst, ◌∙◌}
 use Rattle.std.proofs.lemmas.Bool.{false≢true}
 use Rattle.std.proofs.lemmas.Bool.Decides.{Decides-int_eq}
-use Rattle.osgi_base.specs.Exact.{IsExact, exact_on, exact_pair}
+use Rattle.osgi_base.specs.computed.Exact.{IsExact, exact_on, exact_pair}
 use Rattle.osgi_version.specs.Comparing.{exact_version, version_eq}
 use Rattle.osgi_model.specs.declared.value.Attribute.{Attribute}
 use Rattle.osgi_model.specs.declared.value.Value.{Value, out-Value, roll-Value, out-roll-Value, roll-out-Value}

@@ -1,5 +1,6 @@
 -- The text that is printed of a filter: no white space but that inside names and values, and a `\` before `(`, `)`, `*` and `\` in values.
-use Rattle.std.specs.Prelude.{ℕ, true, List, [], ◌∷◌, ◌++◌, if◌then◌else◌}
+use Rattle.std.specs.Prelude.{ℕ, true, List, [], ◌∷◌, ◌++◌, map, if◌then◌else◌}
+use Rattle.std.specs.List.{concat, join_with_byte}
 use Rattle.osgi_model.specs.Filters.{is_plain}
 use Rattle.osgi_model.specs.declared.filter.Test.{Test}
 use Rattle.osgi_model.specs.declared.filter.Test.TheVariants.{Equal, Approx, AtLeast, AtMost, Present, Pieces}
@@ -12,13 +13,8 @@ value_text [] = []
 value_text (b ∷ bs) = if is_plain true b then b ∷ value_text bs else 92 ∷ b ∷ value_text bs
 
 -- pieces with `*` (42) between them
-abbrev pub starred_from : List ℕ → List (List ℕ) → List ℕ
-starred_from piece [] = value_text piece
-starred_from piece (next ∷ more) = value_text piece ++ 42 ∷ starred_from next more
-
 abbrev pub starred : List (List ℕ) → List ℕ
-starred [] = []
-starred (piece ∷ more) = starred_from piece more
+starred pieces = join_with_byte 42 (map value_text pieces)
 
 abbrev pub test_text : Test → List ℕ
 test_text (Equal value) = 61 ∷ value_text value
@@ -28,14 +24,10 @@ test_text (AtMost value) = 60 ∷ 61 ∷ value_text value
 test_text Present = 61 ∷ 42 ∷ []
 test_text (Pieces pieces) = 61 ∷ starred pieces
 
-abbrev pub joined : List (List ℕ) → List ℕ
-joined [] = []
-joined (text ∷ more) = text ++ joined more
-
 -- the texts of the filters inside are given
 abbrev pub filter_step : Filter-F (List ℕ) → List ℕ
-filter_step (And texts) = 40 ∷ 38 ∷ joined texts ++ 41 ∷ []
-filter_step (Or texts) = 40 ∷ 124 ∷ joined texts ++ 41 ∷ []
+filter_step (And texts) = 40 ∷ 38 ∷ concat texts ++ 41 ∷ []
+filter_step (Or texts) = 40 ∷ 124 ∷ concat texts ++ 41 ∷ []
 filter_step (Not text) = 40 ∷ 33 ∷ text ++ 41 ∷ []
 filter_step (Item name test) = 40 ∷ name ++ (test_text test ++ 41 ∷ [])
 

@@ -10,17 +10,17 @@ use Rattle.osgi_model.specs.declared.filter.Filter.TheFolds.{fold-Filter}
 -- ---- names
 
 -- none of `=` `<` `>` `~` `(` `)`
-abbrev pub is_name_byte : ℕ → Bool
-is_name_byte b = not (b == 61 || b == 60 || b == 62 || b == 126 || b == 40 || b == 41)
+abbrev pub is_item_name_byte : ℕ → Bool
+is_item_name_byte b = not (b == 61 || b == 60 || b == 62 || b == 126 || b == 40 || b == 41)
 
-abbrev pub IsNameByte : ℕ → Type 0
-IsNameByte b = IsTrue (is_name_byte b)
+abbrev pub IsItemNameByte : ℕ → Type 0
+IsItemNameByte b = IsTrue (is_item_name_byte b)
 
 -- one or more such bytes, of which the first and the last are no white space
-pub record IsName (name : List ℕ) : Type 0 where
-  pub bytes : Each IsNameByte name
+pub record IsItemName (name : List ℕ) : Type 0 where
+  pub bytes : Each IsItemNameByte name
   pub begins : (first : ℕ) × (rest : List ℕ) × (name ≡ first ∷ rest) × (is_blank first ≡ false)
-  pub ends : (front : List ℕ) × (last : ℕ) × (name ≡ front ++ last ∷ []) × (is_blank last ≡ false)
+  pub ends : (prefix : List ℕ) × (last : ℕ) × (name ≡ prefix ++ last ∷ []) × (is_blank last ≡ false)
 
 -- ---- values
 
@@ -38,7 +38,7 @@ pub data IsCut (stars : Bool) : List ℕ → List ℕ → List (List ℕ) → Ty
 
 -- ---- tests: an operator and its value
 
--- stars cut only behind `=` (61), where the lone star is presence; `~` is 126, `>` 62 and `<` 60
+-- stars cut only after `=` (61), where the lone star is presence; `~` is 126, `>` 62 and `<` 60
 pub data IsTest : List ℕ → Test → Type 0 where
   equal : (text value : List ℕ) → IsCut true text value [] → IsTest (61 ∷ text) (Equal value)
   present : IsTest (61 ∷ 42 ∷ []) Present
@@ -51,14 +51,14 @@ pub data IsTest : List ℕ → Test → Type 0 where
 
 mutual
   -- an item; or `!` (33) with a filter, `&` (38) or `|` (124) with one filter or more. White space may stand round the
-  -- name of an item, and behind `!`, `&` and `|`.
+  -- name of an item, and after `!`, `&` and `|`.
   pub data IsFilter : List ℕ → Filter → Type 0 where
-    item : (before name after signed : List ℕ) (test : Test) → Each IsBlank before → IsName name → Each IsBlank after → IsTest signed test → IsFilter (40 ∷ before ++ (name ++ (after ++ (signed ++ 41 ∷ [])))) (roll-Filter (Item name test))
+    item : (before name after signed : List ℕ) (test : Test) → Each IsBlank before → IsItemName name → Each IsBlank after → IsTest signed test → IsFilter (40 ∷ before ++ (name ++ (after ++ (signed ++ 41 ∷ [])))) (roll-Filter (Item name test))
     negated : (before one after : List ℕ) (f : Filter) → Each IsBlank before → IsFilter one f → Each IsBlank after → IsFilter (40 ∷ 33 ∷ before ++ (one ++ (after ++ 41 ∷ []))) (roll-Filter (Not f))
     all : (text : List ℕ) (f : Filter) (fs : List Filter) → AreFilters text (f ∷ fs) → IsFilter (40 ∷ 38 ∷ text ++ 41 ∷ []) (roll-Filter (And (f ∷ fs)))
     any : (text : List ℕ) (f : Filter) (fs : List Filter) → AreFilters text (f ∷ fs) → IsFilter (40 ∷ 124 ∷ text ++ 41 ∷ []) (roll-Filter (Or (f ∷ fs)))
 
-  -- filters in order, with white space before, between and behind them
+  -- filters in order, with white space before, between and after them
   pub data AreFilters : List ℕ → List Filter → Type 0 where
     none : (blanks : List ℕ) → Each IsBlank blanks → AreFilters blanks []
     more : (blanks one rest : List ℕ) (f : Filter) (fs : List Filter) → Each IsBlank blanks → IsFilter one f → AreFilters rest fs → AreFilters (blanks ++ (one ++ rest)) (f ∷ fs)

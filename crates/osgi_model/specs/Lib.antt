@@ -5,8 +5,6 @@ pub mod Elements
 pub mod Longs
 pub mod Values
 pub mod Matching
-pub mod LongReader
-pub mod VersionReader
-pub mod ValueReader
-pub mod MatchReader
 pub mod Comparing
+pub mod laws
+pub mod computed

@@ -14,10 +14,10 @@ pub data Writes : List ℕ → ℤ → Type 0 where
 pub record IsLong (text : List ℕ) (number : ℤ) : Type 0 where
   pub before : List ℕ
   pub written : List ℕ
-  pub behind : List ℕ
-  pub is : text ≡ before ++ (written ++ behind)
+  pub remainder : List ℕ
+  pub is : text ≡ before ++ (written ++ remainder)
   pub white_before : AllPass is_ascii_whitespace before
-  pub white_behind : AllPass is_ascii_whitespace behind
+  pub white_after : AllPass is_ascii_whitespace remainder
   pub writes : Writes written number
   pub least : negsuc 9223372036854775807 ≤ℤ number
   pub greatest : number ≤ℤ pos 9223372036854775807

@@ -5,10 +5,10 @@ use Rattle.osgi_version.specs.Versions.{ReadsVersion}
 use Rattle.osgi_version.specs.declared.version.Version.{Version}
 use Rattle.osgi_model.specs.Elements.{AreElements}
 use Rattle.osgi_model.specs.Longs.{IsLong}
-use Rattle.osgi_model.specs.declared.kind.Kind.{Kind}
-use Rattle.osgi_model.specs.declared.kind.Kind.TheVariants as kind
-use Rattle.osgi_model.specs.declared.kind.Scalar.{Scalar}
-use Rattle.osgi_model.specs.declared.kind.Scalar.TheVariants as scalar
+use Rattle.osgi_model.specs.declared.value_type.ValueType.{ValueType}
+use Rattle.osgi_model.specs.declared.value_type.ValueType.TheVariants as value_type
+use Rattle.osgi_model.specs.declared.value_type.Scalar.{Scalar}
+use Rattle.osgi_model.specs.declared.value_type.Scalar.TheVariants as scalar
 use Rattle.osgi_model.specs.declared.value.Value.{Value}
 use Rattle.osgi_model.specs.declared.value.Value.TheVariants as value
 
@@ -17,14 +17,14 @@ scalar_name scalar.String = codes "String"
 scalar_name scalar.Version = codes "Version"
 scalar_name scalar.Long = codes "Long"
 
-abbrev pub kind_name : Kind → List ℕ
-kind_name (kind.One scalar) = scalar_name scalar
-kind_name (kind.List scalar) = codes "List<" ++ (scalar_name scalar ++ codes ">")
+abbrev pub type_name : ValueType → List ℕ
+type_name (value_type.One scalar) = scalar_name scalar
+type_name (value_type.List scalar) = codes "List<" ++ (scalar_name scalar ++ codes ">")
 
 -- the name of a type; `List` alone is a list of strings
-pub data Names : List ℕ → Kind → Type 0 where
-  full : {kind : Kind} → Names (kind_name kind) kind
-  strings : Names (codes "List") (kind.List scalar.String)
+pub data Names : List ℕ → ValueType → Type 0 where
+  full : {kind : ValueType} → Names (type_name kind) kind
+  strings : Names (codes "List") (value_type.List scalar.String)
 
 -- what a text stands for as a value of a type that is no list
 pub data IsScalar : Scalar → List ℕ → Value → Type 0 where
@@ -39,7 +39,7 @@ AreScalars scalar (text ∷ texts) (value ∷ values) = IsScalar scalar text val
 AreScalars scalar _ _ = ⊥
 
 -- what a text stands for as a value of a type
-pub data IsOfKind : Kind → List ℕ → Value → Type 0 where
-  one : {scalar : Scalar} {text : List ℕ} {value : Value} → IsScalar scalar text value → IsOfKind (kind.One scalar) text value
+pub data IsOfType : ValueType → List ℕ → Value → Type 0 where
+  one : {scalar : Scalar} {text : List ℕ} {value : Value} → IsScalar scalar text value → IsOfType (value_type.One scalar) text value
   list : {scalar : Scalar} {text : List ℕ} {texts : List (List ℕ)} (values : List Value) →
-      AreElements text texts → AreScalars scalar texts values → IsOfKind (kind.List scalar) text (value.List values)
+      AreElements text texts → AreScalars scalar texts values → IsOfType (value_type.List scalar) text (value.List values)

@@ -1,13 +1,13 @@
 //! The elements of a list, from its text.
 
 ghost use Rattle.std.specs.Prelude.{◌≡◌, ◌++◌, IfOk, OnOk};
-ghost use Rattle.osgi_model.specs.ValueReader.{elements_of, unescaped};
+ghost use Rattle.osgi_model.specs.computed.ValueReader.{elements_of, unescaped};
 
 use osgi_base::list::List;
 use osgi_base::text::Text;
 use std::alloc::{AllocError, Global};
 
-/// Adds a byte that stands behind a `\`, and before it the `\` where that stands for itself.
+/// Adds a byte that follows a `\`, and before it the `\` where that stands for itself.
 fn push_escaped(element: &mut Vec<u8>, b: u8) -> Result<(), AllocError>
     ensures added { OnOk result (element.new.items ≡ element.old.items ++ unescaped b) }
 {

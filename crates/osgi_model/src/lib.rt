@@ -3,7 +3,7 @@
 
 mod elements;
 pub mod filter;
-pub mod kind;
 mod long;
 pub mod reading;
 pub mod value;
+pub mod value_type;

@@ -1,7 +1,7 @@
 //! Numbers of 64 bits, from their text.
 
 ghost use Rattle.std.specs.Prelude.{◌≡◌};
-ghost use Rattle.osgi_model.specs.LongReader.{long_of, number_of};
+ghost use Rattle.osgi_model.specs.computed.LongReader.{long_of, number_of};
 
 use std::str;
 

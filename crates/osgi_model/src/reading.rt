@@ -2,15 +2,15 @@
 
 ghost use Rattle.std.specs.Prelude.{◌≡◌, ◌↔◌, ℤ, IfOk, IfSome, Some};
 ghost use Rattle.osgi_model.specs.Longs.{IsLong};
-ghost use Rattle.osgi_model.specs.Values.{IsOfKind};
-ghost use Rattle.osgi_model.specs.ValueReader.{scalar_of, scalars_of, value_of};
-ghost use Rattle.osgi_model.specs.VersionReader.{version_of};
+ghost use Rattle.osgi_model.specs.Values.{IsOfType};
+ghost use Rattle.osgi_model.specs.computed.ValueReader.{scalar_of, scalars_of, value_of};
+ghost use Rattle.osgi_model.specs.computed.VersionReader.{version_of};
 ghost use Rattle.osgi_model.specs.declared.value.Value.{Value};
 
 use crate::elements::elements;
-use crate::kind::{Kind, Scalar};
 use crate::long::long;
 use crate::value::Value;
+use crate::value_type::{Scalar, ValueType};
 use osgi_base::list::List;
 use osgi_base::text::Text;
 use osgi_version::version::Version;
@@ -26,21 +26,21 @@ pub fn read_long(text: &[u8]) -> Option<i64>
 
 /// What a text stands for as a value of the type; none where it is no value of it.
 ///
-/// A String is the text itself. Round a Version or a Long white space is dropped. The elements of a list are parted by
+/// A String is the text itself. Round a Version or a Long white space is dropped. The elements of a list are separated by
 /// `,`, and in them `\,` and `\\` stand for `,` and `\`: the empty text is a list of one empty element.
-pub fn read_value(alloc: Global, kind: Kind, text: &[u8]) -> Result<Option<Value>, AllocError>
-    ensures reading { IfOk result (λ read. IfSome read (IsOfKind kind text.now)) }
-    ensures only { (value : Value) → IsOfKind kind text.now value → IfOk result (λ read. read ≡ Some value) }
+pub fn read_value(alloc: Global, kind: ValueType, text: &[u8]) -> Result<Option<Value>, AllocError>
+    ensures reads { IfOk result (λ read. IfSome read (IsOfType kind text.now)) }
+    ensures only { (value : Value) → IsOfType kind text.now value → IfOk result (λ read. read ≡ Some value) }
 {
     value(alloc, kind, text)
 }
 
-fn value(alloc: Global, kind: Kind, text: &[u8]) -> Result<Option<Value>, AllocError>
+fn value(alloc: Global, kind: ValueType, text: &[u8]) -> Result<Option<Value>, AllocError>
     ensures value { IfOk result (λ value. value ≡ value_of kind text.now) }
 {
     match kind {
-        Kind::One(scalar) => scalar_value(alloc, scalar, text),
-        Kind::List(scalar) => {
+        ValueType::One(scalar) => scalar_value(alloc, scalar, text),
+        ValueType::List(scalar) => {
             let texts = elements(alloc, text)?;
             Ok(scalar_values(alloc, scalar, texts.items())?.map(Value::List))
         }

@@ -1,7 +1,7 @@
 -- Which histories a framework can have, and what one call does.
 use Rattle.std.specs.Prelude.{◌≡◌, ◌<◌, ◌≤◌, List, [], ◌∷◌, ◌++◌, length}
 use Rattle.osgi_base.specs.declared.ids.Tag.{Tag}
-use Rattle.osgi_ops.specs.Along.{Each}
+use Rattle.osgi_ops.specs.Along.{AllAlong}
 use Rattle.osgi_ops.specs.Operations.{moment, IsReply}
 use Rattle.osgi_ops.specs.Settings.{Setting}
 use Rattle.osgi_ops.specs.declared.op.Op.{Op}
@@ -17,7 +17,7 @@ pub record IsAllowed (setting : Setting) (before : List Entry) (e : Entry) : Typ
 
 -- a history that replays from the empty framework: each entry is allowed after those before it
 abbrev pub Legal : Setting → List Entry → Type 0
-Legal setting history = Each (IsAllowed setting) [] history
+Legal setting history = AllAlong (IsAllowed setting) [] history
 
 -- one call, with the history before and after it. A full history refuses whatever is asked and stays as it is;
 -- any other gains the call's own entry, an allowed one

@@ -13,4 +13,4 @@ pub mod Replies
 pub mod Services
 pub mod Sessions
 pub mod Settings
-pub mod Verdict
+pub mod laws

@@ -8,8 +8,9 @@ use Rattle.osgi_ops.specs.Classes.{AreRanked, IsFound, IsOf, IsOpenTo}
 use Rattle.osgi_ops.specs.Properties.{has_twins, ranking}
 use Rattle.osgi_ops.specs.Replies.{verdict}
 use Rattle.osgi_ops.specs.Services.{live, live_at, registered, services, uses}
-use Rattle.osgi_ops.specs.Settings.{Setting, most_services}
-use Rattle.osgi_ops.specs.Verdict.{Gives, Where}
+use Rattle.osgi_ops.specs.Settings.{Setting}
+use Rattle.osgi_base.specs.Verdict.{Gives, Where}
+use Rattle.osgi_ops.specs.declared.limits.TheConstants.{MAX_SERVICES}
 use Rattle.osgi_ops.specs.declared.op.Op.{Op}
 use Rattle.osgi_ops.specs.declared.op.Op.TheVariants as op
 use Rattle.osgi_ops.specs.declared.refusal.Many.TheVariants.{Services}
@@ -49,7 +50,7 @@ abbrev pub conditions : Moment → Op → List (Refusal → Type 0)
 conditions now (op.Register owner classes object properties) =
     no_such_bundle now owner
     ∷ Where BadProperties (has_twins properties ≡ true)
-    ∷ Where (TooMany Services) (most_services ≤ length (live now.before))
+    ∷ Where (TooMany Services) (MAX_SERVICES ≤ length (live now.before))
     ∷ []
 conditions now (op.Modify owner service properties) =
     no_such_bundle now owner ∷ no_such_service now service ∷ not_owner now owner service ∷ Where BadProperties (has_twins properties ≡ true) ∷ []

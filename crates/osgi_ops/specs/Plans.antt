@@ -46,14 +46,14 @@ pub record Call : Type 0 where
 
 -- how a plan reads a beginning of the calls, up to those that are left. Replies are free here: which one comes, the legal
 -- history says
-pub data Reads : Plan → End → List Call → List Call → Type 0 where
-  stopped : {end : End} {left : List Call} → Reads (stop end) end left left
+pub data PlanReads : Plan → End → List Call → List Call → Type 0 where
+  stopped : {end : End} {left : List Call} → PlanReads (stop end) end left left
   asked : {asks : Op} {next : Reply → Plan} {reply : Reply} {end : End} {calls left : List Call} →
-      Reads (next reply) end calls left → Reads (ask asks next) end (record { op = asks; reply = reply } ∷ calls) left
+      PlanReads (next reply) end calls left → PlanReads (ask asks next) end (record { op = asks; reply = reply } ∷ calls) left
 
 -- the calls are a whole run of the console's command
 abbrev pub Follows : Command → List Call → Type 0
-Follows command calls = (end : End) × Reads (plan system command) end calls []
+Follows command calls = (end : End) × PlanReads (plan system command) end calls []
 
 -- they are the beginning of one, and something of it is missing
 abbrev pub IsCutRun : Command → List Call → Type 0

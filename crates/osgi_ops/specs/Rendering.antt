@@ -20,7 +20,7 @@ use Rattle.osgi_ops.specs.declared.line.Content.{Content}
 use Rattle.osgi_ops.specs.declared.line.Content.TheVariants.{Empty, Join, Bad, Run}
 use Rattle.osgi_ops.specs.declared.line.Line.{Line}
 
--- what a refusal tells besides its number and name
+-- what a refusal says besides its number and name
 abbrev pub details : Refusal → List ℕ
 details NoSuchBundle = []
 details NoSuchService = []
@@ -32,7 +32,7 @@ details HistoryFull = []
 abbrev pub refusal_text : Refusal → List ℕ
 refusal_text refusal = codes "refused " ++ decimal (refusal_number refusal) ++ codes " " ++ refusal_name refusal ++ details refusal
 
--- ids, each behind a space; `none` where there are none
+-- ids, each after a space; `none` where there are none
 abbrev pub ids_text : List ServiceId → List ℕ
 ids_text [] = codes " none"
 ids_text ids = concat (map (λ id. codes " " ++ decimal id.0) ids)
@@ -83,8 +83,8 @@ abbrev pub is_full : List Entry → Line → Bool
 is_full history line = has_command line.content && not (list_any (is_of line.number) history)
 
 -- a line with a command is not full exactly where its entries are a whole run of its plan
-abbrev pub TellsFull : List Entry → Line → Type 0
-TellsFull history line =
+abbrev pub IsFullWhereCut : List Entry → Line → Type 0
+IsFullWhereCut history line =
     has_command line.content ≡ true → (is_full history line ≡ false) ↔ IsRunOf 0 line (entries_of line history)
 
 abbrev pub content_text : List Entry → ℕ → Content → List ℕ

@@ -1,6 +1,6 @@
 -- A reply as a refusal or an answer.
 use Rattle.std.specs.Prelude.{Bool, true, false, not}
-use Rattle.osgi_ops.specs.Verdict.{Verdict, refuses, answers}
+use Rattle.osgi_base.specs.Verdict.{Verdict, refuses, answers}
 use Rattle.osgi_ops.specs.declared.refusal.Refusal.{Refusal}
 use Rattle.osgi_ops.specs.declared.reply.Reply.{Reply}
 use Rattle.osgi_ops.specs.declared.reply.Reply.TheVariants.{Refused}

@@ -14,7 +14,7 @@ use Rattle.osgi_ops.specs.declared.reply.Reply.TheVariants.{Object, Flag}
 use Rattle.osgi_ops.specs.declared.entry.Entry.{Entry}
 use Rattle.osgi_ops.specs.declared.service.Service as declared
 
--- a service as its Register tells it, with the properties that were given, and the entries since
+-- a service as its Register gives it, with the properties that were given, and the entries since
 pub record Registered : Type 0 where
   pub service : ServiceId
   pub owner : BundleId
@@ -31,7 +31,7 @@ registered_by earlier (Register owner classes object properties) reply since =
     else []
 registered_by earlier _ reply since = []
 
--- what was registered behind so many earlier ones, in order
+-- what was registered after so many earlier ones, in order
 abbrev pub registered_after : ℕ → List Entry → List Registered
 registered_after earlier [] = []
 registered_after earlier (e ∷ since) =

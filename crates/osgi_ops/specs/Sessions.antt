@@ -42,7 +42,7 @@ pub data Makes (lawful : List Entry → Type 0) : List Line → List Entry → T
   cut : {line : Line} {lines : List Line} {entries : List Entry} →
       IsCutRunOf 0 line entries → lawful entries → Makes lawful (line ∷ lines) entries
 
--- a run may be cut where the whole history is as long as it may be, or where memory was wanting, which is status 5.
+-- a run may be cut where the whole history is as long as it may be, or where memory ran out, which is status 5.
 -- Nothing is asked yet of the entries that the cut run has
 abbrev pub MayBeCut : ℕ → ℕ → List Entry → List Entry → Type 0
 MayBeCut limit status history entries = (length history ≡ limit) ⊎ (status ≡ 5)

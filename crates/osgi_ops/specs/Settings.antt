@@ -23,7 +23,3 @@ setting_of limits = record { bounds = bounds_of limits }
 
 abbrev pub standard_setting : Setting
 standard_setting = record { bounds = standard_bounds }
-
--- how many services may be live
-abbrev pub most_services : ℕ
-most_services = 65536

@@ -2,6 +2,9 @@
 
 ghost use Rattle.std.specs.Prelude.{◌≤◌};
 
+/// How many services may be live.
+pub const MAX_SERVICES: usize = 65_536;
+
 /// The limits of one session.
 #[derive(Clone, Copy, Debug, PartialEq, Eq)]
 pub struct Limits {

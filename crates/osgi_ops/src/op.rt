@@ -1,4 +1,4 @@
-//! The operations of the framework. Each is one atomic step.
+//! The operations of the framework. AllAlong is one atomic step.
 
 ghost use Rattle.std.specs.Prelude.{◌≡◌, IfOk};
 

@@ -1,8 +1,9 @@
--- What a shelf answers, where it tells its folders.
+-- What a shelf answers, if it exposes its folders.
 use Rattle.std.specs.Prelude.{ℕ, ◌≡◌, ◌-◌, ◌^◌, ◌==◌, ◌||◌, ⊤, Bool, true, false, List, length, min, find, sum_by, nat_lt, Option, IfSome, if◌then◌else◌}
 use Rattle.std.specs.Option.{option_map, option_map_or}
 use Rattle.std.specs.Cmp.Lexicographic.{pointwise}
 use Rattle.osgi_base.specs.declared.folder.Folder.{Folder}
+use Rattle.osgi_outside.specs.declared.shelf.TheConstants.{MAX_BYTES, MAX_FILES}
 use Rattle.osgi_outside.specs.declared.shelf.Found.{Found}
 use Rattle.osgi_outside.specs.declared.shelf.Found.TheVariants as found
 use Rattle.osgi_outside.specs.Causes.{Rose}
@@ -24,7 +25,7 @@ files_of folder = length folder.files
 
 -- whether so many bytes or so many files are more than a folder may have
 abbrev pub is_too_large : ℕ → ℕ → Bool
-is_too_large bytes files = nat_lt 4194304 bytes || nat_lt 4096 files
+is_too_large bytes files = nat_lt MAX_BYTES bytes || nat_lt MAX_FILES files
 
 -- what a folder is answered as; the two numbers stand still at the greatest of their types
 abbrev pub found_of : Folder → Found

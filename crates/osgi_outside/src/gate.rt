@@ -14,7 +14,7 @@ pub enum Point {
     InSection,
 }
 
-/// What each lane comes to at each of these points. It tells nothing of what it does there, and may wait.
+/// What each lane comes to at each of these points. Nothing is known of what it does there, and it may wait.
 pub trait Gate {
     fn at<R: Threads + Wait + Sync>(&self, rt: &R, lane: u32, point: Point);
 }

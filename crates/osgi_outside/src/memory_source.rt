@@ -69,14 +69,14 @@ impl Source for MemorySource {
         ensures counted { self.new.script ≡ after_call self.old.script }
     {
         self.script.next()?;
-        let count = copy_front(&self.bytes[self.at..], buf);
+        let count = copy_start(&self.bytes[self.at..], buf);
         self.at += count;
         Ok(count)
     }
 }
 
 /// Copies as many bytes as fit, and says how many.
-fn copy_front(from: &[u8], buf: &mut [u8]) -> usize
+fn copy_start(from: &[u8], buf: &mut [u8]) -> usize
     ensures count { result ≡ min (length from.now) (length buf.old) }
     ensures bytes { take result buf.new ≡ take result from.now }
 {

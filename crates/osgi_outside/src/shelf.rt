@@ -31,13 +31,13 @@ pub enum Found {
 pub trait Shelf {
     ghost use Rattle.osgi_outside.specs.Shelves.{IsAsTold, KeepsLimits, RoseWhereFailed};
 
-    /// The folders with their locations, where the shelf tells. The first of a location counts.
+    /// The folders with their locations, if the shelf exposes them. The first of a location counts.
     ghost told: { Self → Option (List (List ℕ × Folder)) };
 
     /// How often a read has failed.
     ghost faults: { Self → ℕ };
 
-    /// Reads the folder at a location. Where memory is wanting the shelf is as before.
+    /// Reads the folder at a location. If memory runs out, the shelf is as before.
     fn read(&mut self, alloc: Global, location: &Text) -> Result<Found, AllocError>
         ensures told { told self.new ≡ told self.old }
         ensures answer { IfOk result (λ found. IsAsTold (told self.old) location.now found) }

@@ -9,16 +9,16 @@ use crate::source::Failed;
 
 /// A place that bytes are written to, in order. It counts its failures.
 pub trait Sink {
-    /// The bytes that were written, where the sink tells.
+    /// The bytes that were written, if the sink exposes them.
     ghost written: { Self → Option (List ℕ) };
 
-    /// The bytes that were flushed, where the sink tells.
+    /// The bytes that were flushed, if the sink exposes them.
     ghost flushed: { Self → Option (List ℕ) };
 
     /// How often a write or a flush has failed.
     ghost faults: { Self → ℕ };
 
-    /// Takes bytes from the front of `buf`, and says how many: at least one where `buf` is not empty. A
+    /// Takes bytes from the start of `buf`, and says how many: at least one where `buf` is not empty. A
     /// write that failed takes none.
     fn write(&mut self, buf: &[u8]) -> Result<usize, Failed>
         ensures bound { WritesAtMost result buf.now }
@@ -32,6 +32,6 @@ pub trait Sink {
         ensures flushed { OnOk result (flushed self.new ≡ written self.new) }
         ensures cause { HasCause (faults self.old) (faults self.new) result };
 
-    /// A sink that tells what was written tells what was flushed.
+    /// A sink that exposes what was written exposes what was flushed.
     ghost told_together: { (s : Self) → is_some (written s) ≡ is_some (flushed s) };
 }

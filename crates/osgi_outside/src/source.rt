@@ -12,13 +12,13 @@ pub struct Failed;
 
 /// A place that bytes are read from, in order. It counts its failures.
 pub trait Source {
-    /// The bytes that are left, where the source tells.
+    /// The bytes that are left, if the source exposes them.
     ghost left: { Self → Option (List ℕ) };
 
     /// How often a read has failed.
     ghost faults: { Self → ℕ };
 
-    /// Moves bytes from the front of what is left to the front of `buf`, and says how many: 0 where `buf`
+    /// Moves bytes from the start of what is left to the start of `buf`, and says how many: 0 where `buf`
     /// is empty or nothing is left. A read that failed moves none.
     fn read(&mut self, buf: &mut [u8]) -> Result<usize, Failed>
         ensures bound { ReadsAtMost result buf.new }

@@ -7,7 +7,7 @@ use crate::source::{Failed, Source};
 use std::io::{Read, Write};
 use std::marker::Model;
 
-/// A reader as a source. It tells nothing of the bytes that the reader has left.
+/// A reader as a source. It does not expose the bytes that the reader has left.
 #[derive(Drop)]
 pub struct StdSource<R> {
     inner: R,
@@ -56,7 +56,7 @@ impl<R: Read> Source for StdSource<R> {
     }
 }
 
-/// A writer as a sink. It tells nothing of the bytes that the writer holds.
+/// A writer as a sink. It does not expose the bytes that the writer holds.
 #[derive(Drop)]
 pub struct StdSink<W> {
     inner: W,

@@ -7,17 +7,18 @@ use Rattle.std.proofs.lemmas.Bool.{cond-false, cond-true, eqb-true}
 use Rattle.std.proofs.lemmas.List.Folds.{sum_by-zero}
 use Rattle.std.proofs.lemmas.List.Sums.{list_all-from_AllPass}
 use Rattle.std.specs.Str.Lines.{lines}
-use Rattle.osgi_ops.proofs.Parts.{tells_full}
-use Rattle.osgi_ops.proofs.Sessions.{AreNumberedFrom, Makes-cut, Makes-weaker, none_full, some_full}
+use Rattle.osgi_ops.specs.laws.Parts.{tells_full}
+use Rattle.osgi_ops.specs.laws.Sessions.{AreNumberedFrom, Makes-cut, Makes-weaker, none_full, some_full}
 use Rattle.osgi_ops.specs.Rendering.{is_full}
 use Rattle.osgi_ops.specs.Sessions.{Makes, MayBeCut}
 use Rattle.osgi_ops.specs.Settings.{Setting}
 use Rattle.osgi_ops.specs.declared.entry.Entry.{Entry}
 use Rattle.osgi_ops.specs.declared.line.Line.{Line}
 use Rattle.osgi_console.specs.Console.{AreReadFrom}
-use Rattle.osgi_program.specs.Ended.{IsRun, status_by}
-use Rattle.osgi_program.specs.Outcome.{IsSession, is_handing, IsWrittenStatus, most_input, status_of}
-use Rattle.osgi_program.specs.Running.{IsCutAt, never, RunsLines}
+use Rattle.osgi_program.specs.computed.Ended.{IsRun, status_by}
+use Rattle.osgi_program.specs.Outcome.{IsSession, is_handing, IsWrittenStatus, status_of}
+use Rattle.osgi_program.specs.declared.session.TheConstants.{MAX_INPUT}
+use Rattle.osgi_program.specs.computed.Running.{IsCutAt, never, RunsLines}
 use Rattle.osgi_program.specs.declared.runner.Ran.{Ran}
 use Rattle.osgi_program.specs.declared.runner.Ran.TheVariants as ran
 use Rattle.osgi_program.specs.declared.session.Session.{Session}
@@ -32,7 +33,7 @@ cut_whole : (limit : ℕ) (status : ℕ) (lines : List Line) (history made : Lis
 cut_whole limit status lines history made is was_cut law =
     subst (λ (h : List Entry). Makes (MayBeCut limit status history) lines h) (sym is)
     (subst (λ (l : List Line). Makes (MayBeCut limit status history) l made) (sym was_cut.is)
-    (Makes-cut (MayBeCut limit status history) was_cut.front was_cut.line was_cut.rest made was_cut.before was_cut.cut law))
+    (Makes-cut (MayBeCut limit status history) was_cut.prefix was_cut.line was_cut.rest made was_cut.before was_cut.cut law))
 
 runs_whole : (how : Ran) (limit status : ℕ) (lines : List Line) (history : List Entry) → (how ≡ ran.Starved → status ≡ 5) → RunsLines how limit lines [] history → Makes (MayBeCut limit status history) lines history
 runs_whole ran.All limit status lines history starved (made, is, makes) =
@@ -50,7 +51,7 @@ numbered_from number [] (line ∷ rest) read = absurd read
 numbered_from number (text ∷ texts) [] read = absurd read
 numbered_from number (text ∷ texts) (line ∷ rest) read = (read.0, numbered_from (number + 1) texts rest read.3)
 
-pub session_from : (setting : Setting) (input : List ℕ) (how : Ran) (session : Session) (status : ℕ) (left : Option (List ℕ)) → IsRun setting input how session → IfSome left (λ all. input ≡ all) → length input ≤ most_input →
+pub session_from : (setting : Setting) (input : List ℕ) (how : Ran) (session : Session) (status : ℕ) (left : Option (List ℕ)) → IsRun setting input how session → IfSome left (λ all. input ≡ all) → length input ≤ MAX_INPUT →
     (how ≡ ran.Starved → status ≡ 5) → IsSession setting status left session
 session_from setting input how session status left run all within starved = record {
   input = input;
@@ -67,7 +68,7 @@ cut_full : (lines : List Line) (history made : List Entry) → AreNumberedFrom 1
 cut_full lines history made numbered is was_cut =
     subst (λ (h : List Entry). list_any (is_full h) lines ≡ true) (sym is)
     (subst (λ (l : List Line). list_any (is_full made) l ≡ true) (sym was_cut.is)
-    (some_full 1 was_cut.front was_cut.line was_cut.rest made (subst (AreNumberedFrom 1) was_cut.is numbered) was_cut.before was_cut.cut))
+    (some_full 1 was_cut.prefix was_cut.line was_cut.rest made (subst (AreNumberedFrom 1) was_cut.is numbered) was_cut.before was_cut.cut))
 
 -- the status by how the lines ran is the status by what they made
 status_by_runs : (how : Ran) (limit : ℕ) (session : Session) → AreNumberedFrom 1 session.lines → (how ≡ ran.Starved → ⊥) → RunsLines how limit session.lines [] session.entries → status_by how session ≡ status_of session

@@ -1,4 +1,3 @@
 -- The definitions of how lines run and of the top call.
-pub mod Ended
 pub mod Outcome
-pub mod Running
+pub mod computed

@@ -3,7 +3,7 @@ use Rattle.std.specs.Prelude.{ℕ, ◌≡◌, ◌≤◌, ◌⊎◌, ◌||◌, if
 use Rattle.std.specs.List.{count_by, list_any}
 use Rattle.std.specs.Io.KnownBytes.{Appends}
 use Rattle.osgi_ops.specs.Legal.{Legal}
-use Rattle.osgi_ops.specs.Rendering.{is_full, render, TellsFull}
+use Rattle.osgi_ops.specs.Rendering.{is_full, render, IsFullWhereCut}
 use Rattle.osgi_ops.specs.Replies.{is_refusal}
 use Rattle.osgi_ops.specs.Sessions.{IsWhole}
 use Rattle.osgi_ops.specs.Settings.{Setting}
@@ -14,25 +14,22 @@ use Rattle.osgi_ops.specs.declared.line.Line.{Line}
 use Rattle.osgi_ops.specs.declared.reply.Reply.{Reply}
 use Rattle.osgi_console.specs.Console.{AreLinesOf}
 use Rattle.osgi_program.specs.declared.session.Session.{Session}
-
--- how many bytes an input may have
-abbrev pub most_input : ℕ
-most_input = 1048576
+use Rattle.osgi_program.specs.declared.session.TheConstants.{MAX_INPUT, DONE, TROUBLED, FAULTY_WORDS, READ_FAILED, INPUT_TOO_LONG, HISTORY_FULL}
 
 -- the reply hands an event to a listener, which none does yet
 abbrev pub is_handing : Reply → Bool
 is_handing _ = false
 
--- `input` is what the source had left, where it tells that, and within the limit. The session's lines are all lines of the
+-- `input` is what the source had left, if the source exposes it, and within the limit. The session's lines are all lines of the
 -- input; its history replays from the empty framework, and is what these lines make under the limits
 pub record IsSession (setting : Setting) (status : ℕ) (left : Option (List ℕ)) (session : Session) : Type 0 where
   pub input : List ℕ
   pub all : IfSome left (λ bytes. input ≡ bytes)
-  pub within : length input ≤ most_input
+  pub within : length input ≤ MAX_INPUT
   pub lines : AreLinesOf input session.lines
   pub legal : Legal setting session.entries
   pub whole : IsWhole setting.bounds.entries status session.lines session.entries
-  pub full : All (TellsFull session.entries) session.lines
+  pub full : All (IsFullWhereCut session.entries) session.lines
   pub handings : session.handings ≡ count_by (λ e. is_handing e.reply) session.entries
 
 abbrev pub is_bad : Content → Bool
@@ -43,12 +40,11 @@ is_bad _ = false
 abbrev pub is_troubled : List Line → List Entry → Bool
 is_troubled lines entries = list_any (λ line. is_bad line.content) lines || list_any (λ e. is_refusal e.reply) entries
 
--- the status of a session whose text was written: 7 where a line is full, else 1 where a line is outside the grammar or a
--- reply is a refusal, else 0
+-- the status of a session whose text was written
 abbrev pub status_of : Session → ℕ
 status_of session =
-    if list_any (is_full session.entries) session.lines then 7
-    else (if is_troubled session.lines session.entries then 1 else 0)
+    if list_any (is_full session.entries) session.lines then HISTORY_FULL
+    else (if is_troubled session.lines session.entries then TROUBLED else DONE)
 
 abbrev pub text_of : Session → List ℕ
 text_of session = render session.lines session.entries
@@ -65,8 +61,8 @@ pub record IsPartlyWritten (before after : Option (List ℕ)) (session : Session
 
 -- statuses of a run whose text was written
 abbrev pub IsWrittenStatus : ℕ → Type 0
-IsWrittenStatus status = (status ≡ 0) ⊎ (status ≡ 1) ⊎ (status ≡ 7)
+IsWrittenStatus status = (status ≡ DONE) ⊎ (status ≡ TROUBLED) ⊎ (status ≡ HISTORY_FULL)
 
 -- statuses of a run that never has a session
 abbrev pub IsBareStatus : ℕ → Type 0
-IsBareStatus status = (status ≡ 2) ⊎ (status ≡ 3) ⊎ (status ≡ 6)
+IsBareStatus status = (status ≡ FAULTY_WORDS) ⊎ (status ≡ READ_FAILED) ⊎ (status ≡ INPUT_TOO_LONG)

@@ -5,18 +5,17 @@ ghost use Rattle.std.specs.List.{list_any};
 ghost use Rattle.osgi_ops.specs.Replies.{is_refusal};
 ghost use Rattle.osgi_ops.specs.Settings.{setting_of, standard_bounds, standard_setting};
 ghost use Rattle.osgi_outside.specs.Causes.{Rose};
-ghost use Rattle.osgi_program.specs.Outcome.{most_input, is_bad, is_troubled, status_of, IsSession, IsWritten, IsPartlyWritten, IsWrittenStatus, IsBareStatus};
-ghost use Rattle.osgi_program.specs.Ended.{IsRun, status_by};
+ghost use Rattle.osgi_program.specs.Outcome.{is_bad, is_troubled, status_of, IsSession, IsWritten, IsPartlyWritten, IsWrittenStatus, IsBareStatus};
+ghost use Rattle.osgi_program.specs.computed.Ended.{IsRun, status_by};
 
 use crate::runner::{Ran, run_lines};
 use crate::session::{
-    DONE, FAULTY_WORDS, Finished, HISTORY_FULL, INPUT_TOO_LONG, NO_MEMORY, READ_FAILED, Session,
-    TROUBLED, WRITE_FAILED,
+    DONE, FAULTY_WORDS, Finished, HISTORY_FULL, INPUT_TOO_LONG, MAX_INPUT, NO_MEMORY, READ_FAILED,
+    Session, TROUBLED, WRITE_FAILED,
 };
 use osgi_base::text::Text;
-use osgi_console::reading::parse;
-use osgi_console::rendering::render;
-use osgi_core::machine::Core;
+use osgi_console::{parse, render};
+use osgi_core::Core;
 use osgi_ops::entry::Entry;
 use osgi_ops::limits::Limits;
 use osgi_ops::line::{Content, Line};
@@ -27,9 +26,6 @@ use osgi_outside::sink::Sink;
 use osgi_outside::source::Source;
 use osgi_outside::writing::write_all;
 use std::alloc::{AllocError, Global};
-
-/// How many bytes an input may have.
-const MOST_INPUT: usize = 1_048_576;
 
 /// Whether the words of the command line are the one word `run`.
 fn is_run(words: &[Text]) -> bool
@@ -87,11 +83,11 @@ fn status_by(ran: Ran, session: &Session) -> u8
 /// Writes the text of a session, where memory was found for all of its run, and says with which status the run ends.
 fn write_session<K: Sink>(alloc: Global, ran: Ran, session: &Session, sink: &mut K) -> u8
     ensures sink_faults { K.faults sink.old ≤ K.faults sink.new }
-    ensures which { IsWrittenStatus result ⊎ (result ≡ 4) ⊎ (result ≡ 5) }
-    ensures starved { ran ≡ Ran.Starved → result ≡ 5 }
-    ensures unwritten { result ≡ 5 → sink.new ≡ sink.old }
-    ensures failed { result ≡ 4 → Rose (K.faults sink.old) (K.faults sink.new) }
-    ensures part { result ≡ 4 → IsPartlyWritten (K.written sink.old) (K.written sink.new) session.now }
+    ensures which { IsWrittenStatus result ⊎ (result ≡ WRITE_FAILED) ⊎ (result ≡ NO_MEMORY) }
+    ensures starved { ran ≡ Ran.Starved → result ≡ NO_MEMORY }
+    ensures unwritten { result ≡ NO_MEMORY → sink.new ≡ sink.old }
+    ensures failed { result ≡ WRITE_FAILED → Rose (K.faults sink.old) (K.faults sink.new) }
+    ensures part { result ≡ WRITE_FAILED → IsPartlyWritten (K.written sink.old) (K.written sink.new) session.now }
     ensures status { IsWrittenStatus result → result ≡ status_by ran session.now }
     ensures whole { IsWrittenStatus result →
         IsWritten (K.written sink.old) (K.written sink.new) (K.flushed sink.new) session.now }
@@ -121,48 +117,48 @@ pub fn framework_main<R, S: Source, K: Sink, F: Shelf, G: Gate>(
     shelf: &mut F,
     gate: &G,
 ) -> Finished
-    ensures range { result.status ≤ 7 }
-    ensures faulty_words { (result.status ≡ 2) ↔ ¬ (words.now ≡ codes "run" ∷ []) }
-    ensures good_words { (result.status ≡ 2) ⊎ (words.now ≡ codes "run" ∷ []) }
-    ensures untouched { result.status ≡ 2 → (source.new ≡ source.old) × (sink.new ≡ sink.old) }
+    ensures range { result.status ≤ HISTORY_FULL }
+    ensures faulty_words { (result.status ≡ FAULTY_WORDS) ↔ ¬ (words.now ≡ codes "run" ∷ []) }
+    ensures good_words { (result.status ≡ FAULTY_WORDS) ⊎ (words.now ≡ codes "run" ∷ []) }
+    ensures untouched { result.status ≡ FAULTY_WORDS → (source.new ≡ source.old) × (sink.new ≡ sink.old) }
     ensures shelf { shelf.new ≡ shelf.old }
 
     // What was read, run and recorded, whatever came of the writing.
     ensures session { IfSome result.session (IsSession standard_setting result.status (S.left source.old)) }
     ensures all_read { OnSome result.session (OnSome (S.left source.old) (S.left source.new ≡ Some [])) }
-    ensures no_session { result.session ≡ None → IsBareStatus result.status ⊎ (result.status ≡ 5) }
+    ensures no_session { result.session ≡ None → IsBareStatus result.status ⊎ (result.status ≡ NO_MEMORY) }
     ensures bare { IsBareStatus result.status → result.session ≡ None }
 
     // Why nothing, or not all, was written.
     ensures source_faults { S.faults source.old ≤ S.faults source.new }
-    ensures read_failed { result.status ≡ 3 → Rose (S.faults source.old) (S.faults source.new) }
-    ensures too_much { result.status ≡ 6 → IfSome (S.left source.old) (λ bytes. most_input < length bytes) }
-    ensures above_limit { IsSomeAnd (S.left source.old) (λ bytes. most_input < length bytes) →
-        IsBareStatus result.status ⊎ (result.status ≡ 5) }
+    ensures read_failed { result.status ≡ READ_FAILED → Rose (S.faults source.old) (S.faults source.new) }
+    ensures too_much { result.status ≡ INPUT_TOO_LONG → IfSome (S.left source.old) (λ bytes. MAX_INPUT < length bytes) }
+    ensures above_limit { IsSomeAnd (S.left source.old) (λ bytes. MAX_INPUT < length bytes) →
+        IsBareStatus result.status ⊎ (result.status ≡ NO_MEMORY) }
     ensures sink_faults { K.faults sink.old ≤ K.faults sink.new }
-    ensures write_failed { result.status ≡ 4 → Rose (K.faults sink.old) (K.faults sink.new) }
-    ensures part_written { result.status ≡ 4 →
+    ensures write_failed { result.status ≡ WRITE_FAILED → Rose (K.faults sink.old) (K.faults sink.new) }
+    ensures part_written { result.status ≡ WRITE_FAILED →
         IsSomeAnd result.session (IsPartlyWritten (K.written sink.old) (K.written sink.new)) }
-    ensures unwritten { IsBareStatus result.status ⊎ (result.status ≡ 5) → sink.new ≡ sink.old }
+    ensures unwritten { IsBareStatus result.status ⊎ (result.status ≡ NO_MEMORY) → sink.new ≡ sink.old }
 
-    // The text, and the status that tells what is in it.
+    // The text, and the status that says what is in it.
     ensures written { IsWrittenStatus result.status →
         IsSomeAnd result.session (IsWritten (K.written sink.old) (K.written sink.new) (K.flushed sink.new)) }
     ensures status_by_session { IsWrittenStatus result.status →
         IsSomeAnd result.session (λ session. result.status ≡ status_of session) }
-    ensures history_full { result.status ≡ 7 →
+    ensures history_full { result.status ≡ HISTORY_FULL →
         IsSomeAnd result.session (λ session. length session.entries ≡ standard_bounds.entries) }
     ensures complete { words.now ≡ codes "run" ∷ [] →
         ¬ Rose (S.faults source.old) (S.faults source.new) →
         ¬ Rose (K.faults sink.old) (K.faults sink.new) →
-        IsSomeAnd (S.left source.old) (λ bytes. length bytes ≤ most_input) →
+        IsSomeAnd (S.left source.old) (λ bytes. length bytes ≤ MAX_INPUT) →
         IfSome result.session (λ session. length session.entries < standard_bounds.entries) →
-        (result.status ≡ 0) ⊎ (result.status ≡ 1) ⊎ (result.status ≡ 5) }
+        (result.status ≡ DONE) ⊎ (result.status ≡ TROUBLED) ⊎ (result.status ≡ NO_MEMORY) }
 {
     if !is_run(words) {
         return Finished::bare(FAULTY_WORDS);
     }
-    let input = match read_all(alloc, source, MOST_INPUT) {
+    let input = match read_all(alloc, source, MAX_INPUT) {
         Ok(Input::All(input)) => input,
         Ok(Input::TooMuch) => return Finished::bare(INPUT_TOO_LONG),
         Ok(Input::Failed) => return Finished::bare(READ_FAILED),

@@ -1,6 +1,9 @@
 //! The top call: a console script read, run and rendered.
 #![tactic(auto)]
 
-pub mod framework;
+mod framework;
 mod runner;
-pub mod session;
+mod session;
+
+pub use framework::framework_main;
+pub use session::{Finished, Session};

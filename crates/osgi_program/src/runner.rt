@@ -3,11 +3,11 @@
 ghost use Rattle.std.specs.Prelude.{◌≡◌, IfOk};
 ghost use Rattle.osgi_ops.specs.Bundles.{system};
 ghost use Rattle.osgi_ops.specs.Plans.{op_of};
-ghost use Rattle.osgi_program.specs.Running.{IsAsked, RunsLine, RunsLines, tag_of};
+ghost use Rattle.osgi_program.specs.computed.Running.{IsAsked, RunsLine, RunsLines, tag_of};
 
 use osgi_base::copied::copy_option;
 use osgi_base::ids::{BundleId, Tag};
-use osgi_core::machine::Core;
+use osgi_core::Core;
 use osgi_ops::command::Command;
 use osgi_ops::line::{Content, Line};
 use osgi_ops::op::Op;
@@ -25,7 +25,7 @@ pub enum Ran {
     All,
     /// To a line whose operation found the history full.
     Full,
-    /// To a line for which memory was wanting.
+    /// To a line for which memory ran out.
     Starved,
 }
 

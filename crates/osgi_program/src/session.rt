@@ -15,6 +15,9 @@ pub struct Session {
     pub handings: u64,
 }
 
+/// How many bytes an input may have.
+pub(crate) const MAX_INPUT: usize = 1_048_576;
+
 /// The words of the command line are faulty.
 pub(crate) const FAULTY_WORDS: u8 = 2;
 
@@ -40,9 +43,9 @@ pub struct Finished {
     /// The first of these that holds. 2: the words are not `run` alone; nothing was read. 3: a read
     /// failed. 6: the input has more than 1,048,576 bytes. 4: a write or a flush failed. 7: a line with a
     /// command found the history full. 1: a line is outside the grammar, or a reply is a refusal. 0:
-    /// otherwise. And 5 in place of any but 2: memory was wanting, and nothing was written.
+    /// otherwise. And 5 in place of any but 2: memory ran out, and nothing was written.
     pub status: u8,
-    /// None on 2, 3 and 6, and where memory was wanting before the framework was made.
+    /// None on 2, 3 and 6, and where memory ran out before the framework was made.
     pub session: Option<Session>,
 }
 

@@ -8,45 +8,60 @@ use osgi_outside::memory_shelf::MemoryShelf;
 use osgi_outside::memory_sink::MemorySink;
 use osgi_outside::memory_source::MemorySource;
 use osgi_outside::source::Source;
-use osgi_program::framework::framework_main;
+use osgi_program::framework_main;
 use std::alloc::{AllocError, Global};
 use std::fmt::Write;
 
-/// A text of more bytes is told by their number and its last ones.
+/// A text of more bytes is shown by their number and its last ones.
 const SHOWN: usize = 1_000;
 
 const LAST: usize = 60;
 
-/// The answer to a line that is a case.
-pub fn answer(alloc: Global, line: &str) -> Result<String, AllocError> {
+/// Appends the answer to a line that is a case.
+pub fn put_answer(alloc: Global, out: &mut String, line: &str) -> Result<(), AllocError> {
     match Case::read(alloc, line)? {
-        Some(case) => run(alloc, case),
-        None => String::from_str(alloc, "not a case"),
+        Some(case) => run(alloc, out, case),
+        None => out.push_str("not a case"),
     }
 }
 
-/// Runs the program on a case, and tells how it ended.
-fn run(alloc: Global, case: Case) -> Result<String, AllocError> {
-    let mut source = MemorySource::new(case.input, case.reads);
-    let mut sink = MemorySink::new(alloc, case.writes)?;
-    let mut shelf = MemoryShelf::new(Vec::new(alloc), Vec::new(alloc));
+/// Runs the program on a case, and appends how it ended.
+fn run(alloc: Global, out: &mut String, case: Case) -> Result<(), AllocError> {
+    let Case {
+        words,
+        input,
+        reads,
+        writes,
+        ..
+    } = case;
+    let mut source = MemorySource::new(input, reads);
+    let mut sink = MemorySink::new(alloc, writes)?;
     let finished = framework_main(
         &(),
         alloc,
-        case.words.as_slice(),
+        words.as_slice(),
         &mut source,
         &mut sink,
-        &mut shelf,
+        &mut MemoryShelf::new(Vec::new(alloc), Vec::new(alloc)),
         &OpenGate,
     );
-    let mut out = format!(in alloc; "{} ", finished.status)?;
-    put_sink(&mut out, &sink)?;
-    put_source(&mut out, &mut source)?;
+    put_ends(out, finished.status, &mut source, &sink)?;
     match &finished.session {
-        Some(session) => put_session(alloc, &mut out, session)?,
-        None => out.push_str(" | no session")?,
+        Some(session) => put_session(alloc, out, session),
+        None => out.push_str(" | no session"),
     }
-    Ok(out)
+}
+
+/// Appends the status, and what the ends tell.
+fn put_ends(
+    out: &mut String,
+    status: u8,
+    source: &mut MemorySource,
+    sink: &MemorySink,
+) -> Result<(), AllocError> {
+    write!(out, "{status} ")?;
+    put_sink(out, sink)?;
+    put_source(out, source)
 }
 
 /// What was written and flushed, and the faults.

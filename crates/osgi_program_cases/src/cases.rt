@@ -30,10 +30,7 @@ impl Case {
             }
             rest = more;
         }
-        let once = bytes_of(alloc, rest.as_bytes())?;
-        for _ in 0..case.times {
-            case.input.extend_from_slice(once.as_slice())?;
-        }
+        case.input = repeated(alloc, bytes_of(alloc, rest)?.as_slice(), case.times)?;
         Ok(Some(case))
     }
 
@@ -67,19 +64,26 @@ fn split_head(line: &str) -> Option<(&str, &str)> {
     line.strip_prefix("[")?.split_once("] ")
 }
 
+/// The bytes so many times.
+fn repeated(alloc: Global, bytes: &[u8], times: u64) -> Result<Vec<u8>, AllocError> {
+    let mut all = Vec::new(alloc);
+    for _ in 0..times {
+        all.extend_from_slice(bytes)?;
+    }
+    Ok(all)
+}
+
 fn words_of(alloc: Global, text: &str) -> Result<Vec<Text>, AllocError> {
     let mut words = Vec::new(alloc);
     for word in text.split_whitespace() {
         let spelled = if word == "''" { "" } else { word };
-        words.push(Text::from_vec(alloc, bytes_of(alloc, spelled.as_bytes())?)?)?;
+        words.push(Text::from_vec(alloc, bytes_of(alloc, spelled)?)?)?;
     }
     Ok(words)
 }
 
 fn numbers_of(alloc: Global, text: &str) -> Result<Vec<u64>, AllocError> {
-    let mut numbers = Vec::new(alloc);
-    for word in text.split_whitespace() {
-        numbers.push(word.parse::<u64>().unwrap_or(0))?;
-    }
-    Ok(numbers)
+    text.split_whitespace()
+        .map(|word| word.parse::<u64>().unwrap_or(0))
+        .collect(alloc)
 }

@@ -1,11 +1,12 @@
-//! Commands and operations as an answer tells them.
+//! Commands and operations as an answer shows them.
 
 use crate::escapes::{put_bytes, put_quoted};
 use osgi_base::ids::{BundleId, ServiceId};
+use osgi_base::list::List;
 use osgi_base::text::Text;
-use osgi_filter::printing::print;
+use osgi_filter::print;
 use osgi_model::filter::Filter;
-use osgi_model::value::{Attribute, Value};
+use osgi_model::value::{Attribute, Attributes, Value};
 use osgi_ops::command::Command;
 use osgi_ops::op::Op;
 use std::alloc::{AllocError, Global};
@@ -17,17 +18,11 @@ pub fn put_command(alloc: Global, out: &mut String, command: &Command) -> Result
             classes,
             object,
             properties,
-        } => {
-            put_register(out, classes.items(), object)?;
-            put_properties(alloc, out, properties.items())
-        }
+        } => put_register(alloc, out, classes, object, properties),
         Command::Modify {
             service,
             properties,
-        } => {
-            put_service(out, "modify", *service)?;
-            put_properties(alloc, out, properties.items())
-        }
+        } => put_modify(alloc, out, *service, properties),
         Command::Unregister { service } => put_service(out, "unregister", *service),
         Command::Find { class, filter } => put_search(alloc, out, "find", class, filter),
         Command::FindAll { class, filter } => put_search(alloc, out, "findall", class, filter),
@@ -37,73 +32,69 @@ pub fn put_command(alloc: Global, out: &mut String, command: &Command) -> Result
     }
 }
 
-pub fn put_op(alloc: Global, out: &mut String, op: &Op) -> Result<(), AllocError> {
+/// The bundle that asks for an operation, where it names one.
+fn asker(op: &Op) -> Option<BundleId> {
     match op {
-        Op::Register {
-            owner,
-            classes,
-            object,
-            properties,
-        } => {
-            put_bundle(out, *owner)?;
-            put_register(out, classes.items(), object)?;
-            put_properties(alloc, out, properties.items())
+        Op::Register { owner, .. } | Op::Modify { owner, .. } | Op::Unregister { owner, .. } => {
+            Some(*owner)
         }
-        Op::Modify {
-            owner,
-            service,
-            properties,
-        } => {
-            put_bundle(out, *owner)?;
-            put_service(out, "modify", *service)?;
-            put_properties(alloc, out, properties.items())
-        }
-        Op::Unregister { owner, service } => put_call(out, *owner, "unregister", *service),
-        Op::Find {
-            asker,
-            class,
-            filter,
-        } => {
-            put_bundle(out, *asker)?;
-            put_search(alloc, out, "find", class, filter)
-        }
-        Op::FindAll {
-            asker,
-            class,
-            filter,
-        } => {
-            put_bundle(out, *asker)?;
-            put_search(alloc, out, "findall", class, filter)
-        }
-        Op::Get { user, service } => put_call(out, *user, "get", *service),
-        Op::Unget { user, service } => put_call(out, *user, "unget", *service),
-        Op::ListServices => out.push_str("services"),
+        Op::Find { asker, .. } | Op::FindAll { asker, .. } => Some(*asker),
+        Op::Get { user, .. } | Op::Unget { user, .. } => Some(*user),
+        Op::ListServices => None,
     }
 }
 
-fn put_bundle(out: &mut String, bundle: BundleId) -> Result<(), AllocError> {
-    write!(out, "by {} ", bundle.0)
+pub fn put_op(alloc: Global, out: &mut String, op: &Op) -> Result<(), AllocError> {
+    if let Some(bundle) = asker(op) {
+        write!(out, "by {} ", bundle.0)?;
+    }
+    match op {
+        Op::Register {
+            classes,
+            object,
+            properties,
+            ..
+        } => put_register(alloc, out, classes, object, properties),
+        Op::Modify {
+            service,
+            properties,
+            ..
+        } => put_modify(alloc, out, *service, properties),
+        Op::Unregister { service, .. } => put_service(out, "unregister", *service),
+        Op::Find { class, filter, .. } => put_search(alloc, out, "find", class, filter),
+        Op::FindAll { class, filter, .. } => put_search(alloc, out, "findall", class, filter),
+        Op::Get { service, .. } => put_service(out, "get", *service),
+        Op::Unget { service, .. } => put_service(out, "unget", *service),
+        Op::ListServices => out.push_str("services"),
+    }
 }
 
 fn put_service(out: &mut String, word: &str, service: ServiceId) -> Result<(), AllocError> {
     write!(out, "{word} {}", service.0)
 }
 
-fn put_call(
+fn put_register(
+    alloc: Global,
     out: &mut String,
-    bundle: BundleId,
-    word: &str,
-    service: ServiceId,
+    classes: &List<Text>,
+    object: &Text,
+    properties: &Attributes,
 ) -> Result<(), AllocError> {
-    put_bundle(out, bundle)?;
-    put_service(out, word, service)
+    out.push_str("register ")?;
+    put_classes(out, classes.items())?;
+    out.push(' ')?;
+    put_quoted(out, object.bytes())?;
+    put_properties(alloc, out, properties.items())
 }
 
-fn put_register(out: &mut String, classes: &[Text], object: &Text) -> Result<(), AllocError> {
-    out.push_str("register ")?;
-    put_classes(out, classes)?;
-    out.push(' ')?;
-    put_quoted(out, object.bytes())
+fn put_modify(
+    alloc: Global,
+    out: &mut String,
+    service: ServiceId,
+    properties: &Attributes,
+) -> Result<(), AllocError> {
+    put_service(out, "modify", service)?;
+    put_properties(alloc, out, properties.items())
 }
 
 /// Appends names of classes, separated by commas.
@@ -133,16 +124,20 @@ fn put_search(
     put_bytes(out, print(alloc, filter)?.bytes())
 }
 
+fn put_property(alloc: Global, out: &mut String, property: &Attribute) -> Result<(), AllocError> {
+    out.push(' ')?;
+    put_bytes(out, property.name.bytes())?;
+    out.push('=')?;
+    put_value(alloc, out, &property.value)
+}
+
 fn put_properties(
     alloc: Global,
     out: &mut String,
     properties: &[Attribute],
 ) -> Result<(), AllocError> {
     for property in properties {
-        out.push(' ')?;
-        put_bytes(out, property.name.bytes())?;
-        out.push('=')?;
-        put_value(alloc, out, &property.value)?;
+        put_property(alloc, out, property)?;
     }
     Ok(())
 }

@@ -1,4 +1,4 @@
-//! Replies as an answer tells them.
+//! Replies as an answer shows them.
 
 use crate::commands::put_classes;
 use crate::escapes::put_quoted;
@@ -35,14 +35,18 @@ fn put_services(out: &mut String, services: &[ServiceId]) -> Result<(), AllocErr
     Ok(())
 }
 
+fn put_row(out: &mut String, row: &ServiceRow) -> Result<(), AllocError> {
+    write!(out, " ({} {} {} ", row.service.0, row.owner.0, row.ranking)?;
+    put_classes(out, row.classes.items())?;
+    out.push(' ')?;
+    put_quoted(out, row.object.bytes())?;
+    out.push(')')
+}
+
 fn put_rows(out: &mut String, rows: &[ServiceRow]) -> Result<(), AllocError> {
     out.push_str("rows")?;
     for row in rows {
-        write!(out, " ({} {} {} ", row.service.0, row.owner.0, row.ranking)?;
-        put_classes(out, row.classes.items())?;
-        out.push(' ')?;
-        put_quoted(out, row.object.bytes())?;
-        out.push(')')?;
+        put_row(out, row)?;
     }
     Ok(())
 }

@@ -1,15 +1,15 @@
-//! Sessions as an answer tells them.
+//! Sessions as an answer shows them.
 
 use crate::commands::{put_command, put_op};
 use crate::replies::put_reply;
 use osgi_base::copied::Copied;
 use osgi_ops::entry::Entry;
 use osgi_ops::line::{Content, Line};
-use osgi_program::session::Session;
+use osgi_program::Session;
 use std::alloc::{AllocError, Global};
 use std::fmt::Write;
 
-/// More lines, or entries, are told by their number.
+/// More lines, or entries, are shown by their number.
 const SHOWN: usize = 50;
 
 pub fn put_session(alloc: Global, out: &mut String, session: &Session) -> Result<(), AllocError> {
@@ -20,17 +20,18 @@ pub fn put_session(alloc: Global, out: &mut String, session: &Session) -> Result
     if session.handings > 0 {
         write!(out, " | {} handings", session.handings)?;
     }
-    if !equals_its_copy(alloc, session)? {
-        out.push_str(" | a copy differs")?;
+    if equals_its_copy(alloc, session)? {
+        return Ok(());
     }
-    Ok(())
+    out.push_str(" | a copy differs")
 }
 
 /// Whether the session's lines and entries equal their copies.
 fn equals_its_copy(alloc: Global, session: &Session) -> Result<bool, AllocError> {
-    let lines = session.lines.copied(alloc)?;
-    let entries = session.entries.copied(alloc)?;
-    Ok(lines == session.lines && entries == session.entries)
+    Ok(
+        session.lines.copied(alloc)? == session.lines
+            && session.entries.copied(alloc)? == session.entries,
+    )
 }
 
 fn put_lines(alloc: Global, out: &mut String, lines: &[Line]) -> Result<(), AllocError> {
@@ -61,15 +62,16 @@ fn put_entries(alloc: Global, out: &mut String, entries: &[Entry]) -> Result<(),
     }
     let mut separator = "";
     for entry in entries {
-        write!(
-            out,
-            "{separator}{}.{} ",
-            entry.tag.caller, entry.tag.command
-        )?;
-        put_op(alloc, out, &entry.op)?;
-        out.push_str(": ")?;
-        put_reply(out, &entry.reply)?;
+        out.push_str(separator)?;
+        put_entry(alloc, out, entry)?;
         separator = "; ";
     }
     Ok(())
+}
+
+fn put_entry(alloc: Global, out: &mut String, entry: &Entry) -> Result<(), AllocError> {
+    write!(out, "{}.{} ", entry.tag.caller, entry.tag.command)?;
+    put_op(alloc, out, &entry.op)?;
+    out.push_str(": ")?;
+    put_reply(out, &entry.reply)
 }

@@ -1,16 +1,16 @@
 //! A line's answer, by its first word.
 
-use crate::clauses::clauses;
+use crate::clauses::{clauses, read_clauses};
 use crate::escapes::bytes_of;
 use crate::filters::{filter, nested};
 use crate::headers::{headers, long_lines};
-use crate::matching::{attributes_of, is_match, passes, spelled};
+use crate::matching::{add_attributes, attributes_of, is_match, passes};
 use crate::ranges::{range, within};
 use crate::trees::tree;
 use crate::values::{long, named, value};
 use crate::versions::{order, qualifier, version};
 use osgi_base::list::List;
-use osgi_filter::case::Case;
+use osgi_filter::Case;
 use osgi_model::value::Attributes;
 use std::alloc::{AllocError, Global};
 
@@ -27,47 +27,49 @@ impl Cases {
         Ok(Cases { alloc, attributes })
     }
 
-    /// Takes the attributes of a line, and says what they are.
-    fn take(&mut self, text: &str) -> Result<String, AllocError> {
-        let Some(attributes) = attributes_of(self.alloc, text)? else {
-            return String::from_str(self.alloc, "no attributes");
-        };
-        let answer = spelled(self.alloc, &attributes)?;
-        self.attributes = attributes;
-        Ok(answer)
+    /// Takes the attributes of a line, and adds what they are.
+    fn take(&mut self, out: &mut String, text: &str) -> Result<(), AllocError> {
+        match attributes_of(self.alloc, text)? {
+            Some(attributes) => {
+                self.attributes = attributes;
+                add_attributes(self.alloc, out, &self.attributes)
+            }
+            None => out.push_str("no attributes"),
+        }
     }
 
-    /// What is answered to a line.
-    pub fn answer(&mut self, line: &str) -> Result<String, AllocError> {
+    /// Adds what is answered to a line.
+    pub fn add_answer(&mut self, out: &mut String, line: &str) -> Result<(), AllocError> {
         let alloc = self.alloc;
         let (word, text) = line.split_once(' ').unwrap_or((line, ""));
         match word {
-            "order" => order(alloc, text),
-            "within" => within(alloc, text),
-            "long-lines" => long_lines(alloc, text),
-            "value" => value(alloc, text),
-            "nested" => nested(alloc, text),
-            "attributes" => self.take(text),
-            "match-fold" => is_match(alloc, &self.attributes, Case::Fold, text),
-            "match-keep" => is_match(alloc, &self.attributes, Case::Keep, text),
-            "passes" => passes(alloc, text),
-            _ => read(alloc, word, bytes_of(alloc, text)?.as_slice()),
+            "order" => order(alloc, out, text),
+            "within" => within(alloc, out, text),
+            "long-lines" => long_lines(alloc, out, text),
+            "value" => value(alloc, out, text),
+            "nested" => nested(alloc, out, text),
+            "attributes" => self.take(out, text),
+            "match-fold" => is_match(alloc, out, &self.attributes, Case::Fold, text),
+            "match-keep" => is_match(alloc, out, &self.attributes, Case::Keep, text),
+            "passes" => passes(alloc, out, text),
+            _ => add_read(alloc, out, word, bytes_of(alloc, text)?.as_slice()),
         }
     }
 }
 
-/// What a whole text is read as.
-fn read(alloc: Global, word: &str, text: &[u8]) -> Result<String, AllocError> {
+/// Adds what a whole text is read as.
+fn add_read(alloc: Global, out: &mut String, word: &str, text: &[u8]) -> Result<(), AllocError> {
     match word {
-        "version" => version(alloc, text),
-        "range" => range(alloc, text),
-        "qualifier" => qualifier(alloc, text),
-        "headers" => headers(alloc, text),
-        "clauses" => clauses(alloc, text),
-        "type" => named(alloc, text),
-        "long" => long(alloc, text),
-        "filter" => filter(alloc, text),
-        "tree" => tree(alloc, text),
-        _ => String::from_str(alloc, "no such word"),
+        "version" => version(alloc, out, text),
+        "range" => range(alloc, out, text),
+        "qualifier" => qualifier(alloc, out, text),
+        "headers" => headers(alloc, out, text),
+        "clauses" => clauses(alloc, out, text),
+        "read-clauses" => read_clauses(alloc, out, text),
+        "type" => named(out, text),
+        "long" => long(out, text),
+        "filter" => filter(alloc, out, text),
+        "tree" => tree(alloc, out, text),
+        _ => out.push_str("no such word"),
     }
 }

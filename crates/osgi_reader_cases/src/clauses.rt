@@ -1,11 +1,10 @@
 //! The clauses of header values.
 
-use crate::escapes::push_bytes;
-use crate::headers::fault_spelled;
+use crate::escapes::{complain, push_bytes};
+use crate::headers::push_fault;
 use osgi_base::copied::Copied;
 use osgi_base::list::List;
-use osgi_header::clause::{Clause, Pair, Typed};
-use osgi_header::reading;
+use osgi_header::clause::{Clause, ClauseAt, Pair, Typed};
 use std::alloc::{AllocError, Global};
 
 fn equals_copies(alloc: Global, clauses: &List<Clause>) -> Result<bool, AllocError> {
@@ -36,44 +35,65 @@ fn push_attribute(out: &mut String, attribute: &Typed) -> Result<(), AllocError>
     out.push('}')
 }
 
-fn push_parameters(out: &mut String, clause: &Clause) -> Result<(), AllocError> {
-    for directive in clause.directives.items() {
+fn push_directives(out: &mut String, directives: &[Pair]) -> Result<(), AllocError> {
+    for directive in directives {
         push_directive(out, directive)?;
     }
-    for attribute in clause.attributes.items() {
+    Ok(())
+}
+
+fn push_attributes(out: &mut String, attributes: &[Typed]) -> Result<(), AllocError> {
+    for attribute in attributes {
         push_attribute(out, attribute)?;
     }
     Ok(())
 }
 
 fn push_clause(out: &mut String, clause: &Clause) -> Result<(), AllocError> {
-    if !out.is_empty() {
-        out.push(',')?;
-    }
     for path in clause.paths.items() {
         push_path(out, path.bytes())?;
     }
-    push_parameters(out, clause)
+    push_directives(out, clause.directives.items())?;
+    push_attributes(out, clause.attributes.items())
 }
 
-fn spelled(alloc: Global, clauses: &List<Clause>) -> Result<String, AllocError> {
-    let mut answer = String::new(alloc);
-    for clause in clauses.items() {
-        push_clause(&mut answer, clause)?;
+fn add_all(alloc: Global, out: &mut String, clauses: &List<Clause>) -> Result<(), AllocError> {
+    if clauses.items().is_empty() {
+        out.push_str("none")?;
     }
-    if answer.is_empty() {
-        answer.push_str("none")?;
+    for (at, clause) in clauses.items().iter().enumerate() {
+        if at > 0 {
+            out.push(',')?;
+        }
+        push_clause(out, clause)?;
     }
-    if !equals_copies(alloc, clauses)? {
-        answer.push_str(", copy differs")?;
-    }
-    Ok(answer)
+    complain(out, equals_copies(alloc, clauses)?, ", copy differs")
 }
 
 /// The clauses of a header's value.
-pub fn clauses(alloc: Global, text: &[u8]) -> Result<String, AllocError> {
-    match reading::clauses(alloc, text)? {
-        Ok(clauses) => spelled(alloc, &clauses),
-        Err(fault) => fault_spelled(alloc, fault),
+pub fn clauses(alloc: Global, out: &mut String, text: &[u8]) -> Result<(), AllocError> {
+    match osgi_header::clauses(alloc, text)? {
+        Ok(clauses) => add_all(alloc, out, &clauses),
+        Err(fault) => push_fault(out, fault),
+    }
+}
+
+/// Adds each clause with the byte at which it begins.
+fn add_places(out: &mut String, clauses: &[ClauseAt]) -> Result<(), AllocError> {
+    for ClauseAt { at, clause } in clauses {
+        write!(out, "{at}:")?;
+        push_clause(out, clause)?;
+        out.push('|')?;
+    }
+    Ok(())
+}
+
+/// The clauses of a header's value before its first fault, where each begins, and that fault.
+pub fn read_clauses(alloc: Global, out: &mut String, text: &[u8]) -> Result<(), AllocError> {
+    let read = osgi_header::read_clauses(alloc, text)?;
+    add_places(out, read.clauses.items())?;
+    match read.fault {
+        Some(fault) => push_fault(out, fault),
+        None => Ok(()),
     }
 }

@@ -60,3 +60,12 @@ pub fn push_bytes(out: &mut String, bytes: &[u8]) -> Result<(), AllocError> {
     }
     Ok(())
 }
+
+/// Adds a complaint, unless all is well.
+pub fn complain(out: &mut String, well: bool, complaint: &str) -> Result<(), AllocError> {
+    if well {
+        Ok(())
+    } else {
+        out.push_str(complaint)
+    }
+}

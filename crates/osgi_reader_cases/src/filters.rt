@@ -1,11 +1,11 @@
 //! Filters: read, printed and copied.
 
-use crate::escapes::push_bytes;
+use crate::escapes::{complain, push_bytes};
 use osgi_base::copied::Copied;
-use osgi_filter::printing::print;
-use osgi_filter::reading::parse;
+use osgi_filter::{parse, print};
 use osgi_model::filter::{Filter, Test};
 use std::alloc::{AllocError, Global};
+use std::fmt::Write;
 
 fn test_equals_copies(alloc: Global, test: &Test) -> Result<bool, AllocError> {
     Ok(test.copy(alloc)? == *test && test.copied(alloc)? == *test)
@@ -27,25 +27,23 @@ fn reads_as(alloc: Global, text: &[u8], filter: &Filter) -> Result<bool, AllocEr
     }
 }
 
-/// What is printed of a filter.
-fn printed(alloc: Global, filter: &Filter) -> Result<String, AllocError> {
+/// Adds what is printed of a filter.
+fn add_printed(alloc: Global, out: &mut String, filter: &Filter) -> Result<(), AllocError> {
     let text = print(alloc, filter)?;
-    let mut answer = String::new(alloc);
-    push_bytes(&mut answer, text.bytes())?;
-    if !reads_as(alloc, text.bytes(), filter)? {
-        answer.push_str(", which reads otherwise")?;
-    }
-    if !equals_copies(alloc, filter)? {
-        answer.push_str(", copy differs")?;
-    }
-    Ok(answer)
+    push_bytes(out, text.bytes())?;
+    complain(
+        out,
+        reads_as(alloc, text.bytes(), filter)?,
+        ", which reads otherwise",
+    )?;
+    complain(out, equals_copies(alloc, filter)?, ", copy differs")
 }
 
 /// The filter that a text reads as.
-pub fn filter(alloc: Global, text: &[u8]) -> Result<String, AllocError> {
+pub fn filter(alloc: Global, out: &mut String, text: &[u8]) -> Result<(), AllocError> {
     match parse(alloc, text)? {
-        Ok(filter) => printed(alloc, &filter),
-        Err(fault) => fault.to_string(alloc),
+        Ok(filter) => add_printed(alloc, out, &filter),
+        Err(fault) => write!(out, "{fault}"),
     }
 }
 
@@ -57,9 +55,7 @@ fn levels(alloc: Global, operator: &[u8], count: u32) -> Result<Vec<u8>, AllocEr
         text.extend_from_slice(operator)?;
     }
     text.extend_from_slice(b"(a=1)")?;
-    for _ in 0..count {
-        text.push(b')')?;
-    }
+    text.extend_from_slice(vec![in alloc; b')'; count as usize]?.as_slice())?;
     Ok(text)
 }
 
@@ -73,14 +69,14 @@ fn printed_so(alloc: Global, text: &[u8], filter: &Filter) -> Result<&'static st
 }
 
 /// Whether an item is a filter within so many of an operator.
-pub fn nested(alloc: Global, text: &str) -> Result<String, AllocError> {
+pub fn nested(alloc: Global, out: &mut String, text: &str) -> Result<(), AllocError> {
     let (operator, count) = text.split_once(' ').unwrap_or((text, ""));
     let Ok(count) = count.parse::<u32>() else {
-        return String::from_str(alloc, "no count");
+        return out.push_str("no count");
     };
     let text = levels(alloc, operator.as_bytes(), count)?;
     match parse(alloc, text.as_slice())? {
-        Ok(filter) => String::from_str(alloc, printed_so(alloc, text.as_slice(), &filter)?),
-        Err(fault) => fault.to_string(alloc),
+        Ok(filter) => out.push_str(printed_so(alloc, text.as_slice(), &filter)?),
+        Err(fault) => write!(out, "{fault}"),
     }
 }

@@ -1,12 +1,13 @@
 //! The headers of manifests.
 
-use crate::escapes::push_bytes;
+use crate::escapes::{complain, push_bytes};
 use osgi_base::copied::Copied;
 use osgi_base::list::List;
 use osgi_header::fault::HeaderFault;
 use osgi_header::header::Header;
-use osgi_header::unfolding::unfold;
+use osgi_header::unfold;
 use std::alloc::{AllocError, Global};
+use std::fmt::Write;
 
 fn equals_copies(alloc: Global, headers: &List<Header>) -> Result<bool, AllocError> {
     Ok(headers.copy(alloc)? == *headers && headers.copied(alloc)? == *headers)
@@ -19,31 +20,27 @@ fn push_header(out: &mut String, header: &Header) -> Result<(), AllocError> {
     out.push('|')
 }
 
-fn spelled(alloc: Global, headers: &List<Header>) -> Result<String, AllocError> {
-    let mut answer = String::new(alloc);
+fn add_all(alloc: Global, out: &mut String, headers: &List<Header>) -> Result<(), AllocError> {
+    if headers.items().is_empty() {
+        out.push_str("none")?;
+    }
     for header in headers.items() {
-        push_header(&mut answer, header)?;
+        push_header(out, header)?;
     }
-    if answer.is_empty() {
-        answer.push_str("none")?;
-    }
-    if !equals_copies(alloc, headers)? {
-        answer.push_str(", copy differs")?;
-    }
-    Ok(answer)
+    complain(out, equals_copies(alloc, headers)?, ", copy differs")
 }
 
-/// The kind of a fault and its place.
-pub fn fault_spelled(alloc: Global, fault: HeaderFault) -> Result<String, AllocError> {
+/// Adds the kind of a fault and its place.
+pub fn push_fault(out: &mut String, fault: HeaderFault) -> Result<(), AllocError> {
     let HeaderFault { kind, at } = fault;
-    format!(in alloc; "{kind:?} {at}")
+    write!(out, "{kind:?} {at}")
 }
 
 /// The headers of a manifest.
-pub fn headers(alloc: Global, text: &[u8]) -> Result<String, AllocError> {
+pub fn headers(alloc: Global, out: &mut String, text: &[u8]) -> Result<(), AllocError> {
     match unfold(alloc, text)? {
-        Ok(headers) => spelled(alloc, &headers),
-        Err(fault) => fault_spelled(alloc, fault),
+        Ok(headers) => add_all(alloc, out, &headers),
+        Err(fault) => push_fault(out, fault),
     }
 }
 
@@ -52,22 +49,20 @@ pub fn headers(alloc: Global, text: &[u8]) -> Result<String, AllocError> {
 fn manifest(alloc: Global, first: usize, more: usize) -> Result<Vec<u8>, AllocError> {
     let mut text = vec![in alloc; b'A'; first]?;
     text.extend_from_slice(b"\r\n ")?;
-    for _ in 0..more {
-        text.push(b':')?;
-    }
+    text.extend_from_slice(vec![in alloc; b':'; more]?.as_slice())?;
     text.push(b'\n')?;
     Ok(text)
 }
 
 /// What a manifest of two long lines reads as, or its fault.
-pub fn long_lines(alloc: Global, text: &str) -> Result<String, AllocError> {
+pub fn long_lines(alloc: Global, out: &mut String, text: &str) -> Result<(), AllocError> {
     let (first, more) = text.split_once(' ').unwrap_or((text, ""));
     let (Ok(first), Ok(more)) = (first.parse::<usize>(), more.parse::<usize>()) else {
-        return String::from_str(alloc, "no lengths");
+        return out.push_str("no lengths");
     };
     let text = manifest(alloc, first, more)?;
     match unfold(alloc, text.as_slice())? {
-        Ok(_) => String::from_str(alloc, "read"),
-        Err(fault) => fault_spelled(alloc, fault),
+        Ok(_) => out.push_str("read"),
+        Err(fault) => push_fault(out, fault),
     }
 }

@@ -14,6 +14,7 @@
 //! | `headers TEXT` | the headers of a manifest, `NAME=VALUE\|` each |
 //! | `long-lines FIRST MORE` | whether a manifest of two lines that have so many bytes is read |
 //! | `clauses TEXT` | the clauses of a header's value: paths `[PATH]`, directives `{NAME:=VALUE}`, attributes `{NAME:TYPE=VALUE}` |
+//! | `read-clauses TEXT` | the clauses before the first faulty one, `BYTE:CLAUSE\|` each, and that fault |
 //! | `type TEXT` | the type of the name |
 //! | `long TEXT` | the number that the text writes |
 //! | `value TYPE TEXT` | what the text stands for as a value of the type |
@@ -46,7 +47,8 @@ fn main(rt: HostRuntime) -> io::Result<()> {
         if line.is_empty() || line.starts_with('#') {
             println!(rt; "{line}")?;
         } else {
-            let answer = cases.answer(line)?;
+            let mut answer = String::new(rt.alloc());
+            cases.add_answer(&mut answer, line)?;
             println!(rt; "{line} => {answer}")?;
         }
     }

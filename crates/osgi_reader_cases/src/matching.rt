@@ -1,15 +1,14 @@
 //! Attributes, and filters matched against them.
 
-use crate::escapes::{bytes_of, push_bytes};
+use crate::escapes::{bytes_of, complain, push_bytes};
 use crate::values::{push_value, value_of};
 use osgi_base::copied::Copied;
 use osgi_base::list::List;
 use osgi_base::text::Text;
-use osgi_filter::case::Case;
-use osgi_filter::matching::matches;
-use osgi_filter::reading::parse;
+use osgi_filter::{Case, matches, parse};
 use osgi_model::value::{Attribute, Attributes};
 use std::alloc::{AllocError, Global};
+use std::fmt::Write;
 
 /// The attribute that is written `NAME:TYPE=TEXT`.
 fn attribute(alloc: Global, text: &str) -> Result<Option<Attribute>, AllocError> {
@@ -39,9 +38,6 @@ fn push_attribute(
     attribute: &Attribute,
     alloc: Global,
 ) -> Result<(), AllocError> {
-    if !out.is_empty() {
-        out.push_str(", ")?;
-    }
     push_bytes(out, attribute.name.bytes())?;
     out.push('=')?;
     push_value(out, &attribute.value, alloc)
@@ -51,37 +47,41 @@ fn equals_copies(alloc: Global, attributes: &Attributes) -> Result<bool, AllocEr
     Ok(attributes.copy(alloc)? == *attributes && attributes.copied(alloc)? == *attributes)
 }
 
-/// Attributes, name by name.
-pub fn spelled(alloc: Global, attributes: &Attributes) -> Result<String, AllocError> {
-    let mut answer = String::new(alloc);
-    for attribute in attributes.items() {
-        push_attribute(&mut answer, attribute, alloc)?;
+/// Adds attributes, name by name.
+pub fn add_attributes(
+    alloc: Global,
+    out: &mut String,
+    attributes: &Attributes,
+) -> Result<(), AllocError> {
+    for (at, attribute) in attributes.items().iter().enumerate() {
+        if at > 0 {
+            out.push_str(", ")?;
+        }
+        push_attribute(out, attribute, alloc)?;
     }
-    if !equals_copies(alloc, attributes)? {
-        answer.push_str(", copy differs")?;
-    }
-    Ok(answer)
+    complain(out, equals_copies(alloc, attributes)?, ", copy differs")
 }
 
 /// Whether the filter that a text reads as matches the attributes.
 pub fn is_match(
     alloc: Global,
+    out: &mut String,
     attributes: &Attributes,
     case: Case,
     text: &str,
-) -> Result<String, AllocError> {
+) -> Result<(), AllocError> {
     let text = bytes_of(alloc, text)?;
     match parse(alloc, text.as_slice())? {
-        Ok(filter) => matches(&filter, attributes, case).to_string(alloc),
-        Err(fault) => fault.to_string(alloc),
+        Ok(filter) => write!(out, "{}", matches(&filter, attributes, case)),
+        Err(fault) => write!(out, "{fault}"),
     }
 }
 
 /// Whether the filter after a `|` matches the attributes before it.
-pub fn passes(alloc: Global, text: &str) -> Result<String, AllocError> {
+pub fn passes(alloc: Global, out: &mut String, text: &str) -> Result<(), AllocError> {
     let (attributes, filter) = text.split_once('|').unwrap_or((text, ""));
     match attributes_of(alloc, attributes)? {
-        Some(attributes) => is_match(alloc, &attributes, Case::Keep, filter),
-        None => String::from_str(alloc, "no attributes"),
+        Some(attributes) => is_match(alloc, out, &attributes, Case::Keep, filter),
+        None => out.push_str("no attributes"),
     }
 }

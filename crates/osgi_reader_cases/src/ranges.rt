@@ -1,10 +1,11 @@
 //! Ranges, and the versions within them.
 
-use crate::escapes::push_bytes;
+use crate::escapes::{complain, push_bytes};
 use osgi_base::copied::Copied;
 use osgi_version::range::VersionRange;
 use osgi_version::version::Version;
 use std::alloc::{AllocError, Global};
+use std::fmt::Write;
 
 fn equals_copies(alloc: Global, range: &VersionRange) -> Result<bool, AllocError> {
     Ok(range.copy(alloc)? == *range && range.copied(alloc)? == *range)
@@ -17,40 +18,43 @@ fn reads_as(alloc: Global, text: &[u8], range: &VersionRange) -> Result<bool, Al
     }
 }
 
-/// What is printed of a range.
-fn printed(alloc: Global, range: &VersionRange) -> Result<String, AllocError> {
+/// Adds what is printed of a range.
+fn add_printed(alloc: Global, out: &mut String, range: &VersionRange) -> Result<(), AllocError> {
     let text = range.print(alloc)?;
-    let mut answer = String::new(alloc);
-    push_bytes(&mut answer, text.as_slice())?;
-    if !reads_as(alloc, text.as_slice(), range)? {
-        answer.push_str(", which reads otherwise")?;
-    }
-    if !equals_copies(alloc, range)? {
-        answer.push_str(", copy differs")?;
-    }
-    Ok(answer)
+    push_bytes(out, text.as_slice())?;
+    complain(
+        out,
+        reads_as(alloc, text.as_slice(), range)?,
+        ", which reads otherwise",
+    )?;
+    complain(out, equals_copies(alloc, range)?, ", copy differs")
 }
 
 /// The range that a text reads as.
-pub fn range(alloc: Global, text: &[u8]) -> Result<String, AllocError> {
+pub fn range(alloc: Global, out: &mut String, text: &[u8]) -> Result<(), AllocError> {
     match VersionRange::parse(alloc, text)? {
-        Ok(range) => printed(alloc, &range),
-        Err(fault) => fault.to_string(alloc),
+        Ok(range) => add_printed(alloc, out, &range),
+        Err(fault) => write!(out, "{fault}"),
     }
 }
 
-fn contains(alloc: Global, range: &VersionRange, version: &[u8]) -> Result<String, AllocError> {
+fn add_contains(
+    alloc: Global,
+    out: &mut String,
+    range: &VersionRange,
+    version: &[u8],
+) -> Result<(), AllocError> {
     match Version::parse(alloc, version)? {
-        Ok(version) => range.contains(&version).to_string(alloc),
-        Err(fault) => fault.to_string(alloc),
+        Ok(version) => write!(out, "{}", range.contains(&version)),
+        Err(fault) => write!(out, "{fault}"),
     }
 }
 
 /// Whether a range contains a version, which stands after it and a `|`.
-pub fn within(alloc: Global, text: &str) -> Result<String, AllocError> {
+pub fn within(alloc: Global, out: &mut String, text: &str) -> Result<(), AllocError> {
     let (range, version) = text.split_once('|').unwrap_or((text, ""));
     match VersionRange::parse(alloc, range.as_bytes())? {
-        Ok(range) => contains(alloc, &range, version.as_bytes()),
-        Err(fault) => fault.to_string(alloc),
+        Ok(range) => add_contains(alloc, out, &range, version.as_bytes()),
+        Err(fault) => write!(out, "{fault}"),
     }
 }

@@ -2,9 +2,10 @@
 
 use crate::escapes::push_bytes;
 use osgi_base::text::Text;
-use osgi_filter::reading::parse;
+use osgi_filter::parse;
 use osgi_model::filter::{Filter, Test};
 use std::alloc::{AllocError, Global};
+use std::fmt::Write;
 
 fn push_text(out: &mut String, label: &str, text: &Text) -> Result<(), AllocError> {
     out.push_str(label)?;
@@ -60,12 +61,9 @@ fn push_all(out: &mut String, label: &str, filters: &[Filter]) -> Result<(), All
 }
 
 /// The filter that a text reads as, part by part.
-pub fn tree(alloc: Global, text: &[u8]) -> Result<String, AllocError> {
-    let filter = match parse(alloc, text)? {
-        Ok(filter) => filter,
-        Err(fault) => return fault.to_string(alloc),
-    };
-    let mut answer = String::new(alloc);
-    push_filter(&mut answer, &filter)?;
-    Ok(answer)
+pub fn tree(alloc: Global, out: &mut String, text: &[u8]) -> Result<(), AllocError> {
+    match parse(alloc, text)? {
+        Ok(filter) => push_filter(out, &filter),
+        Err(fault) => write!(out, "{fault}"),
+    }
 }

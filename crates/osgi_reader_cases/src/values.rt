@@ -1,27 +1,28 @@
 //! Types of values, numbers, and values read by their types.
 
-use crate::escapes::{bytes_of, push_bytes};
+use crate::escapes::{bytes_of, complain, push_bytes};
 use osgi_base::copied::Copied;
 use osgi_base::list::List;
-use osgi_model::kind::Kind;
 use osgi_model::reading::{read_long, read_value};
 use osgi_model::value::Value;
+use osgi_model::value_type::ValueType;
 use std::alloc::{AllocError, Global};
+use std::fmt::Write;
 
 /// The type that a text names.
-pub fn named(alloc: Global, text: &[u8]) -> Result<String, AllocError> {
-    match Kind::named(text) {
-        Some(Kind::One(scalar)) => format!(in alloc; "{scalar:?}"),
-        Some(Kind::List(scalar)) => format!(in alloc; "list of {scalar:?}"),
-        None => String::from_str(alloc, "none"),
+pub fn named(out: &mut String, text: &[u8]) -> Result<(), AllocError> {
+    match ValueType::named(text) {
+        Some(ValueType::One(scalar)) => write!(out, "{scalar:?}"),
+        Some(ValueType::List(scalar)) => write!(out, "list of {scalar:?}"),
+        None => out.push_str("none"),
     }
 }
 
 /// The number that a text writes.
-pub fn long(alloc: Global, text: &[u8]) -> Result<String, AllocError> {
+pub fn long(out: &mut String, text: &[u8]) -> Result<(), AllocError> {
     match read_long(text) {
-        Some(number) => number.to_string(alloc),
-        None => String::from_str(alloc, "none"),
+        Some(number) => write!(out, "{number}"),
+        None => out.push_str("none"),
     }
 }
 
@@ -30,7 +31,7 @@ pub fn value_of(alloc: Global, kind: &str, text: &str) -> Result<Option<Value>, 
     if kind == "[]" {
         return Ok(Some(Value::List(List::new(alloc)?)));
     }
-    let Some(kind) = Kind::named(kind.as_bytes()) else {
+    let Some(kind) = ValueType::named(kind.as_bytes()) else {
         return Ok(None);
     };
     read_value(alloc, kind, bytes_of(alloc, text)?.as_slice())
@@ -56,12 +57,10 @@ pub fn push_value(out: &mut String, value: &Value, alloc: Global) -> Result<(), 
 #[cycle(push)]
 fn push_values(out: &mut String, values: &[Value], alloc: Global) -> Result<(), AllocError> {
     out.push('[')?;
-    let mut is_first = true;
-    for value in values {
-        if !is_first {
+    for (at, value) in values.iter().enumerate() {
+        if at > 0 {
             out.push_str(", ")?;
         }
-        is_first = false;
         push_value(out, value, alloc)?;
     }
     out.push(']')
@@ -72,15 +71,13 @@ fn equals_copies(alloc: Global, value: &Value) -> Result<bool, AllocError> {
 }
 
 /// What a text stands for, before which its type stands and a space.
-pub fn value(alloc: Global, text: &str) -> Result<String, AllocError> {
+pub fn value(alloc: Global, out: &mut String, text: &str) -> Result<(), AllocError> {
     let (kind, text) = text.split_once(' ').unwrap_or((text, ""));
-    let Some(value) = value_of(alloc, kind, text)? else {
-        return String::from_str(alloc, "none");
-    };
-    let mut answer = String::new(alloc);
-    push_value(&mut answer, &value, alloc)?;
-    if !equals_copies(alloc, &value)? {
-        answer.push_str(", copy differs")?;
+    match value_of(alloc, kind, text)? {
+        Some(value) => {
+            push_value(out, &value, alloc)?;
+            complain(out, equals_copies(alloc, &value)?, ", copy differs")
+        }
+        None => out.push_str("none"),
     }
-    Ok(answer)
 }

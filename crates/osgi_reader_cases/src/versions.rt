@@ -1,11 +1,12 @@
 //! Versions, their order, and their qualifiers.
 
-use crate::escapes::push_bytes;
+use crate::escapes::{complain, push_bytes};
 use osgi_base::copied::Copied;
 use osgi_version::qualifier::Qualifier;
 use osgi_version::version::Version;
 use std::alloc::{AllocError, Global};
 use std::cmp::Ordering;
+use std::fmt::Write;
 
 fn equals_copies(alloc: Global, version: &Version) -> Result<bool, AllocError> {
     Ok(version.copy(alloc)? == *version && version.copied(alloc)? == *version)
@@ -18,25 +19,23 @@ fn reads_as(alloc: Global, text: &[u8], version: &Version) -> Result<bool, Alloc
     }
 }
 
-/// What is printed of a version.
-fn printed(alloc: Global, version: &Version) -> Result<String, AllocError> {
+/// Adds what is printed of a version.
+fn add_printed(alloc: Global, out: &mut String, version: &Version) -> Result<(), AllocError> {
     let text = version.print(alloc)?;
-    let mut answer = String::new(alloc);
-    push_bytes(&mut answer, text.as_slice())?;
-    if !reads_as(alloc, text.as_slice(), version)? {
-        answer.push_str(", which reads otherwise")?;
-    }
-    if !equals_copies(alloc, version)? {
-        answer.push_str(", copy differs")?;
-    }
-    Ok(answer)
+    push_bytes(out, text.as_slice())?;
+    complain(
+        out,
+        reads_as(alloc, text.as_slice(), version)?,
+        ", which reads otherwise",
+    )?;
+    complain(out, equals_copies(alloc, version)?, ", copy differs")
 }
 
 /// The version that a text reads as.
-pub fn version(alloc: Global, text: &[u8]) -> Result<String, AllocError> {
+pub fn version(alloc: Global, out: &mut String, text: &[u8]) -> Result<(), AllocError> {
     match Version::parse(alloc, text)? {
-        Ok(version) => printed(alloc, &version),
-        Err(fault) => fault.to_string(alloc),
+        Ok(version) => add_printed(alloc, out, &version),
+        Err(fault) => write!(out, "{fault}"),
     }
 }
 
@@ -64,11 +63,11 @@ fn order_to(alloc: Global, first: &Version, text: &[u8]) -> Result<&'static str,
 }
 
 /// How the first of two versions, with a `|` between, stands to the second.
-pub fn order(alloc: Global, text: &str) -> Result<String, AllocError> {
+pub fn order(alloc: Global, out: &mut String, text: &str) -> Result<(), AllocError> {
     let (first, second) = text.split_once('|').unwrap_or((text, ""));
     match Version::parse(alloc, first.as_bytes())? {
-        Ok(first) => String::from_str(alloc, order_to(alloc, &first, second.as_bytes())?),
-        Err(fault) => fault.to_string(alloc),
+        Ok(first) => out.push_str(order_to(alloc, &first, second.as_bytes())?),
+        Err(fault) => write!(out, "{fault}"),
     }
 }
 
@@ -81,22 +80,18 @@ fn is_kept(alloc: Global, qualifier: &Qualifier) -> Result<bool, AllocError> {
     Ok(is_same && is_copied && is_above != bytes.is_empty())
 }
 
-fn qualifier_spelled(alloc: Global, qualifier: &Qualifier) -> Result<String, AllocError> {
-    let mut answer = String::new(alloc);
-    push_bytes(&mut answer, qualifier.bytes())?;
-    if answer.is_empty() {
-        answer.push_str("none")?;
+fn add_qualifier(alloc: Global, out: &mut String, qualifier: &Qualifier) -> Result<(), AllocError> {
+    match qualifier.bytes() {
+        [] => out.push_str("none")?,
+        bytes => push_bytes(out, bytes)?,
     }
-    if !is_kept(alloc, qualifier)? {
-        answer.push_str(", copy differs")?;
-    }
-    Ok(answer)
+    complain(out, is_kept(alloc, qualifier)?, ", copy differs")
 }
 
 /// The qualifier of the version that a text reads as.
-pub fn qualifier(alloc: Global, text: &[u8]) -> Result<String, AllocError> {
+pub fn qualifier(alloc: Global, out: &mut String, text: &[u8]) -> Result<(), AllocError> {
     match Version::parse(alloc, text)? {
-        Ok(version) => qualifier_spelled(alloc, &version.qualifier),
-        Err(fault) => fault.to_string(alloc),
+        Ok(version) => add_qualifier(alloc, out, &version.qualifier),
+        Err(fault) => write!(out, "{fault}"),
     }
 }

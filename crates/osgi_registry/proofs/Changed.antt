@@ -8,7 +8,7 @@ use Rattle.std.proofs.lemmas.List.Folds.{map_fixed}
 use Rattle.std.proofs.lemmas.List.Kept.{AllPairs-cons}
 use Rattle.std.proofs.lemmas.Map.Steps.{set_value_same}
 use Rattle.osgi_base.specs.declared.ids.ServiceId.{ServiceId}
-use Rattle.osgi_registry.specs.Kept.{IsBefore, AreKept, IsUnder}
+use Rattle.osgi_registry.specs.computed.Kept.{IsBefore, AreKept, IsUnder}
 use Rattle.osgi_registry.specs.Rows.{change, id_of, is_service, Row, without}
 use Rattle.osgi_registry.proofs.Entries.{pairs_head, pairs_tail}
 
@@ -46,9 +46,9 @@ length_set : (key : ℕ) (row : Row) (entries : List (ℕ × Row)) → length (s
 length_set key row [] = refl
 length_set key row (e ∷ rest) = length_set_by row e rest (set_value (nat_eq key) rest row) (nat_eq key e.0) (length_set key row rest)
 
-pub kept_set : (given key : ℕ) (row : Row) (entries : List (ℕ × Row)) → AreKept given entries → id_of row ≡ key → AreKept given (set_value (nat_eq key) entries row)
-kept_set given key row entries kept is = record {
-  under = All-set_value (IsUnder given) key row entries kept.under (λ e u same. record { key = sym (is ∙ same); some = u.some; below = u.below });
+pub kept_set : (issued key : ℕ) (row : Row) (entries : List (ℕ × Row)) → AreKept issued entries → id_of row ≡ key → AreKept issued (set_value (nat_eq key) entries row)
+kept_set issued key row entries kept is = record {
+  under = All-set_value (IsUnder issued) key row entries kept.under (λ e u same. record { key = sym (is ∙ same); some = u.some; below = u.below });
   rising = pairs_set key row entries kept.rising;
   few = rw (length_set key row entries) kept.few;
   fits = kept.fits;
@@ -82,9 +82,9 @@ length_remove : (key : ℕ) (entries : List (ℕ × Row)) → length (remove_ent
 length_remove key [] = omega arith
 length_remove key (e ∷ rest) = length_remove_by e rest (remove_entry (nat_eq key) rest) (nat_eq key e.0) (length_remove key rest)
 
-pub kept_remove : (given key : ℕ) (entries : List (ℕ × Row)) → AreKept given entries → AreKept given (remove_entry (nat_eq key) entries)
-kept_remove given key entries kept = record {
-  under = All-remove (IsUnder given) key entries kept.under;
+pub kept_remove : (issued key : ℕ) (entries : List (ℕ × Row)) → AreKept issued entries → AreKept issued (remove_entry (nat_eq key) entries)
+kept_remove issued key entries kept = record {
+  under = All-remove (IsUnder issued) key entries kept.under;
   rising = pairs_remove key entries kept.rising;
   few = omega (arith, length_remove key entries, kept.few);
   fits = kept.fits;
@@ -97,8 +97,8 @@ set_same key old new entries is found = rw is (set_value_same (nat_eq key) entri
 -- ---- the rows
 
 -- no row after this one is the service's
-pub others_differ : (given : ℕ) (service : ServiceId) (e : ℕ × Row) (rest : List (ℕ × Row)) → service.0 ≡ e.0 → All (IsUnder given) rest → All (IsBefore e) rest → All (λ row. is_service service row ≡ false) (values_of rest)
-others_differ given service e rest is under after =
+pub others_differ : (issued : ℕ) (service : ServiceId) (e : ℕ × Row) (rest : List (ℕ × Row)) → service.0 ≡ e.0 → All (IsUnder issued) rest → All (IsBefore e) rest → All (λ row. is_service service row ≡ false) (values_of rest)
+others_differ issued service e rest is under after =
     All-map (λ row. is_service service row ≡ false) (λ (x : ℕ × Row). x.1) rest
     (λ k d within. let u = under k d within in let b = after k d within in ne_eqb service.0 _ (λ same. absurd (omega (arith, is, same, u.key, b))))
 
@@ -113,41 +113,41 @@ without_none service [] none = refl
 without_none service (row ∷ rest) none =
     rw (All-head (λ r. is_service service r ≡ false) row rest none) (ap (λ l. row ∷ l) (without_none service rest (All-tail (λ r. is_service service r ≡ false) row rest none)))
 
-rows_set_by : (given : ℕ) (service : ServiceId) (old new : Row) (f : Row → Row) (e : ℕ × Row) (rest : List (ℕ × Row)) (here : Bool) → nat_eq service.0 e.0 ≡ here → e.0 ≡ id_of e.1 → All (IsUnder given) rest → All (IsBefore e) rest → f old ≡ new →
+rows_set_by : (issued : ℕ) (service : ServiceId) (old new : Row) (f : Row → Row) (e : ℕ × Row) (rest : List (ℕ × Row)) (here : Bool) → nat_eq service.0 e.0 ≡ here → e.0 ≡ id_of e.1 → All (IsUnder issued) rest → All (IsBefore e) rest → f old ≡ new →
     (lookup (nat_eq service.0) rest ≡ Some old → values_of (set_value (nat_eq service.0) rest new) ≡ change service f (values_of rest)) →
     cond here (Some e.1) (lookup (nat_eq service.0) rest) ≡ Some old →
     values_of (cond here ((e.0, new) ∷ rest) (e ∷ set_value (nat_eq service.0) rest new)) ≡ change service f (e.1 ∷ values_of rest)
-rows_set_by given service old new f e rest true same key under after is more found =
+rows_set_by issued service old new f e rest true same key under after is more found =
     let row_is : e.1 ≡ old = cc found in
-    let others : change service f (values_of rest) ≡ values_of rest = change_none service f (values_of rest) (others_differ given service e rest (eqb-true service.0 e.0 same) under after) in
+    let others : change service f (values_of rest) ≡ values_of rest = change_none service f (values_of rest) (others_differ issued service e rest (eqb-true service.0 e.0 same) under after) in
     let at : is_service service e.1 ≡ true = rw (← key) same in
     rw (at, others, row_is, is) refl
-rows_set_by given service old new f e rest false same key under after is more found =
+rows_set_by issued service old new f e rest false same key under after is more found =
     let at : is_service service e.1 ≡ false = rw (← key) same in
     rw at (ap (λ l. e.1 ∷ l) (more found))
 
 -- a change at the key changes the service's row
-pub rows_set : (given : ℕ) (service : ServiceId) (old new : Row) (f : Row → Row) (entries : List (ℕ × Row)) → All (IsUnder given) entries → AllPairs IsBefore entries → f old ≡ new → lookup (nat_eq service.0) entries ≡ Some old →
+pub rows_set : (issued : ℕ) (service : ServiceId) (old new : Row) (f : Row → Row) (entries : List (ℕ × Row)) → All (IsUnder issued) entries → AllPairs IsBefore entries → f old ≡ new → lookup (nat_eq service.0) entries ≡ Some old →
     values_of (set_value (nat_eq service.0) entries new) ≡ change service f (values_of entries)
-rows_set given service old new f [] under pairs is found = absurd (cc found)
-rows_set given service old new f (e ∷ rest) under pairs is found =
-    let others = All-tail (IsUnder given) e rest under in
-    rows_set_by given service old new f e rest (nat_eq service.0 e.0) refl (All-head (IsUnder given) e rest under).key others (pairs_head IsBefore e rest pairs) is
-    (rows_set given service old new f rest others (pairs_tail IsBefore e rest pairs) is) found
+rows_set issued service old new f [] under pairs is found = absurd (cc found)
+rows_set issued service old new f (e ∷ rest) under pairs is found =
+    let others = All-tail (IsUnder issued) e rest under in
+    rows_set_by issued service old new f e rest (nat_eq service.0 e.0) refl (All-head (IsUnder issued) e rest under).key others (pairs_head IsBefore e rest pairs) is
+    (rows_set issued service old new f rest others (pairs_tail IsBefore e rest pairs) is) found
 
-rows_remove_by : (given : ℕ) (service : ServiceId) (e : ℕ × Row) (rest : List (ℕ × Row)) (here : Bool) → nat_eq service.0 e.0 ≡ here → e.0 ≡ id_of e.1 → All (IsUnder given) rest → All (IsBefore e) rest →
+rows_remove_by : (issued : ℕ) (service : ServiceId) (e : ℕ × Row) (rest : List (ℕ × Row)) (here : Bool) → nat_eq service.0 e.0 ≡ here → e.0 ≡ id_of e.1 → All (IsUnder issued) rest → All (IsBefore e) rest →
     values_of (remove_entry (nat_eq service.0) rest) ≡ without service (values_of rest) → values_of (cond here rest (e ∷ remove_entry (nat_eq service.0) rest)) ≡ without service (e.1 ∷ values_of rest)
-rows_remove_by given service e rest true same key under after more =
+rows_remove_by issued service e rest true same key under after more =
     let at : is_service service e.1 ≡ true = rw (← key) same in
-    rw at (sym (without_none service (values_of rest) (others_differ given service e rest (eqb-true service.0 e.0 same) under after)))
-rows_remove_by given service e rest false same key under after more =
+    rw at (sym (without_none service (values_of rest) (others_differ issued service e rest (eqb-true service.0 e.0 same) under after)))
+rows_remove_by issued service e rest false same key under after more =
     let at : is_service service e.1 ≡ false = rw (← key) same in
     rw at (ap (λ l. e.1 ∷ l) more)
 
 -- a removal of the key takes the service's row out
-pub rows_remove : (given : ℕ) (service : ServiceId) (entries : List (ℕ × Row)) → All (IsUnder given) entries → AllPairs IsBefore entries → values_of (remove_entry (nat_eq service.0) entries) ≡ without service (values_of entries)
-rows_remove given service [] under pairs = refl
-rows_remove given service (e ∷ rest) under pairs =
-    let others = All-tail (IsUnder given) e rest under in
-    rows_remove_by given service e rest (nat_eq service.0 e.0) refl (All-head (IsUnder given) e rest under).key others (pairs_head IsBefore e rest pairs)
-    (rows_remove given service rest others (pairs_tail IsBefore e rest pairs))
+pub rows_remove : (issued : ℕ) (service : ServiceId) (entries : List (ℕ × Row)) → All (IsUnder issued) entries → AllPairs IsBefore entries → values_of (remove_entry (nat_eq service.0) entries) ≡ without service (values_of entries)
+rows_remove issued service [] under pairs = refl
+rows_remove issued service (e ∷ rest) under pairs =
+    let others = All-tail (IsUnder issued) e rest under in
+    rows_remove_by issued service e rest (nat_eq service.0 e.0) refl (All-head (IsUnder issued) e rest under).key others (pairs_head IsBefore e rest pairs)
+    (rows_remove issued service rest others (pairs_tail IsBefore e rest pairs))

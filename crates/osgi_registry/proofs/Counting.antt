@@ -6,7 +6,7 @@ use Rattle.std.proofs.lemmas.List.Elements.{filter-append}
 use Rattle.indexmap.specs.IndexMap.{insert_entry}
 use Rattle.osgi_base.specs.declared.ids.BundleId.{BundleId}
 use Rattle.osgi_registry.specs.Rows.{with_count}
-use Rattle.osgi_registry.specs.Uses.{uses_of}
+use Rattle.osgi_registry.specs.computed.Uses.{uses_of}
 
 -- an insert puts the user's count
 pub counted_by_insert : (user : BundleId) (count : ℕ) (uses : List (ℕ × ℕ)) → insert_entry nat_eq uses user.0 count ≡ with_count user count uses

@@ -1,6 +1,6 @@
 -- What is found at the places of a class.
 use Rattle.std.proofs.Common.{◌≡◌, ◌<◌, ℕ, zero, suc, List, [], ◌∷◌, ap, sym, ◌∙◌, refl, arith, get_or, map, subst, nat_eq}
-use Rattle.std.specs.Prelude.{Bool, true, false, All, AllPairs, Contains, IfOk, OnOk, Result, Ok, Err, Option, None, Some, filter, find}
+use Rattle.std.specs.Prelude.{Bool, true, false, All, AllPairs, Contains, IfOk, IfSome, OnOk, Result, Ok, Err, Option, None, Some, filter, find}
 use Rattle.std.specs.Bool.{Decides}
 use Rattle.std.specs.declared.cmp.Ordering.{Ordering}
 use Rattle.std.specs.declared.cmp.Ordering.TheVariants.{Less, Equal, Greater}
@@ -19,15 +19,15 @@ use Rattle.std.proofs.lemmas.Map.Keys.{Less-from_sorted}
 use Rattle.std.proofs.lemmas.Map.Views.{any-filter_same}
 use Rattle.osgi_base.specs.declared.ids.BundleId.{BundleId}
 use Rattle.osgi_base.specs.declared.ids.ServiceId.{ServiceId}
-use Rattle.osgi_model.proofs.Decided.{matches_decides}
+use Rattle.osgi_model.specs.laws.Decided.{matches_decides}
 use Rattle.osgi_model.specs.declared.filter.Filter.{Filter}
 use Rattle.osgi_ops.specs.Classes.{AreRanked, Fits, has_class, IsFound, IsOf, rank_cmp}
 use Rattle.osgi_ops.specs.declared.service.Service.{Service}
 use Rattle.osgi_registry.specs.declared.place.Place.{Place}
-use Rattle.osgi_registry.specs.Finding.{does_fit, is_open, passes_at}
-use Rattle.osgi_registry.specs.Kept.{AreKept, IsBefore, IsUnder}
-use Rattle.osgi_registry.specs.Places.{Classes, IsIndexOf, place_cmp, place_of, places_at, service_at}
-use Rattle.osgi_registry.specs.Rows.{id_of, IsOpenBy, Row, services_of}
+use Rattle.osgi_registry.specs.computed.Finding.{does_fit, is_open, passes_at, PassesAmong}
+use Rattle.osgi_registry.specs.computed.Kept.{AreKept, IsBefore, IsUnder}
+use Rattle.osgi_registry.specs.computed.Places.{Classes, IsIndexOf, place_cmp, place_of, places_at, service_at}
+use Rattle.osgi_registry.specs.Rows.{id_of, IsOneOf, IsOpenBy, Row, services_in}
 use Rattle.osgi_registry.proofs.Entries.{pairs_head, pairs_tail}
 use Rattle.osgi_registry.proofs.Exact.{place_exact, place_itself}
 use Rattle.osgi_registry.proofs.Placed.{Contains-services, held_at, IsAt, row_held}
@@ -39,19 +39,19 @@ passed_over passes x left rest is not = rw (is, not) refl
 
 -- ---- rows under their ids
 
-above : (n given : ℕ) (entries : List (ℕ × Row)) → All (λ e. n < e.0) entries → All (IsUnder given) entries → All (λ row. n < id_of row) (values_of entries)
-above n given entries less under = All-map (λ row. n < id_of row) (λ e. e.1) entries (λ k d within. subst (λ m. n < m) (under k d within).key (less k d within))
+above : (n issued : ℕ) (entries : List (ℕ × Row)) → All (λ e. n < e.0) entries → All (IsUnder issued) entries → All (λ row. n < id_of row) (values_of entries)
+above n issued entries less under = All-map (λ row. n < id_of row) (λ e. e.1) entries (λ k d within. subst (λ m. n < m) (under k d within).key (less k d within))
 
 -- a row that is there stands under its id
-pub keyed : (given : ℕ) (entries : List (ℕ × Row)) (row : Row) → All (IsUnder given) entries → AllPairs IsBefore entries → Contains (values_of entries) row → lookup (nat_eq (id_of row)) entries ≡ Some row
-keyed given [] row under pairs (k, within, is) = absurd (omega (arith, within))
-keyed given (e ∷ rest) row under pairs (zero, within, is) =
-    rw (eq-eqb (id_of row) e.0 (sym (ap id_of is) ∙ sym (All-head (IsUnder given) e rest under).key), is) refl
-keyed given (e ∷ rest) row under pairs (suc k, within, is) =
+pub keyed : (issued : ℕ) (entries : List (ℕ × Row)) (row : Row) → All (IsUnder issued) entries → AllPairs IsBefore entries → Contains (values_of entries) row → lookup (nat_eq (id_of row)) entries ≡ Some row
+keyed issued [] row under pairs (k, within, is) = absurd (omega (arith, within))
+keyed issued (e ∷ rest) row under pairs (zero, within, is) =
+    rw (eq-eqb (id_of row) e.0 (sym (ap id_of is) ∙ sym (All-head (IsUnder issued) e rest under).key), is) refl
+keyed issued (e ∷ rest) row under pairs (suc k, within, is) =
     let there : Contains (values_of rest) row = (k, omega (arith, within), is) in
     let less : e.0 < id_of row
-    = All-contains (λ r. e.0 < id_of r) (values_of rest) row (above e.0 given rest (pairs_head IsBefore e rest pairs) (All-tail (IsUnder given) e rest under)) there in
-    rw (ne_eqb (id_of row) e.0 (λ same. omega (arith, less, same))) (keyed given rest row (All-tail (IsUnder given) e rest under) (pairs_tail IsBefore e rest pairs) there)
+    = All-contains (λ r. e.0 < id_of r) (values_of rest) row (above e.0 issued rest (pairs_head IsBefore e rest pairs) (All-tail (IsUnder issued) e rest under)) there in
+    rw (ne_eqb (id_of row) e.0 (λ same. omega (arith, less, same))) (keyed issued rest row (All-tail (IsUnder issued) e rest under) (pairs_tail IsBefore e rest pairs) there)
 
 -- ---- lists
 
@@ -116,25 +116,25 @@ found_of_ranked IsAsked services ids ranked =
 
 -- ---- places whose services pass
 
-module _ (given : ℕ) (classes : Classes) (c : List ℕ) (entries : List (ℕ × Row)) (kept : AreKept given entries) (index : IsIndexOf classes (values_of entries)) (passes : Service → Bool) where
+module _ (issued : ℕ) (classes : Classes) (c : List ℕ) (entries : List (ℕ × Row)) (kept : AreKept issued entries) (index : IsIndexOf classes (values_of entries)) (passes : Service → Bool) where
   -- what is told of a service by its place
   told : (place : Place) (at : IsAt c (values_of entries) place) → passes_at passes entries place ≡ passes at.row.service
   told place at =
       let key : id_of at.row ≡ place.service = ap (λ (p : Place). p.service) at.is in
-      ap (λ row. option_map_or (λ (r : Row). passes r.service) row false) (subst (λ n. lookup (nat_eq n) entries ≡ Some at.row) key (keyed given entries at.row kept.under kept.rising at.live))
+      ap (λ row. option_map_or (λ (r : Row). passes r.service) row false) (subst (λ n. lookup (nat_eq n) entries ≡ Some at.row) key (keyed issued entries at.row kept.under kept.rising at.live))
 
   module _ (IsAsked : Service → Type 0) (tells : (s : Service) → has_class c s ≡ true → Decides (passes s) (IsAsked s)) (asked_has : (s : Service) → IsAsked s → has_class c s ≡ true) where
     asked_at : (places : List Place) (at : All (IsAt c (values_of entries)) places) → All (λ p. passes_at passes entries p ≡ true) places →
-        All (λ s. Contains (services_of (values_of entries)) s × IsAsked s) (at_places c (values_of entries) places at)
-    asked_at [] at pass = All-nil (λ s. Contains (services_of (values_of entries)) s × IsAsked s)
+        All (λ s. Contains (services_in (values_of entries)) s × IsAsked s) (at_places c (values_of entries) places at)
+    asked_at [] at pass = All-nil (λ s. Contains (services_in (values_of entries)) s × IsAsked s)
     asked_at (p ∷ rest) at pass =
         let here = All-head (IsAt c (values_of entries)) p rest at in
-        All-cons (λ s. Contains (services_of (values_of entries)) s × IsAsked s) here.row.service (at_places c (values_of entries) rest (All-tail (IsAt c (values_of entries)) p rest at))
+        All-cons (λ s. Contains (services_in (values_of entries)) s × IsAsked s) here.row.service (at_places c (values_of entries) rest (All-tail (IsAt c (values_of entries)) p rest at))
         (Contains-services (values_of entries) here.row here.live, (tells here.row.service here.has).0 (sym (told p here) ∙ All-head (λ q. passes_at passes entries q ≡ true) p rest pass))
         (asked_at rest (All-tail (IsAt c (values_of entries)) p rest at) (All-tail (λ q. passes_at passes entries q ≡ true) p rest pass))
 
     -- the services at the places that pass are those that are asked for, the better first
-    pub ranked_kept : IsStrictlySortedBy place_cmp (places_at classes c) → AreRanked IsAsked (services_of (values_of entries)) (map service_at (filter (passes_at passes entries) (places_at classes c)))
+    pub ranked_kept : IsStrictlySortedBy place_cmp (places_at classes c) → AreRanked IsAsked (services_in (values_of entries)) (map service_at (filter (passes_at passes entries) (places_at classes c)))
     ranked_kept sorted =
         let rows = values_of entries in
         let places = places_at classes c in
@@ -158,21 +158,35 @@ module _ (given : ℕ) (classes : Classes) (c : List ℕ) (entries : List (ℕ �
               = any-filter_same (is_at (place_cmp (place_of row.service))) keep true
               (λ q same. ap keep (sym (place_exact (place_of row.service) q same)) ∙ told (place_of row.service) there ∙ (tells row.service has).1 asked) places
               ∙ held in
-              every c rows row (filter keep places) left (λ r live same. same_row given entries r row kept live (Contains-get_or rows k d within) same) kept_here);
+              every c rows row (filter keep places) left (λ r live same. same_row issued entries r row kept live (Contains-get_or rows k d within) same) kept_here);
         }
 
     -- and so they are where these places are given by themselves
-    pub ranked_under : (places : List Place) → places_at classes c ≡ places → IsStrictlySortedBy place_cmp places → AreRanked IsAsked (services_of (values_of entries)) (map service_at (filter (passes_at passes entries) places))
+    pub ranked_under : (places : List Place) → places_at classes c ≡ places → IsStrictlySortedBy place_cmp places → AreRanked IsAsked (services_in (values_of entries)) (map service_at (filter (passes_at passes entries) places))
     ranked_under places are sorted =
-        subst (λ (list : List Place). AreRanked IsAsked (services_of (values_of entries)) (map service_at (filter (passes_at passes entries) list))) are (ranked_kept (subst (λ (list : List Place). IsStrictlySortedBy place_cmp list) (sym are) sorted))
+        subst (λ (list : List Place). AreRanked IsAsked (services_in (values_of entries)) (map service_at (filter (passes_at passes entries) list))) are (ranked_kept (subst (λ (list : List Place). IsStrictlySortedBy place_cmp list) (sym are) sorted))
 
-    pub found_under : (places : List Place) → places_at classes c ≡ places → IsStrictlySortedBy place_cmp places → IsFound IsAsked (services_of (values_of entries)) (option_map service_at (find (passes_at passes entries) places))
+    pub found_under : (places : List Place) → places_at classes c ≡ places → IsStrictlySortedBy place_cmp places → IsFound IsAsked (services_in (values_of entries)) (option_map service_at (find (passes_at passes entries) places))
     found_under places are sorted =
-        subst (λ found. IsFound IsAsked (services_of (values_of entries)) found) (sym (front_found service_at (passes_at passes entries) places))
-        (found_of_ranked IsAsked (services_of (values_of entries)) (map service_at (filter (passes_at passes entries) places)) (ranked_under places are sorted))
+        subst (λ found. IsFound IsAsked (services_in (values_of entries)) found) (sym (front_found service_at (passes_at passes entries) places))
+        (found_of_ranked IsAsked (services_in (values_of entries)) (map service_at (filter (passes_at passes entries) places)) (ranked_under places are sorted))
+
+    -- what passes at one of these places is one of those that are asked for
+    pub one_passes : (places : List Place) → places_at classes c ≡ places → (id : ServiceId) → PassesAmong passes entries places id → IsOneOf IsAsked (services_in (values_of entries)) id
+    one_passes places are id found =
+        let there : list_any (is_at (place_cmp found.place)) places ≡ true
+        = list_any_at (is_at (place_cmp found.place)) places found.there.0 found.place found.there.1 (ap (is_at (place_cmp found.place)) found.there.2 ∙ place_itself found.place) in
+        let at : IsAt c (values_of entries) found.place
+        = row_held classes c (values_of entries) found.place index (ap (λ (list : List Place). list_any (is_at (place_cmp found.place)) list) are ∙ there) in
+        record {
+          service = at.row.service;
+          there = Contains-services (values_of entries) at.row at.live;
+          is = found.is ∙ ap service_at (sym at.is);
+          asked = (tells at.row.service at.has).0 (sym (told found.place at) ∙ found.fits);
+        }
 
     -- where all services pass, none of the places is left out
-    pub all_ranked : (places : List Place) → ((s : Service) → passes s ≡ true) → places_at classes c ≡ places → IsStrictlySortedBy place_cmp places → AreRanked IsAsked (services_of (values_of entries)) (map service_at places)
+    pub all_ranked : (places : List Place) → ((s : Service) → passes s ≡ true) → places_at classes c ≡ places → IsStrictlySortedBy place_cmp places → AreRanked IsAsked (services_in (values_of entries)) (map service_at places)
     all_ranked places all are sorted =
         let at : All (λ p. passes_at passes entries p ≡ true) places
         = λ k d within.
@@ -180,7 +194,7 @@ module _ (given : ℕ) (classes : Classes) (c : List ℕ) (entries : List (ℕ �
         = row_held classes c (values_of entries) (get_or places k d) index
         (subst (λ (list : List Place). list_any (is_at (place_cmp (get_or places k d))) list ≡ true) (sym are) (list_any_at (is_at (place_cmp (get_or places k d))) places k d within (place_itself (get_or places k d)))) in
         told (get_or places k d) here ∙ all here.row.service in
-        subst (λ list. AreRanked IsAsked (services_of (values_of entries)) (map service_at list)) (filter_all (passes_at passes entries) places at) (ranked_under places are sorted)
+        subst (λ list. AreRanked IsAsked (services_in (values_of entries)) (map service_at list)) (filter_all (passes_at passes entries) places at) (ranked_under places are sorted)
 
 -- ---- what is computed of filters and classes
 
@@ -199,6 +213,10 @@ open_decides test class filter s has = (
 )
 
 -- ---- the answer
+
+pub some_is : (found : Option ServiceId) (P Q : ServiceId → Type 0) → ((id : ServiceId) → P id → Q id) → IfSome found P → IfSome found Q
+some_is None P Q so is = tt
+some_is (Some id) P Q so is = so id is
 
 pub none_sorted : IsStrictlySortedBy place_cmp []
 unfolding IsStrictlySortedBy

@@ -15,7 +15,7 @@ use Rattle.osgi_registry.specs.declared.place.Place.{Place}
 use Rattle.std.proofs.lemmas.Bool.{or_left}
 use Rattle.std.proofs.lemmas.List.{take-append-drop, take_all}
 use Rattle.std.proofs.lemmas.List.Folds.{list_any-append}
-use Rattle.osgi_registry.specs.Places.{Adds, Classes, holds, IsFresh, Moves, place_cmp, places_at, same_place, StandsUnder, Takes}
+use Rattle.osgi_registry.specs.computed.Places.{Adds, Classes, holds, IsFresh, Moves, place_cmp, places_at, same_place, StandsUnder, Takes}
 use Rattle.osgi_ops.specs.Classes.{is_among}
 
 abbrev pub at : Classes → List ℕ → Option (BTreeSet Place)

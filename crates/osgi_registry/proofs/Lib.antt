@@ -10,4 +10,4 @@ pub mod Placed
 pub mod Pushes
 pub mod Ranked
 pub mod Released
-pub mod Standing
+pub mod Twins

@@ -9,10 +9,10 @@ use Rattle.std.proofs.lemmas.List.Elements.{All-cons, All-head, All-map, All-tai
 use Rattle.std.proofs.lemmas.List.Folds.{Any-from_list_any, list_any-append, list_any_at, list_any_none}
 use Rattle.osgi_base.specs.declared.ids.ServiceId.{ServiceId}
 use Rattle.osgi_registry.specs.declared.place.Place.{Place}
-use Rattle.osgi_registry.specs.Kept.{AreKept, IsBefore, IsUnder}
-use Rattle.osgi_registry.specs.Places.{Adds, Classes, holds, HoldsSame, is_placed, IsFresh, IsIndexOf, Moves, place_of, same_place, StandsUnder, Takes}
+use Rattle.osgi_registry.specs.computed.Kept.{AreKept, IsBefore, IsUnder}
+use Rattle.osgi_registry.specs.computed.Places.{Adds, Classes, holds, HoldsSame, is_placed, IsFresh, IsIndexOf, Moves, place_of, same_place, StandsUnder, Takes}
 use Rattle.osgi_ops.specs.Classes.{has_class, is_among}
-use Rattle.osgi_registry.specs.Rows.{change, id_of, is_service, Row, services_of, without}
+use Rattle.osgi_registry.specs.Rows.{change, id_of, is_service, Row, services_in, without}
 use Rattle.osgi_registry.proofs.Changed.{others_differ, rows_set}
 use Rattle.osgi_registry.proofs.Entries.{pairs_head, pairs_tail}
 use Rattle.osgi_registry.proofs.Exact.{place_exact, place_itself}
@@ -45,32 +45,32 @@ fresh_place classes rows place index apart = λ c p same.
     (λ k d within. and_right (has_class c (get_or rows k d).service) _ (apart_by (place_of (get_or rows k d).service) place p _ refl (apart k d within) same))
 
 -- as that of an id which was not given
-pub fresh_id : (given : ℕ) (entries : List (ℕ × Row)) (place : Place) → All (IsUnder given) entries → given < place.service → All (λ row. place_of row.service ≢ place) (values_of entries)
-fresh_id given entries place under above =
+pub fresh_id : (issued : ℕ) (entries : List (ℕ × Row)) (place : Place) → All (IsUnder issued) entries → issued < place.service → All (λ row. place_of row.service ≢ place) (values_of entries)
+fresh_id issued entries place under above =
     All-map (λ row. place_of row.service ≢ place) (λ (e : ℕ × Row). e.1) entries
     (λ k d within same. let u = under k d within in let is = ap (λ (p : Place). p.service) same in absurd (omega (arith, u.key, u.below, is, above)))
 
 -- ---- the one row of a service
 
-only_by : (given : ℕ) (service : ServiceId) (row : Row) (e : ℕ × Row) (rest : List (ℕ × Row)) (here : Bool) → nat_eq service.0 e.0 ≡ here → e.0 ≡ id_of e.1 → All (IsUnder given) rest → All (IsBefore e) rest →
+only_by : (issued : ℕ) (service : ServiceId) (row : Row) (e : ℕ × Row) (rest : List (ℕ × Row)) (here : Bool) → nat_eq service.0 e.0 ≡ here → e.0 ≡ id_of e.1 → All (IsUnder issued) rest → All (IsBefore e) rest →
     (lookup (nat_eq service.0) rest ≡ Some row → All (λ r. is_service service r ≡ true → r ≡ row) (values_of rest)) →
     cond here (Some e.1) (lookup (nat_eq service.0) rest) ≡ Some row → All (λ r. is_service service r ≡ true → r ≡ row) (e.1 ∷ values_of rest)
-only_by given service row e rest true same key under after more found =
+only_by issued service row e rest true same key under after more found =
     let row_is : e.1 ≡ row = cc found in
     All-cons (λ r. is_service service r ≡ true → r ≡ row) e.1 (values_of rest) (λ yes. row_is)
-    (λ k d within yes. absurd (true≢false (sym yes ∙ others_differ given service e rest (eqb-true service.0 e.0 same) under after k d within)))
-only_by given service row e rest false same key under after more found =
+    (λ k d within yes. absurd (true≢false (sym yes ∙ others_differ issued service e rest (eqb-true service.0 e.0 same) under after k d within)))
+only_by issued service row e rest false same key under after more found =
     let at : is_service service e.1 ≡ false = rw (← key) same in
     All-cons (λ r. is_service service r ≡ true → r ≡ row) e.1 (values_of rest) (λ yes. absurd (true≢false (sym yes ∙ at))) (more found)
 
 -- no other row has its id
-pub only_one : (given : ℕ) (service : ServiceId) (row : Row) (entries : List (ℕ × Row)) → All (IsUnder given) entries → AllPairs IsBefore entries → lookup (nat_eq service.0) entries ≡ Some row →
+pub only_one : (issued : ℕ) (service : ServiceId) (row : Row) (entries : List (ℕ × Row)) → All (IsUnder issued) entries → AllPairs IsBefore entries → lookup (nat_eq service.0) entries ≡ Some row →
     All (λ r. is_service service r ≡ true → r ≡ row) (values_of entries)
-only_one given service row [] under pairs found = absurd (cc found)
-only_one given service row (e ∷ rest) under pairs found =
-    let others = All-tail (IsUnder given) e rest under in
-    only_by given service row e rest (nat_eq service.0 e.0) refl (All-head (IsUnder given) e rest under).key others (pairs_head IsBefore e rest pairs)
-    (only_one given service row rest others (pairs_tail IsBefore e rest pairs)) found
+only_one issued service row [] under pairs found = absurd (cc found)
+only_one issued service row (e ∷ rest) under pairs found =
+    let others = All-tail (IsUnder issued) e rest under in
+    only_by issued service row e rest (nat_eq service.0 e.0) refl (All-head (IsUnder issued) e rest under).key others (pairs_head IsBefore e rest pairs)
+    (only_one issued service row rest others (pairs_tail IsBefore e rest pairs)) found
 
 any_by : (test : Row → Bool) (key : ℕ) (row : Row) (e : ℕ × Row) (rest : List (ℕ × Row)) (here : Bool) → test row ≡ true → (lookup (nat_eq key) rest ≡ Some row → list_any test (values_of rest) ≡ true) →
     cond here (Some e.1) (lookup (nat_eq key) rest) ≡ Some row → list_any test (e.1 ∷ values_of rest) ≡ true
@@ -92,10 +92,10 @@ apart_one service row r to true at only is apart same =
 apart_one service row r to false at only is apart same = true≢false (sym (eq-eqb service.0 (id_of r) (sym (ap (λ (q : Place). q.service) same ∙ is))) ∙ at)
 
 -- another place of its own is no service's
-pub fresh_move : (given : ℕ) (service : ServiceId) (row : Row) (entries : List (ℕ × Row)) (classes : Classes) (to : Place) → AreKept given entries → IsIndexOf classes (values_of entries) → lookup (nat_eq service.0) entries ≡ Some row →
+pub fresh_move : (issued : ℕ) (service : ServiceId) (row : Row) (entries : List (ℕ × Row)) (classes : Classes) (to : Place) → AreKept issued entries → IsIndexOf classes (values_of entries) → lookup (nat_eq service.0) entries ≡ Some row →
     to.service ≡ service.0 → same_place (place_of row.service) to ≡ false → IsFresh classes to
-fresh_move given service row entries classes to kept index found is apart =
-    let only = only_one given service row entries kept.under kept.rising found in
+fresh_move issued service row entries classes to kept index found is apart =
+    let only = only_one issued service row entries kept.under kept.rising found in
     fresh_place classes (values_of entries) to index (λ k d within. apart_one service row (get_or (values_of entries) k d) to (is_service service (get_or (values_of entries) k d)) refl (only k d within) is apart)
 
 separate_by : (service : ServiceId) (c : List ℕ) (p : Place) (row r : Row) (test : Bool) → is_placed c p row ≡ test → id_of row ≡ service.0 → is_service service r ≡ false → is_placed c p r ≡ true → test ≡ false
@@ -196,12 +196,12 @@ placed_alike service f c p (r ∷ rest) same =
     ∙ ap (λ b. is_placed c p r || b) (placed_alike service f c p rest (All-tail (λ x. (f x).service ≡ x.service) r rest same))
 
 -- a service whose uses change
-pub index_kept : (given : ℕ) (service : ServiceId) (old new : Row) (entries : List (ℕ × Row)) (classes : Classes) → AreKept given entries → IsIndexOf classes (values_of entries) → new.service ≡ old.service → lookup (nat_eq service.0) entries ≡ Some old →
+pub index_kept : (issued : ℕ) (service : ServiceId) (old new : Row) (entries : List (ℕ × Row)) (classes : Classes) → AreKept issued entries → IsIndexOf classes (values_of entries) → new.service ≡ old.service → lookup (nat_eq service.0) entries ≡ Some old →
     IsIndexOf classes (values_of (set_value (nat_eq service.0) entries new))
-index_kept given service old new entries classes kept index same found =
+index_kept issued service old new entries classes kept index same found =
     let f : Row → Row = λ row. record row { uses = new.uses } in
     let is : f old ≡ new = ap (λ s. record { service = s; uses = new.uses }) (sym same) in
-    rw (rows_set given service old new f entries kept.under kept.rising is found)
+    rw (rows_set issued service old new f entries kept.under kept.rising is found)
     (λ c p. index c p ∙ sym (placed_alike service f c p (values_of entries) (λ k d within. refl)))
 
 -- ---- services at places
@@ -225,6 +225,6 @@ row_held classes c rows place index held =
     let parts = and_parts (has_class c some.1.service) _ some.4 in
     record { row = some.1; live = (some.0, some.2, some.3); has = parts.0; is = place_exact (place_of some.1.service) place parts.1 }
 
-pub Contains-services : (rows : List Row) (row : Row) → Contains rows row → Contains (services_of rows) row.service
+pub Contains-services : (rows : List Row) (row : Row) → Contains rows row → Contains (services_in rows) row.service
 Contains-services rows row (k, within, is) =
     (k, omega (arith, length-map rows (λ r. r.service), within), get_or-map (λ r. r.service) rows k row row.service within ∙ ap (λ r. r.service) is)

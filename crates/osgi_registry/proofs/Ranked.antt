@@ -10,11 +10,11 @@ use Rattle.std.proofs.lemmas.List.{get_or-map, get_or_default, length-map}
 use Rattle.std.proofs.lemmas.List.Elements.{All-cons, All-head, All-nil, All-tail, Contains-append_right, Contains-get_or}
 use Rattle.std.proofs.lemmas.List.Kept.{AllPairs-cons}
 use Rattle.osgi_registry.specs.declared.place.Place.{Place}
-use Rattle.osgi_registry.specs.Kept.{AreKept}
-use Rattle.osgi_registry.specs.Places.{place_cmp, place_of, service_at}
+use Rattle.osgi_registry.specs.computed.Kept.{AreKept}
+use Rattle.osgi_registry.specs.computed.Places.{place_cmp, place_of, service_at}
 use Rattle.osgi_ops.specs.Classes.{has_class, ids_of, rank_cmp}
 use Rattle.osgi_ops.specs.declared.service.Service.{Service}
-use Rattle.osgi_registry.specs.Rows.{id_of, Row, services_of}
+use Rattle.osgi_registry.specs.Rows.{id_of, Row, services_in}
 use Rattle.osgi_registry.proofs.Entries.{pairs_head, pairs_tail, rising_ids}
 use Rattle.osgi_registry.proofs.Exact.{place_exact}
 use Rattle.osgi_registry.proofs.Placed.{Contains-services, IsAt}
@@ -31,11 +31,11 @@ module _ (c : List ℕ) (rows : List Row) where
       let here = All-head (IsAt c rows) p rest at in
       λ i. service_at (sym here.is i) ∷ ids_are rest (All-tail (IsAt c rows) p rest at) i
 
-  only_those : (places : List Place) (at : All (IsAt c rows) places) → All (λ service. Contains (services_of rows) service × (has_class c service ≡ true)) (at_places places at)
-  only_those [] at = All-nil (λ service. Contains (services_of rows) service × (has_class c service ≡ true))
+  only_those : (places : List Place) (at : All (IsAt c rows) places) → All (λ service. Contains (services_in rows) service × (has_class c service ≡ true)) (at_places places at)
+  only_those [] at = All-nil (λ service. Contains (services_in rows) service × (has_class c service ≡ true))
   only_those (p ∷ rest) at =
       let here = All-head (IsAt c rows) p rest at in
-      All-cons (λ service. Contains (services_of rows) service × (has_class c service ≡ true)) here.row.service (at_places rest (All-tail (IsAt c rows) p rest at))
+      All-cons (λ service. Contains (services_in rows) service × (has_class c service ≡ true)) here.row.service (at_places rest (All-tail (IsAt c rows) p rest at))
       (Contains-services rows here.row here.live, here.has) (only_those rest (All-tail (IsAt c rows) p rest at))
 
   after : (service : Service) (places : List Place) (at : All (IsAt c rows) places) → All (λ q. place_cmp (place_of service) q ≡ Less) places → All (λ s. rank_cmp service s ≡ Less) (at_places places at)
@@ -70,22 +70,22 @@ module _ (c : List ℕ) (rows : List Row) where
       (λ later. Contains-append_right (here.row.service ∷ []) (at_places rest others) row.service (every row rest others unique later))
       (or_cases _ _ some)
 
-below : (given : ℕ) (entries : List (ℕ × Row)) (a b : Row) (k l : ℕ) → AreKept given entries → k < l → l < length (values_of entries) → get_or (values_of entries) k a ≡ a → get_or (values_of entries) l b ≡ b → id_of a < id_of b
-below given entries a b k l kept before within at_a at_b =
+below : (issued : ℕ) (entries : List (ℕ × Row)) (a b : Row) (k l : ℕ) → AreKept issued entries → k < l → l < length (values_of entries) → get_or (values_of entries) k a ≡ a → get_or (values_of entries) l b ≡ b → id_of a < id_of b
+below issued entries a b k l kept before within at_a at_b =
     let rows = values_of entries in
-    let rise = rising_ids given entries kept.under kept.rising k l 0 before (omega (arith, length-map rows id_of, within)) in
+    let rise = rising_ids issued entries kept.under kept.rising k l 0 before (omega (arith, length-map rows id_of, within)) in
     let first : get_or (map id_of rows) k 0 ≡ id_of a = get_or-map id_of rows k a 0 (omega (arith, before, within)) ∙ ap id_of at_a in
     let second : get_or (map id_of rows) l 0 ≡ id_of b = get_or-map id_of rows l b 0 within ∙ ap id_of at_b in
     omega (arith, rise, first, second)
 
-same_by : (given : ℕ) (entries : List (ℕ × Row)) (a b : Row) (k l : ℕ) → AreKept given entries → k < length (values_of entries) → l < length (values_of entries) → get_or (values_of entries) k a ≡ a → get_or (values_of entries) l b ≡ b →
+same_by : (issued : ℕ) (entries : List (ℕ × Row)) (a b : Row) (k l : ℕ) → AreKept issued entries → k < length (values_of entries) → l < length (values_of entries) → get_or (values_of entries) k a ≡ a → get_or (values_of entries) l b ≡ b →
     id_of a ≡ id_of b → (k ≡ l) ⊎ (k ≡ l → ⊥) → a ≡ b
-same_by given entries a b k l kept within_a within_b at_a at_b same (inl is) = sym at_a ∙ get_or_default (values_of entries) k a b within_a ∙ ap (λ n. get_or (values_of entries) n b) is ∙ at_b
-same_by given entries a b k l kept within_a within_b at_a at_b same (inr differ) =
-    ⊎_elim (λ before. let less = below given entries a b k l kept before within_b at_a at_b in absurd (omega (arith, less, same)))
-    (λ from. let less = below given entries b a l k kept (omega (arith, from, differ)) within_a at_b at_a in absurd (omega (arith, less, same)))
+same_by issued entries a b k l kept within_a within_b at_a at_b same (inl is) = sym at_a ∙ get_or_default (values_of entries) k a b within_a ∙ ap (λ n. get_or (values_of entries) n b) is ∙ at_b
+same_by issued entries a b k l kept within_a within_b at_a at_b same (inr differ) =
+    ⊎_elim (λ before. let less = below issued entries a b k l kept before within_b at_a at_b in absurd (omega (arith, less, same)))
+    (λ from. let less = below issued entries b a l k kept (omega (arith, from, differ)) within_a at_b at_a in absurd (omega (arith, less, same)))
     (cases_lt k l)
 
 -- no two rows have one id
-pub same_row : (given : ℕ) (entries : List (ℕ × Row)) (a b : Row) → AreKept given entries → Contains (values_of entries) a → Contains (values_of entries) b → id_of a ≡ id_of b → a ≡ b
-same_row given entries a b kept in_a in_b same = same_by given entries a b in_a.0 in_b.0 kept in_a.1 in_b.1 in_a.2 in_b.2 same (cases_eq in_a.0 in_b.0)
+pub same_row : (issued : ℕ) (entries : List (ℕ × Row)) (a b : Row) → AreKept issued entries → Contains (values_of entries) a → Contains (values_of entries) b → id_of a ≡ id_of b → a ≡ b
+same_row issued entries a b kept in_a in_b same = same_by issued entries a b in_a.0 in_b.0 kept in_a.1 in_b.1 in_a.2 in_b.2 same (cases_eq in_a.0 in_b.0)

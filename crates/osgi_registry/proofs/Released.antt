@@ -13,8 +13,8 @@ use Rattle.std.proofs.lemmas.List.Kept.{AllPairs-cons, AllPairs-filter}
 use Rattle.osgi_base.specs.declared.ids.BundleId.{BundleId}
 use Rattle.osgi_base.specs.declared.ids.ServiceId.{ServiceId}
 use Rattle.osgi_registry.specs.declared.place.Place.{Place}
-use Rattle.osgi_registry.specs.Kept.{AreKept, IsBefore, IsUnder}
-use Rattle.osgi_registry.specs.Places.{Classes, is_placed, IsIndexOf, place_of, Takes}
+use Rattle.osgi_registry.specs.computed.Kept.{AreKept, IsBefore, IsUnder}
+use Rattle.osgi_registry.specs.computed.Places.{Classes, is_placed, IsIndexOf, place_of, Takes}
 use Rattle.osgi_ops.specs.Classes.{has_class}
 use Rattle.osgi_registry.specs.Rows.{id_of, ids_of, is_owned, others, released, Row, without_user}
 use Rattle.osgi_registry.proofs.Entries.{pairs_head, pairs_tail}
@@ -133,15 +133,15 @@ all_passed classes bundle rows i is index =
 
 -- ---- the entries that are left
 
-pub apart_rows : (given : ℕ) (entries : List (ℕ × Row)) → All (IsUnder given) entries → AllPairs IsBefore entries → AllPairs (λ a b. id_of a ≢ id_of b) (values_of entries)
-apart_rows given [] under pairs = λ i j d before within. absurd (omega arith)
-apart_rows given (e ∷ rest) under pairs =
-    let here = All-head (IsUnder given) e rest under in
-    let more = All-tail (IsUnder given) e rest under in
+pub apart_rows : (issued : ℕ) (entries : List (ℕ × Row)) → All (IsUnder issued) entries → AllPairs IsBefore entries → AllPairs (λ a b. id_of a ≢ id_of b) (values_of entries)
+apart_rows issued [] under pairs = λ i j d before within. absurd (omega arith)
+apart_rows issued (e ∷ rest) under pairs =
+    let here = All-head (IsUnder issued) e rest under in
+    let more = All-tail (IsUnder issued) e rest under in
     let after = pairs_head IsBefore e rest pairs in
     AllPairs-cons (λ a b. id_of a ≢ id_of b) e.1 (values_of rest)
     (All-map (λ r. id_of e.1 ≢ id_of r) (λ (x : ℕ × Row). x.1) rest (λ k d within same. let u = more k d within in let b = after k d within in absurd (omega (arith, here.key, u.key, b, same))))
-    (apart_rows given rest more (pairs_tail IsBefore e rest pairs))
+    (apart_rows issued rest more (pairs_tail IsBefore e rest pairs))
 
 abbrev pub left_of : BundleId → List (ℕ × Row) → List (ℕ × Row)
 left_of bundle entries = map {B = ℕ × Row} (λ (e : ℕ × Row). (e.0, without_user bundle e.1)) (filter (λ (e : ℕ × Row). not (is_owned bundle e.1)) entries)
@@ -186,13 +186,13 @@ fewer : (test : ℕ × Row → Bool) (entries : List (ℕ × Row)) → length (f
 fewer test [] = omega arith
 fewer test (e ∷ rest) = fewer_by e rest (filter test rest) (test e) (fewer test rest)
 
-pub kept_left : (given : ℕ) (bundle : BundleId) (entries : List (ℕ × Row)) → AreKept given entries → AreKept given (left_of bundle entries)
-kept_left given bundle entries kept =
+pub kept_left : (issued : ℕ) (bundle : BundleId) (entries : List (ℕ × Row)) → AreKept issued entries → AreKept issued (left_of bundle entries)
+kept_left issued bundle entries kept =
     let test : ℕ × Row → Bool = λ e. not (is_owned bundle e.1) in
     record {
       under =
-          All-map (IsUnder given) (λ (e : ℕ × Row). (e.0, without_user bundle e.1)) (filter test entries)
-          (λ k d within. let u = All-filter test (IsUnder given) entries kept.under k d within in record { key = u.key; some = u.some; below = u.below });
+          All-map (IsUnder issued) (λ (e : ℕ × Row). (e.0, without_user bundle e.1)) (filter test entries)
+          (λ k d within. let u = All-filter test (IsUnder issued) entries kept.under k d within in record { key = u.key; some = u.some; below = u.below });
       rising = pairs_map bundle (filter test entries) (AllPairs-filter IsBefore test entries kept.rising);
       few = omega (arith, fewer test entries, length-map {B = ℕ × Row} (filter test entries) (λ (e : ℕ × Row). (e.0, without_user bundle e.1)), kept.few);
       fits = kept.fits;

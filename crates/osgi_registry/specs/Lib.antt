@@ -1,7 +1,5 @@
 -- The registry as contracts see it.
-pub mod Finding
-pub mod Kept
-pub mod Places
 pub mod Rows
 pub mod Stands
-pub mod Uses
+pub mod laws
+pub mod computed

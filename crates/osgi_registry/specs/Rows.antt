@@ -1,5 +1,5 @@
 -- The registry as contracts see it: the live services in rows, and what calls answer and change by them.
-use Rattle.std.specs.Prelude.{ℕ, ◌≡◌, ◌==◌, ◌+◌, ◌-◌, ◌<◌, ◌≤◌, nat_le, Bool, true, not, if◌then◌else◌, List, [], ◌∷◌, Option, None, Some, Result, Ok, Err, All, find, filter, map, length, unwrap_or}
+use Rattle.std.specs.Prelude.{ℕ, ◌≡◌, ◌==◌, ◌+◌, ◌-◌, ◌<◌, ◌≤◌, nat_le, Bool, true, not, if◌then◌else◌, List, [], ◌∷◌, Option, None, Some, Result, Ok, Err, All, Contains, find, filter, map, length, unwrap_or}
 use Rattle.std.specs.List.Sorted.{IsStrictlyIncreasing}
 use Rattle.std.specs.Map.{lookup}
 use Rattle.std.specs.Option.{option_map_or, option_or}
@@ -9,7 +9,7 @@ use Rattle.osgi_model.specs.declared.filter.Filter.{Filter}
 use Rattle.osgi_model.specs.declared.value.Attribute.{Attribute}
 use Rattle.osgi_ops.specs.Classes.{IsOf}
 use Rattle.osgi_ops.specs.Properties.{has_twins, with_framework}
-use Rattle.osgi_ops.specs.Settings.{most_services}
+use Rattle.osgi_ops.specs.declared.limits.TheConstants.{MAX_SERVICES}
 use Rattle.osgi_ops.specs.declared.refusal.Many.TheVariants.{Services}
 use Rattle.osgi_ops.specs.declared.refusal.Refusal.{Refusal}
 use Rattle.osgi_ops.specs.declared.refusal.Refusal.TheVariants.{NoSuchService, BadProperties, NotOwner, TooMany}
@@ -23,7 +23,7 @@ pub record Row : Type 0 where
 -- the live services by rising id, and how many ids were given
 pub record RegistryRows : Type 0 where
   pub rows : List Row
-  pub given : ℕ
+  pub issued : ℕ
 
 abbrev pub id_of : Row → ℕ
 id_of row = row.service.service.0
@@ -31,7 +31,7 @@ id_of row = row.service.service.0
 -- the ids are above 0 and rise, and all of them were given
 pub record AreInOrder (registry : RegistryRows) : Type 0 where
   pub rising : IsStrictlyIncreasing (map id_of registry.rows)
-  pub given : All (λ row. (0 < id_of row) × (id_of row ≤ registry.given)) registry.rows
+  pub issued : All (λ row. (0 < id_of row) × (id_of row ≤ registry.issued)) registry.rows
 
 abbrev pub is_service : ServiceId → Row → Bool
 is_service service row = service.0 == id_of row
@@ -50,8 +50,8 @@ without service rows = filter (λ row. not (is_service service row)) rows
 -- ---- services and classes
 
 -- the services alone
-abbrev pub services_of : List Row → List Service
-services_of rows = map (λ row. row.service) rows
+abbrev pub services_in : List Row → List Service
+services_in rows = map (λ row. row.service) rows
 
 abbrev pub ids_of : List Row → List ServiceId
 ids_of rows = map (λ row. row.service.service) rows
@@ -60,6 +60,13 @@ ids_of rows = map (λ row. row.service.service) rows
 -- its registrant and the class
 abbrev pub IsOpenBy : (BundleId → List ℕ → Bool) → List ℕ → Option Filter → Service → Type 0
 IsOpenBy is_assignable class filter service = IsOf class filter service × All (λ c. is_assignable service.owner c ≡ true) service.classes
+
+-- the id is that of one of the services that are asked for
+pub record IsOneOf (IsAsked : Service → Type 0) (services : List Service) (id : ServiceId) : Type 0 where
+  pub service : Service
+  pub there : Contains services service
+  pub is : id ≡ service.service
+  pub asked : IsAsked service
 
 -- ---- uses
 
@@ -135,7 +142,7 @@ abbrev pub twins_refusal : List Attribute → Option Refusal
 twins_refusal properties = if has_twins properties then Some BadProperties else None
 
 abbrev pub room_refusal : List Row → Option Refusal
-room_refusal rows = if nat_le most_services (length rows) then Some (TooMany Services) else None
+room_refusal rows = if nat_le MAX_SERVICES (length rows) then Some (TooMany Services) else None
 
 abbrev pub register_refusal : List Attribute → List Row → Option Refusal
 register_refusal properties rows = option_or (twins_refusal properties) (room_refusal rows)

@@ -22,7 +22,7 @@ AreRowsOf _ _ = ⊥
 -- row by row the live services of the history, and as many ids as it registered services
 pub record StandsFor (history : List Entry) (registry : RegistryRows) : Type 0 where
   pub rows : AreRowsOf registry.rows (live history)
-  pub given : registry.given ≡ length (registered history)
+  pub issued : registry.issued ≡ length (registered history)
 
 -- if it stood for a history, it stands for that history with one more entry, of this operation and reply
 abbrev pub StandsAfter : Op → Reply → RegistryRows → RegistryRows → Type 0

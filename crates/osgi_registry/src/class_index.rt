@@ -2,7 +2,7 @@
 
 ghost use Rattle.std.specs.Prelude.{◌≡◌, true, false, List, ℕ, [], ◌∷◌, OnOk, OnErr};
 ghost use Rattle.std.specs.Option.{option_map_or};
-ghost use Rattle.osgi_registry.specs.Places.{Adds, HoldsSame, holds, IsFresh, Moves, places_at, same_place, StandsUnder, Takes};
+ghost use Rattle.osgi_registry.specs.computed.Places.{Adds, HoldsSame, holds, IsFresh, Moves, places_at, same_place, StandsUnder, Takes};
 ghost use Rattle.osgi_registry.specs.declared.place.Place.{Place};
 
 use crate::place::Place;
@@ -64,22 +64,22 @@ impl ClassIndex {
         }
     }
 
-    /// Adds the place under the classes. Where memory is wanting it stands under none of them.
+    /// Adds the place under the classes. If memory runs out, it stands under none of them.
     pub fn add_all(&mut self, classes: &[Text], place: Place) -> Result<(), AllocError>
         requires { IsFresh self.old.classes place }
         ensures added { OnOk result (Adds self.old.classes self.new.classes classes.now place) }
         ensures unchanged { OnErr result (HoldsSame self.old.classes self.new.classes) }
     {
         for class in classes {
-            if let Err(wanting) = self.add(class, place) {
+            if let Err(error) = self.add(class, place) {
                 self.take_all(classes, place);
-                return Err(wanting);
+                return Err(error);
             }
         }
         Ok(())
     }
 
-    /// Moves the place under the classes. Where memory is wanting it stays.
+    /// Moves the place under the classes. If memory runs out, it stays.
     pub fn move_all(&mut self, classes: &[Text], from: Place, to: Place) -> Result<(), AllocError>
         requires stands { StandsUnder self.old.classes classes.now from }
         requires fresh { same_place from to ≡ false → IsFresh self.old.classes to }

@@ -1,21 +1,21 @@
 //! What is asked of services that are looked for.
 
-ghost use Rattle.std.specs.Prelude.{◌≡◌, ℕ, List, Bool, Some, IfOk, OnOk, filter, find, map, nat_eq};
+ghost use Rattle.std.specs.Prelude.{◌≡◌, ℕ, List, Bool, true, Some, IfOk, IfSome, OnOk, filter, find, map, nat_eq};
+ghost use Rattle.std.specs.Bool.{OnTrue};
 ghost use Rattle.std.specs.Map.{lookup};
 ghost use Rattle.std.specs.List.{list_all};
 ghost use Rattle.std.specs.List.Sorted.{IsStrictlySortedBy};
 ghost use Rattle.std.specs.Option.{option_copied, option_map};
 ghost use Rattle.osgi_base.specs.declared.ids.BundleId.{BundleId};
-ghost use Rattle.osgi_registry.specs.Finding as spec;
-ghost use Rattle.osgi_registry.specs.Places.{place_cmp, service_at};
+ghost use Rattle.osgi_registry.specs.computed.Finding as spec;
+ghost use Rattle.osgi_registry.specs.computed.Places.{place_cmp, service_at};
 
 use crate::held::Held;
 use crate::place::Place;
 use osgi_base::ids::{BundleId, ServiceId};
 use osgi_base::list::List;
 use osgi_base::text::Text;
-use osgi_filter::case::Case;
-use osgi_filter::matching::matches;
+use osgi_filter::{Case, matches};
 use osgi_model::filter::Filter;
 use osgi_ops::service::Service;
 use std::alloc::{AllocError, Global};
@@ -76,6 +76,7 @@ fn is_open_at<F: Fn(BundleId, &Text) -> bool + Drop>(
     requires callable { F.IsAlwaysCallable assignable.now }
     ensures open { (test : BundleId → List ℕ → Bool) → ((owner : BundleId) (class : _) (answer : Bool) → F.post assignable.now owner class answer → answer ≡ test owner class.now) →
         result ≡ spec.passes_at (spec.is_open test (option_copied filter.entry)) services.now.entries place }
+    ensures fits { OnTrue result (spec.passes_at (spec.does_fit (option_copied filter.entry)) services.now.entries place ≡ true) }
 {
     match service_of(services, place) {
         Some(service) => does_fit(filter, service) && is_assignable(service, assignable),
@@ -93,6 +94,7 @@ pub fn first_open<F: Fn(BundleId, &Text) -> bool + Drop>(
     requires callable { F.IsAlwaysCallable assignable.now }
     ensures first { (test : BundleId → List ℕ → Bool) → ((owner : BundleId) (class : _) (answer : Bool) → F.post assignable.now owner class answer → answer ≡ test owner class.now) →
         result ≡ option_map service_at (find (spec.passes_at (spec.is_open test (option_copied filter.entry)) services.now.entries) places.now.keys) }
+    ensures fits { IfSome result (spec.PassesAmong (spec.does_fit (option_copied filter.entry)) services.now.entries places.now.keys) }
     ensures ordered { IsStrictlySortedBy place_cmp places.now.keys }
 {
     for place in places.iter() {

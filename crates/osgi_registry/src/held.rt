@@ -13,7 +13,7 @@ use std::marker::Model;
 
 /// A service, and how often each user holds it.
 ///
-/// Both stand behind one pointer, so that the nodes of a tree of these stay small: a look-up goes through few of them.
+/// Both are reached through one pointer, so that the nodes of a tree of these stay small: a look-up goes through few of them.
 #[derive(Drop)]
 pub struct Held {
     inner: Box<Used>,

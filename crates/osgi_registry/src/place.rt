@@ -16,7 +16,7 @@ pub struct Place {
 }
 
 impl Place {
-    ghost use Rattle.osgi_registry.specs.Places.{place_of, place_with};
+    ghost use Rattle.osgi_registry.specs.computed.Places.{place_of, place_with};
 
     /// The place of a service with these properties.
     pub fn new(properties: &[Attribute], service: ServiceId) -> Place

@@ -3,6 +3,7 @@
 ghost use Rattle.std.specs.Prelude.{◌≡◌, ◌≤◌, IfOk, OnOk, [], ◌∷◌, ◌++◌, codes, filter, map, not, pos};
 ghost use Rattle.std.specs.List.{list_any};
 ghost use Rattle.std.specs.Option.{option_copied};
+ghost use Rattle.std.specs.Str.{str_to_ascii_lowercase};
 ghost use Rattle.osgi_ops.specs.Properties as spec;
 
 use osgi_base::ids::{BundleId, ServiceId};
@@ -10,6 +11,7 @@ use osgi_base::list::List;
 use osgi_base::text::Text;
 use osgi_model::value::{Attribute, Attributes, Value};
 use std::alloc::{AllocError, Global};
+use std::collections::BTreeSet;
 
 /// Whether the property has the name, which is compared without ASCII case.
 fn is_named(name: &[u8], property: &Attribute) -> bool
@@ -30,8 +32,21 @@ fn is_among(name: &[u8], properties: &[Attribute]) -> bool
     false
 }
 
+/// Up to so many names are compared with one another, which takes no memory.
+const FEW: usize = 16;
+
 /// Whether two of the properties have one name.
-pub fn has_twins(properties: &[Attribute]) -> bool
+pub fn has_twins(alloc: Global, properties: &[Attribute]) -> Result<bool, AllocError>
+    ensures twins { IfOk result (λ twins. twins ≡ spec.has_twins properties.now) }
+{
+    if properties.len() > FEW {
+        return has_twins_of_many(alloc, properties);
+    }
+    Ok(has_twins_of_few(properties))
+}
+
+/// Compares each name with those after it.
+fn has_twins_of_few(properties: &[Attribute]) -> bool
     ensures twins { result ≡ spec.has_twins properties.now }
 {
     let mut left = properties;
@@ -44,9 +59,33 @@ pub fn has_twins(properties: &[Attribute]) -> bool
     false
 }
 
+/// Seeks each name among those before it, which an ordered set keeps, so that the time is near linear.
+fn has_twins_of_many(alloc: Global, properties: &[Attribute]) -> Result<bool, AllocError>
+    ensures twins { IfOk result (λ twins. twins ≡ spec.has_twins properties.now) }
+{
+    let mut names = BTreeSet::new(alloc);
+    let mut left = properties;
+    while let Some((first, rest)) = left.split_first() {
+        let name = lowercase(alloc, &first.name)?;
+        let is_new = names.insert(name)?;
+        if !is_new {
+            return Ok(true);
+        }
+        left = rest;
+    }
+    Ok(false)
+}
+
+/// The name in lower case, as names are compared.
+fn lowercase(alloc: Global, name: &Text) -> Result<Text, AllocError>
+    ensures lowercase { IfOk result (λ low. low ≡ str_to_ascii_lowercase name.now) }
+{
+    Text::from_vec(alloc, name.bytes().to_ascii_lowercase(alloc)?)
+}
+
 /// The value of the first property of the name.
-fn value_of<'a>(name: &[u8], properties: &'a [Attribute]) -> Option<&'a Value>
-    ensures value { option_copied result ≡ spec.value_of name.now properties.now }
+fn property_value<'a>(name: &[u8], properties: &'a [Attribute]) -> Option<&'a Value>
+    ensures value { option_copied result ≡ spec.property_value name.now properties.now }
 {
     for property in properties {
         if is_named(name, property) {
@@ -60,7 +99,7 @@ fn value_of<'a>(name: &[u8], properties: &'a [Attribute]) -> Option<&'a Value>
 pub fn ranking(properties: &[Attribute]) -> i32
     ensures ranking { result ≡ spec.ranking properties.now }
 {
-    match value_of(b"service.ranking", properties) {
+    match property_value(b"service.ranking", properties) {
         Some(Value::Long(number)) => within_32_bits(*number),
         _ => 0,
     }

@@ -3,15 +3,14 @@
 ghost use Rattle.std.specs.Prelude.{◌≡◌, ◌≢◌, ℕ, Bool, List, AllPairs, filter, not, ◌+◌, ◌<◌, [], ◌∷◌, ◌++◌, nat_lt, length, slice_get, None, Some, false, All, IfNone, IfOk, IfSome, OnOk, OnErr};
 ghost use Rattle.osgi_base.specs.declared.ids.BundleId.{BundleId};
 ghost use Rattle.osgi_ops.specs.Classes.{AreRanked, IsFound, IsOf};
-ghost use Rattle.osgi_ops.specs.Settings.{most_services};
 ghost use Rattle.std.specs.Bool.{OnTrue, OnFalse};
 ghost use Rattle.std.specs.Option.{option_copied};
 ghost use Rattle.std.specs.Result.{result_err};
 ghost use Rattle.std.specs.BTreeMap.{values};
 ghost use Rattle.osgi_ops.specs.declared.op.Op.TheVariants as op;
 ghost use Rattle.osgi_ops.specs.declared.reply.Reply.TheVariants as answers;
-ghost use Rattle.osgi_registry.specs.Places.{IsIndexOf};
-ghost use Rattle.osgi_registry.specs.Rows.{AreInOrder, change, change_refusal, id_of, ids_of, is_owned, modify_refusal, IsOpenBy, new_row, object_at, others, register_refusal, released, row_at, services_of, use_count, used_less, used_more, with_properties, without, without_user};
+ghost use Rattle.osgi_registry.specs.computed.Places.{IsIndexOf};
+ghost use Rattle.osgi_registry.specs.Rows.{AreInOrder, change, change_refusal, id_of, ids_of, is_owned, IsOneOf, modify_refusal, IsOpenBy, new_row, object_at, others, register_refusal, released, row_at, services_in, use_count, used_less, used_more, with_properties, without, without_user};
 ghost use Rattle.osgi_registry.specs.Stands.{StandsAfter, StandsFor};
 
 use crate::class_index::ClassIndex;
@@ -25,14 +24,12 @@ use osgi_base::list::List;
 use osgi_base::text::Text;
 use osgi_model::filter::Filter;
 use osgi_model::value::Attributes;
+use osgi_ops::limits::MAX_SERVICES;
 use osgi_ops::refusal::{Many, Refusal};
 use osgi_ops::service::Service;
 use std::alloc::{AllocError, Global};
 use std::collections::BTreeMap;
 use std::marker::Model;
-
-/// How many services may be live.
-const MOST_SERVICES: usize = 65_536;
 
 /// The live services by rising id, with their uses.
 #[derive(Drop)]
@@ -41,12 +38,12 @@ pub struct Registry {
     texts: FrameworkTexts,
     services: BTreeMap<u64, Held>,
     index: ClassIndex,
-    given: u64,
+    issued: u64,
 }
 
 impl Model for Registry {
     ghost use Rattle.std.specs.Map.{values_of};
-    ghost use Rattle.osgi_registry.specs.Kept.{IsKept};
+    ghost use Rattle.osgi_registry.specs.computed.Kept.{IsKept};
     ghost use Rattle.osgi_registry.specs.Rows.{RegistryRows};
     ghost use Rattle.std.specs.Coded.{codes};
     ghost use Rattle.osgi_model.specs.contracts.value.Value as value;
@@ -55,14 +52,14 @@ impl Model for Registry {
 
     ghost coded = { Prim.hlevel (codes, value.the_row.coded) };
 
-    ghost view = { λ r. record { rows = values_of r.services.entries; given = r.given } };
+    ghost view = { λ r. record { rows = values_of r.services.entries; issued = r.issued } };
 
-    ghost invariant = { λ r. IsKept r.given r.services.entries r.index.classes };
+    ghost invariant = { λ r. IsKept r.issued r.services.entries r.index.classes };
 }
 
 impl Registry {
     pub fn new(alloc: Global) -> Result<Registry, AllocError>
-        ensures empty { IfOk result (λ registry. registry ≡ record { rows = []; given = 0 }) }
+        ensures empty { IfOk result (λ registry. registry ≡ record { rows = []; issued = 0 }) }
         ensures stands { IfOk result (StandsFor []) }
     {
         Ok(Registry {
@@ -70,7 +67,7 @@ impl Registry {
             texts: FrameworkTexts::new(alloc)?,
             services: BTreeMap::new(alloc),
             index: ClassIndex::new(alloc),
-            given: 0,
+            issued: 0,
         })
     }
 
@@ -85,7 +82,7 @@ impl Registry {
     /// The live service at this place by rising id.
     pub fn at(&self, place: usize) -> &Service
         requires within { place < length self.now.rows }
-        ensures service { slice_get (services_of self.now.rows) place ≡ Some result.now }
+        ensures service { slice_get (services_in self.now.rows) place ≡ Some result.now }
         ensures in_order { AreInOrder self.now }
     {
         let Some(held) = self.services.values().nth(place) else {
@@ -96,7 +93,7 @@ impl Registry {
 
     /// The live services by rising id.
     pub fn services(&self) -> Services<'_>
-        ensures services { result ≡ services_of self.now.rows }
+        ensures services { result ≡ services_in self.now.rows }
         ensures in_order { AreInOrder self.now }
     {
         Services::new(self.services.values())
@@ -110,24 +107,24 @@ impl Registry {
         object: Text,
         properties: Attributes,
     ) -> Result<Result<ServiceId, Refusal>, AllocError>
-        requires ids_left { self.old.given < 4294967295 }
+        requires ids_left { self.old.issued < 4294967295 }
         ensures refusal { IfOk result (λ answer. result_err answer ≡ register_refusal properties self.old.rows) }
-        ensures id { IfOk result (λ answer. IfOk answer (λ id. id.0 ≡ self.old.given + 1)) }
+        ensures id { IfOk result (λ answer. IfOk answer (λ id. id.0 ≡ self.old.issued + 1)) }
         ensures rows { IfOk result (λ answer. IfOk answer (λ id. self.new.rows ≡ self.old.rows ++ new_row id owner classes object properties ∷ [])) }
-        ensures given { IfOk result (λ answer. OnOk answer (self.new.given ≡ self.old.given + 1)) }
+        ensures issued { IfOk result (λ answer. OnOk answer (self.new.issued ≡ self.old.issued + 1)) }
         ensures stands { IfOk result (λ answer. IfOk answer (λ id. StandsAfter (op.Register owner classes object properties) (answers.Service id) self.old self.new)) }
         ensures refused { IfOk result (λ answer. OnErr answer (self.new ≡ self.old)) }
         ensures unchanged { OnErr result (self.new ≡ self.old) }
     {
-        if has_twins(properties.items()) {
+        if has_twins(self.alloc, properties.items())? {
             return Ok(Err(Refusal::BadProperties));
         }
-        if self.services.len() >= MOST_SERVICES {
+        if self.services.len() >= MAX_SERVICES {
             return Ok(Err(Refusal::TooMany {
                 kind: Many::Services,
             }));
         }
-        let service = ServiceId(self.given + 1);
+        let service = ServiceId(self.issued + 1);
         let properties = self
             .texts
             .with_framework(self.alloc, properties, classes.items(), service, owner)?;
@@ -143,23 +140,23 @@ impl Registry {
 
     /// Adds a service under the next id.
     fn add(&mut self, service: Service) -> Result<(), AllocError>
-        requires next { service.service.0 ≡ self.old.given + 1 }
-        requires fits { self.old.given < 4294967295 }
-        requires room { length self.old.rows < most_services }
+        requires next { service.service.0 ≡ self.old.issued + 1 }
+        requires fits { self.old.issued < 4294967295 }
+        requires room { length self.old.rows < MAX_SERVICES }
         ensures rows { OnOk result (self.new.rows ≡ self.old.rows ++ record { service = service; uses = [] } ∷ []) }
-        ensures given { OnOk result (self.new.given ≡ self.old.given + 1) }
+        ensures issued { OnOk result (self.new.issued ≡ self.old.issued + 1) }
         ensures unchanged { OnErr result (self.new ≡ self.old) }
     {
         let id = service.service.0;
         let place = Place::of(&service);
         let held = Held::new(self.alloc, service)?;
         self.index.add_all(held.service().classes.items(), place)?;
-        if let Err(wanting) = self.services.insert(id, held) {
-            let (_, held) = wanting.value;
+        if let Err(error) = self.services.insert(id, held) {
+            let (_, held) = error.value;
             self.index.take_all(held.service().classes.items(), place);
             return Err(AllocError);
         }
-        self.given = id;
+        self.issued = id;
         Ok(())
     }
 
@@ -186,7 +183,7 @@ impl Registry {
     ) -> Result<Result<(), Refusal>, AllocError>
         ensures refusal { IfOk result (λ answer. result_err answer ≡ modify_refusal owner service properties self.old.rows) }
         ensures rows { IfOk result (λ answer. OnOk answer (self.new.rows ≡ change service (with_properties properties) self.old.rows)) }
-        ensures given { self.new.given ≡ self.old.given }
+        ensures issued { self.new.issued ≡ self.old.issued }
         ensures stands { IfOk result (λ answer. OnOk answer (StandsAfter (op.Modify owner service properties) answers.Done self.old self.new)) }
         ensures refused { IfOk result (λ answer. OnErr answer (self.new ≡ self.old)) }
         ensures unchanged { OnErr result (self.new ≡ self.old) }
@@ -194,7 +191,7 @@ impl Registry {
         if let Some(refusal) = self.refusal_of(owner, service) {
             return Ok(Err(refusal));
         }
-        if has_twins(properties.items()) {
+        if has_twins(self.alloc, properties.items())? {
             return Ok(Err(Refusal::BadProperties));
         }
         let Some(held) = self.services.get_mut(&service.0) else {
@@ -219,7 +216,7 @@ impl Registry {
     pub fn unregister(&mut self, owner: BundleId, service: ServiceId) -> Result<(), Refusal>
         ensures refusal { result_err result ≡ change_refusal owner service self.old.rows }
         ensures rows { OnOk result (self.new.rows ≡ without service self.old.rows) }
-        ensures given { self.new.given ≡ self.old.given }
+        ensures issued { self.new.issued ≡ self.old.issued }
         ensures stands { OnOk result (StandsAfter (op.Unregister owner service) answers.Done self.old self.new) }
         ensures refused { OnErr result (self.new ≡ self.old) }
     {
@@ -244,7 +241,7 @@ impl Registry {
         requires countable { use_count user service self.old.rows < 18446744073709551615 }
         ensures object { IfOk result (λ answer. answer ≡ object_at (row_at service self.old.rows)) }
         ensures rows { IfOk result (λ answer. OnOk answer (self.new.rows ≡ change service (used_more user) self.old.rows)) }
-        ensures given { self.new.given ≡ self.old.given }
+        ensures issued { self.new.issued ≡ self.old.issued }
         ensures stands { IfOk result (λ answer. IfOk answer (λ text. StandsAfter (op.Get user service) (answers.Object text) self.old self.new)) }
         ensures refused { IfOk result (λ answer. OnErr answer (self.new ≡ self.old)) }
         ensures unchanged { OnErr result (self.new ≡ self.old) }
@@ -261,7 +258,7 @@ impl Registry {
     pub fn unget(&mut self, user: BundleId, service: ServiceId) -> bool
         ensures answer { result ≡ nat_lt 0 (use_count user service self.old.rows) }
         ensures rows { OnTrue result (self.new.rows ≡ change service (used_less user) self.old.rows) }
-        ensures given { self.new.given ≡ self.old.given }
+        ensures issued { self.new.issued ≡ self.old.issued }
         ensures stands { StandsAfter (op.Unget user service) (answers.Flag result) self.old self.new }
         ensures unchanged { OnFalse result (self.new ≡ self.old) }
     {
@@ -273,7 +270,7 @@ impl Registry {
 
     /// The best of the live services of the class that the filter, if there is one, matches, and that are assignable for each
     /// of their classes: that of the highest ranking, and of these that of the lowest id. `assignable` is asked for a
-    /// registrant and a class.
+    /// registrant and a class. Whatever it answers, a service that is found is of the class and fits the filter.
     pub fn find<F: Fn(BundleId, &Text) -> bool + Drop>(
         &self,
         class: &Text,
@@ -282,7 +279,8 @@ impl Registry {
     ) -> Option<ServiceId>
         requires callable { F.IsAlwaysCallable assignable }
         ensures found { (test : BundleId → List ℕ → Bool) → ((registrant : BundleId) (class : _) (answer : Bool) → F.post assignable registrant class answer → answer ≡ test registrant class.now) →
-            IsFound (IsOpenBy test class.now (option_copied filter.entry)) (services_of self.now.rows) result }
+            IsFound (IsOpenBy test class.now (option_copied filter.entry)) (services_in self.now.rows) result }
+        ensures fits { IfSome result (IsOneOf (IsOf class.now (option_copied filter.entry)) (services_in self.now.rows)) }
     {
         let places = self.index.places(class)?;
         first_open(&self.services, places, filter, &assignable)
@@ -294,7 +292,7 @@ impl Registry {
         class: &Text,
         filter: Option<&Filter>,
     ) -> Result<List<ServiceId>, AllocError>
-        ensures ranked { IfOk result (AreRanked (IsOf class.now (option_copied filter.entry)) (services_of self.now.rows)) }
+        ensures ranked { IfOk result (AreRanked (IsOf class.now (option_copied filter.entry)) (services_in self.now.rows)) }
     {
         let Some(places) = self.index.places(class) else {
             return List::new(self.alloc);
@@ -309,10 +307,10 @@ impl Registry {
     pub fn release(&mut self, bundle: BundleId) -> Result<List<ServiceId>, AllocError>
         ensures services { IfOk result (λ services. services ≡ ids_of (filter (is_owned bundle) self.old.rows)) }
         ensures rows { OnOk result (self.new.rows ≡ released bundle self.old.rows) }
-        ensures given { self.new.given ≡ self.old.given }
+        ensures issued { self.new.issued ≡ self.old.issued }
         ensures unchanged { OnErr result (self.new ≡ self.old) }
     {
-        let services = services_of(self.alloc, &self.services, bundle)?;
+        let services = owned_services(self.alloc, &self.services, bundle)?;
         take_places(&mut self.index, &self.services, bundle);
         self.services.retain(
             |_id: &u64, held: &mut Held| -> bool
@@ -327,7 +325,7 @@ impl Registry {
 }
 
 /// The ids of the bundle's services.
-fn services_of(
+fn owned_services(
     alloc: Global,
     services: &BTreeMap<u64, Held>,
     bundle: BundleId,

@@ -3,7 +3,7 @@
 ghost use Rattle.std.specs.Prelude.{◌≡◌, length};
 ghost use Rattle.std.specs.Iterator.{at_most};
 ghost use Rattle.std.specs.Map.Iter.{TakesFirst, deref};
-ghost use Rattle.osgi_registry.specs.Rows.{services_of};
+ghost use Rattle.osgi_registry.specs.Rows.{services_in};
 ghost use Rattle.osgi_ops.specs.declared.service.Service as declared;
 
 use crate::held::Held;
@@ -20,7 +20,7 @@ pub struct Services<'a> {
 impl<'a> Model for Services<'a> {
     ghost use Rattle.std.specs.Prelude.{List};
     ghost use Rattle.osgi_ops.specs.declared.service.Service.{Service};
-    ghost use Rattle.osgi_registry.specs.Rows.{services_of};
+    ghost use Rattle.osgi_registry.specs.Rows.{services_in};
     ghost use Rattle.std.specs.Coded.{codes};
     ghost use Rattle.osgi_model.specs.contracts.value.Value as value;
 
@@ -28,12 +28,12 @@ impl<'a> Model for Services<'a> {
 
     ghost coded = { Prim.hlevel (codes, value.the_row.coded) };
 
-    ghost view = { λ s. services_of s.held };
+    ghost view = { λ s. services_in s.held };
 }
 
 impl<'a> Services<'a> {
     pub(crate) fn new(held: Values<'a, u64, Held>) -> Services<'a>
-        ensures services { result ≡ services_of held.entry }
+        ensures services { result ≡ services_in held.entry }
     {
         Services { held }
     }

@@ -3,7 +3,7 @@
 ghost use Rattle.std.specs.Prelude.{◌≡◌, ◌==◌, ◌+◌, ◌<◌, ◌-◌, nat_lt, filter, not, [], OnOk, OnErr};
 ghost use Rattle.std.specs.Bool.{OnTrue, OnFalse};
 ghost use Rattle.osgi_registry.specs.Rows.{count_of, with_count};
-ghost use Rattle.osgi_registry.specs.Uses.{uses_of};
+ghost use Rattle.osgi_registry.specs.computed.Uses.{uses_of};
 
 use indexmap::IndexMap;
 use osgi_base::ids::BundleId;
@@ -21,7 +21,7 @@ pub struct Uses {
 
 impl Model for Uses {
     ghost use Rattle.std.specs.Prelude.{ℕ, List};
-    ghost use Rattle.osgi_registry.specs.Uses.{uses_of};
+    ghost use Rattle.osgi_registry.specs.computed.Uses.{uses_of};
 
     ghost Value = { List (ℕ × ℕ) };
 

@@ -5,14 +5,14 @@ use Rattle.std.proofs.lemmas.List.{take-append-drop, take_all}
 use Rattle.std.proofs.lemmas.Option.{option_and_then_some, none-some, same_Some}
 use Rattle.osgi_version.specs.Bytes.{Each, IsDigit}
 use Rattle.osgi_version.specs.Faults.{IsFault}
-use Rattle.osgi_version.specs.Places.{IsLongestFront}
-use Rattle.osgi_version.specs.Reader.{IsReader}
-use Rattle.osgi_version.specs.Run.{run, advance}
-use Rattle.osgi_version.proofs.Running.{each_push, run_split, run_lax, run_loose, stops_longest, run_fine}
+use Rattle.osgi_version.specs.FaultPlaces.{IsLongestPrefix}
+use Rattle.osgi_version.specs.computed.Reader.{IsReader}
+use Rattle.osgi_version.specs.computed.Run.{run, advance}
+use Rattle.osgi_version.specs.laws.Running.{each_push, run_split, run_lax, run_loose, stops_longest, run_fine}
 use Rattle.osgi_version.specs.declared.fault.VersionFault.TheVariants.{NotVersion, TooBig}
 
-snoc_last : (front before : List ℕ) (b : ℕ) → front ≡ before ++ b ∷ [] → (0 < length front) × (get_or front (length front - 1) 0 ≡ b)
-snoc_last front before b e = rw e (omega (arith, length-append before (b ∷ [])), rw (length-append before (b ∷ [])) (at_end before b))
+snoc_last : (prefix before : List ℕ) (b : ℕ) → prefix ≡ before ++ b ∷ [] → (0 < length prefix) × (get_or prefix (length prefix - 1) 0 ≡ b)
+snoc_last prefix before b e = rw e (omega (arith, length-append before (b ∷ [])), rw (length-append before (b ∷ [])) (at_end before b))
   where
     at_end : (xs : List ℕ) (b : ℕ) → get_or (xs ++ b ∷ []) (length xs + 1 - 1) 0 ≡ b
     at_end xs b = rw (place xs) (last xs b)
@@ -27,7 +27,7 @@ snoc_last front before b e = rw e (omega (arith, length-append before (b ∷ [])
 -- where a scan stops
 pub record Stops (S : Type 0) (step : S → ℕ → Option S) (start : S) (text : List ℕ) (at : ℕ) (s : S) : Type 0 where
   pub within : at ≤ length text
-  pub front : run step start (take at text) ≡ Some s
+  pub prefix : run step start (take at text) ≡ Some s
   pub stop : at < length text → step s (get_or text at 0) ≡ None
 
 split : (a b : ℕ) → (a < b) ⊎ (b ≤ a)
@@ -37,9 +37,9 @@ split (suc a) (suc b) = elim (split a b) [ inl h ↦ inl (omega arith) | inr h �
 
 -- no run goes past the place where a scan stopped
 stuck : {S : Type 0} (step : S → ℕ → Option S) (start s t : S) (text ys : List ℕ) (at : ℕ) → run step start (take at text) ≡ Some s → step s (get_or text at 0) ≡ None → run step start (take at text ++ get_or text at 0 ∷ ys) ≡ Some t → ⊥
-stuck step start s t text ys at front none e =
+stuck step start s t text ys at prefix none e =
     let cut = run_split step start t (take at text) (get_or text at 0 ∷ ys) e in
-    let same : cut.0 ≡ s = same_Some _ _ (sym cut.1 ∙ front) in
+    let same : cut.0 ≡ s = same_Some _ _ (sym cut.1 ∙ prefix) in
     none-some t (sym (ap (λ o. option_and_then (λ u. run step u ys) o) (ap (λ u. step u (get_or text at 0)) same ∙ none)) ∙ cut.2)
 
 whole_at : (text : List ℕ) (at : ℕ) → at < length text → take at text ++ get_or text at 0 ∷ drop (suc at) text ≡ text
@@ -55,14 +55,14 @@ pub record IsLastDigits (xs : List ℕ) (start : ℕ) : Type 0 where
   pub apart : 0 < start → IsDigit (get_or xs (start - 1) 0) → ⊥
 
 module _ (S : Type 0) (fine : S → Bool) (step : S → ℕ → Option S) (last : S → Bool) (start : S) (Spelled Readable : List ℕ → Type 0) (own : IsReader S fine step last start Spelled Readable) where
-  longest : (text : List ℕ) (at : ℕ) (s : S) → Stops S (advance fine step true) start text at s → IsLongestFront Readable text at
-  longest text at s h = stops_longest (advance fine step true) start Readable own.readable_runs own.alive text at s h.within h.front h.stop
+  longest : (text : List ℕ) (at : ℕ) (s : S) → Stops S (advance fine step true) start text at s → IsLongestPrefix Readable text at
+  longest text at s h = stops_longest (advance fine step true) start Readable own.readable_runs own.alive text at s h.within h.prefix h.stop
 
   at_end : (next : S → ℕ → Option S) (text : List ℕ) (at : ℕ) (s : S) → Stops S next start text at s → length text ≤ at → run next start text ≡ Some s
-  at_end next text at s h le = ap (λ x. run next start x) (sym (take_all at text le)) ∙ h.front
+  at_end next text at s h le = ap (λ x. run next start x) (sym (take_all at text le)) ∙ h.prefix
 
   to_end : (next : S → ℕ → Option S) (text : List ℕ) (at : ℕ) (s t : S) → Stops S next start text at s → run next start text ≡ Some t → length text ≤ at
-  to_end next text at s t h e = elim (split at (length text)) [ inl lt ↦ absurd (stuck next start s t text (drop (suc at) text) at h.front (h.stop lt) (ap (λ x. run next start x) (whole_at text at lt) ∙ e)) | inr le ↦ le ]
+  to_end next text at s t h e = elim (split at (length text)) [ inl lt ↦ absurd (stuck next start s t text (drop (suc at) text) at h.prefix (h.stop lt) (ap (λ x. run next start x) (whole_at text at lt) ∙ e)) | inr le ↦ le ]
 
   -- a fault at the end of the text
   pub fault_end : (text : List ℕ) (at : ℕ) (s : S) → Stops S (advance fine step true) start text at s → length text ≤ at → last s ≡ false → IsFault Spelled Readable text (NotVersion at)
@@ -89,10 +89,10 @@ module _ (S : Type 0) (fine : S → Bool) (step : S → ℕ → Option S) (last 
   digit_stops text at end s t h lax lt le =
       let e = run_loose fine step false start t text (at_end (advance fine step false) text end t lax le) in
       let cut = run_split step start t (take at text) (get_or text at 0 ∷ drop (suc at) text) (ap (λ x. run step start x) (whole_at text at lt) ∙ e) in
-      let same : cut.0 ≡ s = same_Some _ _ (sym cut.1 ∙ run_loose fine step true start s (take at text) h.front) in
+      let same : cut.0 ≡ s = same_Some _ _ (sym cut.1 ∙ run_loose fine step true start s (take at text) h.prefix) in
       option_and_then_some (λ u. run step u (drop (suc at) text)) (step cut.0 (get_or text at 0)) t cut.2 (λ u is rest.
       let turned : step s (get_or text at 0) ≡ Some u = ap (λ x. step x (get_or text at 0)) (sym same) ∙ is in
-      elim ((rw turned at (own.by_digit s (get_or text at 0))) (run_fine fine step start s (take at text) own.start_fine h.front))
+      elim ((rw turned at (own.by_digit s (get_or text at 0))) (run_fine fine step start s (take at text) own.start_fine h.prefix))
       [ inl f ↦ absurd (none-some u (sym (h.stop lt) ∙ rw turned (rw f refl))) | inr d ↦ d ])
 
   -- the first number that is too large
@@ -104,11 +104,11 @@ module _ (S : Type 0) (fine : S → Bool) (step : S → ℕ → Option S) (last 
       let b = get_or text at 0 in
       let front_back : take begin X ++ D ≡ X = take-append-drop begin X in
       let past : (ys : List ℕ) → (take begin X ++ (D ++ b ∷ [])) ++ ys ≡ X ++ b ∷ ys = λ ys. ap (λ x. x ++ ys) (sym (append_assoc (take begin X) D (b ∷ []))) ∙ (append_assoc (take begin X ++ D) (b ∷ []) ys ∙ ap (λ x. x ++ (b ∷ ys)) front_back) in
-      let cut = run_split strict start s (take begin X) D (ap (λ x. run strict start x) front_back ∙ h.front) in (
+      let cut = run_split strict start s (take begin X) D (ap (λ x. run strict start x) front_back ∙ h.prefix) in (
         own.end_spelled text t (run_loose fine step false start t text (at_end (advance fine step false) text end t lax le)) whole_end,
-        λ readable. let r = own.readable_runs text readable in stuck strict start s r.0 text (drop (suc at) text) at h.front (h.stop lt) (ap (λ x. run strict start x) (whole_at text at lt) ∙ r.1),
+        λ readable. let r = own.readable_runs text readable in stuck strict start s r.0 text (drop (suc at) text) at h.prefix (h.stop lt) (ap (λ x. run strict start x) (whole_at text at lt) ∙ r.1),
         record {
-          front = take begin X;
+          prefix = take begin X;
           digits = D ++ b ∷ [];
           rest = drop (suc at) text;
           parts = sym (past (drop (suc at) text) ∙ whole_at text at lt);
@@ -116,7 +116,7 @@ module _ (S : Type 0) (fine : S → Bool) (step : S → ℕ → Option S) (last 
           are_digits = each_push IsDigit D b d.digits (digit_stops text at end s t h lax lt le);
           apart = λ before c e is. ends_apart X begin before c d e is;
           begins = own.alive (take begin X) cut.0 cut.1;
-          too_big = λ more readable. let r = own.readable_runs _ readable in stuck strict start s r.0 text more at h.front (h.stop lt) (ap (λ x. run strict start x) (sym (past more)) ∙ r.1);
+          too_big = λ more readable. let r = own.readable_runs _ readable in stuck strict start s r.0 text more at h.prefix (h.stop lt) (ap (λ x. run strict start x) (sym (past more)) ∙ r.1);
         },
       )
     where

@@ -1,6 +1,4 @@
 -- Lemmas on machines that read byte by byte, on versions and on ranges.
-pub mod Classes
-pub mod Cutting
 pub mod Faults
 pub mod PrintReads
 pub mod RangeAlive
@@ -9,9 +7,4 @@ pub mod RangeReader
 pub mod RangeRuns
 pub mod RangeSeen
 pub mod RangeStrict
-pub mod Running
 pub mod Unique
-pub mod VersionAlive
-pub mod VersionReader
-pub mod VersionRuns
-pub mod VersionSeen

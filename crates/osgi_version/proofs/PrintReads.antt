@@ -7,22 +7,22 @@ use Rattle.std.proofs.lemmas.Grind.{common_steps}
 use Rattle.osgi_version.specs.Bytes.{Each, IsDigit, IsWordByte}
 use Rattle.osgi_version.specs.RangeValues.{range_text}
 use Rattle.osgi_version.specs.Ranges.{RangeParts, Opens, Closes, IsRangeOf, plain, bounded}
-use Rattle.osgi_version.specs.VersionMachine.{more}
 use Rattle.osgi_version.specs.VersionValues.{qualifier_text, text_of}
-use Rattle.osgi_version.specs.Versions.{Parts, IsNumber, IsMajor, IsMinor, IsMicro, IsBody, major, minor, micro, qualified, SpellsVersion, blank, body, Fits, ReadsVersion}
-use Rattle.osgi_version.proofs.VersionSeen.{one_digit, digit_push}
+use Rattle.osgi_version.specs.Versions.{Parts, IsNumber, IsMinor, IsMicro, IsBody, major, minor, micro, qualified, SpellsVersion, blank, body, Fits, ReadsVersion}
+use Rattle.osgi_version.specs.laws.Capping.{grown}
+use Rattle.osgi_version.specs.laws.VersionSeen.{one_digit, digit_push}
 
 digit_byte : (k : ℕ) → k < 10 → IsDigit (48 + k)
 digit_byte k h = grind (arith, common_steps)
 
 pub decimal_number : (n : ℕ) → n < 2147483648 → IsNumber (decimal n) n
-decimal_number n h = decimal_by_steps (λ n ds. n < 2147483648 → IsNumber ds n) one step n (omega arith) h
+decimal_number n h = decimal_by_steps (λ n ds. IsNumber ds n) one step n (omega arith)
   where
-    one : (n : ℕ) → n < 10 → n < 2147483648 → IsNumber ((48 + n) ∷ []) n
-    one n lt h = let e : more 0 (48 + n) ≡ n = omega arith in rw e at (one_digit (48 + n) (digit_byte n lt))
+    one : (n : ℕ) → n < 10 → IsNumber ((48 + n) ∷ []) n
+    one n lt = let e : grown 0 (48 + n) ≡ n = omega arith in rw e at (one_digit (48 + n) (digit_byte n lt))
 
-    step : (n : ℕ) (ds : List ℕ) → 10 ≤ n → (n / 10 < 2147483648 → IsNumber ds (n / 10)) → n < 2147483648 → IsNumber (ds ++ ((48 + n % 10) ∷ [])) n
-    step n ds le again h = let e : more (n / 10) (48 + n % 10) ≡ n = omega arith in rw e at (digit_push ds (n / 10) (48 + n % 10) (again (omega arith)) (digit_byte (n % 10) (omega arith)))
+    step : (n : ℕ) (ds : List ℕ) → 10 ≤ n → IsNumber ds (n / 10) → IsNumber (ds ++ ((48 + n % 10) ∷ [])) n
+    step n ds le again = let e : grown (n / 10) (48 + n % 10) ≡ n = omega arith in rw e at (digit_push ds (n / 10) (48 + n % 10) again (digit_byte (n % 10) (omega arith)))
 
 body_words : (text : List ℕ) (v : Parts) → IsBody text v → Each IsWordByte v.qualifier
 body_words text v (major h) = tt
@@ -33,13 +33,12 @@ body_words text v (qualified h) = h.words
 -- a qualifier that was read
 pub words : (text : List ℕ) (v : Parts) → SpellsVersion text v → Each IsWordByte v.qualifier
 words text v (blank h) = tt
-words text v (body front end parts h bs) = body_words front v h
+words text v (body lead inner end parts ls h bs) = body_words inner v h
 
 print_body : (m i n : ℕ) (q : List ℕ) → m < 2147483648 → i < 2147483648 → n < 2147483648 → Each IsWordByte q → IsBody (decimal m ++ 46 ∷ (decimal i ++ 46 ∷ (decimal n ++ qualifier_text q))) (record { major = m; minor = i; micro = n; qualifier = q })
 print_body m i n q hm hi hn hq =
-    let a : IsMajor (decimal m) m = record { lead = []; digits = decimal m; parts = refl; blanks = tt; number = decimal_number m hm } in
-    let b : IsMinor (decimal m ++ 46 ∷ decimal i) m i = record { front = decimal m; digits = decimal i; parts = refl; major = a; number = decimal_number i hi } in
-    let c : IsMicro ((decimal m ++ 46 ∷ decimal i) ++ 46 ∷ decimal n) m i n = record { front = decimal m ++ 46 ∷ decimal i; digits = decimal n; parts = refl; minor = b; number = decimal_number n hn } in
+    let b : IsMinor (decimal m ++ 46 ∷ decimal i) m i = record { prefix = decimal m; digits = decimal i; parts = refl; major = decimal_number m hm; number = decimal_number i hi } in
+    let c : IsMicro ((decimal m ++ 46 ∷ decimal i) ++ 46 ∷ decimal n) m i n = record { prefix = decimal m ++ 46 ∷ decimal i; digits = decimal n; parts = refl; minor = b; number = decimal_number n hn } in
     rw (sym (shape (decimal m) (decimal i) (decimal n) (qualifier_text q))) (with_qualifier q hq c)
   where
     shape : (x y z r : List ℕ) → ((x ++ 46 ∷ y) ++ 46 ∷ z) ++ r ≡ x ++ 46 ∷ (y ++ 46 ∷ (z ++ r))
@@ -47,11 +46,11 @@ print_body m i n q hm hi hn hq =
 
     with_qualifier : (q : List ℕ) → Each IsWordByte q → IsMicro ((decimal m ++ 46 ∷ decimal i) ++ 46 ∷ decimal n) m i n → IsBody (((decimal m ++ 46 ∷ decimal i) ++ 46 ∷ decimal n) ++ qualifier_text q) (record { major = m; minor = i; micro = n; qualifier = q })
     with_qualifier [] h c = rw append-nil (micro c)
-    with_qualifier (b ∷ q) h c = qualified (record { front = (decimal m ++ 46 ∷ decimal i) ++ 46 ∷ decimal n; parts = refl; micro = c; some = omega arith; words = h })
+    with_qualifier (b ∷ q) h c = qualified (record { prefix = (decimal m ++ 46 ∷ decimal i) ++ 46 ∷ decimal n; parts = refl; micro = c; some = omega arith; words = h })
 
 -- what is printed of a version reads as that version
 pub print_reads : (v : Parts) → Fits v → Each IsWordByte v.qualifier → ReadsVersion (text_of v) v
-print_reads v f w = record { spells = body (text_of v) [] (sym (append-nil (text_of v))) (print_body v.major v.minor v.micro v.qualifier f.major f.minor f.micro w) tt; fits = f }
+print_reads v f w = record { spells = body [] (text_of v) [] (sym (append-nil (text_of v))) tt (print_body v.major v.minor v.micro v.qualifier f.major f.minor f.micro w) tt; fits = f }
 
 print_again : (bytes : List ℕ) (v : Parts) → ReadsVersion bytes v → ReadsVersion (text_of v) v
 print_again bytes v h = print_reads v h.fits (words bytes v h.spells)

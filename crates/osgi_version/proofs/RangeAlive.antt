@@ -2,14 +2,14 @@
 use Rattle.std.proofs.Common.{◌≡◌, ℕ, true, false, List, [], ◌∷◌, ◌++◌, refl, ap, ◌∙◌, sym, append_assoc, arith}
 use Rattle.std.proofs.lemmas.List.{append-nil}
 use Rattle.osgi_version.specs.Ranges.{Closes, plain, bounded, IsReadableRange}
-use Rattle.osgi_version.specs.Run.{advance}
-use Rattle.osgi_version.specs.VersionMachine.{step, is_fine}
+use Rattle.osgi_version.specs.computed.Run.{advance}
+use Rattle.osgi_version.specs.computed.VersionMachine.{step, is_fine}
 use Rattle.osgi_version.specs.Versions.{ReadsVersion, blank}
-use Rattle.osgi_version.proofs.Classes.{opens_of, open_is}
+use Rattle.osgi_version.specs.laws.Classes.{opens_of, open_is}
 use Rattle.osgi_version.proofs.RangeSeen.{RangeSeen}
-use Rattle.osgi_version.proofs.VersionAlive.{alive}
+use Rattle.osgi_version.specs.laws.VersionAlive.{alive}
 use Rattle.osgi_version.specs.declared.range_state.RangeState.{RangeState}
-use Rattle.osgi_version.specs.declared.range_state.RangeState.TheVariants.{Before, Plain, Low, High, Behind}
+use Rattle.osgi_version.specs.declared.range_state.RangeState.TheVariants.{Before, Plain, Low, High, Closed}
 use Rattle.osgi_version.proofs.RangeSeen.{joined, range_finish}
 use Rattle.osgi_version.proofs.RangeStrict.{strict_inner}
 
@@ -64,8 +64,8 @@ alive_at p (High k n g v) h =
           high_text = h.text ++ a.0;
           close_byte = 41;
           tail = [];
-          parts = joined (advance is_fine step true) b.lead b.text (h.text ++ a.0) [] b.open_byte 44 41 (p ++ (a.0 ++ 41 ∷ [])) (h.front ++ 44 ∷ (h.text ++ a.0)) h.front
-              (longer p h.front (44 ∷ h.text) a.0 (41 ∷ []) h.parts ∙ sym (append_assoc h.front (44 ∷ (h.text ++ a.0)) (41 ∷ []))) refl b.parts;
+          parts = joined (advance is_fine step true) b.lead b.text (h.text ++ a.0) [] b.open_byte 44 41 (p ++ (a.0 ++ 41 ∷ [])) (h.prefix ++ 44 ∷ (h.text ++ a.0)) h.prefix
+              (longer p h.prefix (44 ∷ h.text) a.0 (41 ∷ []) h.parts ∙ sym (append_assoc h.prefix (44 ∷ (h.text ++ a.0)) (41 ∷ []))) refl b.parts;
           lead_blanks = b.blanks;
           opens = o.1;
           low_reads = low.1;
@@ -75,4 +75,4 @@ alive_at p (High k n g v) h =
         }),
       ),
     )
-alive_at p (Behind k n g w) h = here p (range_finish (advance is_fine step true) ReadsVersion strict_inner p (Behind k n g w) h refl)
+alive_at p (Closed k n g w) h = here p (range_finish (advance is_fine step true) ReadsVersion strict_inner p (Closed k n g w) h refl)

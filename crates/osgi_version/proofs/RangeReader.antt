@@ -2,20 +2,20 @@
 use Rattle.std.proofs.Common.{◌≡◌, ◌⊎◌, inl, ℕ, Bool, true, false, ◌+◌, if◌then◌else◌, Option, Some, None, refl, ap, ◌∙◌}
 use Rattle.std.specs.Option.{option_map, IfSome}
 use Rattle.osgi_version.specs.Bytes.{IsDigit}
-use Rattle.osgi_version.specs.Classes.{class_of}
-use Rattle.osgi_version.specs.RangeMachine.{next_range, step_range, is_fine_range, may_end_range}
+use Rattle.osgi_version.specs.computed.Classes.{class_of}
+use Rattle.osgi_version.specs.computed.RangeMachine.{next_range, step_range, is_fine_range, may_end_range}
 use Rattle.osgi_version.specs.Ranges.{IsSpelledRange, IsReadableRange}
-use Rattle.osgi_version.specs.Reader.{IsReader}
-use Rattle.osgi_version.specs.Run.{run, advance}
-use Rattle.osgi_version.specs.VersionMachine.{step, is_fine, may_end}
+use Rattle.osgi_version.specs.computed.Reader.{IsReader}
+use Rattle.osgi_version.specs.computed.Run.{run, advance}
+use Rattle.osgi_version.specs.computed.VersionMachine.{step, is_fine, may_end}
 use Rattle.osgi_version.specs.Versions.{SpellsVersion, ReadsVersion}
-use Rattle.osgi_version.proofs.VersionReader.{by_digit}
+use Rattle.osgi_version.specs.laws.VersionReader.{by_digit}
 use Rattle.osgi_version.specs.declared.bytes.Class.{Class}
 use Rattle.osgi_version.specs.declared.bytes.Class.TheVariants.{Digit, Blank, Comma, Open, Close}
 use Rattle.osgi_version.specs.declared.version_state.VersionState.{VersionState}
 use Rattle.osgi_version.specs.declared.version_state.VersionState.TheVariants.{Lead}
 use Rattle.osgi_version.specs.declared.range_state.RangeState.{RangeState}
-use Rattle.osgi_version.specs.declared.range_state.RangeState.TheVariants.{Before, Plain, Low, High, Behind}
+use Rattle.osgi_version.specs.declared.range_state.RangeState.TheVariants.{Before, Plain, Low, High, Closed}
 use Rattle.osgi_version.proofs.RangeSeen.{range_finish}
 use Rattle.osgi_version.proofs.RangeStrict.{strict_inner, loose_inner, strict_seen, loose_seen, same_step}
 use Rattle.osgi_version.proofs.RangeRuns.{range_runs}
@@ -37,10 +37,10 @@ by_digit_range (Before k) b c e = tt
 by_digit_range (Plain v) b c e = lifted Plain b (is_fine v) (λ u. refl) (step v b) (by_digit v b (class_of b) refl)
 by_digit_range (Low k n v) b Comma e = at_once (may_end v) (High k n 0 Lead) b (is_fine v) refl
 by_digit_range (Low k n v) b c e = lifted (Low k (n + 1)) b (is_fine v) (λ u. refl) (step v b) (by_digit v b (class_of b) refl)
-by_digit_range (High k n g v) b Close e = at_once (may_end v) (Behind k n g 0) b (is_fine v) refl
+by_digit_range (High k n g v) b Close e = at_once (may_end v) (Closed k n g 0) b (is_fine v) refl
 by_digit_range (High k n g v) b c e = lifted (High k n (g + 1)) b (is_fine v) (λ u. refl) (step v b) (by_digit v b (class_of b) refl)
-by_digit_range (Behind k n g w) b Blank e = λ h. inl refl
-by_digit_range (Behind k n g w) b c e = tt
+by_digit_range (Closed k n g w) b Blank e = λ h. inl refl
+by_digit_range (Closed k n g w) b c e = tt
 
 pub range_reader : IsReader RangeState is_fine_range step_range may_end_range (Before 0) IsSpelledRange IsReadableRange
 range_reader = record {

@@ -3,20 +3,20 @@ use Rattle.std.proofs.Common.{◌≡◌, ◌+◌, ℕ, Bool, true, false, if◌t
 use Rattle.std.specs.Option.{option_and_then, option_map}
 use Rattle.std.proofs.lemmas.Option.{option_and_then_some, none-some, same_Some}
 use Rattle.osgi_version.specs.Bytes.{Each, IsBlank}
-use Rattle.osgi_version.specs.Classes.{class_of}
-use Rattle.osgi_version.specs.RangeMachine.{next_range, range_by, may_end_range}
+use Rattle.osgi_version.specs.computed.Classes.{class_of}
+use Rattle.osgi_version.specs.computed.RangeMachine.{next_range, range_by, may_end_range}
 use Rattle.osgi_version.specs.Ranges.{RangeParts, IsBounded, IsRangeOf, plain, bounded}
-use Rattle.osgi_version.specs.Run.{run}
-use Rattle.osgi_version.specs.VersionMachine.{next, step, may_end}
+use Rattle.osgi_version.specs.computed.Run.{run}
+use Rattle.osgi_version.specs.computed.VersionMachine.{next, step, may_end}
 use Rattle.osgi_version.specs.Versions.{Parts}
-use Rattle.osgi_version.proofs.Classes.{blank_class, blank_of, close_class, comma, open_class}
-use Rattle.osgi_version.proofs.Running.{run_then}
+use Rattle.osgi_version.specs.laws.Classes.{blank_class, blank_of, close_class, comma, open_class}
+use Rattle.osgi_version.specs.laws.Running.{run_then}
 use Rattle.osgi_version.specs.declared.bytes.Class.{Class}
 use Rattle.osgi_version.specs.declared.bytes.Class.TheVariants.{Digit, Blank, Comma, Close}
 use Rattle.osgi_version.specs.declared.version_state.VersionState.{VersionState}
 use Rattle.osgi_version.specs.declared.version_state.VersionState.TheVariants.{Lead, Major, MinorDot, Minor, MicroDot, Micro, QualifierDot, Qualifier, Trail}
 use Rattle.osgi_version.specs.declared.range_state.RangeState.{RangeState}
-use Rattle.osgi_version.specs.declared.range_state.RangeState.TheVariants.{Before, Plain, Low, High, Behind}
+use Rattle.osgi_version.specs.declared.range_state.RangeState.TheVariants.{Before, Plain, Low, High, Closed}
 use Rattle.osgi_version.proofs.RangeSeen.{IsInner}
 
 -- no version goes on over a comma or a closing bracket
@@ -42,9 +42,9 @@ close_ends (QualifierDot m i n) b = refl
 close_ends (Qualifier m i n k) b = refl
 close_ends (Trail m i n k w) b = refl
 
--- not the state behind a bracket
+-- not the state after a bracket
 abbrev pub IsNoRange : RangeState → Type 0
-IsNoRange (Behind k n h w) = ⊥
+IsNoRange (Closed k n h w) = ⊥
 IsNoRange s = Unit {0}
 
 module _ (inner : VersionState → ℕ → Option VersionState) where
@@ -85,7 +85,7 @@ module _ (inner : VersionState → ℕ → Option VersionState) where
 
   -- a range in brackets ends in the state with the lengths of its parts
   pub bounded_runs : (Version : List ℕ → Parts → Type 0) → IsInner inner Version → (text : List ℕ) (low high : Parts) (low_in high_in : Bool) (h : IsBounded Version text low low_in high high_in)
-      → run (range_by inner) (Before 0) text ≡ Some (Behind (0 + length h.lead) (0 + length h.low_text) (0 + length h.high_text) (0 + length h.tail))
+      → run (range_by inner) (Before 0) text ≡ Some (Closed (0 + length h.lead) (0 + length h.low_text) (0 + length h.high_text) (0 + length h.tail))
   bounded_runs Version own text low high low_in high_in h =
       let lo = own.runs h.low_text low h.low_reads in
       let hi = own.runs h.high_text high h.high_reads in
@@ -95,14 +95,14 @@ module _ (inner : VersionState → ℕ → Option VersionState) where
       let a = counted_run Before (λ w b e. ap (next_range inner (Before w) b) (blank_class b e)) 0 h.lead h.lead_blanks in
       let b = inner_runs (Low k) (λ n v u c is. low_turn own.within k n v u c (class_of c) refl is) 0 Lead lo.0 h.low_text lo.1 in
       let c = inner_runs (High k n) (λ g v u d is. high_turn own.within k n g v u d (class_of d) refl is) 0 Lead hi.0 h.high_text hi.1 in
-      let d = counted_run (Behind k n g) (λ w x e. ap (next_range inner (Behind k n g w) x) (blank_class x e)) 0 h.tail h.tail_blanks in
+      let d = counted_run (Closed k n g) (λ w x e. ap (next_range inner (Closed k n g w) x) (blank_class x e)) 0 h.tail h.tail_blanks in
       let opened : range_by inner (Before k) h.open_byte ≡ Some (Low k 0 Lead) = ap (next_range inner (Before k) h.open_byte) (open_class h.open_byte low_in h.opens) in
       let parted : range_by inner (Low k n lo.0) 44 ≡ Some (High k n 0 Lead) = ap (next_range inner (Low k n lo.0) 44) comma ∙ turn_if (may_end lo.0) (High k n 0 Lead) lo.2 in
-      let closed : range_by inner (High k n g hi.0) h.close_byte ≡ Some (Behind k n g 0) = ap (next_range inner (High k n g hi.0) h.close_byte) (close_class h.close_byte high_in h.closes) ∙ turn_if (may_end hi.0) (Behind k n g 0) hi.2 in
+      let closed : range_by inner (High k n g hi.0) h.close_byte ≡ Some (Closed k n g 0) = ap (next_range inner (High k n g hi.0) h.close_byte) (close_class h.close_byte high_in h.closes) ∙ turn_if (may_end hi.0) (Closed k n g 0) hi.2 in
       ap (λ x. run (range_by inner) (Before 0) x) h.parts ∙ run_then (range_by inner) (Before 0) (Before k) h.lead _ _ a
       (stepped (Before k) (Low k 0 Lead) h.open_byte _ _ opened (run_then (range_by inner) (Low k 0 Lead) (Low k n lo.0) h.low_text _ _ b
       (stepped (Low k n lo.0) (High k n 0 Lead) 44 _ _ parted (run_then (range_by inner) (High k n 0 Lead) (High k n g hi.0) h.high_text _ _ c
-      (stepped (High k n g hi.0) (Behind k n g 0) h.close_byte h.tail _ closed d)))))
+      (stepped (High k n g hi.0) (Closed k n g 0) h.close_byte h.tail _ closed d)))))
 
   -- what is in the grammar runs to a last state
   pub range_runs : (Version : List ℕ → Parts → Type 0) → IsInner inner Version → (text : List ℕ) (r : RangeParts) → IsRangeOf Version text r → (s : RangeState) × (run (range_by inner) (Before 0) text ≡ Some s) × (may_end_range s ≡ true)

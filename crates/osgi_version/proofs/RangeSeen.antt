@@ -2,21 +2,21 @@
 use Rattle.std.proofs.Common.{◌≡◌, ◌+◌, ℕ, Bool, true, false, if◌then◌else◌, Option, Some, None, List, [], ◌∷◌, ◌++◌, length, refl, ap, ◌∙◌, append_assoc, arith, length-append}
 use Rattle.std.specs.Option.{option_map, IfSome}
 use Rattle.osgi_version.specs.Bytes.{Each, IsBlank}
-use Rattle.osgi_version.specs.Classes.{class_of}
-use Rattle.osgi_version.specs.RangeMachine.{next_range, may_end_range}
+use Rattle.osgi_version.specs.computed.Classes.{class_of}
+use Rattle.osgi_version.specs.computed.RangeMachine.{next_range, may_end_range}
 use Rattle.osgi_version.specs.Ranges.{RangeParts, IsRangeOf, plain, bounded}
-use Rattle.osgi_version.specs.Run.{run}
-use Rattle.osgi_version.specs.VersionMachine.{step, may_end}
+use Rattle.osgi_version.specs.computed.Run.{run}
+use Rattle.osgi_version.specs.computed.VersionMachine.{step, may_end}
 use Rattle.osgi_version.specs.Versions.{Parts}
-use Rattle.osgi_version.proofs.Classes.{blank_of, close_is, closes_of, comma_is, open_is, opens_of}
-use Rattle.osgi_version.proofs.Running.{each_push, run_then}
+use Rattle.osgi_version.specs.laws.Classes.{blank_of, close_is, closes_of, comma_is, open_is, opens_of}
+use Rattle.osgi_version.specs.laws.Running.{each_push, run_then}
 use Rattle.osgi_version.specs.declared.bytes.Class.{Class}
 use Rattle.osgi_version.specs.declared.bytes.Class.TheVariants.{Digit, Blank, Comma, Open, Close}
 use Rattle.osgi_version.specs.declared.version_state.VersionState.{VersionState}
 use Rattle.osgi_version.specs.declared.version_state.VersionState.TheVariants.{Lead}
 use Rattle.osgi_version.specs.declared.range_state.RangeState.{RangeState}
-use Rattle.osgi_version.specs.declared.range_state.RangeState.TheVariants.{Before, Plain, Low, High, Behind}
-use Rattle.osgi_version.proofs.Cutting.{push_parts}
+use Rattle.osgi_version.specs.declared.range_state.RangeState.TheVariants.{Before, Plain, Low, High, Closed}
+use Rattle.osgi_version.specs.laws.Cutting.{push_parts}
 
 -- the version below, by a step `inner` and the texts `Version`
 pub record IsInner (inner : VersionState → ℕ → Option VersionState) (Version : List ℕ → Parts → Type 0) : Type 0 where
@@ -38,22 +38,22 @@ module _ (inner : VersionState → ℕ → Option VersionState) where
     pub reads : run inner Lead text ≡ Some v
 
   pub record IsHighSeen (p : List ℕ) (k n h : ℕ) (v : VersionState) : Type 0 where
-    pub front : List ℕ
+    pub prefix : List ℕ
     pub text : List ℕ
     pub low : VersionState
-    pub parts : p ≡ front ++ 44 ∷ text
-    pub before : IsLowSeen front k n low
+    pub parts : p ≡ prefix ++ 44 ∷ text
+    pub before : IsLowSeen prefix k n low
     pub low_last : may_end low ≡ true
     pub size : length text ≡ h
     pub reads : run inner Lead text ≡ Some v
 
   pub record IsBehindSeen (p : List ℕ) (k n h w : ℕ) : Type 0 where
-    pub front : List ℕ
+    pub prefix : List ℕ
     pub close_byte : ℕ
     pub tail : List ℕ
     pub high : VersionState
-    pub parts : p ≡ front ++ close_byte ∷ tail
-    pub before : IsHighSeen front k n h high
+    pub parts : p ≡ prefix ++ close_byte ∷ tail
+    pub before : IsHighSeen prefix k n h high
     pub high_last : may_end high ≡ true
     pub closes : class_of close_byte ≡ Close
     pub size : length tail ≡ w
@@ -64,7 +64,7 @@ module _ (inner : VersionState → ℕ → Option VersionState) where
   RangeSeen p (Plain v) = run inner Lead p ≡ Some v
   RangeSeen p (Low k n v) = IsLowSeen p k n v
   RangeSeen p (High k n h v) = IsHighSeen p k n h v
-  RangeSeen p (Behind k n h w) = IsBehindSeen p k n h w
+  RangeSeen p (Closed k n h w) = IsBehindSeen p k n h w
 
   length_push : (p : List ℕ) (b k : ℕ) → length p ≡ k → length (p ++ b ∷ []) ≡ k + 1
   length_push p b k e = omega (arith, length-append p (b ∷ []), e)
@@ -83,7 +83,7 @@ module _ (inner : VersionState → ℕ → Option VersionState) where
 
   high_push : (p : List ℕ) (k n h : ℕ) (v : VersionState) (b : ℕ) → IsHighSeen p k n h v → IfSome (option_map (High k n (h + 1)) (inner v b)) (RangeSeen (p ++ b ∷ []))
   high_push p k n h v b s = pushed s.text v b (High k n (h + 1)) (RangeSeen (p ++ b ∷ [])) s.reads (λ u e.
-      record { front = s.front; text = s.text ++ b ∷ []; low = s.low; parts = push_parts p s.front (44 ∷ s.text) b s.parts; before = s.before; low_last = s.low_last; size = length_push s.text b h s.size; reads = e })
+      record { prefix = s.prefix; text = s.text ++ b ∷ []; low = s.low; parts = push_parts p s.prefix (44 ∷ s.text) b s.parts; before = s.before; low_last = s.low_last; size = length_push s.text b h s.size; reads = e })
 
   chosen : (x : Bool) (t : RangeState) (Q : RangeState → Type 0) → (x ≡ true → Q t) → IfSome (if x then Some t else None) Q
   chosen true t Q h = h refl
@@ -95,12 +95,12 @@ module _ (inner : VersionState → ℕ → Option VersionState) where
   range_seen_next lead_blank p (Before k) b Open e h = record { lead = p; open_byte = b; text = []; parts = refl; long = h.1; size = refl; blanks = h.0; opens = e; reads = refl }
   range_seen_next lead_blank p (Plain v) b c e h = pushed p v b Plain (RangeSeen (p ++ b ∷ [])) h (λ u e'. e')
   range_seen_next lead_blank p (Low k n v) b Comma e h = chosen (may_end v) (High k n 0 Lead) (RangeSeen (p ++ b ∷ [])) (λ l.
-      record { front = p; text = []; low = v; parts = ap (λ x. p ++ x ∷ []) (comma_is b e); before = h; low_last = l; size = refl; reads = refl })
+      record { prefix = p; text = []; low = v; parts = ap (λ x. p ++ x ∷ []) (comma_is b e); before = h; low_last = l; size = refl; reads = refl })
   range_seen_next lead_blank p (Low k n v) b c e h = low_push p k n v b h
-  range_seen_next lead_blank p (High k n g v) b Close e h = chosen (may_end v) (Behind k n g 0) (RangeSeen (p ++ b ∷ [])) (λ l.
-      record { front = p; close_byte = b; tail = []; high = v; parts = refl; before = h; high_last = l; closes = e; size = refl; blanks = tt })
+  range_seen_next lead_blank p (High k n g v) b Close e h = chosen (may_end v) (Closed k n g 0) (RangeSeen (p ++ b ∷ [])) (λ l.
+      record { prefix = p; close_byte = b; tail = []; high = v; parts = refl; before = h; high_last = l; closes = e; size = refl; blanks = tt })
   range_seen_next lead_blank p (High k n g v) b c e h = high_push p k n g v b h
-  range_seen_next lead_blank p (Behind k n g w) b Blank e h = record { front = h.front; close_byte = h.close_byte; tail = h.tail ++ b ∷ []; high = h.high; parts = push_parts p h.front (h.close_byte ∷ h.tail) b h.parts; before = h.before; high_last = h.high_last; closes = h.closes; size = length_push h.tail b w h.size; blanks = each_push IsBlank h.tail b h.blanks (blank_of b e) }
+  range_seen_next lead_blank p (Closed k n g w) b Blank e h = record { prefix = h.prefix; close_byte = h.close_byte; tail = h.tail ++ b ∷ []; high = h.high; parts = push_parts p h.prefix (h.close_byte ∷ h.tail) b h.parts; before = h.before; high_last = h.high_last; closes = h.closes; size = length_push h.tail b w h.size; blanks = each_push IsBlank h.tail b h.blanks (blank_of b e) }
   range_seen_next lead_blank p s b c e h = tt
 
   pub joined : (lead low high tail : List ℕ) (o m c : ℕ) (p f g : List ℕ) → p ≡ f ++ c ∷ tail → f ≡ g ++ m ∷ high → g ≡ lead ++ o ∷ low → p ≡ lead ++ o ∷ (low ++ m ∷ (high ++ c ∷ tail))
@@ -113,7 +113,7 @@ module _ (inner : VersionState → ℕ → Option VersionState) where
   range_finish Version own p (Plain v) h l = let q = own.accept p v h l in (_, plain q.1)
   range_finish Version own p (Low k n v) h l = absurd (cc)
   range_finish Version own p (High k n g v) h l = absurd (cc)
-  range_finish Version own p (Behind k n g w) h l =
+  range_finish Version own p (Closed k n g w) h l =
       let o = opens_of h.before.before.open_byte (open_is h.before.before.open_byte h.before.before.opens) in
       let c = closes_of h.close_byte (close_is h.close_byte h.closes) in
       let low = own.accept h.before.before.text h.before.low h.before.before.reads h.before.low_last in
@@ -126,7 +126,7 @@ module _ (inner : VersionState → ℕ → Option VersionState) where
           high_text = h.before.text;
           close_byte = h.close_byte;
           tail = h.tail;
-          parts = joined h.before.before.lead h.before.before.text h.before.text h.tail h.before.before.open_byte 44 h.close_byte p h.front h.before.front h.parts h.before.parts h.before.before.parts;
+          parts = joined h.before.before.lead h.before.before.text h.before.text h.tail h.before.before.open_byte 44 h.close_byte p h.prefix h.before.prefix h.parts h.before.parts h.before.before.parts;
           lead_blanks = h.before.before.blanks;
           opens = o.1;
           low_reads = low.1;

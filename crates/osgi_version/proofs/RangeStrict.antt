@@ -1,22 +1,22 @@
 -- The strict range machine is the range machine over the strict version machine.
 use Rattle.std.proofs.Common.{◌≡◌, ℕ, Bool, true, false, not, ◌&&◌, ◌+◌, if◌then◌else◌, Option, Some, None, List, [], refl, ap}
 use Rattle.std.specs.Option.{option_and_then, option_map}
-use Rattle.osgi_version.specs.Classes.{class_of}
-use Rattle.osgi_version.specs.RangeMachine.{next_range, range_by, step_range, is_fine_range}
-use Rattle.osgi_version.specs.Run.{run, advance}
-use Rattle.osgi_version.specs.VersionMachine.{next, step, is_fine, may_end}
+use Rattle.osgi_version.specs.computed.Classes.{class_of}
+use Rattle.osgi_version.specs.computed.RangeMachine.{next_range, range_by, step_range, is_fine_range}
+use Rattle.osgi_version.specs.computed.Run.{run, advance}
+use Rattle.osgi_version.specs.computed.VersionMachine.{next, step, is_fine, may_end}
 use Rattle.osgi_version.specs.Versions.{SpellsVersion, ReadsVersion}
-use Rattle.osgi_version.proofs.Classes.{blank_class}
+use Rattle.osgi_version.specs.laws.Classes.{blank_class}
 use Rattle.osgi_version.proofs.RangeSeen.{RangeSeen, range_seen_next}
-use Rattle.osgi_version.proofs.Running.{run_keeps, advance_was}
-use Rattle.osgi_version.proofs.VersionAlive.{reads_runs}
-use Rattle.osgi_version.proofs.VersionReader.{version_reader, accepted, finish_last}
+use Rattle.osgi_version.specs.laws.Running.{run_keeps, advance_was}
+use Rattle.osgi_version.specs.laws.VersionAlive.{reads_runs}
+use Rattle.osgi_version.specs.laws.VersionReader.{version_reader, accepted, finish_last}
 use Rattle.osgi_version.specs.declared.bytes.Class.{Class}
 use Rattle.osgi_version.specs.declared.bytes.Class.TheVariants.{Digit, Blank, Comma, Open, Close}
 use Rattle.osgi_version.specs.declared.version_state.VersionState.{VersionState}
 use Rattle.osgi_version.specs.declared.version_state.VersionState.TheVariants.{Lead}
 use Rattle.osgi_version.specs.declared.range_state.RangeState.{RangeState}
-use Rattle.osgi_version.specs.declared.range_state.RangeState.TheVariants.{Before, Plain, Low, High, Behind}
+use Rattle.osgi_version.specs.declared.range_state.RangeState.TheVariants.{Before, Plain, Low, High, Closed}
 use Rattle.osgi_version.proofs.RangeSeen.{IsInner}
 
 strict : VersionState → ℕ → Option VersionState
@@ -59,10 +59,10 @@ same_strict (Before k) b c e = refl
 same_strict (Plain v) b c e = mapped Plain (λ u. refl) (step v b)
 same_strict (Low k n v) b Comma e = kept (may_end v) (High k n 0 Lead) refl
 same_strict (Low k n v) b c e = mapped (Low k (n + 1)) (λ u. refl) (step v b)
-same_strict (High k n h v) b Close e = kept (may_end v) (Behind k n h 0) refl
+same_strict (High k n h v) b Close e = kept (may_end v) (Closed k n h 0) refl
 same_strict (High k n h v) b c e = mapped (High k n (h + 1)) (λ u. refl) (step v b)
-same_strict (Behind k n h w) b Blank e = refl
-same_strict (Behind k n h w) b c e = refl
+same_strict (Closed k n h w) b Blank e = refl
+same_strict (Closed k n h w) b c e = refl
 
 pub strict_seen : (p : List ℕ) (s : RangeState) → run (advance is_fine_range step_range true) (Before 0) p ≡ Some s → RangeSeen (advance is_fine step true) p s
 strict_seen p s e = run_keeps (advance is_fine_range step_range true) (RangeSeen (advance is_fine step true))

@@ -3,14 +3,14 @@ use Rattle.std.proofs.Common.{◌≡◌, ℕ, Bool, true, false, List, length, S
 use Rattle.std.proofs.lemmas.Option.{same_Some}
 use Rattle.osgi_version.specs.Faults.{IsFault}
 use Rattle.osgi_version.specs.Ranges.{RangeParts, Opens, Closes, IsBounded, IsRangeOf, plain, bounded, IsSpelledRange, IsReadableRange}
-use Rattle.osgi_version.specs.Run.{advance}
-use Rattle.osgi_version.specs.VersionMachine.{step, is_fine, finish}
+use Rattle.osgi_version.specs.computed.Run.{advance}
+use Rattle.osgi_version.specs.computed.VersionMachine.{step, is_fine, finish}
 use Rattle.osgi_version.specs.Versions.{Parts, SpellsVersion, ReadsVersion}
-use Rattle.osgi_version.proofs.VersionAlive.{reads_runs}
+use Rattle.osgi_version.specs.laws.VersionAlive.{reads_runs}
 use Rattle.osgi_version.specs.declared.fault.VersionFault.{VersionFault}
 use Rattle.osgi_version.specs.declared.fault.VersionFault.TheVariants.{NotVersion, TooBig}
-use Rattle.osgi_version.specs.declared.range_state.RangeState.TheVariants.{Behind}
-use Rattle.osgi_version.proofs.Cutting.{same_cut, heads}
+use Rattle.osgi_version.specs.declared.range_state.RangeState.TheVariants.{Closed}
+use Rattle.osgi_version.specs.laws.Cutting.{same_cut, heads}
 use Rattle.osgi_version.proofs.RangeRuns.{IsNoRange, bounded_runs, before_runs}
 use Rattle.osgi_version.proofs.RangeStrict.{strict_inner}
 
@@ -37,7 +37,7 @@ plain_bounded text v low high low_in high_in h k =
     let s = before_runs (advance is_fine step true) strict_inner.within strict_inner.lead_blank 0 text u.0 u.1 u.2 in
     subst (λ x. IsNoRange x) (same_Some _ _ (sym s.1 ∙ bounded_runs (advance is_fine step true) ReadsVersion strict_inner text low high low_in high_in k)) s.3
 
-lengths : (a b c d x y z w : ℕ) → Behind a b c d ≡ Behind x y z w → (a ≡ x) × (b ≡ y) × (c ≡ z)
+lengths : (a b c d x y z w : ℕ) → Closed a b c d ≡ Closed x y z w → (a ≡ x) × (b ≡ y) × (c ≡ z)
 lengths a b c d x y z w e = (cc, cc, cc)
 
 bounded_one : (text : List ℕ) (a b x y : Parts) (i j m n : Bool) → IsBounded ReadsVersion text a i x m → IsBounded ReadsVersion text b j y n → ◌≡◌ {A = RangeParts} (record { low = a; low_in = i; high = Some x; high_in = m }) (record { low = b; low_in = j; high = Some y; high_in = n })

@@ -1,11 +1,7 @@
--- Kinds of bytes, and lists of bytes of one kind.
-use Rattle.std.specs.Prelude.{ℕ, Bool, ◌||◌, ◌==◌, IsTrue, List, [], ◌∷◌}
+-- Kinds of bytes, and lists of bytes of one kind: `Each` says of such a list that a fact holds of each byte.
+pub use Rattle.std.specs.List.{AllByRecursion as Each}
+use Rattle.std.specs.Prelude.{ℕ, Bool, ◌||◌, ◌==◌, IsTrue}
 use Rattle.std.specs.Char.{is_ascii_digit, is_ascii_alphanumeric}
-
--- P holds of each byte
-abbrev pub Each : (ℕ → Type 0) → List ℕ → Type 0
-Each P [] = Unit {0}
-Each P (b ∷ bs) = P b × Each P bs
 
 -- white space: tab, line feed, form feed, carriage return, space
 abbrev pub is_blank : ℕ → Bool

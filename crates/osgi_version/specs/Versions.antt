@@ -1,7 +1,8 @@
 -- The grammar of versions: `major[.minor[.micro[.qualifier]]]`, with white space round it. Each part is written from
--- the left: a minor text is a major text, a dot and a number.
-use Rattle.std.specs.Prelude.{ℕ, ◌≡◌, ◌+◌, ◌-◌, ◌*◌, ◌<◌, min, List, [], ◌∷◌, ◌++◌, length}
-use Rattle.osgi_version.specs.Bytes.{Each, IsBlank, IsDigit, IsWordByte}
+-- the left: a minor text is a number, a dot and a number.
+use Rattle.std.specs.Prelude.{ℕ, ◌≡◌, ◌<◌, List, [], ◌∷◌, ◌++◌, length}
+use Rattle.std.specs.Str.Parse.{IsNumeral, digits_value}
+use Rattle.osgi_version.specs.Bytes.{Each, IsBlank, IsWordByte}
 
 -- what a version says
 pub record Parts : Type 0 where
@@ -10,60 +11,47 @@ pub record Parts : Type 0 where
   pub micro : ℕ
   pub qualifier : List ℕ
 
--- the number that `n` becomes by the digits behind it
-abbrev pub value_from : ℕ → List ℕ → ℕ
-value_from n [] = n
-value_from n (b ∷ bs) = value_from (10 * n + (b - 48)) bs
-
--- one or more digits; a number that is too large counts as 2147483648, one more than the greatest
+-- one or more digits, and the number that they write
 pub record IsNumber (text : List ℕ) (n : ℕ) : Type 0 where
-  pub some : 0 < length text
-  pub digits : Each IsDigit text
-  pub value : n ≡ min (value_from 0 text) 2147483648
+  pub numeral : IsNumeral 10 text
+  pub value : n ≡ digits_value 10 text
 
--- white space and a number
-pub record IsMajor (text : List ℕ) (m : ℕ) : Type 0 where
-  pub lead : List ℕ
-  pub digits : List ℕ
-  pub parts : text ≡ lead ++ digits
-  pub blanks : Each IsBlank lead
-  pub number : IsNumber digits m
-
--- a major text, a dot (the byte 46) and a number
+-- a number, a dot (the byte 46) and a number
 pub record IsMinor (text : List ℕ) (m i : ℕ) : Type 0 where
-  pub front : List ℕ
+  pub prefix : List ℕ
   pub digits : List ℕ
-  pub parts : text ≡ front ++ 46 ∷ digits
-  pub major : IsMajor front m
+  pub parts : text ≡ prefix ++ 46 ∷ digits
+  pub major : IsNumber prefix m
   pub number : IsNumber digits i
 
 -- a minor text, a dot and a number
 pub record IsMicro (text : List ℕ) (m i c : ℕ) : Type 0 where
-  pub front : List ℕ
+  pub prefix : List ℕ
   pub digits : List ℕ
-  pub parts : text ≡ front ++ 46 ∷ digits
-  pub minor : IsMinor front m i
+  pub parts : text ≡ prefix ++ 46 ∷ digits
+  pub minor : IsMinor prefix m i
   pub number : IsNumber digits c
 
 -- a micro text, a dot and one or more letters, digits, `_` and `-`
 pub record IsQualified (text : List ℕ) (m i c : ℕ) (q : List ℕ) : Type 0 where
-  pub front : List ℕ
-  pub parts : text ≡ front ++ 46 ∷ q
-  pub micro : IsMicro front m i c
+  pub prefix : List ℕ
+  pub parts : text ≡ prefix ++ 46 ∷ q
+  pub micro : IsMicro prefix m i c
   pub some : 0 < length q
   pub words : Each IsWordByte q
 
--- a version without the white space behind it; missing parts are 0 and the empty qualifier
+-- a version without the white space round it; missing parts are 0 and the empty qualifier
 pub data IsBody : List ℕ → Parts → Type 0 where
-  major : {text : List ℕ} {m : ℕ} → IsMajor text m → IsBody text (record { major = m; minor = 0; micro = 0; qualifier = [] })
+  major : {text : List ℕ} {m : ℕ} → IsNumber text m → IsBody text (record { major = m; minor = 0; micro = 0; qualifier = [] })
   minor : {text : List ℕ} {m i : ℕ} → IsMinor text m i → IsBody text (record { major = m; minor = i; micro = 0; qualifier = [] })
   micro : {text : List ℕ} {m i c : ℕ} → IsMicro text m i c → IsBody text (record { major = m; minor = i; micro = c; qualifier = [] })
   qualified : {text : List ℕ} {m i c : ℕ} {q : List ℕ} → IsQualified text m i c q → IsBody text (record { major = m; minor = i; micro = c; qualifier = q })
 
--- `text` is spelled as the version `v`, where numbers may be too large; white space alone is 0.0.0
+-- `text` is spelled as the version `v`, with white space round it, where numbers may be too large; white space alone is 0.0.0
 pub data SpellsVersion : List ℕ → Parts → Type 0 where
   blank : {text : List ℕ} → Each IsBlank text → SpellsVersion text (record { major = 0; minor = 0; micro = 0; qualifier = [] })
-  body : {text : List ℕ} {v : Parts} (front end : List ℕ) → text ≡ front ++ end → IsBody front v → Each IsBlank end → SpellsVersion text v
+  body : {text : List ℕ} {v : Parts} (lead inner end : List ℕ) → text ≡ lead ++ (inner ++ end) → Each IsBlank lead → IsBody inner v → Each IsBlank end →
+      SpellsVersion text v
 
 -- each number is at most 2147483647
 pub record Fits (v : Parts) : Type 0 where

@@ -1,9 +1,9 @@
 //! The two version texts of a range text, by what the last state of its machine counts.
 
 ghost use Rattle.std.specs.Prelude.{◌≡◌, ◌≤◌, Some, true, length, MatchOption};
-ghost use Rattle.osgi_version.specs.RangeCut.{IsCut};
-ghost use Rattle.osgi_version.specs.RangeMachine.{step_range, is_fine_range, may_end_range, held_range};
-ghost use Rattle.osgi_version.specs.Run.{run, advance};
+ghost use Rattle.osgi_version.specs.computed.RangeCut.{IsCut};
+ghost use Rattle.osgi_version.specs.computed.RangeMachine.{step_range, is_fine_range, may_end_range, held_range};
+ghost use Rattle.osgi_version.specs.computed.Run.{run, advance};
 ghost use Rattle.osgi_version.specs.Versions.{IsReadableVersion};
 ghost use Rattle.osgi_version.specs.declared.range_state.RangeState.TheVariants.{Before};
 
@@ -26,7 +26,7 @@ pub fn cut(bytes: &[u8], state: RangeState) -> Option<Bounds>
     ensures parts { MatchOption result (IsReadableVersion bytes.now) (λ b. IsCut bytes.now b.low_in b.low.now b.high.now b.high_in) }
 {
     match state {
-        RangeState::Behind(k, n, h, _) => {
+        RangeState::Closed(k, n, h, _) => {
             let behind_lead = bytes.split_at(k).1;
             let (low, behind_low) = behind_lead.split_at(1).1.split_at(n);
             let (high, behind_high) = behind_low.split_at(1).1.split_at(h);

@@ -1,7 +1,7 @@
 //! The classes of bytes that versions and ranges are written with.
 
 ghost use Rattle.std.specs.Prelude.{◌≡◌};
-ghost use Rattle.osgi_version.specs.Classes.{class_of};
+ghost use Rattle.osgi_version.specs.computed.Classes.{class_of};
 
 /// What a byte may be in a version or a range.
 #[derive(Clone, Copy)]
@@ -20,7 +20,7 @@ pub enum Class {
     Other,
 }
 
-#[tactic(auto, unfolding(crate::specs::Classes::class_of))]
+#[tactic(auto, unfolding(crate::specs::computed::Classes::class_of))]
 #[inline(always)]
 pub fn class_of(b: u8) -> Class
     ensures class { result ≡ class_of b }

@@ -4,7 +4,7 @@ ghost use Rattle.std.specs.Prelude.{◌≡◌, ◌↔◌, IsTrue};
 ghost use Rattle.std.proofs.Common.{refl};
 ghost use Rattle.std.specs.Cmp.{partial_equiv_from_equiv, po};
 ghost use Rattle.std.specs.Ordering.{as_partial_cmp};
-ghost use Rattle.osgi_base.specs.Exact.{exact_equivalence};
+ghost use Rattle.osgi_base.specs.computed.Exact.{exact_equivalence};
 ghost use Rattle.osgi_version.specs.Comparing.{exact_version, version_cmp, version_eq, version_ties, version_total};
 ghost use Rattle.osgi_version.specs.VersionValues.{order, parts};
 

@@ -3,8 +3,8 @@
 ghost use Rattle.std.specs.Prelude.{◌≡◌, ◌-◌, ◌<◌, ◌≤◌, ◌↔◌, Some, true, IsTrue, MatchResult, length, drop, slice_index};
 ghost use Rattle.osgi_version.specs.Bytes.{Each, IsDigit};
 ghost use Rattle.osgi_version.specs.Faults.{IsFault};
-ghost use Rattle.osgi_version.specs.Reader.{IsReader};
-ghost use Rattle.osgi_version.specs.Run.{run, advance};
+ghost use Rattle.osgi_version.specs.computed.Reader.{IsReader};
+ghost use Rattle.osgi_version.specs.computed.Run.{run, advance};
 
 use crate::fault::VersionFault;
 use crate::reader::{Reader, scan};

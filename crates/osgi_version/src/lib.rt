@@ -8,13 +8,13 @@
 mod bounds;
 mod bytes;
 mod comparing;
-pub mod examine;
+mod examine;
 pub mod fault;
 mod printing;
 pub mod qualifier;
 pub mod range;
 mod range_state;
 mod read;
-pub mod reader;
+mod reader;
 pub mod version;
 mod version_state;

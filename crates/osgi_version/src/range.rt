@@ -2,10 +2,10 @@
 
 ghost use Rattle.std.specs.Prelude.{◌≡◌, ◌≤◌, ℕ, List, length, true, Some, IfOk, MatchOption, MatchResult, IsOkAnd};
 ghost use Rattle.osgi_version.specs.Faults.{IsFault};
-ghost use Rattle.osgi_version.specs.RangeMachine.{step_range, is_fine_range, may_end_range, held_range};
+ghost use Rattle.osgi_version.specs.computed.RangeMachine.{step_range, is_fine_range, may_end_range, held_range};
 ghost use Rattle.osgi_version.specs.RangeValues.{range_parts, range_text, is_within, is_above, is_below_high};
 ghost use Rattle.osgi_version.specs.Ranges.{RangeParts, ReadsRange, IsSpelledRange, IsReadableRange};
-ghost use Rattle.osgi_version.specs.Run.{run, advance};
+ghost use Rattle.osgi_version.specs.computed.Run.{run, advance};
 ghost use Rattle.osgi_version.specs.Versions.{ReadsVersion, IsReadableVersion};
 ghost use Rattle.osgi_version.specs.VersionValues.{parts};
 ghost use Rattle.osgi_version.specs.declared.range_state.RangeState.TheVariants.{Before};
@@ -48,8 +48,8 @@ impl VersionRange {
 
     /// The brackets with the two versions and a comma between, or the plain version.
     pub fn print(&self, alloc: Global) -> Result<Vec<u8>, AllocError>
-        ensures text { IfOk result (λ t. t.items ≡ range_text (range_parts self.now)) }
-        ensures back { (bytes : List ℕ) → ReadsRange bytes (range_parts self.now) → IfOk result (λ t. ReadsRange t.items (range_parts self.now)) }
+        ensures prints { IfOk result (λ t. t.items ≡ range_text (range_parts self.now)) }
+        ensures reads_back { (bytes : List ℕ) → ReadsRange bytes (range_parts self.now) → IfOk result (λ t. ReadsRange t.items (range_parts self.now)) }
     {
         let out = self.text(alloc)?;
         Ok(out)

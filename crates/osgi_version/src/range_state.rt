@@ -1,9 +1,9 @@
 //! The machine that reads a range, byte by byte, over the one that reads a version. What runs once a byte is inlined.
 
 ghost use Rattle.std.specs.Prelude.{◌≡◌, ◌<◌, ◌≤◌, ◌+◌, max, IfSome};
-ghost use Rattle.osgi_version.specs.RangeMachine.{step_range, is_fine_range, may_end_range, held_range};
+ghost use Rattle.osgi_version.specs.computed.RangeMachine.{step_range, is_fine_range, may_end_range, held_range};
 ghost use Rattle.osgi_version.specs.Ranges.{IsSpelledRange, IsReadableRange};
-ghost use Rattle.osgi_version.specs.VersionMachine.{held};
+ghost use Rattle.osgi_version.specs.computed.VersionMachine.{held};
 ghost use Rattle.osgi_version.specs.declared.range_state.RangeState.TheVariants.{Before};
 
 use crate::bytes::{Class, class_of};
@@ -21,8 +21,8 @@ pub enum RangeState {
     Low(usize, usize, VersionState),
     /// In the high version: the same two, and the bytes of this version.
     High(usize, usize, usize, VersionState),
-    /// Behind the closing bracket: the same three, and the blanks at the end.
-    Behind(usize, usize, usize, usize),
+    /// After the closing bracket: the same three, and the blanks at the end.
+    Closed(usize, usize, usize, usize),
 }
 
 impl Reader for RangeState {
@@ -64,12 +64,12 @@ impl Reader for RangeState {
                 _ => Some(RangeState::Low(k, n + 1, v.step(b)?)),
             },
             RangeState::High(k, n, h, v) => match class {
-                Class::Close if v.may_end() => Some(RangeState::Behind(k, n, h, 0)),
+                Class::Close if v.may_end() => Some(RangeState::Closed(k, n, h, 0)),
                 Class::Close => None,
                 _ => Some(RangeState::High(k, n, h + 1, v.step(b)?)),
             },
-            RangeState::Behind(k, n, h, w) => match class {
-                Class::Blank => Some(RangeState::Behind(k, n, h, w + 1)),
+            RangeState::Closed(k, n, h, w) => match class {
+                Class::Blank => Some(RangeState::Closed(k, n, h, w + 1)),
                 _ => None,
             },
         }
@@ -82,7 +82,7 @@ impl Reader for RangeState {
             RangeState::Plain(v) => v.is_fine(),
             RangeState::Low(_, _, v) => v.is_fine(),
             RangeState::High(_, _, _, v) => v.is_fine(),
-            RangeState::Behind(_, _, _, _) => true,
+            RangeState::Closed(_, _, _, _) => true,
         }
     }
 
@@ -93,7 +93,7 @@ impl Reader for RangeState {
             RangeState::Plain(v) => v.may_end(),
             RangeState::Low(_, _, _) => false,
             RangeState::High(_, _, _, _) => false,
-            RangeState::Behind(_, _, _, _) => true,
+            RangeState::Closed(_, _, _, _) => true,
         }
     }
 }

@@ -3,8 +3,8 @@
 ghost use Rattle.std.specs.Prelude.{◌≡◌, ◌≤◌, length, MatchResult};
 ghost use Rattle.std.specs.Option.{option_map};
 ghost use Rattle.osgi_version.specs.Faults.{IsFault};
-ghost use Rattle.osgi_version.specs.FoundParts.{found_parts};
-ghost use Rattle.osgi_version.specs.VersionMachine.{finish, held};
+ghost use Rattle.osgi_version.specs.computed.FoundParts.{found_parts};
+ghost use Rattle.osgi_version.specs.computed.VersionMachine.{finish, held};
 ghost use Rattle.osgi_version.specs.Versions.{ReadsVersion, IsReadableVersion, IsSpelledVersion};
 
 use crate::examine::examine;
@@ -51,8 +51,8 @@ fn finish(bytes: &[u8], state: VersionState) -> Option<Found>
             Some(Found::new(m, i, c, qualifier))
         }
         VersionState::Trail(m, i, c, k, w) => {
-            let behind = bytes.split_at(bytes.len() - (k + w)).1;
-            Some(Found::new(m, i, c, behind.split_at(k).0))
+            let remainder = bytes.split_at(bytes.len() - (k + w)).1;
+            Some(Found::new(m, i, c, remainder.split_at(k).0))
         }
     }
 }

@@ -1,7 +1,7 @@
 //! Machines that read byte by byte without memory, and where they stop.
 
 ghost use Rattle.std.specs.Prelude.{◌≡◌, ◌+◌, ◌<◌, ◌≤◌, ℕ, Bool, List, Option, Some, None, IfSome, length, take, slice_index};
-ghost use Rattle.osgi_version.specs.Run.{run, advance};
+ghost use Rattle.osgi_version.specs.computed.Run.{run, advance};
 
 /// What was read of a text, as a state that steps from byte to byte. It holds numbers and counts alone, so it is `Copy`.
 pub trait Reader: Copy {
@@ -58,7 +58,7 @@ fn advance<M: Reader>(strict: bool, state: M, b: u8) -> Option<M>
 /// The state where reading stops, and how many bytes were read.
 pub fn scan<M: Reader>(strict: bool, bytes: &[u8]) -> (M, usize)
     ensures within { result.1 ≤ length bytes.now }
-    ensures front { run (advance M.is_fine M.step strict) M.start (take result.1 bytes.now) ≡ Some result.0 }
+    ensures prefix { run (advance M.is_fine M.step strict) M.start (take result.1 bytes.now) ≡ Some result.0 }
     ensures stop { result.1 < length bytes.now → advance M.is_fine M.step strict result.0 (slice_index bytes.now result.1) ≡ None }
     ensures held { M.held result.0 ≤ result.1 }
 {

@@ -23,7 +23,7 @@ pub struct Version {
 impl Version {
     ghost use Rattle.std.specs.Prelude.{◌≡◌, ◌++◌, ◌↔◌, IfOk, IsNone, IsOkAnd, MatchResult, Some};
     ghost use Rattle.osgi_version.specs.Faults.{IsFault};
-    ghost use Rattle.osgi_version.specs.FoundParts.{found_parts};
+    ghost use Rattle.osgi_version.specs.computed.FoundParts.{found_parts};
     ghost use Rattle.osgi_version.specs.VersionValues.{order, parts, text_of};
     ghost use Rattle.osgi_version.specs.Versions.{Parts, ReadsVersion, IsReadableVersion, IsSpelledVersion};
 
@@ -45,8 +45,8 @@ impl Version {
 
     /// Three numbers, and the qualifier unless it is empty, with dots between. It reads as this version again.
     pub fn print(&self, alloc: Global) -> Result<Vec<u8>, AllocError>
-        ensures text { IfOk result (λ t. t.items ≡ text_of (parts self.now)) }
-        ensures back { IfOk result (λ t. ReadsVersion t.items (parts self.now)) }
+        ensures prints { IfOk result (λ t. t.items ≡ text_of (parts self.now)) }
+        ensures reads_back { IfOk result (λ t. ReadsVersion t.items (parts self.now)) }
     {
         let qualifier = self.qualifier.bytes();
         let out = printed(alloc, self.major, self.minor, self.micro, qualifier)?;

@@ -2,7 +2,7 @@
 
 ghost use Rattle.std.specs.Prelude.{◌≡◌, ◌<◌, ◌≤◌, ◌+◌, IfSome};
 ghost use Rattle.osgi_version.specs.Versions.{IsReadableVersion, IsSpelledVersion};
-ghost use Rattle.osgi_version.specs.VersionMachine.{more, in_number, if_digit, if_blank, if_word, step, next, is_fine, is_fine_number, may_end, held};
+ghost use Rattle.osgi_version.specs.computed.VersionMachine.{more, in_number, if_digit, if_blank, if_word, step, next, is_fine, is_fine_number, may_end, held};
 ghost use Rattle.osgi_version.specs.declared.version_state.VersionState.TheVariants.{Lead};
 
 use crate::bytes::{Class, class_of};
@@ -20,7 +20,7 @@ pub enum VersionState {
     Micro(u32, u32, u32),
     QualifierDot(u32, u32, u32),
     Qualifier(u32, u32, u32, usize),
-    /// Blanks behind the version.
+    /// Blanks after the version.
     Trail(u32, u32, u32, usize, usize),
 }
 

@@ -1,4 +1,4 @@
--- What each step on a hall's table tells the seat that makes it. Each is a function of what the seat was.
+-- What each step on a hall's table shows the seat that makes it. Each is a function of what the seat was.
 use Rattle.std.specs.Prelude.{◌≡◌, ◌≢◌, ℕ, ◌+◌, ◌-◌, ◌%◌, ◌^◌, List, [], ◌∷◌, ◌++◌, length, drop, Option, Some}
 use mathlib.Core.Option.{some}
 use lib.ListN.{get_elem?}
@@ -66,7 +66,7 @@ module _ {M O R Z : Type 0} where
   given st m r m' = m' ≡ (staged Idle m.0, m.1)
 
 module _ {O R Z : Type 0} where
-  -- what a look tells of a caller: what it knows is legal, begins with each of its notes, and counts all passes
+  -- what a look shows of a caller: what it knows is legal, begins with each of its notes, and counts all passes
   abbrev pub Understands : (Z → List (Entry O R) → Type 0) → View O R Z → Type 0
   Understands can_make Spent = Unit {0}
   Understands can_make (Live k) = IsLegalFor can_make k.setting k.caller k.seen k.own k.ended × Each (BeginsWith k.seen) k.notes

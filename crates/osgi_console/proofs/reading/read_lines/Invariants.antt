@@ -1,7 +1,7 @@
 -- The lines so far, and those of what is left.
 use Rattle.std.proofs.Common.{◌≡◌, ◌≤◌, ◌+◌, ◌++◌, length}
 use Rattle.std.specs.Str.Lines.{lines}
-use Rattle.osgi_console.specs.LineReader.{numbered}
+use Rattle.osgi_console.specs.computed.LineReader.{numbered}
 use Rattle.osgi_console.proofs.reading.read_lines.Given as goal
 
 abbrev pub invariant-loop-text : goal.invariant-loop-text

@@ -3,7 +3,7 @@ use Rattle.std.proofs.Common.{◌≡◌, ◌+◌, ◌++◌, ◌∷◌, [], List,
 use Rattle.std.proofs.lemmas.List.{take_more}
 use Rattle.osgi_ops.specs.declared.entry.Entry.{Entry}
 use Rattle.osgi_console.proofs.TextMap.{texts_put}
-use Rattle.osgi_console.specs.Texts.{AreTextsOf}
+use Rattle.osgi_console.specs.computed.Texts.{AreTextsOf}
 use Rattle.osgi_console.proofs.rendering.texts.Goals as goal
 
 pub loop-entry-preserved : goal.loop-entry-preserved

@@ -1,6 +1,6 @@
 -- The texts are those of the entries so far.
 use Rattle.std.proofs.Common.{take}
-use Rattle.osgi_console.specs.Texts.{AreTextsOf}
+use Rattle.osgi_console.specs.computed.Texts.{AreTextsOf}
 use Rattle.osgi_console.proofs.rendering.texts.Given as goal
 
 abbrev pub invariant-loop-entry : goal.invariant-loop-entry

@@ -3,9 +3,9 @@ use Rattle.std.proofs.Common.{◌≡◌, sym, ◌∙◌, refl, subst}
 use Rattle.std.specs.Prelude.{◌==◌}
 use Rattle.std.specs.Option.{option_copied}
 use Rattle.osgi_ops.specs.Classes.{IsFound}
-use Rattle.osgi_registry.specs.Rows.{IsOpenBy, services_of}
+use Rattle.osgi_registry.specs.Rows.{IsOpenBy, services_in}
 use Rattle.osgi_core.proofs.Replying.{by_refused, replied_found, replied_no_bundle}
-use Rattle.osgi_core.specs.Replied.{IsReplied}
+use Rattle.osgi_core.specs.computed.Replied.{IsReplied}
 use Rattle.osgi_ops.specs.declared.op.Op.TheVariants as op
 use Rattle.osgi_ops.specs.declared.refusal.Refusal.TheVariants.{NoSuchBundle}
 use Rattle.osgi_core.proofs.replies.find.Goals as goal
@@ -16,7 +16,7 @@ returns-then-not-is_live-clause-replied c =
 
 pub returns-clause-replied : goal.returns-clause-replied
 returns-clause-replied c =
-    let given : option_copied c.as_ref.result ≡ c.args.filter.now = c.as_ref.ensures.value in
+    let issued : option_copied c.as_ref.result ≡ c.args.filter.now = c.as_ref.ensures.value in
     replied_found c.args.asker c.args.class.now c.args.filter.now c.args.registry.now c.find-service.result (sym c.is_live.ensures.live ∙ c.if-not-is_live.false)
-    (subst (λ f. IsFound (IsOpenBy (λ registrant class. registrant.0 == c.args.asker.0) c.args.class.now f) (services_of c.args.registry.now.rows) c.find-service.result) given
+    (subst (λ f. IsFound (IsOpenBy (λ registrant class. registrant.0 == c.args.asker.0) c.args.class.now f) (services_in c.args.registry.now.rows) c.find-service.result) issued
     (c.find-service.ensures.found (λ registrant class. registrant.0 == c.args.asker.0) (λ registrant class answer is. is.1)))

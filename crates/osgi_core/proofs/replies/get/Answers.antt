@@ -1,10 +1,10 @@
 -- One use more.
 use Rattle.std.proofs.Common.{sym, ◌∙◌, refl}
 use Rattle.osgi_core.proofs.Replying.{by_refused, replied_got, replied_no_bundle, replied_ungotten}
-use Rattle.osgi_core.specs.Replied.{IsReplied}
+use Rattle.osgi_core.specs.computed.Replied.{IsReplied}
 use Rattle.osgi_ops.specs.declared.op.Op.TheVariants as op
 use Rattle.osgi_ops.specs.declared.refusal.Refusal.TheVariants.{NoSuchBundle}
-use Rattle.osgi_registry.proofs.Standing.{stands_restored}
+use Rattle.osgi_registry.specs.laws.Standing.{stands_restored}
 use Rattle.osgi_core.proofs.replies.get.Goals as goal
 
 pub returns-then-not-is_live-clause-replied : goal.returns-then-not-is_live-clause-replied
@@ -23,4 +23,4 @@ returns-in-Ok-copy-clause-replied c =
 pub returns-in-Err-copy-clause-unchanged : goal.returns-in-Err-copy-clause-unchanged
 returns-in-Err-copy-clause-unchanged c = λ history stands.
     stands_restored history c.args.registry.now c.get.new.self c.unget.new.self c.args.user c.args.service c.in-Ok.text c.unget.result stands (rw c.in-Ok.is at c.in_ok-text.ensures.object) (rw c.in-Ok.is at c.in_ok-text.ensures.rows)
-    c.in_ok-text.ensures.given c.unget.ensures.answer c.unget.ensures.rows c.unget.ensures.given
+    c.in_ok-text.ensures.issued c.unget.ensures.answer c.unget.ensures.rows c.unget.ensures.issued

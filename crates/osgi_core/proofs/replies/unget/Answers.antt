@@ -1,7 +1,7 @@
 -- One use less.
 use Rattle.std.proofs.Common.{sym, ◌∙◌, refl}
 use Rattle.osgi_core.proofs.Replying.{by_refused, replied_no_bundle, replied_ungot}
-use Rattle.osgi_core.specs.Replied.{IsReplied}
+use Rattle.osgi_core.specs.computed.Replied.{IsReplied}
 use Rattle.osgi_ops.specs.declared.op.Op.TheVariants as op
 use Rattle.osgi_ops.specs.declared.refusal.Refusal.TheVariants.{NoSuchBundle}
 use Rattle.osgi_core.proofs.replies.unget.Goals as goal

@@ -1,6 +1,6 @@
 -- Each call below a level has fewer levels, and the operands so far go on with what is left.
 use Rattle.std.proofs.Common.{◌≡◌, ◌+◌, ◌*◌, length, []}
-use Rattle.osgi_filter.specs.Reader.{operand, listing, filter_at}
+use Rattle.osgi_filter.specs.computed.Reader.{operand, listing, filter_at}
 use Rattle.osgi_filter.proofs.filters.+filters.Given as goal
 
 abbrev pub decreases-filter_at : goal.decreases-filter_at

@@ -1,8 +1,8 @@
 -- What is computed is true just where the filter matches.
 use Rattle.std.proofs.Common.{ap, ◌∙◌}
 use Rattle.std.proofs.lemmas.Bool.Decides.{Decides-at}
-use Rattle.osgi_model.proofs.Decided.{matches_decides}
-use Rattle.osgi_model.specs.MatchReader.{matches}
+use Rattle.osgi_model.specs.laws.Decided.{matches_decides}
+use Rattle.osgi_model.specs.computed.MatchReader.{matches}
 use Rattle.osgi_filter.specs.Names.{same_name}
 use Rattle.osgi_filter.proofs.matching.matches.Goals as goal
 

@@ -1,6 +1,6 @@
 -- What is computed of a text is the version that it reads as.
 use Rattle.osgi_version.specs.VersionValues.{parts}
-use Rattle.osgi_filter.proofs.Orders.{version_ordered}
+use Rattle.osgi_filter.specs.laws.Orders.{version_ordered}
 use Rattle.osgi_filter.proofs.ordered.compare_version.Goals as goal
 
 pub returns : goal.returns

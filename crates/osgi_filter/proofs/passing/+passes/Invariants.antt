@@ -1,6 +1,6 @@
 -- What is sought is among the values that are left.
 use Rattle.std.proofs.Common.{◌≡◌, map, drop}
-use Rattle.osgi_model.specs.MatchReader.{passes, one_of}
+use Rattle.osgi_model.specs.computed.MatchReader.{passes, one_of}
 use Rattle.osgi_filter.proofs.passing.+passes.Given as goal
 
 abbrev pub invariant-one_passes-loop-value : goal.invariant-one_passes-loop-value

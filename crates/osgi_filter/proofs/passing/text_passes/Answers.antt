@@ -1,8 +1,8 @@
 -- Pieces stand in a text just where the test says so.
 use Rattle.std.proofs.Common.{◌≡◌}
 use Rattle.std.proofs.lemmas.Bool.Decides.{same_from_decides}
-use Rattle.osgi_model.specs.MatchReader.{stand}
-use Rattle.osgi_model.proofs.Standing.{stand_decides}
+use Rattle.osgi_model.specs.computed.MatchReader.{stand}
+use Rattle.osgi_model.specs.laws.Standing.{stand_decides}
 use Rattle.osgi_filter.proofs.passing.text_passes.Goals as goal
 
 pub returns-in-Pieces : goal.returns-in-Pieces

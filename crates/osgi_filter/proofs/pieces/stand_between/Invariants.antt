@@ -1,7 +1,7 @@
 -- The pieces stand in the text where those that are left stand in what is left of it.
 use Rattle.std.proofs.Common.{◌≤◌, drop, length}
 use Rattle.std.specs.Prelude.{◌↔◌}
-use Rattle.osgi_filter.specs.Between.{Between}
+use Rattle.osgi_filter.specs.computed.Between.{Between}
 use Rattle.osgi_filter.proofs.pieces.stand_between.Given as goal
 
 abbrev pub invariant-loop-piece : goal.invariant-loop-piece

@@ -6,7 +6,7 @@ use Rattle.osgi_filter.proofs.scan.name_at.Goals.{then-not-is_blank, else-not-is
 
 pub loop-at-preserved : goal.loop-at-preserved
 loop-at-preserved c =
-    let n = sym c.is_name_byte.ensures.name ∙ c.if-not-is_name_byte.false in
+    let n = sym c.is_item_name_byte.ensures.name ∙ c.if-not-is_item_name_byte.false in
     let end = c.loop-at.end in
     let at = c.loop-at.at in
     let bytes = c.args.bytes.now in

@@ -1,6 +1,6 @@
--- What was read is a name up to `end`, and white space behind it.
+-- What was read is a name up to `end`, and white space after it.
 use Rattle.std.proofs.Common.{◌≡◌, ◌≤◌, [], take, drop}
-use Rattle.osgi_filter.specs.Reader.{name_at}
+use Rattle.osgi_filter.specs.computed.Reader.{name_at}
 use Rattle.osgi_filter.proofs.scan.name_at.Given as goal
 
 abbrev pub invariant-loop-at : goal.invariant-loop-at

@@ -1,6 +1,6 @@
 -- What is left is skipped to the same place.
 use Rattle.std.proofs.Common.{◌≡◌, length}
-use Rattle.osgi_filter.specs.Reader.{skip}
+use Rattle.osgi_filter.specs.computed.Reader.{skip}
 use Rattle.osgi_filter.proofs.scan.skip.Given as goal
 
 abbrev pub invariant-loop-rest : goal.invariant-loop-rest

@@ -1,6 +1,6 @@
 -- The pieces so far go on with the piece that is next.
 use Rattle.std.proofs.Common.{◌≡◌, ◌∷◌, [], true, false, length}
-use Rattle.osgi_filter.specs.Reader.{◌>>=◌, piece_at, ended_piece, value_at}
+use Rattle.osgi_filter.specs.computed.Reader.{◌>>=◌, piece_at, ended_piece, value_at}
 use Rattle.osgi_filter.proofs.values.pieces_at.Given as goal
 
 abbrev pub invariant-loop-pieces : goal.invariant-loop-pieces

@@ -1,6 +1,6 @@
 -- The spaces and tabs so far were dropped.
 use Rattle.std.proofs.Common.{◌≡◌, length}
-use Rattle.osgi_header.specs.ClauseReader.{before_blanks}
+use Rattle.osgi_header.specs.computed.ClauseReader.{before_blanks}
 use Rattle.osgi_header.proofs.blanks.trim_end.Given as goal
 
 abbrev pub invariant-loop-rest : goal.invariant-loop-rest

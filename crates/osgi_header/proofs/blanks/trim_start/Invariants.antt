@@ -1,6 +1,6 @@
 -- The spaces and tabs so far were dropped.
 use Rattle.std.proofs.Common.{◌≡◌, length}
-use Rattle.osgi_header.specs.ClauseReader.{after_blanks}
+use Rattle.osgi_header.specs.computed.ClauseReader.{after_blanks}
 use Rattle.osgi_header.proofs.blanks.trim_start.Given as goal
 
 abbrev pub invariant-loop-rest : goal.invariant-loop-rest

@@ -1,4 +1,4 @@
--- Each line is one of the section, and behind the last the section is over.
+-- Each line is one of the section, and after the last the section is over.
 use Rattle.std.proofs.Common.{refl, arith}
 use Rattle.osgi_header.proofs.LineReading.{begins-len, lines_end, lines_more}
 use Rattle.osgi_header.proofs.lines.read_lines.Goals as goal

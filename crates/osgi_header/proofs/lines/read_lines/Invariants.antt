@@ -1,6 +1,6 @@
--- Behind the lines so far stand those of what is left.
+-- After the lines so far stand those of what is left.
 use Rattle.std.proofs.Common.{◌≤◌, ◌-◌, ◌++◌, List, length}
-use Rattle.osgi_header.specs.HeaderReader.{lines_seen}
+use Rattle.osgi_header.specs.computed.HeaderReader.{lines_seen}
 use Rattle.osgi_header.specs.Lines.{AreLines, Line}
 use Rattle.osgi_header.proofs.lines.read_lines.Given as goal
 

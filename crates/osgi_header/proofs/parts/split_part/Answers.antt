@@ -1,7 +1,8 @@
 -- The text begins with its first part.
 use Rattle.std.proofs.Common.{arith}
-use Rattle.osgi_header.specs.declared.parts.Place.TheVariants.{Bare}
-use Rattle.osgi_header.proofs.Splitting.{begins, behind_none, behind_some, part_len-within}
+use Rattle.osgi_base.specs.declared.parts.QuoteState.TheVariants.{Bare}
+use Rattle.osgi_base.specs.laws.Scans.{part_len-within}
+use Rattle.osgi_header.proofs.Splitting.{begins, behind_none, behind_some}
 use Rattle.osgi_header.proofs.parts.split_part.Goals as goal
 
 pub split_at-requires : goal.split_at-requires

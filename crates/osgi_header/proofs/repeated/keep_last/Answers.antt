@@ -1,4 +1,4 @@
--- The header that was taken counts where its name was not seen behind it.
+-- The header that was taken counts where its name was not seen after it.
 use Rattle.std.proofs.Common.{◌≡◌, length, drop, sym, subst, ap, ◌∙◌}
 use Rattle.std.specs.Prelude.{reverse}
 use Rattle.std.specs.Str.{str_to_ascii_lowercase}
@@ -10,17 +10,17 @@ pub loop-header-preserved : goal.loop-header-preserved
 loop-header-preserved c =
     let headers = c.args.headers.items in
     let header = c.in-Some.header in
-    let behind = drop (length c.loop-header.left.items) headers in
+    let remainder = drop (length c.loop-header.left.items) headers in
     let name = c.in_ok-name.name in
     let took = taken headers c.loop-header.left.items c.pop.new.self.items header c.in-Some.ensures.items c.loop-header.invariant.left in
     let low : name.items ≡ str_to_ascii_lowercase header.name = c.in_ok-name.ensures.lowercase ∙ ap str_to_ascii_lowercase c.bytes.ensures.bytes in
-    let counts = counts_is c.loop-header.seen.keys name header behind c.in_ok-counts.counts low c.loop-header.invariant.seen c.in_ok-counts.ensures.added in
+    let counts = counts_is c.loop-header.seen.keys name header remainder c.in_ok-counts.counts low c.loop-header.invariant.seen c.in_ok-counts.ensures.added in
     record {
-      left = took.front;
+      left = took.prefix;
       kept =
           subst (λ l. reverse c.push_if.new.kept.items ≡ counting l) (sym took.rest)
-          (kept_more header behind c.loop-header.kept.items c.push_if.new.kept.items c.in_ok-counts.counts counts c.loop-header.invariant.kept c.in_ok-push_if.ensures.added);
+          (kept_more header remainder c.loop-header.kept.items c.push_if.new.kept.items c.in_ok-counts.counts counts c.loop-header.invariant.kept c.in_ok-push_if.ensures.added);
       seen =
           subst (AreNames c.insert.new.self.keys) (sym took.rest)
-          (names_more c.loop-header.seen.keys c.insert.new.self.keys name header behind low c.loop-header.invariant.seen (λ q. c.in_ok-counts.ensures.updates.0 q));
+          (names_more c.loop-header.seen.keys c.insert.new.self.keys name header remainder low c.loop-header.invariant.seen (λ q. c.in_ok-counts.ensures.updates.0 q));
     }

@@ -2,7 +2,7 @@
 use Rattle.std.proofs.Common.{◌≡◌, ◌++◌, drop}
 use Rattle.std.specs.Prelude.{map}
 use Rattle.std.specs.List.{concat}
-use Rattle.osgi_header.specs.HeaderReader.{group, line_seen, lines_seen}
+use Rattle.osgi_header.specs.computed.HeaderReader.{group, line_seen, lines_seen}
 use Rattle.osgi_header.specs.Lines.{joined}
 use Rattle.osgi_header.proofs.unfolding.join.Given as goal
 

@@ -1,4 +1,4 @@
--- A header more was read, and those of the lines behind it are left.
+-- A header more was read, and those of the lines after it are left.
 use Rattle.std.proofs.Common.{sym, ◌∙◌}
 use Rattle.osgi_header.proofs.HeaderReading.{headers_more}
 use Rattle.osgi_header.proofs.unfolding.read_headers.Goals as goal

@@ -1,6 +1,6 @@
 -- The headers so far go on with those of the lines that are left.
 use Rattle.std.proofs.Common.{◌≡◌, ◌≤◌, ◌-◌, drop, length}
-use Rattle.osgi_header.specs.HeaderReader.{groups_of, headers_from, headers_onto, lines_seen}
+use Rattle.osgi_header.specs.computed.HeaderReader.{groups_of, headers_from, headers_onto, lines_seen}
 use Rattle.osgi_header.proofs.unfolding.read_headers.Given as goal
 
 abbrev pub invariant-loop-first : goal.invariant-loop-first

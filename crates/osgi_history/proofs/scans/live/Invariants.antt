@@ -1,4 +1,4 @@
--- The ids so far, and those of the entries that are left behind so many registrations.
+-- The ids so far, and those of the entries that are left after so many registrations.
 use Rattle.std.proofs.Common.{◌≡◌, ◌≤◌, ◌++◌, drop, map}
 use Rattle.osgi_history.proofs.Front.{live_after}
 use Rattle.osgi_ops.specs.Services.{live}

@@ -2,7 +2,7 @@
 use Rattle.std.proofs.Common.{◌≡◌, ◌+◌, ◌∙◌, ap, sym, drop, true}
 use Rattle.std.specs.Option.{option_to_list}
 use Rattle.osgi_history.proofs.Front.{ids_of, newly, rest_of, uses-left}
-use Rattle.osgi_history.specs.Scans.{held}
+use Rattle.osgi_history.specs.computed.Scans.{held}
 use Rattle.osgi_history.proofs.scans.since_registered.Goals as goal
 
 pub returns-then-eq : goal.returns-then-eq

@@ -4,4 +4,4 @@ use Rattle.osgi_registry.specs.Rows.{use_count}
 use Rattle.osgi_machine_cases.proofs.uses.take.Given as goal
 
 abbrev pub invariant-loop : goal.invariant-loop
-invariant-loop l = (use_count l.user l.service l.registry.rows ≤ l.counter) × (l.registry.given ≡ l.fn.registry.given)
+invariant-loop l = (use_count l.user l.service l.registry.rows ≤ l.counter) × (l.registry.issued ≡ l.fn.registry.issued)

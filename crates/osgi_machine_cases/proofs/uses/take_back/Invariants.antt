@@ -3,4 +3,4 @@ use Rattle.std.proofs.Common.{◌≡◌}
 use Rattle.osgi_machine_cases.proofs.uses.take_back.Given as goal
 
 abbrev pub invariant-loop-uses : goal.invariant-loop-uses
-invariant-loop-uses l = l.registry.given ≡ l.fn.registry.given
+invariant-loop-uses l = l.registry.issued ≡ l.fn.registry.issued

@@ -1,6 +1,6 @@
 -- The operands that are left decide.
 use Rattle.std.proofs.Common.{◌≡◌, map, drop}
-use Rattle.osgi_model.specs.MatchReader.{matches, all_of, one_of}
+use Rattle.osgi_model.specs.computed.MatchReader.{matches, all_of, one_of}
 use Rattle.osgi_filter.specs.Names.{same_name}
 use Rattle.osgi_matching_cases.proofs.slow_matching.+matches.Given as goal
 

@@ -1,6 +1,6 @@
 -- Fewer pieces are left after the first one, and the pieces stand in the ends that are left.
 use Rattle.std.proofs.Common.{◌≡◌, ◌+◌, ◌*◌, length}
-use Rattle.osgi_model.specs.MatchReader.{somewhere, stand}
+use Rattle.osgi_model.specs.computed.MatchReader.{somewhere, stand}
 use Rattle.osgi_matching_cases.proofs.slow_matching.+stand.Given as goal
 
 abbrev pub decreases-stand : goal.decreases-stand

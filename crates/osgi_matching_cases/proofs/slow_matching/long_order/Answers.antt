@@ -1,8 +1,8 @@
 -- What is computed of a text is the number that it writes.
 use Rattle.std.proofs.Common.{◌≡◌, arith, of_z, refl, to_z, w64}
 use Rattle.std.proofs.lemmas.Int.{ints, to_z-of_z}
-use Rattle.osgi_model.proofs.Longs.{read_is}
-use Rattle.osgi_model.specs.LongReader.{long_of}
+use Rattle.osgi_model.specs.laws.Longs.{read_is}
+use Rattle.osgi_model.specs.computed.LongReader.{long_of}
 use Rattle.osgi_matching_cases.proofs.slow_matching.long_order.Goals as goal
 
 pub returns-in_err-number : goal.returns-in_err-number

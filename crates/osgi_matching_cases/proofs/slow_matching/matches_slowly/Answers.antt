@@ -3,9 +3,9 @@ use Rattle.std.proofs.Common.{◌≡◌}
 use Rattle.std.specs.Prelude.{Bool, IsTrue, ◌↔◌}
 use Rattle.std.proofs.lemmas.Bool.Decides.{Decides-at}
 use Rattle.std.proofs.lemmas.Result.{IfOk-weaker}
-use Rattle.osgi_model.proofs.Decided.{matches_decides}
+use Rattle.osgi_model.specs.laws.Decided.{matches_decides}
 use Rattle.osgi_model.specs.Matching.{Matches}
-use Rattle.osgi_model.specs.MatchReader.{matches}
+use Rattle.osgi_model.specs.computed.MatchReader.{matches}
 use Rattle.osgi_filter.specs.Names.{same_name}
 use Rattle.osgi_matching_cases.proofs.slow_matching.matches_slowly.Goals as goal
 

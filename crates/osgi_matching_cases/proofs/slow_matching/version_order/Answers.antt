@@ -3,8 +3,8 @@ use Rattle.std.proofs.Common.{None, Some, ap, refl, sym, ◌∙◌}
 use Rattle.std.specs.Option.{option_and_then}
 use Rattle.osgi_version.specs.VersionValues.{order, parts}
 use Rattle.osgi_version.specs.Versions.{ReadsVersion}
-use Rattle.osgi_model.proofs.VersionTexts.{parts_read}
-use Rattle.osgi_filter.proofs.Orders.{version_ordered}
+use Rattle.osgi_version.specs.laws.VersionReading.{parts_read}
+use Rattle.osgi_filter.specs.laws.Orders.{version_ordered}
 use Rattle.osgi_matching_cases.proofs.slow_matching.version_order.Goals as goal
 
 pub returns-in-Ok : goal.returns-in-Ok

@@ -1,7 +1,7 @@
 -- The text is read without the white space round it.
 use Rattle.std.proofs.Common.{◌∙◌, ap, refl}
 use Rattle.std.proofs.lemmas.Str.Ascii.{trim_ascii_is}
-use Rattle.osgi_model.specs.LongReader.{number_of}
+use Rattle.osgi_model.specs.computed.LongReader.{number_of}
 use Rattle.osgi_model.proofs.long.long.Goals as goal
 
 pub returns : goal.returns

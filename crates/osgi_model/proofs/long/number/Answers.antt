@@ -1,6 +1,6 @@
 -- What is read of a text is its number.
 use Rattle.std.proofs.Common.{◌∙◌}
-use Rattle.osgi_model.proofs.Longs.{no_number, number_parsed}
+use Rattle.osgi_model.specs.laws.Longs.{no_number, number_parsed}
 use Rattle.osgi_model.proofs.long.number.Goals as goal
 
 pub returns-in_default : goal.returns-in_default

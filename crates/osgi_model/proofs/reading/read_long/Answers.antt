@@ -1,6 +1,6 @@
 -- What is read of a text is its number, and only that.
 use Rattle.std.proofs.Common.{◌∙◌, sym}
-use Rattle.osgi_model.proofs.Longs.{long_read, long_sound}
+use Rattle.osgi_model.specs.laws.Longs.{long_read, long_sound}
 use Rattle.osgi_model.proofs.reading.read_long.Goals as goal
 
 pub returns : goal.returns

@@ -1,6 +1,6 @@
 -- What is parsed is the version of the text.
 use Rattle.std.proofs.Common.{◌∙◌}
-use Rattle.osgi_model.proofs.VersionTexts.{version_parsed}
+use Rattle.osgi_model.specs.laws.VersionTexts.{version_parsed}
 use Rattle.osgi_model.proofs.reading.version.Goals as goal
 
 pub returns : goal.returns

@@ -1,4 +1,4 @@
--- That the loop keeps it: the bytes of one more write come behind those written before.
+-- That the loop keeps it: the bytes of one more write come after those written before.
 use Rattle.std.proofs.Common.{◌+◌, ◌≤◌, length, length-drop, arith}
 use Rattle.osgi_outside.proofs.Written.{Appends-after}
 use Rattle.osgi_outside.proofs.writing.write_all.Goals as goal

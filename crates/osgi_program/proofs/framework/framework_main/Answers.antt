@@ -1,8 +1,8 @@
--- The session is that of all bytes that were left, and its status tells what is in it.
+-- The session is that of all bytes that were left, and its status says what is in it.
 use Rattle.std.proofs.Common.{◌≡◌, ap, subst}
 use Rattle.osgi_ops.specs.Settings.{Bounds, Setting, setting_of, standard_setting}
 use Rattle.osgi_program.proofs.Ends.{all_taken, session_from, status_from}
-use Rattle.osgi_program.specs.Ended.{IsRun}
+use Rattle.osgi_program.specs.computed.Ended.{IsRun}
 use Rattle.osgi_program.proofs.framework.framework_main.Goals as goal
 
 pub returns-in-Ok-clause-session : goal.returns-in-Ok-clause-session

@@ -1,6 +1,6 @@
 -- Refusal 18 is that of a full history.
 use Rattle.std.proofs.Common.{subst}
-use Rattle.osgi_ops.proofs.Refusals.{full_step}
+use Rattle.osgi_ops.specs.laws.Refusals.{full_step}
 use Rattle.osgi_ops.specs.Legal.{Legal}
 use Rattle.osgi_ops.specs.Settings.{Setting}
 use Rattle.osgi_program.proofs.runner.run_command.Goals as goal

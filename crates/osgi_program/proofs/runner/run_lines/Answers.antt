@@ -4,7 +4,7 @@ use Rattle.std.proofs.lemmas.List.{drop_more, take_more, take-append-drop}
 use Rattle.osgi_ops.specs.Sessions.{over}
 use Rattle.osgi_ops.specs.Settings.{Setting}
 use Rattle.osgi_ops.specs.declared.line.Line.{Line}
-use Rattle.osgi_program.specs.Running.{RunsLines}
+use Rattle.osgi_program.specs.computed.Running.{RunsLines}
 use Rattle.osgi_program.proofs.Runs.{cut_line, one_more, SoFar}
 use Rattle.osgi_program.proofs.runner.run_lines.Goals as goal
 
@@ -20,7 +20,7 @@ loop-line-preserved c =
     = take_more lines i line c.loop-line-test.true ∙ ap (λ (x : Line). take i lines ++ x ∷ []) (sym c.line-item.is) in
     record {
       setting = c.in-All.ensures.setting ∙ c.loop-line.invariant.setting;
-      so_far = subst (λ (front : List Line). SoFar front c.args.core.now.entries c.run_line.new.core.entries) (sym more)
+      so_far = subst (λ (prefix : List Line). SoFar prefix c.args.core.now.entries c.run_line.new.core.entries) (sym more)
           (one_more c.loop-line.core.setting.bounds.entries (take i lines) line _ _ _ c.loop-line.invariant.so_far c.in-All.ensures.line);
     }
 

@@ -7,7 +7,7 @@ use Rattle.std.specs.Map.{values_of}
 use Rattle.std.proofs.lemmas.Bool.{eq-eqb, ne_eqb}
 use Rattle.std.proofs.lemmas.Map.Iter.{iter_end, iter_turn}
 use Rattle.osgi_registry.proofs.Released.{all_passed, goes, stays}
-use Rattle.osgi_registry.specs.Places.{is_placed, place_of, Takes}
+use Rattle.osgi_registry.specs.computed.Places.{is_placed, place_of, Takes}
 use Rattle.osgi_registry.specs.Rows.{is_owned}
 use Rattle.osgi_registry.proofs.registry.take_places.Goals as goal
 

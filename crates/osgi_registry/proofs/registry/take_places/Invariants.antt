@@ -1,7 +1,7 @@
 -- The index is of the other bundles' services so far, and of all services that are left.
 use Rattle.std.proofs.Common.{◌++◌, drop, length, take}
 use Rattle.std.specs.BTreeMap.{values}
-use Rattle.osgi_registry.specs.Places.{IsIndexOf}
+use Rattle.osgi_registry.specs.computed.Places.{IsIndexOf}
 use Rattle.osgi_registry.specs.Rows.{others}
 use Rattle.osgi_registry.proofs.registry.take_places.Given as goal
 

@@ -1,7 +1,7 @@
 -- The version machine is a reader, and its last state has the version.
 use Rattle.std.proofs.Common.{◌∙◌}
 use Rattle.std.proofs.lemmas.Option.{none-some, same_Some}
-use Rattle.osgi_version.proofs.VersionReader.{version_reader, accepted}
+use Rattle.osgi_version.specs.laws.VersionReader.{version_reader, accepted}
 use Rattle.osgi_version.proofs.read.read.Goals as goal
 
 pub examine-requires : goal.examine-requires

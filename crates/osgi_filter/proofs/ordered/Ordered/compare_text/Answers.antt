@@ -1,7 +1,7 @@
 -- A number is compared as a number.
 use Rattle.std.proofs.Common.{◌≡◌, ap, ◌∙◌, arith, to_z, of_z, w64}
 use Rattle.std.proofs.lemmas.Int.{ints, to_z-of_z}
-use Rattle.osgi_model.specs.MatchReader.{long_order}
+use Rattle.osgi_model.specs.computed.MatchReader.{long_order}
 use Rattle.osgi_filter.proofs.ordered.Ordered.compare_text.Goals as goal
 
 pub returns-in-Long : goal.returns-in-Long

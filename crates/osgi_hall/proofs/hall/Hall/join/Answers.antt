@@ -1,4 +1,4 @@
--- The rule stays when caller 0 takes another in, and a look tells what it then knows.
+-- The rule stays when caller 0 takes another in, and a look shows what it then knows.
 use Rattle.std.proofs.Common.{rules, ◌≡◌, ◌∙◌, ap}
 use Rattle.osgi_hall.specs.computed.Steps.{joining}
 use Rattle.osgi_hall.proofs.PassSteps.{joins_at, looks}

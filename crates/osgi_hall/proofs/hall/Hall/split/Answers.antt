@@ -1,4 +1,4 @@
--- The rule stays when caller 0 makes another, and a look tells what the new one knows.
+-- The rule stays when caller 0 makes another, and a look shows what the new one knows.
 use Rattle.std.proofs.Common.{rules, arith, ◌≡◌, ◌+◌, ◌<◌, ◌^◌, ◌∙◌, ap, refl}
 use Rattle.osgi_hall.specs.computed.Steps.{newcomer}
 use Rattle.osgi_hall.proofs.PassSteps.{splits_at, looks}

@@ -4,7 +4,7 @@ use Rattle.std.specs.Prelude.{true, cond, None, Some}
 use Rattle.std.specs.List.{list_any}
 use Rattle.std.specs.BTreeMap.{is_at}
 use Rattle.std.proofs.lemmas.Result.{err_from_is_err_and}
-use Rattle.osgi_registry.specs.Places.{place_cmp, same_place}
+use Rattle.osgi_registry.specs.computed.Places.{place_cmp, same_place}
 use Rattle.osgi_registry.proofs.Holds.{adds_at, one_more, PutsAt, same_at}
 use Rattle.osgi_registry.proofs.class_index.ClassIndex.add.Goals as goal
 

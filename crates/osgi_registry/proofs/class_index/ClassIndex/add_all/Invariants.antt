@@ -1,6 +1,6 @@
 -- The place is added under the classes so far.
 use Rattle.std.proofs.Common.{take}
-use Rattle.osgi_registry.specs.Places.{Adds}
+use Rattle.osgi_registry.specs.computed.Places.{Adds}
 use Rattle.osgi_registry.proofs.class_index.ClassIndex.add_all.Given as goal
 
 abbrev pub invariant-loop-class : goal.invariant-loop-class

@@ -1,7 +1,7 @@
 -- A place added at one place and taken out at another.
 use Rattle.std.proofs.Common.{◌≡◌, rules}
 use Rattle.std.specs.Prelude.{false}
-use Rattle.osgi_registry.specs.Places.{same_place}
+use Rattle.osgi_registry.specs.computed.Places.{same_place}
 use Rattle.osgi_registry.proofs.Exact.{places_apart}
 use Rattle.osgi_registry.proofs.Holds.{moves_elsewhere}
 use Rattle.osgi_registry.proofs.class_index.ClassIndex.move_all.Goals as goal

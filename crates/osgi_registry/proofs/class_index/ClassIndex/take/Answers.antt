@@ -3,7 +3,7 @@ use Rattle.std.proofs.Common.{◌≡◌, [], ap, sym, ◌∙◌, rules}
 use Rattle.std.specs.Prelude.{None, Some}
 use Rattle.std.specs.List.{list_any}
 use Rattle.std.specs.BTreeMap.{is_at}
-use Rattle.osgi_registry.specs.Places.{place_cmp}
+use Rattle.osgi_registry.specs.computed.Places.{place_cmp}
 use Rattle.osgi_registry.proofs.Holds.{none_left, one_less, puts_twice, takes_at}
 use Rattle.osgi_registry.proofs.class_index.ClassIndex.take.Goals as goal
 

@@ -4,20 +4,20 @@ use Rattle.std.specs.BTreeMap.{insert_entry}
 use Rattle.std.specs.Map.{values_of}
 use Rattle.std.specs.Ordering.{nat_cmp}
 use Rattle.std.proofs.lemmas.Map.Entries.{length-values_of}
-use Rattle.osgi_ops.specs.Settings.{most_services}
+use Rattle.osgi_ops.specs.declared.limits.TheConstants.{MAX_SERVICES}
 use Rattle.osgi_registry.proofs.Entries.{inserted, kept_push, values-push}
 use Rattle.osgi_registry.proofs.Holds.{undone}
 use Rattle.osgi_registry.proofs.Placed.{fresh_id, fresh_place, index_same, placed_push}
-use Rattle.osgi_registry.specs.Places.{Adds, IsFresh, place_of, Takes}
+use Rattle.osgi_registry.specs.computed.Places.{Adds, IsFresh, place_of, Takes}
 use Rattle.osgi_registry.specs.Rows.{id_of}
 use Rattle.osgi_registry.proofs.registry.Registry.add.Goals as goal
 
 pub add_all-requires : goal.add_all-requires
 add_all-requires c =
-    let next : c.args.service.service.0 ≡ c.self.inside.given + 1 = rw (← c.self.view_is) at c.requires.next in
+    let next : c.args.service.service.0 ≡ c.self.inside.issued + 1 = rw (← c.self.view_is) at c.requires.next in
     rw c.of-place.ensures.place
     (fresh_place c.self.inside.index.classes (values_of c.self.inside.services.entries) (place_of c.args.service) c.self.invariant.index
-    (fresh_id c.self.inside.given c.self.inside.services.entries (place_of c.args.service) c.self.invariant.rows.under (omega (arith, next))))
+    (fresh_id c.self.inside.issued c.self.inside.services.entries (place_of c.args.service) c.self.invariant.rows.under (omega (arith, next))))
 
 pub invariant_of-self : goal.invariant_of-self
 invariant_of-self c = record {
@@ -32,9 +32,9 @@ invariant_of-self-in-Err c =
     let new = c.take_all.new.self.classes in
     let rows = values_of c.self.inside.services.entries in
     let place = place_of c.args.service in
-    let next : c.args.service.service.0 ≡ c.self.inside.given + 1 = rw (← c.self.view_is) at c.requires.next in
-    let fresh : IsFresh old place = fresh_place old rows place c.self.invariant.index (fresh_id c.self.inside.given c.self.inside.services.entries place c.self.invariant.rows.under (omega (arith, next))) in
-    let given_back : c.in-Err.wanting.value.1 ≡ c.in_ok-held.held = ap (λ p. p.1) c.in-Err.ensures.value_returned in
+    let next : c.args.service.service.0 ≡ c.self.inside.issued + 1 = rw (← c.self.view_is) at c.requires.next in
+    let fresh : IsFresh old place = fresh_place old rows place c.self.invariant.index (fresh_id c.self.inside.issued c.self.inside.services.entries place c.self.invariant.rows.under (omega (arith, next))) in
+    let given_back : c.in-Err.error.value.1 ≡ c.in_ok-held.held = ap (λ p. p.1) c.in-Err.ensures.value_returned in
     let among : c.items-in-Err.result.now ≡ c.args.service.classes
     = c.items-in-Err.ensures.items ∙ ap (λ s. s.classes) (c.service-in-Err.ensures.service ∙ ap (λ r. r.service) (given_back ∙ c.in_ok-held.ensures.service)) in
     let added : Adds old mid c.args.service.classes place
@@ -46,11 +46,11 @@ invariant_of-self-in-Err c =
 
 pub invariant_of-self-2 : goal.invariant_of-self-2
 invariant_of-self-2 c =
-    let next : c.args.service.service.0 ≡ c.self.inside.given + 1 = rw (← c.self.view_is) at c.requires.next in
-    let fits : c.self.inside.given < 4294967295 = rw (← c.self.view_is) at c.requires.fits in
-    let room : length (values_of c.self.inside.services.entries) < most_services = rw (← c.self.view_is) at c.requires.room in
-    let entries : c.insert.new.self.entries ≡ c.self.inside.services.entries ++ (c.self.inside.given + 1, c.in_ok-held.held) ∷ []
-    = c.in_default.ensures.entries ∙ ap (λ id. insert_entry nat_cmp c.self.inside.services.entries id c.in_ok-held.held) next ∙ inserted c.self.inside.given c.self.inside.services.entries c.in_ok-held.held c.self.invariant.rows.under in
+    let next : c.args.service.service.0 ≡ c.self.inside.issued + 1 = rw (← c.self.view_is) at c.requires.next in
+    let fits : c.self.inside.issued < 4294967295 = rw (← c.self.view_is) at c.requires.fits in
+    let room : length (values_of c.self.inside.services.entries) < MAX_SERVICES = rw (← c.self.view_is) at c.requires.room in
+    let entries : c.insert.new.self.entries ≡ c.self.inside.services.entries ++ (c.self.inside.issued + 1, c.in_ok-held.held) ∷ []
+    = c.in_default.ensures.entries ∙ ap (λ id. insert_entry nat_cmp c.self.inside.services.entries id c.in_ok-held.held) next ∙ inserted c.self.inside.issued c.self.inside.services.entries c.in_ok-held.held c.self.invariant.rows.under in
     let added : Adds c.self.inside.index.classes c.add_all.new.self.classes c.in_ok-held.held.service.classes (place_of c.in_ok-held.held.service)
     = subst (λ r. Adds c.self.inside.index.classes c.add_all.new.self.classes r.service.classes (place_of r.service)) (sym c.in_ok-held.ensures.service)
     (subst (λ l. Adds c.self.inside.index.classes c.add_all.new.self.classes l (place_of c.args.service)) (c.items.ensures.items ∙ ap (λ s. s.classes) (c.service.ensures.service ∙ ap (λ r. r.service) c.in_ok-held.ensures.service))
@@ -58,16 +58,16 @@ invariant_of-self-2 c =
     rw (entries, next)
     (record {
       rows =
-          kept_push c.self.inside.given c.self.inside.services.entries c.in_ok-held.held c.self.invariant.rows (ap id_of c.in_ok-held.ensures.service ∙ next)
+          kept_push c.self.inside.issued c.self.inside.services.entries c.in_ok-held.held c.self.invariant.rows (ap id_of c.in_ok-held.ensures.service ∙ next)
           (omega (arith, room, length-values_of c.self.inside.services.entries)) fits;
       index =
-          rw (values-push c.self.inside.services.entries (c.self.inside.given + 1) c.in_ok-held.held)
+          rw (values-push c.self.inside.services.entries (c.self.inside.issued + 1) c.in_ok-held.held)
           (placed_push c.self.inside.index.classes c.add_all.new.self.classes (values_of c.self.inside.services.entries) c.in_ok-held.held c.self.invariant.index added);
     })
 
 pub returns-clause-rows : goal.returns-clause-rows
 returns-clause-rows c =
-    let next : c.args.service.service.0 ≡ c.self.inside.given + 1 = rw (← c.self.view_is) at c.requires.next in
-    let entries : c.insert.new.self.entries ≡ c.self.inside.services.entries ++ (c.self.inside.given + 1, c.in_ok-held.held) ∷ []
-    = c.in_default.ensures.entries ∙ ap (λ id. insert_entry nat_cmp c.self.inside.services.entries id c.in_ok-held.held) next ∙ inserted c.self.inside.given c.self.inside.services.entries c.in_ok-held.held c.self.invariant.rows.under in
-    rw (entries, values-push c.self.inside.services.entries (c.self.inside.given + 1) c.in_ok-held.held, c.in_ok-held.ensures.service, ← c.self.view_is) refl
+    let next : c.args.service.service.0 ≡ c.self.inside.issued + 1 = rw (← c.self.view_is) at c.requires.next in
+    let entries : c.insert.new.self.entries ≡ c.self.inside.services.entries ++ (c.self.inside.issued + 1, c.in_ok-held.held) ∷ []
+    = c.in_default.ensures.entries ∙ ap (λ id. insert_entry nat_cmp c.self.inside.services.entries id c.in_ok-held.held) next ∙ inserted c.self.inside.issued c.self.inside.services.entries c.in_ok-held.held c.self.invariant.rows.under in
+    rw (entries, values-push c.self.inside.services.entries (c.self.inside.issued + 1) c.in_ok-held.held, c.in_ok-held.ensures.service, ← c.self.view_is) refl

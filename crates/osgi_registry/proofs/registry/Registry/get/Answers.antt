@@ -8,7 +8,7 @@ use Rattle.osgi_registry.proofs.Entries.{found_under, row_absent, row_present}
 use Rattle.osgi_registry.proofs.Keys.{found_by, set_by}
 use Rattle.osgi_registry.proofs.Placed.{index_kept}
 use Rattle.osgi_registry.specs.Rows.{row_at, used_more}
-use Rattle.osgi_registry.proofs.Standing.{stands_used}
+use Rattle.osgi_registry.specs.laws.Standing.{stands_used}
 use Rattle.osgi_registry.proofs.registry.Registry.get.Goals as goal
 
 pub returns-in_default-clause-object : goal.returns-in_default-clause-object
@@ -24,7 +24,7 @@ pub returns-in_err-object-clause-unchanged : goal.returns-in_err-object-clause-u
 returns-in_err-object-clause-unchanged c =
     let p = err_from_is_err_and c.from_residual.result c.from_residual.ensures.1 in
     rw p.1
-    (ap (λ es. record { rows = values_of es; given = c.self.inside.given })
+    (ap (λ es. record { rows = values_of es; issued = c.self.inside.issued })
     (set_by c.args.service.0 _ _ _ (c.get_mut.follows.holds c.in-Some.held.now).0 ∙ set_same c.args.service.0 c.in-Some.held.now c.in-Some.held.now _ refl (found_by c.args.service.0 _ _ c.in-Some.ensures.value))
     ∙ c.self.view_is)
 
@@ -41,7 +41,7 @@ pub returns-in_err-add_use-clause-unchanged : goal.returns-in_err-add_use-clause
 returns-in_err-add_use-clause-unchanged c =
     let p = err_from_is_err_and c.from_residual-in_err-add_use.result c.from_residual-in_err-add_use.ensures.1 in
     rw p.1
-    (ap (λ es. record { rows = values_of es; given = c.self.inside.given })
+    (ap (λ es. record { rows = values_of es; issued = c.self.inside.issued })
     (set_by c.args.service.0 _ _ _ (c.get_mut.follows.holds c.add_use.new.self).0 ∙ set_same c.args.service.0 c.in-Some.held.now c.add_use.new.self _ c.in_err-add_use.ensures.unchanged (found_by c.args.service.0 _ _ c.in-Some.ensures.value))
     ∙ c.self.view_is)
 
@@ -65,4 +65,4 @@ returns-clause-rows c =
     (rows_set _ c.args.service c.in-Some.held.now c.add_use.new.self (used_more c.args.user) _ c.self.invariant.rows.under c.self.invariant.rows.rising (sym c.in_ok-add_use.ensures.used) (found_by c.args.service.0 _ _ c.in-Some.ensures.value))
 
 pub returns-clause-stands : goal.returns-clause-stands
-returns-clause-stands c = λ history tag stands. stands_used history c.args.self.now _ tag c.args.user c.args.service _ stands (returns-clause-rows c) (ap (λ r. r.given) c.self.view_is)
+returns-clause-stands c = λ history tag stands. stands_used history c.args.self.now _ tag c.args.user c.args.service _ stands (returns-clause-rows c) (ap (λ r. r.issued) c.self.view_is)

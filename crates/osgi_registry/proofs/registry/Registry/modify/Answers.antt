@@ -8,9 +8,9 @@ use Rattle.osgi_registry.proofs.Changed.{kept_set, rows_set, set_same}
 use Rattle.osgi_registry.proofs.Entries.{found_under, row_absent}
 use Rattle.osgi_registry.proofs.Keys.{found_by, set_by}
 use Rattle.osgi_registry.proofs.Placed.{any_found, fresh_move, index_same, only_one, placed_change, stands}
-use Rattle.osgi_registry.specs.Places.{Moves, place_of}
+use Rattle.osgi_registry.specs.computed.Places.{Moves, place_of}
 use Rattle.osgi_registry.specs.Rows.{id_of, is_service, row_at, with_properties}
-use Rattle.osgi_registry.proofs.Standing.{stands_modified}
+use Rattle.osgi_registry.specs.laws.Standing.{stands_modified}
 use Rattle.osgi_registry.proofs.registry.Registry.modify.Goals as goal
 
 pub returns-in_default-get_mut-clause-refusal : goal.returns-in_default-get_mut-clause-refusal
@@ -31,9 +31,9 @@ invariant_of-self-in_err-all c =
 
 pub returns-in_err-all-clause-unchanged : goal.returns-in_err-all-clause-unchanged
 returns-in_err-all-clause-unchanged c =
-    let p = err_from_is_err_and c.from_residual.result c.from_residual.ensures.1 in
+    let p = err_from_is_err_and c.from_residual-in_err-all.result c.from_residual-in_err-all.ensures.1 in
     rw p.1
-    (ap (λ es. record { rows = values_of es; given = c.self.inside.given })
+    (ap (λ es. record { rows = values_of es; issued = c.self.inside.issued })
     (set_by c.args.service.0 _ _ _ (c.get_mut.follows.holds c.in-Some-get_mut.held.now).0 ∙ set_same c.args.service.0 c.in-Some-get_mut.held.now c.in-Some-get_mut.held.now _ refl (found_by c.args.service.0 _ _ c.in-Some-get_mut.ensures.value))
     ∙ c.self.view_is)
 
@@ -48,7 +48,7 @@ move_all-requires-clause-fresh c =
     let is : c.new-place.result.service ≡ c.args.service.0
     = ap (λ p. p.service) c.new-place.ensures.place ∙ ap (λ s. s.service.0) c.service-now.ensures.service ∙ sym (found_under _ _ _ _ c.self.invariant.rows.under found).key in
     rw (c.of.ensures.place, c.service-now.ensures.service)
-    (fresh_move c.self.inside.given c.args.service c.in-Some-get_mut.held.now c.self.inside.services.entries c.self.inside.index.classes c.new-place.result c.self.invariant.rows c.self.invariant.index found is)
+    (fresh_move c.self.inside.issued c.args.service c.in-Some-get_mut.held.now c.self.inside.services.entries c.self.inside.index.classes c.new-place.result c.self.invariant.rows c.self.invariant.index found is)
 
 pub invariant_of-self-in_err-move_all : goal.invariant_of-self-in_err-move_all
 invariant_of-self-in_err-move_all c =
@@ -62,7 +62,7 @@ pub returns-in_err-move_all-clause-unchanged : goal.returns-in_err-move_all-clau
 returns-in_err-move_all-clause-unchanged c =
     let p = err_from_is_err_and c.from_residual-in_err-move_all.result c.from_residual-in_err-move_all.ensures.1 in
     rw p.1
-    (ap (λ es. record { rows = values_of es; given = c.self.inside.given })
+    (ap (λ es. record { rows = values_of es; issued = c.self.inside.issued })
     (set_by c.args.service.0 _ _ _ (c.get_mut.follows.holds c.in-Some-get_mut.held.now).0 ∙ set_same c.args.service.0 c.in-Some-get_mut.held.now c.in-Some-get_mut.held.now _ refl (found_by c.args.service.0 _ _ c.in-Some-get_mut.ensures.value))
     ∙ c.self.view_is)
 
@@ -104,4 +104,4 @@ returns-clause-rows c =
     (rows_set _ c.args.service c.in-Some-get_mut.held.now c.set_properties.new.self (with_properties c.args.properties) _ c.self.invariant.rows.under c.self.invariant.rows.rising is (found_by c.args.service.0 _ _ c.in-Some-get_mut.ensures.value))
 
 pub returns-clause-stands : goal.returns-clause-stands
-returns-clause-stands c = λ history tag stands. stands_modified history c.args.self.now _ tag c.args.owner c.args.service c.args.properties stands (returns-clause-rows c) (ap (λ r. r.given) c.self.view_is)
+returns-clause-stands c = λ history tag stands. stands_modified history c.args.self.now _ tag c.args.owner c.args.service c.args.properties stands (returns-clause-rows c) (ap (λ r. r.issued) c.self.view_is)

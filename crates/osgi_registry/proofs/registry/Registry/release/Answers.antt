@@ -4,14 +4,14 @@ use Rattle.osgi_registry.proofs.Released.{apart_rows, index_left, kept_left, lef
 use Rattle.osgi_registry.proofs.registry.Registry.release.Goals as goal
 
 pub take_places-requires-clause-apart : goal.take_places-requires-clause-apart
-take_places-requires-clause-apart c = apart_rows c.self.inside.given c.self.inside.services.entries c.self.invariant.rows.under c.self.invariant.rows.rising
+take_places-requires-clause-apart c = apart_rows c.self.inside.issued c.self.inside.services.entries c.self.invariant.rows.under c.self.invariant.rows.rising
 
 pub invariant_of-self : goal.invariant_of-self
 invariant_of-self c =
     let kept : c.retain.new.self.entries ≡ left_of c.args.bundle c.self.inside.services.entries = retained _ c.args.bundle _ (λ k v b w g call. search rules) c.self.inside.services.entries _ c.retain.ensures.filtered in
     rw kept
     (record {
-      rows = kept_left c.self.inside.given c.args.bundle c.self.inside.services.entries c.self.invariant.rows;
+      rows = kept_left c.self.inside.issued c.args.bundle c.self.inside.services.entries c.self.invariant.rows;
       index = index_left c.take_places.new.index.classes c.args.bundle c.self.inside.services.entries c.take_places.ensures.index;
     })
 

@@ -11,7 +11,7 @@ use Rattle.osgi_ops.specs.declared.op.Op.TheVariants as op
 use Rattle.osgi_ops.specs.declared.reply.Reply.TheVariants as answers
 use Rattle.osgi_registry.specs.Rows.{row_at, used_less}
 use Rattle.osgi_registry.specs.Stands.{StandsFor}
-use Rattle.osgi_registry.proofs.Standing.{all_held, stands_ungot, stands_unreturned}
+use Rattle.osgi_registry.specs.laws.Standing.{all_held, stands_ungot, stands_unreturned}
 use Rattle.osgi_registry.proofs.registry.Registry.unget.Goals as goal
 
 pub returns-in_default-clause-answer : goal.returns-in_default-clause-answer
@@ -44,7 +44,7 @@ pub returns-clause-unchanged : goal.returns-clause-unchanged
 returns-clause-unchanged c =
     OnFalse_from c.take_use.result _
     (λ no.
-    ap (λ es. record { rows = values_of es; given = c.self.inside.given })
+    ap (λ es. record { rows = values_of es; issued = c.self.inside.issued })
     (set_by c.args.service.0 _ _ _ (c.get_mut.follows.holds c.take_use.new.self).0 ∙ set_same c.args.service.0 c.in-Some.held.now c.take_use.new.self _ (OnFalse_at no c.take_use.ensures.unchanged) (found_by c.args.service.0 _ _ c.in-Some.ensures.value))
     ∙ c.self.view_is)
 
@@ -59,7 +59,7 @@ returns-in_default-clause-stands c = λ history tag stands.
 pub returns-clause-stands : goal.returns-clause-stands
 returns-clause-stands c = λ history tag stands.
     let found : lookup (nat_eq c.args.service.0) c.self.inside.services.entries ≡ Some c.in-Some.held.now = found_by c.args.service.0 _ _ c.in-Some.ensures.value in
-    stands_ungot history c.args.self.now _ tag c.args.user c.args.service c.take_use.result stands (returns-clause-rows c) (returns-clause-unchanged c) (ap (λ r. r.given) c.self.view_is)
+    stands_ungot history c.args.self.now _ tag c.args.user c.args.service c.take_use.result stands (returns-clause-rows c) (returns-clause-unchanged c) (ap (λ r. r.issued) c.self.view_is)
     (λ held.
     all_held c.args.user c.args.service c.in-Some.held.now c.args.self.now.rows c.take_use.result c.take_use.ensures.answer held
-    (rw (← c.self.view_is) (only_one c.self.inside.given c.args.service c.in-Some.held.now c.self.inside.services.entries c.self.invariant.rows.under c.self.invariant.rows.rising found)))
+    (rw (← c.self.view_is) (only_one c.self.inside.issued c.args.service c.in-Some.held.now c.self.inside.services.entries c.self.invariant.rows.under c.self.invariant.rows.rising found)))

@@ -6,9 +6,9 @@ use Rattle.osgi_registry.proofs.Changed.{kept_remove, rows_remove}
 use Rattle.osgi_registry.proofs.Entries.{found_under, row_absent}
 use Rattle.osgi_registry.proofs.Keys.{found_by, removed_by}
 use Rattle.osgi_registry.proofs.Placed.{only_one, placed_remove}
-use Rattle.osgi_registry.specs.Places.{place_of, Takes}
+use Rattle.osgi_registry.specs.computed.Places.{place_of, Takes}
 use Rattle.osgi_registry.specs.Rows.{row_at}
-use Rattle.osgi_registry.proofs.Standing.{stands_taken}
+use Rattle.osgi_registry.specs.laws.Standing.{stands_taken}
 use Rattle.osgi_registry.proofs.registry.Registry.unregister.Goals as goal
 
 pub returns-in_default-remove-clause-refusal : goal.returns-in_default-remove-clause-refusal
@@ -31,14 +31,14 @@ invariant_of-self-2 c =
     (record {
       rows = kept_remove _ _ _ rows;
       index =
-          rw (rows_remove c.self.inside.given c.args.service c.self.inside.services.entries rows.under rows.rising)
+          rw (rows_remove c.self.inside.issued c.args.service c.self.inside.services.entries rows.under rows.rising)
           (placed_remove c.self.inside.index.classes c.take_all.new.self.classes c.args.service row (values_of c.self.inside.services.entries) c.self.invariant.index taken
           (sym (found_under _ _ _ _ rows.under found).key) (only_one _ c.args.service row _ rows.under rows.rising found));
     })
 
 pub returns-clause-rows : goal.returns-clause-rows
 returns-clause-rows c =
-    rw (removed_by c.args.service.0 _ _ c.in-Some-remove.ensures.entries, ← c.self.view_is) (rows_remove c.self.inside.given c.args.service c.self.inside.services.entries c.self.invariant.rows.under c.self.invariant.rows.rising)
+    rw (removed_by c.args.service.0 _ _ c.in-Some-remove.ensures.entries, ← c.self.view_is) (rows_remove c.self.inside.issued c.args.service c.self.inside.services.entries c.self.invariant.rows.under c.self.invariant.rows.rising)
 
 pub returns-clause-stands : goal.returns-clause-stands
-returns-clause-stands c = λ history tag stands. stands_taken history c.args.self.now _ tag c.args.owner c.args.service stands (returns-clause-rows c) (ap (λ r. r.given) c.self.view_is)
+returns-clause-stands c = λ history tag stands. stands_taken history c.args.self.now _ tag c.args.owner c.args.service stands (returns-clause-rows c) (ap (λ r. r.issued) c.self.view_is)

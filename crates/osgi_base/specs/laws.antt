@@ -1,0 +1,5 @@
+-- Laws of the definitions, for the proofs of other crates. No promise cites them.
+pub mod Places
+pub mod Quoting
+pub mod Scans
+pub mod Verdicts

@@ -1,0 +1,107 @@
+-- What the reader computes of commands and of lines. No public promise speaks of this: it is proved to give the
+-- readings of the grammar.
+use Rattle.std.specs.Prelude.{ℕ, ◌≡◌, ◌+◌, ◌<◌, ◌==◌, if◌then◌else◌, Bool, true, List, [], ◌∷◌, length, codes, Option, None, Some, option_and_then, find}
+use Rattle.std.specs.Option.{option_map}
+use Rattle.std.specs.Str.{bytes_eq}
+use Rattle.std.specs.Str.Lines.{lines}
+use Rattle.osgi_base.specs.declared.ids.ServiceId.{ServiceId}
+use Rattle.osgi_filter.specs.computed.Reader.{read_filter}
+use Rattle.osgi_ops.specs.declared.command.Command.{Command}
+use Rattle.osgi_ops.specs.declared.command.Command.TheVariants as command
+use Rattle.osgi_ops.specs.declared.line.Content.{Content}
+use Rattle.osgi_ops.specs.declared.line.Content.TheVariants.{Empty, Bad, Run}
+use Rattle.osgi_ops.specs.declared.line.Line.{Line}
+use Rattle.osgi_console.specs.declared.commands.Search.{Search}
+use Rattle.osgi_console.specs.declared.commands.Verb.{Verb}
+use Rattle.osgi_console.specs.declared.commands.Verb.TheVariants as verb
+use Rattle.osgi_syntax.specs.Splitting.{after_spaces, after_word, first_word, words_of}
+use Rattle.osgi_base.specs.QuoteReader.{quoted_of}
+use Rattle.osgi_syntax.specs.WordReader.{class_of, classes_of, id_of}
+use Rattle.osgi_syntax.specs.PropertyReader.{properties_of}
+
+-- ---- commands
+
+-- the first word of a command
+abbrev pub name_of : Verb → List ℕ
+name_of verb.Register = codes "register"
+name_of verb.Modify = codes "modify"
+name_of verb.Unregister = codes "unregister"
+name_of verb.Find = codes "find"
+name_of verb.FindAll = codes "findall"
+name_of verb.Get = codes "get"
+name_of verb.Unget = codes "unget"
+name_of verb.Services = codes "services"
+
+abbrev pub verbs : List Verb
+verbs = verb.Register ∷ verb.Modify ∷ verb.Unregister ∷ verb.Find ∷ verb.FindAll ∷ verb.Get ∷ verb.Unget ∷ verb.Services ∷ []
+
+abbrev pub verb_of : List ℕ → Option Verb
+verb_of word = find (λ verb. bytes_eq (name_of verb) word) verbs
+
+abbrev pub register_of : List (List ℕ) → Option Command
+register_of (names ∷ quoted ∷ words) =
+    option_and_then (λ classes. option_and_then (λ object. option_map (λ properties. command.Register classes object properties) (properties_of words)) (quoted_of quoted)) (classes_of names)
+register_of _ = None
+
+abbrev pub modify_of : List (List ℕ) → Option Command
+modify_of [] = None
+modify_of (id ∷ words) = option_and_then (λ service. option_map (λ properties. command.Modify service properties) (properties_of words)) (id_of id)
+
+-- the one argument
+abbrev pub only_id_of : List (List ℕ) → Option ServiceId
+only_id_of (id ∷ []) = id_of id
+only_id_of _ = None
+
+abbrev pub services_command : List (List ℕ) → Option Command
+services_command [] = Some command.Services
+services_command _ = None
+
+-- what is wanted of a class, by what follows its name
+abbrev pub search_from : List ℕ → List ℕ → Option Search
+search_from class remainder =
+    if length (after_spaces remainder) == 0 then Some (record { class = class; filter = None })
+    else option_map (λ filter. record { class = class; filter = Some filter }) (read_filter remainder)
+
+abbrev pub search_of : List ℕ → Option Search
+search_of text = option_and_then (λ class. search_from class (after_word text)) (class_of (first_word text))
+
+-- the command by what follows its first word
+abbrev pub command_by : Verb → List ℕ → Option Command
+command_by verb.Register text = register_of (words_of text)
+command_by verb.Modify text = modify_of (words_of text)
+command_by verb.Unregister text = option_map command.Unregister (only_id_of (words_of text))
+command_by verb.Find text = option_map (λ wanted. command.Find wanted.class wanted.filter) (search_of text)
+command_by verb.FindAll text = option_map (λ wanted. command.FindAll wanted.class wanted.filter) (search_of text)
+command_by verb.Get text = option_map command.Get (only_id_of (words_of text))
+command_by verb.Unget text = option_map command.Unget (only_id_of (words_of text))
+command_by verb.Services text = services_command (words_of text)
+
+abbrev pub command_of : List ℕ → Option Command
+command_of text = option_and_then (λ verb. command_by verb (after_word text)) (verb_of (first_word text))
+
+-- ---- lines
+
+abbrev pub is_line_feed : ℕ → Bool
+is_line_feed b = b == 10
+
+-- the bytes begin with this line and its end, and what is left after that is shorter
+pub record BeginsWithLine (bytes line left : List ℕ) : Type 0 where
+  pub lines : lines bytes ≡ line ∷ lines left
+  pub shorter : length left < length bytes
+
+abbrev pub run_or_bad : Option Command → Content
+run_or_bad None = Bad
+run_or_bad (Some command) = Run command
+
+-- whether this, which follows the spaces at the start, is nothing or a comment
+abbrev pub is_silent : List ℕ → Bool
+is_silent [] = true
+is_silent (b ∷ rest) = b == 35
+
+abbrev pub content_of : List ℕ → Content
+content_of text = if is_silent (after_spaces text) then Empty else run_or_bad (command_of text)
+
+-- the lines of these texts, numbered from here on
+abbrev pub numbered : ℕ → List (List ℕ) → List Line
+numbered number [] = []
+numbered number (text ∷ texts) = record { number = number; lane = 0; content = content_of text } ∷ numbered (number + 1) texts

@@ -1,0 +1,5 @@
+-- What private functions and proofs cite. No public promise cites these.
+pub mod LongReader
+pub mod MatchReader
+pub mod ValueReader
+pub mod VersionReader

@@ -1,0 +1,23 @@
+-- A session as it ran, before its text is written. No public promise speaks of this.
+use Rattle.std.specs.Prelude.{ℕ, ◌≡◌, if◌then◌else◌, List, []}
+use Rattle.osgi_ops.specs.Legal.{Legal}
+use Rattle.osgi_ops.specs.Settings.{Setting}
+use Rattle.osgi_console.specs.Console.{AreLinesOf}
+use Rattle.osgi_program.specs.Outcome.{is_troubled}
+use Rattle.osgi_program.specs.computed.Running.{RunsLines}
+use Rattle.osgi_program.specs.declared.runner.Ran.{Ran}
+use Rattle.osgi_program.specs.declared.runner.Ran.TheVariants.{Full}
+use Rattle.osgi_program.specs.declared.session.Session.{Session}
+use Rattle.osgi_program.specs.declared.session.TheConstants.{DONE, TROUBLED, HISTORY_FULL}
+
+-- the lines of the input ran so far, from the empty history
+pub record IsRun (setting : Setting) (input : List ℕ) (ran : Ran) (session : Session) : Type 0 where
+  pub lines : AreLinesOf input session.lines
+  pub legal : Legal setting session.entries
+  pub runs : RunsLines ran setting.bounds.entries session.lines [] session.entries
+  pub handings : session.handings ≡ 0
+
+-- the status by how the lines ran
+abbrev pub status_by : Ran → Session → ℕ
+status_by Full session = HISTORY_FULL
+status_by _ session = if is_troubled session.lines session.entries then TROUBLED else DONE

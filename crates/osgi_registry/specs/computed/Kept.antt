@@ -1,0 +1,27 @@
+-- What is true of the registry's fields between calls.
+use Rattle.std.specs.Prelude.{ℕ, ◌≡◌, ◌<◌, ◌≤◌, List, All, AllPairs, length}
+use Rattle.std.specs.Map.{values_of}
+use Rattle.osgi_ops.specs.declared.limits.TheConstants.{MAX_SERVICES}
+use Rattle.osgi_registry.specs.computed.Places.{Classes, IsIndexOf}
+use Rattle.osgi_registry.specs.Rows.{Row, id_of}
+
+-- a row under its id, which was given
+pub record IsUnder (issued : ℕ) (e : ℕ × Row) : Type 0 where
+  pub key : e.0 ≡ id_of e.1
+  pub some : 0 < e.0
+  pub below : e.0 ≤ issued
+
+abbrev pub IsBefore : ℕ × Row → ℕ × Row → Type 0
+IsBefore d e = d.0 < e.0
+
+-- each row stands under its id, the ids rise, and there are no more rows, and no more ids given, than may be
+pub record AreKept (issued : ℕ) (entries : List (ℕ × Row)) : Type 0 where
+  pub under : All (IsUnder issued) entries
+  pub rising : AllPairs IsBefore entries
+  pub few : length entries ≤ MAX_SERVICES
+  pub fits : issued ≤ 4294967295
+
+-- and the index by class is theirs
+pub record IsKept (issued : ℕ) (entries : List (ℕ × Row)) (classes : Classes) : Type 0 where
+  pub rows : AreKept issued entries
+  pub index : IsIndexOf classes (values_of entries)

@@ -1,0 +1,10 @@
+-- The spaces so far were dropped.
+use Rattle.std.proofs.Common.{◌≡◌, length}
+use Rattle.osgi_syntax.specs.Splitting.{after_spaces}
+use Rattle.osgi_syntax.proofs.words.skip_spaces.Given as goal
+
+abbrev pub invariant-loop-rest : goal.invariant-loop-rest
+invariant-loop-rest l = after_spaces l.rest ≡ after_spaces l.text
+
+abbrev pub decreases-loop-rest : goal.decreases-loop-rest
+decreases-loop-rest l = length l.rest

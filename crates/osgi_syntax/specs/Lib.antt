@@ -1,0 +1,7 @@
+-- What the words of a line say, and what they are read as.
+pub mod laws
+pub mod Properties
+pub mod PropertyReader
+pub mod Splitting
+pub mod WordReader
+pub mod Words

@@ -1,0 +1,42 @@
+-- Decimal digits are read as the id of a service.
+use Rattle.std.proofs.Common.{◌≡◌, ℕ, List, length, ap, sym, ◌∙◌, refl, arith}
+use Rattle.std.specs.Prelude.{true, ◌&&◌, nat_le, Some, Result, Ok}
+use Rattle.std.specs.Str.Parse.{AllDigits, digits_value, ParsesUnsigned}
+use Rattle.std.proofs.lemmas.Bool.{and_from, and_parts, cond-true, le-leb, leb-true}
+use Rattle.std.proofs.lemmas.Option.{cond_some}
+use Rattle.std.proofs.lemmas.Str.Parse.{digits_value_short, IsNumeralModel, numerals_by_value, parse_gives, tells_digits}
+use Rattle.osgi_base.specs.declared.ids.ServiceId.{ServiceId}
+use Rattle.osgi_model.specs.laws.Numerals.{digits_pass, is_numeral-from, numeral_from}
+use Rattle.osgi_model.specs.computed.LongReader.{is_decimal, is_numeral}
+use Rattle.osgi_syntax.specs.laws.Whole.{bare_by, IsWhole, whole_bare}
+use Rattle.osgi_syntax.specs.WordReader.{id_of}
+use Rattle.osgi_syntax.specs.Words.{IsId}
+
+-- std's words for digits and their number
+pub own : IsNumeralModel (AllDigits 10) (digits_value 10)
+own = numerals_by_value (AllDigits 10) tells_digits
+
+-- ---- ids
+
+-- up to ten digits are read as their number
+pub id_parsed : {E : Type 0} (word : List ℕ) (r : Result ℕ E) → nat_le (length word) 10 ≡ true → is_numeral word ≡ true → ParsesUnsigned 64 10 word r → r ≡ Ok (digits_value 10 word)
+id_parsed word r short digits parses =
+    let numeral = numeral_from word digits in
+    parse_gives own 64 word r parses numeral.1 numeral.0 (omega (arith, digits_value_short own word 10 numeral.1 (leb-true (length word) 10 short)))
+
+pub id_sound : (word : List ℕ) (service : ServiceId) → id_of word ≡ Some service → IsId word service
+id_sound word service e =
+    let read = cond_some (nat_le (length word) 10 && is_numeral word) (record { 0 = digits_value 10 word }) service e in
+    let tests = and_parts (nat_le (length word) 10) (is_numeral word) read.0 in
+    record { numeral = numeral_from word tests.1; short = leb-true (length word) 10 tests.0; number = ap (λ (s : ServiceId). s.0) (sym read.1) }
+
+pub id_of-digits : (word : List ℕ) → nat_le (length word) 10 ≡ true → is_numeral word ≡ true → id_of word ≡ Some (record { 0 = digits_value 10 word })
+id_of-digits word short digits = cond-true _ _ _ (and_from (nat_le (length word) 10) (is_numeral word) short digits)
+
+pub id_read : (word : List ℕ) (service : ServiceId) → IsId word service → id_of word ≡ Some service
+id_read word service id =
+    let same : ◌≡◌ {A = ServiceId} (record { 0 = digits_value 10 word }) service = λ i. record { 0 = sym id.number i } in
+    id_of-digits word (le-leb (length word) 10 id.short) (is_numeral-from word id.numeral) ∙ ap Some same
+
+pub whole_id : (word : List ℕ) (service : ServiceId) → IsId word service → IsWhole word
+whole_id word service id = whole_bare word id.numeral.0 (bare_by is_decimal word refl refl (digits_pass word id.numeral.1))

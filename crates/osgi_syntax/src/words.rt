@@ -1,0 +1,42 @@
+//! The words of a line: spaces separate them, except between quotes.
+
+ghost use Rattle.std.specs.Prelude.{◌≡◌, IfOk, MatchOption};
+ghost use Rattle.osgi_syntax.specs.Splitting.{after_spaces, texts_of, words_of, BeginsWithWord, HasNoWord};
+
+use osgi_base::parts::part_len;
+use std::alloc::{AllocError, Global};
+
+/// Drops the spaces at the start.
+pub fn skip_spaces(text: &[u8]) -> &[u8]
+    ensures rest { result.now ≡ after_spaces text.now }
+{
+    let mut rest = text;
+    while let [b' ', remainder @ ..] = rest {
+        rest = remainder;
+    }
+    rest
+}
+
+/// Splits off the first word: the word, and what is left after it. None where no word is left.
+pub fn split_word(text: &[u8]) -> Option<(&[u8], &[u8])>
+    ensures words { MatchOption result (HasNoWord text.now) (λ split. BeginsWithWord text.now split.0.now split.1.now) }
+{
+    let text = skip_spaces(text);
+    if text.is_empty() {
+        return None;
+    }
+    Some(text.split_at(part_len(b' ', text)))
+}
+
+/// All words of a text, in order.
+pub fn split_words<'a>(alloc: Global, text: &'a [u8]) -> Result<Vec<&'a [u8]>, AllocError>
+    ensures words { IfOk result (λ words. texts_of words.items ≡ words_of text.now) }
+{
+    let mut words = Vec::new(alloc);
+    let mut rest = text;
+    while let Some((word, remainder)) = split_word(rest) {
+        words.push(word)?;
+        rest = remainder;
+    }
+    Ok(words)
+}
