@@ -5,61 +5,12 @@ use osgi_base::ids::{BundleId, Tag};
 use osgi_base::list::List;
 use osgi_console::parse;
 use osgi_core::Core;
-use osgi_ops::command::Command;
 use osgi_ops::limits::Limits;
 use osgi_ops::line::{Content, Line};
-use osgi_ops::op::Op;
 use std::alloc::{AllocError, Global};
 
 /// The bundle that asks for everything.
 const SYSTEM: BundleId = BundleId(0);
-
-/// The operation that a command asks for.
-fn operation(command: Command) -> Op {
-    match command {
-        Command::Register {
-            classes,
-            object,
-            properties,
-        } => Op::Register {
-            owner: SYSTEM,
-            classes,
-            object,
-            properties,
-        },
-        Command::Modify {
-            service,
-            properties,
-        } => Op::Modify {
-            owner: SYSTEM,
-            service,
-            properties,
-        },
-        Command::Unregister { service } => Op::Unregister {
-            owner: SYSTEM,
-            service,
-        },
-        Command::Find { class, filter } => Op::Find {
-            asker: SYSTEM,
-            class,
-            filter,
-        },
-        Command::FindAll { class, filter } => Op::FindAll {
-            asker: SYSTEM,
-            class,
-            filter,
-        },
-        Command::Get { service } => Op::Get {
-            user: SYSTEM,
-            service,
-        },
-        Command::Unget { service } => Op::Unget {
-            user: SYSTEM,
-            service,
-        },
-        Command::Services => Op::ListServices,
-    }
-}
 
 /// The lines of a text, which may have as many bytes as lines can be counted.
 pub fn lines_of(alloc: Global, text: &[u8]) -> Result<List<Line>> {
@@ -76,7 +27,7 @@ fn run_line(alloc: Global, core: &mut Core, line: &Line) -> Result<bool, AllocEr
         caller: 0,
         command: line.number,
     };
-    let reply = core.apply(tag, operation(command.copy(alloc)?))?;
+    let reply = core.apply(tag, command.copy(alloc)?.into_op(SYSTEM))?;
     Ok(!reply.is_refusal())
 }
 

@@ -8,7 +8,7 @@ use Rattle.osgi_ops.specs.declared.line.Content.{Content}
 use Rattle.osgi_ops.specs.declared.line.Content.TheVariants.{Empty, Join, Bad, Run}
 use Rattle.osgi_ops.specs.declared.line.Line.{Line}
 use Rattle.osgi_base.specs.declared.parts.QuoteState.TheVariants.{Bare}
-use Rattle.osgi_syntax.specs.laws.Spaces.{after_spaces-all, after_spaces-front, spaced}
+use Rattle.osgi_syntax.specs.laws.Spaces.{after_spaces-all, after_spaces-prefix, spaced}
 use Rattle.osgi_console.proofs.Verbs.{command_read, command_sound}
 use Rattle.osgi_console.specs.Console.{AreLinesOf, AreReadFrom, blank, comment, LineReads, Says, SaysNothing}
 use Rattle.osgi_console.specs.computed.LineReader.{command_by, command_of, content_of, is_silent, numbered, run_or_bad, verb_of}
@@ -20,7 +20,7 @@ use Rattle.osgi_syntax.specs.Words.{AreSpaces}
 
 nothing_read : (line : List ℕ) → SaysNothing line → content_of line ≡ Empty
 nothing_read line (blank are) = rw (after_spaces-all line are) refl
-nothing_read line (comment spaces rest are e) = rw (e, after_spaces-front spaces (35 ∷ rest) are) refl
+nothing_read line (comment spaces rest are e) = rw (e, after_spaces-prefix spaces (35 ∷ rest) are) refl
 
 -- a comment says no command
 no_comment : (rest : List ℕ) → verb_of (take (part_len 32 Bare (35 ∷ rest)) (35 ∷ rest)) ≡ None

@@ -11,11 +11,11 @@ use Rattle.osgi_model.specs.laws.Made.{mapped}
 use Rattle.osgi_model.specs.Filters.{IsReadableFilter, ReadsFilter}
 use Rattle.osgi_model.specs.declared.filter.Filter.{Filter}
 use Rattle.osgi_syntax.specs.laws.Names.{class_read, class_sound, whole_class}
-use Rattle.osgi_syntax.specs.laws.Separating.{front_parts}
+use Rattle.osgi_syntax.specs.laws.Separating.{first_separates}
 use Rattle.osgi_syntax.specs.laws.Spaces.{after_spaces-all, all_spaces, EndsWord, with_nothing, with_space}
 use Rattle.std.proofs.lemmas.List.{nil_from_length}
 use Rattle.osgi_syntax.specs.laws.Splitting.{after_word-ends}
-use Rattle.osgi_syntax.specs.laws.Whole.{ends_all, parted_front}
+use Rattle.osgi_syntax.specs.laws.Whole.{ends_all, first_separated}
 use Rattle.osgi_console.specs.declared.commands.Search.{Search}
 use Rattle.osgi_console.specs.computed.LineReader.{search_from, search_of}
 use Rattle.osgi_syntax.specs.Splitting.{after_spaces, after_word, first_word}
@@ -71,7 +71,7 @@ end_read class (Some f) remainder is = some_by class remainder f (length (after_
 
 pub record AreWanted (text : List ℕ) (w : Search) : Type 0 where
   pub class : IsClass w.class
-  pub parted : IsSeparated (IsFilterEnd w.filter) (w.class ∷ []) text
+  pub separated : IsSeparated (IsFilterEnd w.filter) (w.class ∷ []) text
 
 wanted_behind : (rest : List ℕ) (w : Search) → search_of rest ≡ Some w → AreWanted (32 ∷ rest) w
 wanted_behind rest w e =
@@ -81,8 +81,8 @@ wanted_behind rest w e =
     let is = end_sound class (after_word rest) w (after_word-ends rest) made in
     record {
       class = subst IsClass (sym is.named) of_class.0;
-      parted = subst (λ word. IsSeparated (IsFilterEnd w.filter) (word ∷ []) (32 ∷ rest)) (of_class.1 ∙ sym is.named)
-          (front_parts (IsFilterEnd w.filter) [] rest is.ended);
+      separated = subst (λ word. IsSeparated (IsFilterEnd w.filter) (word ∷ []) (32 ∷ rest)) (of_class.1 ∙ sym is.named)
+          (first_separates (IsFilterEnd w.filter) [] rest is.ended);
     })
 
 -- what is read after the first word is a class, and a filter or none
@@ -94,6 +94,6 @@ wanted_sound (b ∷ rest) w (with_space _ _ is) e =
 -- and such are read
 pub wanted_read : (class : List ℕ) (filter : Option Filter) (text : List ℕ) → IsClass class → IsSeparated (IsFilterEnd filter) (class ∷ []) text →
     search_of text ≡ Some (record { class = class; filter = filter })
-wanted_read class filter text is parted =
-    let prefix = parted_front (IsFilterEnd filter) class [] text (filter_ends filter) (whole_class class is) parted in
-    rw (prefix.first, prefix.remainder, class_read class is) (end_read class filter parted.1 parted.5)
+wanted_read class filter text is separated =
+    let prefix = first_separated (IsFilterEnd filter) class [] text (filter_ends filter) (whole_class class is) separated in
+    rw (prefix.first, prefix.remainder, class_read class is) (end_read class filter separated.1 separated.5)

@@ -17,11 +17,11 @@ use Rattle.osgi_syntax.specs.laws.Attributes.{properties_read, properties_sound,
 use Rattle.osgi_syntax.specs.laws.Names.{classes_read, classes_sound, whole_classes}
 use Rattle.osgi_console.proofs.Filters.{filter_ends, wanted_read, wanted_sound}
 use Rattle.osgi_syntax.specs.laws.Ids.{id_read, id_sound, whole_id}
-use Rattle.osgi_syntax.specs.laws.Separating.{front_parts, words_part}
+use Rattle.osgi_syntax.specs.laws.Separating.{first_separates, words_separate}
 use Rattle.osgi_base.specs.laws.Quoting.{quoted_read, quoted_sound}
 use Rattle.osgi_syntax.specs.laws.Spaces.{EndsWord}
 use Rattle.osgi_syntax.specs.laws.Splitting.{begins, after_word-ends}
-use Rattle.osgi_syntax.specs.laws.Whole.{AreWhole, ends_all, HasFront, IsWhole, parted_front, parted_words, whole_quoted}
+use Rattle.osgi_syntax.specs.laws.Whole.{ends_all, first_separated, HasFirstWord, separated_words, whole_quoted}
 use Rattle.osgi_console.specs.Console as says
 use Rattle.osgi_console.specs.computed.LineReader.{command_by, command_of, modify_of, name_of, only_id_of, register_of, services_command, verb_of, verbs, search_of}
 use Rattle.osgi_syntax.specs.PropertyReader.{properties_of}
@@ -30,6 +30,7 @@ use Rattle.osgi_syntax.specs.Splitting.{after_spaces, after_word, first_word, wo
 use Rattle.osgi_base.specs.QuoteReader.{quoted_of}
 use Rattle.osgi_syntax.specs.WordReader.{classes_of, id_of}
 use Rattle.osgi_console.specs.Console.{IsFilterEnd}
+use Rattle.osgi_syntax.specs.LineWords.{AreLineWords, IsLineWord}
 use Rattle.osgi_syntax.specs.Words.{AreSpaces, IsClass, IsId, IsSeparated}
 
 -- ---- the first word
@@ -37,7 +38,7 @@ use Rattle.osgi_syntax.specs.Words.{AreSpaces, IsClass, IsId, IsSeparated}
 verb_sound : (word : List ℕ) (v : Verb) → verb_of word ≡ Some v → name_of v ≡ word
 verb_sound word v e = same_text (name_of v) word (passes_found (λ v. bytes_eq (name_of v) word) verbs v e)
 
-whole_name : (v : Verb) → IsWhole (name_of v)
+whole_name : (v : Verb) → IsLineWord (name_of v)
 whole_name verb.Register = record { some = omega arith; scanned = refl }
 whole_name verb.Modify = record { some = omega arith; scanned = refl }
 whole_name verb.Unregister = record { some = omega arith; scanned = refl }
@@ -54,9 +55,9 @@ has_word v line named =
 
 -- where a verb's name and other words part a line, it is the line's first word
 named_front : (IsEnd : List ℕ → Type 0) (v : Verb) (words : List (List ℕ)) (line : List ℕ) → ((end : List ℕ) → IsEnd end → EndsWord end) →
-    (parted : IsSeparated IsEnd (name_of v ∷ words) (32 ∷ line)) → HasFront line (name_of v) parted.1
-named_front IsEnd v words line end parted =
-    let prefix = parted_front IsEnd (name_of v) words (32 ∷ line) end (whole_name v) parted in
+    (separated : IsSeparated IsEnd (name_of v ∷ words) (32 ∷ line)) → HasFirstWord line (name_of v) separated.1
+named_front IsEnd v words line end separated =
+    let prefix = first_separated IsEnd (name_of v) words (32 ∷ line) end (whole_name v) separated in
     record { some = prefix.some; first = prefix.first; remainder = prefix.remainder }
 
 -- ---- the arguments
@@ -113,7 +114,7 @@ said_in_words : (v : Verb) (line : List ℕ) (c : Command) → name_of v ≡ fir
 said_in_words v line c named are =
     let some : 0 < length (after_spaces line) = has_word v line named in
     let words : words_of line ≡ name_of v ∷ words_of (after_word line) = (begins line some).words ∙ ap (λ l. l ∷ words_of (after_word line)) (sym named) in
-    says.in_words are (subst (λ l. IsSeparated AreSpaces l (32 ∷ line)) words (words_part line))
+    says.in_words are (subst (λ l. IsSeparated AreSpaces l (32 ∷ line)) words (words_separate line))
 
 -- a command with a class, and a filter or none
 said_of_class : (v : Verb) (make : List ℕ → Option Filter → Command) (line : List ℕ) (c : Command) → name_of v ≡ first_word line →
@@ -122,10 +123,10 @@ said_of_class : (v : Verb) (make : List ℕ → Option Filter → Command) (line
 said_of_class v make line c named e said =
     let read = mapped (λ (w : Search). make w.class w.filter) (search_of (after_word line)) c e in
     let wanted = wanted_sound (after_word line) read.value (after_word-ends line) read.was in
-    let parted : IsSeparated (IsFilterEnd read.value.filter) (name_of v ∷ read.value.class ∷ []) (32 ∷ line)
+    let separated : IsSeparated (IsFilterEnd read.value.filter) (name_of v ∷ read.value.class ∷ []) (32 ∷ line)
     = subst (λ l. IsSeparated (IsFilterEnd read.value.filter) (l ∷ read.value.class ∷ []) (32 ∷ line)) (sym named)
-    (front_parts (IsFilterEnd read.value.filter) (read.value.class ∷ []) line wanted.parted) in
-    subst (says.Says line) read.is (said read.value.class read.value.filter wanted.class parted)
+    (first_separates (IsFilterEnd read.value.filter) (read.value.class ∷ []) line wanted.separated) in
+    subst (says.Says line) read.is (said read.value.class read.value.filter wanted.class separated)
 
 says_by : (v : Verb) (line : List ℕ) (c : Command) → name_of v ≡ first_word line → command_by v (after_word line) ≡ Some c → says.Says line c
 says_by verb.Register line c named e = said_in_words verb.Register line c named (register_sound (words_of (after_word line)) c e)
@@ -133,8 +134,8 @@ says_by verb.Modify line c named e = said_in_words verb.Modify line c named (mod
 says_by verb.Unregister line c named e =
     said_in_words verb.Unregister line c named
     (id_command (codes "unregister") command.Unregister (words_of (after_word line)) c e (λ word service id. says.unregister id))
-says_by verb.Find line c named e = said_of_class verb.Find command.Find line c named e (λ class filter is parted. says.find is parted)
-says_by verb.FindAll line c named e = said_of_class verb.FindAll command.FindAll line c named e (λ class filter is parted. says.findall is parted)
+says_by verb.Find line c named e = said_of_class verb.Find command.Find line c named e (λ class filter is separated. says.find is separated)
+says_by verb.FindAll line c named e = said_of_class verb.FindAll command.FindAll line c named e (λ class filter is separated. says.findall is separated)
 says_by verb.Get line c named e =
     said_in_words verb.Get line c named (id_command (codes "get") command.Get (words_of (after_word line)) c e (λ word service id. says.get id))
 says_by verb.Unget line c named e =
@@ -159,7 +160,7 @@ verb_read verb.Unget = refl
 verb_read verb.Services = refl
 
 -- a line's first word is this one, and so the command is read from what follows it
-read_by : (v : Verb) (line rest : List ℕ) (c : Command) → HasFront line (name_of v) rest → command_by v rest ≡ Some c → command_of line ≡ Some c
+read_by : (v : Verb) (line rest : List ℕ) (c : Command) → HasFirstWord line (name_of v) rest → command_by v rest ≡ Some c → command_of line ≡ Some c
 read_by v line rest c prefix by = rw (prefix.first, prefix.remainder, verb_read v) by
 
 -- words of a command: the name, and arguments from which the command is read
@@ -167,7 +168,7 @@ record HasVerb (words : List (List ℕ)) (c : Command) : Type 0 where
   verb : Verb
   arguments : List (List ℕ)
   is : words ≡ name_of verb ∷ arguments
-  whole : AreWhole arguments
+  whole : AreLineWords arguments
   read : (text : List ℕ) → words_of text ≡ arguments → command_by verb text ≡ Some c
 
 has_verb : (words : List (List ℕ)) (c : Command) → says.AreWordsOf words c → HasVerb words c
@@ -209,16 +210,16 @@ has_verb words c (says.unget {id = id} {service = service} is) = record {
 has_verb words c says.services = record { verb = verb.Services; arguments = []; is = refl; whole = tt; read = λ text e. ap services_command e }
 
 words_read : (words : List (List ℕ)) (line : List ℕ) (c : Command) → HasVerb words c → IsSeparated AreSpaces words (32 ∷ line) → command_of line ≡ Some c
-words_read words line c has parted =
-    let named : IsSeparated AreSpaces (name_of has.verb ∷ has.arguments) (32 ∷ line) = subst (λ l. IsSeparated AreSpaces l (32 ∷ line)) has.is parted in
+words_read words line c has separated =
+    let named : IsSeparated AreSpaces (name_of has.verb ∷ has.arguments) (32 ∷ line) = subst (λ l. IsSeparated AreSpaces l (32 ∷ line)) has.is separated in
     read_by has.verb line named.1 c (named_front AreSpaces has.verb has.arguments line ends_all named)
-    (has.read named.1 (parted_words has.arguments named.1 has.whole named.5))
+    (has.read named.1 (separated_words has.arguments named.1 has.whole named.5))
 
 pub command_read : (line : List ℕ) (c : Command) → says.Says line c → command_of line ≡ Some c
-command_read line c (says.in_words {words = words} are parted) = words_read words line c (has_verb words c are) parted
-command_read line c (says.find {class = class} {filter = filter} is parted) =
-    read_by verb.Find line parted.1 c (named_front (IsFilterEnd filter) verb.Find (class ∷ []) line (filter_ends filter) parted)
-    (ap (option_map (λ (w : Search). command.Find w.class w.filter)) (wanted_read class filter parted.1 is parted.5))
-command_read line c (says.findall {class = class} {filter = filter} is parted) =
-    read_by verb.FindAll line parted.1 c (named_front (IsFilterEnd filter) verb.FindAll (class ∷ []) line (filter_ends filter) parted)
-    (ap (option_map (λ (w : Search). command.FindAll w.class w.filter)) (wanted_read class filter parted.1 is parted.5))
+command_read line c (says.in_words {words = words} are separated) = words_read words line c (has_verb words c are) separated
+command_read line c (says.find {class = class} {filter = filter} is separated) =
+    read_by verb.Find line separated.1 c (named_front (IsFilterEnd filter) verb.Find (class ∷ []) line (filter_ends filter) separated)
+    (ap (option_map (λ (w : Search). command.Find w.class w.filter)) (wanted_read class filter separated.1 is separated.5))
+command_read line c (says.findall {class = class} {filter = filter} is separated) =
+    read_by verb.FindAll line separated.1 c (named_front (IsFilterEnd filter) verb.FindAll (class ∷ []) line (filter_ends filter) separated)
+    (ap (option_map (λ (w : Search). command.FindAll w.class w.filter)) (wanted_read class filter separated.1 is separated.5))

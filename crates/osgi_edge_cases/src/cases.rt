@@ -1,6 +1,6 @@
 //! Cases by their first word.
 
-use crate::{copies, shelves, sinks, sources};
+use crate::{copies, module_copies, shelves, sinks, sources};
 use std::alloc::{AllocError, Global};
 
 /// The first word of a line, and what stands after the space that follows it.
@@ -17,18 +17,31 @@ pub fn split_number(line: &str) -> (u64, &str) {
 /// Adds the answer to a line that is a case.
 pub fn add_answer(alloc: Global, out: &mut String, line: &str) -> Result<(), AllocError> {
     let (name, rest) = split_word(line);
-    match name {
-        "std-sink" => sinks::std_sink(alloc, out, rest),
-        "vec-sink" => sinks::vec_sink(alloc, out, rest),
-        "memory-sink" => sinks::memory_sink(alloc, out, rest),
-        "std-source" => sources::std_source(alloc, out, rest),
-        "slice-source" => sources::slice_source(alloc, out, rest),
-        "memory-source" => sources::memory_source(alloc, out, rest),
-        "long-source" => sources::long_source(alloc, out, rest),
-        "shelf" => shelves::read_each(alloc, out, rest),
-        "folder" => shelves::read_folder(alloc, out, rest),
-        "order" => copies::order(alloc, out, rest),
-        "copies" => copies::copies(alloc, out),
-        _ => out.push_str("not a case"),
+    if name == "std-sink" {
+        sinks::std_sink(alloc, out, rest)
+    } else if name == "vec-sink" {
+        sinks::vec_sink(alloc, out, rest)
+    } else if name == "memory-sink" {
+        sinks::memory_sink(alloc, out, rest)
+    } else if name == "std-source" {
+        sources::std_source(alloc, out, rest)
+    } else if name == "slice-source" {
+        sources::slice_source(alloc, out, rest)
+    } else if name == "memory-source" {
+        sources::memory_source(alloc, out, rest)
+    } else if name == "long-source" {
+        sources::long_source(alloc, out, rest)
+    } else if name == "shelf" {
+        shelves::read_each(alloc, out, rest)
+    } else if name == "folder" {
+        shelves::read_folder(alloc, out, rest)
+    } else if name == "order" {
+        copies::order(alloc, out, rest)
+    } else if name == "copies" {
+        copies::copies(alloc, out)
+    } else if name == "module-copies" {
+        module_copies::module_copies(alloc, out)
+    } else {
+        out.push_str("not a case")
     }
 }

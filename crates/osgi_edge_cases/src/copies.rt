@@ -47,7 +47,7 @@ fn tree(alloc: Global) -> Result<Tree, AllocError> {
 }
 
 /// Adds whether a value equals its copy.
-fn add<T: Copied + PartialEq + Drop>(
+pub fn add<T: Copied + PartialEq + Drop>(
     alloc: Global,
     out: &mut String,
     name: &str,

@@ -14,6 +14,7 @@
 //! | `folder BYTES FILES` | a read of a folder of so many files with so many bytes |
 //! | `order TEXT TEXT` | how two texts compare |
 //! | `copies` | whether values of each shared type equal their copies |
+//! | `module-copies` | whether values of each type of the module layer equal their copies |
 //! | `gate` | a gate that holds nobody |
 //!
 //! Calls are counted from 1, and 0 is none of them. A step of a sink is `=TEXT`, one write; `+TEXT`, a text written whole; `.`, a
@@ -24,6 +25,7 @@
 mod cases;
 mod copies;
 mod frail;
+mod module_copies;
 mod shelves;
 mod sinks;
 mod sources;

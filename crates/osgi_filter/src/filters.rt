@@ -9,11 +9,8 @@ use crate::scan::{after, skip};
 use crate::stop::Stop;
 use osgi_base::boxed::Boxed;
 use osgi_base::list::List;
-use osgi_model::filter::Filter;
+use osgi_model::filter::{Filter, MAX_LEVELS};
 use std::alloc::Global;
-
-/// How many levels a filter may have.
-const LEVELS: u32 = 64;
 
 fn is_composing(sign: u8) -> bool
     ensures composing { result ≡ is_composing sign }
@@ -112,7 +109,7 @@ fn operands_at(alloc: Global, levels: u32, bytes: &[u8]) -> Result<(List<Filter>
 pub fn whole_at(alloc: Global, bytes: &[u8]) -> Result<Filter, Stop>
     ensures filter { Gives (λ filter. filter) result (whole_at bytes.now) }
 {
-    let (filter, remainder) = filter_at(alloc, LEVELS, skip(bytes))?;
+    let (filter, remainder) = filter_at(alloc, MAX_LEVELS, skip(bytes))?;
     match skip(remainder) {
         [] => Ok(filter),
         rest => Err(Stop::Left(rest.len())),

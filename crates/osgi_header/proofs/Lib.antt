@@ -6,6 +6,7 @@ pub mod Gathering
 pub mod Grouping
 pub mod HeaderReading
 pub mod LineReading
+pub mod NameReading
 pub mod PartReading
 pub mod Repeating
 pub mod Scanning

@@ -3,6 +3,7 @@ pub mod ClauseFaults
 pub mod Clauses
 pub mod Headers
 pub mod Lines
+pub mod NameLists
 pub mod ReadClauses
 pub mod Spaces
 pub mod computed

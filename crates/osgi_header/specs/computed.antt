@@ -2,3 +2,4 @@
 pub mod ClauseReader
 pub mod Cutting
 pub mod HeaderReader
+pub mod NameReader

@@ -6,11 +6,13 @@ pub mod clause;
 pub mod fault;
 pub mod header;
 mod lines;
+mod name_list;
 mod parameters;
 mod parts;
 mod reading;
 mod repeated;
 mod unfolding;
 
+pub use name_list::names;
 pub use reading::{clauses, read_clauses};
 pub use unfolding::unfold;

@@ -1,10 +1,10 @@
 //! What the machine answers, and its history.
 
-use crate::shown::{add_checked, add_shown};
 use osgi_base::ids::Tag;
 use osgi_core::Core;
 use osgi_ops::entry::Entry;
 use osgi_ops::op::Op;
+use osgi_rows::shown::{add_checked, add_shown};
 use std::alloc::{AllocError, Global};
 use std::fmt::Write;
 

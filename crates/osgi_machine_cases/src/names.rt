@@ -1,32 +1,41 @@
 //! Rows about names and numbers: refusals, what there can be too many of, the standard limits; and a line that joins.
 
-use crate::shown::{complain, is_as_its_copy};
 use osgi_base::ids::BundleId;
 use osgi_ops::limits::Limits;
 use osgi_ops::line::{Content, Line};
 use osgi_ops::refusal::{Many, Refusal};
+use osgi_rows::shown::{complain, is_as_its_copy};
 use std::alloc::{AllocError, Global};
 use std::fmt::Write;
 
 fn many_named(name: &str) -> Option<Many> {
-    match name {
-        "Bundles" => Some(Many::Bundles),
-        "Services" => Some(Many::Services),
-        "Listeners" => Some(Many::Listeners),
-        "Jobs" => Some(Many::Jobs),
-        "Locations" => Some(Many::Locations),
-        _ => None,
+    for (word, kind) in [
+        ("Bundles", Many::Bundles),
+        ("Services", Many::Services),
+        ("Listeners", Many::Listeners),
+        ("Jobs", Many::Jobs),
+        ("Locations", Many::Locations),
+    ] {
+        if word == name {
+            return Some(kind);
+        }
     }
+    None
 }
 
 fn refusal_named(name: &str) -> Option<Refusal> {
-    match name {
-        "NoSuchBundle" => Some(Refusal::NoSuchBundle),
-        "NoSuchService" => Some(Refusal::NoSuchService),
-        "BadProperties" => Some(Refusal::BadProperties),
-        "NotOwner" => Some(Refusal::NotOwner { owner: BundleId(5) }),
-        "HistoryFull" => Some(Refusal::HistoryFull),
-        _ => many_named(name).map(|kind| Refusal::TooMany { kind }),
+    if name == "NoSuchBundle" {
+        Some(Refusal::NoSuchBundle)
+    } else if name == "NoSuchService" {
+        Some(Refusal::NoSuchService)
+    } else if name == "BadProperties" {
+        Some(Refusal::BadProperties)
+    } else if name == "NotOwner" {
+        Some(Refusal::NotOwner { owner: BundleId(5) })
+    } else if name == "HistoryFull" {
+        Some(Refusal::HistoryFull)
+    } else {
+        many_named(name).map(|kind| Refusal::TooMany { kind })
     }
 }
 

@@ -1,6 +1,7 @@
 -- The grammar of filters. A filter stands from its `(` (the byte 40) to its `)` (41).
 use Rattle.std.specs.Prelude.{ℕ, suc, ◌≤◌, max, ◌≡◌, Bool, true, false, ◌==◌, ◌||◌, ◌&&◌, not, IsTrue, List, [], ◌∷◌, ◌++◌}
 use Rattle.osgi_version.specs.Bytes.{Each, IsBlank, is_blank}
+use Rattle.osgi_model.specs.declared.filter.TheConstants.{MAX_LEVELS}
 use Rattle.osgi_model.specs.declared.filter.Test.{Test}
 use Rattle.osgi_model.specs.declared.filter.Test.TheVariants.{Equal, Approx, AtLeast, AtMost, Present, Pieces}
 use Rattle.osgi_model.specs.declared.filter.Filter.{Filter, roll-Filter}
@@ -81,7 +82,7 @@ levels = fold-Filter ℕ levels_step
 
 -- ---- texts
 
--- `text` reads as the filter `f`: it is written so, with white space round it, and it has at most 64 levels
+-- `text` reads as the filter `f`: it is written so, with white space round it, and it has as many levels as a filter may have
 pub record ReadsFilter (text : List ℕ) (f : Filter) : Type 0 where
   pub before : List ℕ
   pub bare : List ℕ
@@ -90,7 +91,7 @@ pub record ReadsFilter (text : List ℕ) (f : Filter) : Type 0 where
   pub blanks_before : Each IsBlank before
   pub blanks_after : Each IsBlank after
   pub written : IsFilter bare f
-  pub few : levels f ≤ 64
+  pub few : levels f ≤ MAX_LEVELS
 
 abbrev pub IsReadableFilter : List ℕ → Type 0
 IsReadableFilter text = (f : Filter) × ReadsFilter text f

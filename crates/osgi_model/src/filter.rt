@@ -8,6 +8,9 @@ use osgi_base::list::List;
 use osgi_base::text::Text;
 use std::alloc::{AllocError, Global};
 
+/// How many levels a filter has at most.
+pub const MAX_LEVELS: u32 = 64;
+
 /// What an item asks of its attribute.
 #[derive(Debug, Drop, PartialEq, Eq)]
 pub enum Test {

@@ -1,9 +1,11 @@
 //! The commands of the console.
 
 ghost use Rattle.std.specs.Prelude.{◌≡◌, IfOk};
+ghost use Rattle.osgi_ops.specs.Plans.{op_of};
 
+use crate::op::Op;
 use osgi_base::copied::{Copied, copy_option};
-use osgi_base::ids::ServiceId;
+use osgi_base::ids::{BundleId, ServiceId};
 use osgi_base::list::List;
 use osgi_base::text::Text;
 use osgi_model::filter::Filter;
@@ -82,6 +84,47 @@ impl Command {
             Command::Get { service } => Ok(Command::Get { service: *service }),
             Command::Unget { service } => Ok(Command::Unget { service: *service }),
             Command::Services => Ok(Command::Services),
+        }
+    }
+
+    /// The operation that the command asks for, where the bundle runs it.
+    pub fn into_op(self, asker: BundleId) -> Op
+        ensures operation { result ≡ op_of asker self }
+    {
+        let (owner, user) = (asker, asker);
+        match self {
+            Command::Register {
+                classes,
+                object,
+                properties,
+            } => Op::Register {
+                owner,
+                classes,
+                object,
+                properties,
+            },
+            Command::Modify {
+                service,
+                properties,
+            } => Op::Modify {
+                owner,
+                service,
+                properties,
+            },
+            Command::Unregister { service } => Op::Unregister { owner, service },
+            Command::Find { class, filter } => Op::Find {
+                asker,
+                class,
+                filter,
+            },
+            Command::FindAll { class, filter } => Op::FindAll {
+                asker,
+                class,
+                filter,
+            },
+            Command::Get { service } => Op::Get { user, service },
+            Command::Unget { service } => Op::Unget { user, service },
+            Command::Services => Op::ListServices,
         }
     }
 }

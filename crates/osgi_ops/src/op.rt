@@ -1,4 +1,4 @@
-//! The operations of the framework. AllAlong is one atomic step.
+//! The operations of the framework. Each is one atomic step.
 
 ghost use Rattle.std.specs.Prelude.{◌≡◌, IfOk};
 
@@ -57,6 +57,69 @@ pub enum Op {
     ListServices,
 }
 
+/// The operation that registers copies of these.
+fn register(
+    alloc: Global,
+    owner: BundleId,
+    classes: &List<Text>,
+    object: &Text,
+    properties: &Attributes,
+) -> Result<Op, AllocError>
+    ensures made { IfOk result (λ made. made ≡ Op.Register owner classes.now object.now properties.now) }
+{
+    Ok(Op::Register {
+        owner,
+        classes: classes.copy(alloc)?,
+        object: object.copy(alloc)?,
+        properties: properties.copy(alloc)?,
+    })
+}
+
+fn modify(
+    alloc: Global,
+    owner: BundleId,
+    service: ServiceId,
+    properties: &Attributes,
+) -> Result<Op, AllocError>
+    ensures made { IfOk result (λ made. made ≡ Op.Modify owner service properties.now) }
+{
+    Ok(Op::Modify {
+        owner,
+        service,
+        properties: properties.copy(alloc)?,
+    })
+}
+
+fn find(
+    alloc: Global,
+    asker: BundleId,
+    class: &Text,
+    filter: &Option<Filter>,
+) -> Result<Op, AllocError>
+    ensures made { IfOk result (λ made. made ≡ Op.Find asker class.now filter.now) }
+{
+    Ok(Op::Find {
+        asker,
+        class: class.copy(alloc)?,
+        filter: copy_option(filter, alloc)?,
+    })
+}
+
+fn find_all(
+    alloc: Global,
+    asker: BundleId,
+    class: &Text,
+    filter: &Option<Filter>,
+) -> Result<Op, AllocError>
+    ensures made { IfOk result (λ made. made ≡ Op.FindAll asker class.now filter.now) }
+{
+    Ok(Op::FindAll {
+        asker,
+        class: class.copy(alloc)?,
+        filter: copy_option(filter, alloc)?,
+    })
+}
+
 impl Op {
     pub fn copy(&self, alloc: Global) -> Result<Op, AllocError>
         ensures same { IfOk result (λ copy. copy ≡ self.now) }
@@ -67,51 +130,25 @@ impl Op {
                 classes,
                 object,
                 properties,
-            } => Ok(Op::Register {
-                owner: *owner,
-                classes: classes.copy(alloc)?,
-                object: object.copy(alloc)?,
-                properties: properties.copy(alloc)?,
-            }),
+            } => register(alloc, *owner, classes, object, properties),
             Op::Modify {
                 owner,
                 service,
                 properties,
-            } => Ok(Op::Modify {
-                owner: *owner,
-                service: *service,
-                properties: properties.copy(alloc)?,
-            }),
-            Op::Unregister { owner, service } => Ok(Op::Unregister {
-                owner: *owner,
-                service: *service,
-            }),
+            } => modify(alloc, *owner, *service, properties),
+            &Op::Unregister { owner, service } => Ok(Op::Unregister { owner, service }),
             Op::Find {
                 asker,
                 class,
                 filter,
-            } => Ok(Op::Find {
-                asker: *asker,
-                class: class.copy(alloc)?,
-                filter: copy_option(filter, alloc)?,
-            }),
+            } => find(alloc, *asker, class, filter),
             Op::FindAll {
                 asker,
                 class,
                 filter,
-            } => Ok(Op::FindAll {
-                asker: *asker,
-                class: class.copy(alloc)?,
-                filter: copy_option(filter, alloc)?,
-            }),
-            Op::Get { user, service } => Ok(Op::Get {
-                user: *user,
-                service: *service,
-            }),
-            Op::Unget { user, service } => Ok(Op::Unget {
-                user: *user,
-                service: *service,
-            }),
+            } => find_all(alloc, *asker, class, filter),
+            &Op::Get { user, service } => Ok(Op::Get { user, service }),
+            &Op::Unget { user, service } => Ok(Op::Unget { user, service }),
             Op::ListServices => Ok(Op::ListServices),
         }
     }

@@ -1,4 +1,4 @@
-//! Why the framework refuses an operation. AllAlong refusal has a number and a name for good.
+//! Why the framework refuses an operation. Each refusal has a number and a name for good.
 
 use osgi_base::copied::Copied;
 use osgi_base::ids::BundleId;

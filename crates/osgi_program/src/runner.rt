@@ -5,7 +5,6 @@ ghost use Rattle.osgi_ops.specs.Bundles.{system};
 ghost use Rattle.osgi_ops.specs.Plans.{op_of};
 ghost use Rattle.osgi_program.specs.computed.Running.{IsAsked, RunsLine, RunsLines, tag_of};
 
-use osgi_base::copied::copy_option;
 use osgi_base::ids::{BundleId, Tag};
 use osgi_core::Core;
 use osgi_ops::command::Command;
@@ -33,49 +32,7 @@ pub enum Ran {
 fn operation(alloc: Global, command: &Command) -> Result<Op, AllocError>
     ensures operation { IfOk result (λ op. op ≡ op_of system command.now) }
 {
-    match command {
-        Command::Register {
-            classes,
-            object,
-            properties,
-        } => Ok(Op::Register {
-            owner: SYSTEM,
-            classes: classes.copy(alloc)?,
-            object: object.copy(alloc)?,
-            properties: properties.copy(alloc)?,
-        }),
-        Command::Modify {
-            service,
-            properties,
-        } => Ok(Op::Modify {
-            owner: SYSTEM,
-            service: *service,
-            properties: properties.copy(alloc)?,
-        }),
-        Command::Unregister { service } => Ok(Op::Unregister {
-            owner: SYSTEM,
-            service: *service,
-        }),
-        Command::Find { class, filter } => Ok(Op::Find {
-            asker: SYSTEM,
-            class: class.copy(alloc)?,
-            filter: copy_option(filter, alloc)?,
-        }),
-        Command::FindAll { class, filter } => Ok(Op::FindAll {
-            asker: SYSTEM,
-            class: class.copy(alloc)?,
-            filter: copy_option(filter, alloc)?,
-        }),
-        Command::Get { service } => Ok(Op::Get {
-            user: SYSTEM,
-            service: *service,
-        }),
-        Command::Unget { service } => Ok(Op::Unget {
-            user: SYSTEM,
-            service: *service,
-        }),
-        Command::Services => Ok(Op::ListServices),
-    }
+    Ok(command.copy(alloc)?.into_op(SYSTEM))
 }
 
 /// Runs the command of a line.

@@ -48,12 +48,16 @@ impl Case {
     /// Takes what stands between brackets, and says whether it is of a known form.
     fn set(&mut self, alloc: Global, head: &str) -> Result<bool, AllocError> {
         let (name, rest) = head.split_once(" ").unwrap_or((head, ""));
-        match name {
-            "words" => self.words = words_of(alloc, rest)?,
-            "reads" => self.reads = numbers_of(alloc, rest)?,
-            "writes" => self.writes = numbers_of(alloc, rest)?,
-            "times" => self.times = rest.parse::<u64>().unwrap_or(0),
-            _ => return Ok(false),
+        if name == "words" {
+            self.words = words_of(alloc, rest)?;
+        } else if name == "reads" {
+            self.reads = numbers_of(alloc, rest)?;
+        } else if name == "writes" {
+            self.writes = numbers_of(alloc, rest)?;
+        } else if name == "times" {
+            self.times = rest.parse::<u64>().unwrap_or(0);
+        } else {
+            return Ok(false);
         }
         Ok(true)
     }

@@ -1,15 +1,11 @@
 //! The clauses of header values.
 
-use crate::escapes::{complain, push_bytes};
+use crate::copies::check_copy;
+use crate::escapes::push_bytes;
 use crate::headers::push_fault;
-use osgi_base::copied::Copied;
 use osgi_base::list::List;
 use osgi_header::clause::{Clause, ClauseAt, Pair, Typed};
 use std::alloc::{AllocError, Global};
-
-fn equals_copies(alloc: Global, clauses: &List<Clause>) -> Result<bool, AllocError> {
-    Ok(clauses.copy(alloc)? == *clauses && clauses.copied(alloc)? == *clauses)
-}
 
 fn push_path(out: &mut String, path: &[u8]) -> Result<(), AllocError> {
     out.push('[')?;
@@ -67,7 +63,7 @@ fn add_all(alloc: Global, out: &mut String, clauses: &List<Clause>) -> Result<()
         }
         push_clause(out, clause)?;
     }
-    complain(out, equals_copies(alloc, clauses)?, ", copy differs")
+    check_copy(alloc, out, clauses)
 }
 
 /// The clauses of a header's value.

@@ -1,23 +1,18 @@
 //! Filters: read, printed and copied.
 
+use crate::copies::check_copy;
 use crate::escapes::{complain, push_bytes};
-use osgi_base::copied::Copied;
 use osgi_filter::{parse, print};
-use osgi_model::filter::{Filter, Test};
+use osgi_model::filter::Filter;
 use std::alloc::{AllocError, Global};
 use std::fmt::Write;
 
-fn test_equals_copies(alloc: Global, test: &Test) -> Result<bool, AllocError> {
-    Ok(test.copy(alloc)? == *test && test.copied(alloc)? == *test)
-}
-
-fn equals_copies(alloc: Global, filter: &Filter) -> Result<bool, AllocError> {
+/// Adds a complaint, unless an item's test and the whole filter equal their copies.
+fn check_copies(alloc: Global, out: &mut String, filter: &Filter) -> Result<(), AllocError> {
     if let Filter::Item { name: _, test } = filter {
-        if !test_equals_copies(alloc, test)? {
-            return Ok(false);
-        }
+        check_copy(alloc, out, test)?;
     }
-    Ok(filter.copy(alloc)? == *filter && filter.copied(alloc)? == *filter)
+    check_copy(alloc, out, filter)
 }
 
 fn reads_as(alloc: Global, text: &[u8], filter: &Filter) -> Result<bool, AllocError> {
@@ -36,7 +31,7 @@ fn add_printed(alloc: Global, out: &mut String, filter: &Filter) -> Result<(), A
         reads_as(alloc, text.bytes(), filter)?,
         ", which reads otherwise",
     )?;
-    complain(out, equals_copies(alloc, filter)?, ", copy differs")
+    check_copies(alloc, out, filter)
 }
 
 /// The filter that a text reads as.

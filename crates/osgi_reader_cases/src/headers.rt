@@ -1,17 +1,13 @@
 //! The headers of manifests.
 
-use crate::escapes::{complain, push_bytes};
-use osgi_base::copied::Copied;
+use crate::copies::check_copy;
+use crate::escapes::push_bytes;
 use osgi_base::list::List;
 use osgi_header::fault::HeaderFault;
 use osgi_header::header::Header;
 use osgi_header::unfold;
 use std::alloc::{AllocError, Global};
 use std::fmt::Write;
-
-fn equals_copies(alloc: Global, headers: &List<Header>) -> Result<bool, AllocError> {
-    Ok(headers.copy(alloc)? == *headers && headers.copied(alloc)? == *headers)
-}
 
 fn push_header(out: &mut String, header: &Header) -> Result<(), AllocError> {
     push_bytes(out, header.name.bytes())?;
@@ -27,7 +23,7 @@ fn add_all(alloc: Global, out: &mut String, headers: &List<Header>) -> Result<()
     for header in headers.items() {
         push_header(out, header)?;
     }
-    complain(out, equals_copies(alloc, headers)?, ", copy differs")
+    check_copy(alloc, out, headers)
 }
 
 /// Adds the kind of a fault and its place.

@@ -1,8 +1,8 @@
 //! Attributes, and filters matched against them.
 
-use crate::escapes::{bytes_of, complain, push_bytes};
+use crate::copies::check_copy;
+use crate::escapes::{bytes_of, push_bytes};
 use crate::values::{push_value, value_of};
-use osgi_base::copied::Copied;
 use osgi_base::list::List;
 use osgi_base::text::Text;
 use osgi_filter::{Case, matches, parse};
@@ -43,10 +43,6 @@ fn push_attribute(
     push_value(out, &attribute.value, alloc)
 }
 
-fn equals_copies(alloc: Global, attributes: &Attributes) -> Result<bool, AllocError> {
-    Ok(attributes.copy(alloc)? == *attributes && attributes.copied(alloc)? == *attributes)
-}
-
 /// Adds attributes, name by name.
 pub fn add_attributes(
     alloc: Global,
@@ -59,7 +55,7 @@ pub fn add_attributes(
         }
         push_attribute(out, attribute, alloc)?;
     }
-    complain(out, equals_copies(alloc, attributes)?, ", copy differs")
+    check_copy(alloc, out, attributes)
 }
 
 /// Whether the filter that a text reads as matches the attributes.

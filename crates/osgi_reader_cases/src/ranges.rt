@@ -1,15 +1,11 @@
 //! Ranges, and the versions within them.
 
+use crate::copies::check_copy;
 use crate::escapes::{complain, push_bytes};
-use osgi_base::copied::Copied;
 use osgi_version::range::VersionRange;
 use osgi_version::version::Version;
 use std::alloc::{AllocError, Global};
 use std::fmt::Write;
-
-fn equals_copies(alloc: Global, range: &VersionRange) -> Result<bool, AllocError> {
-    Ok(range.copy(alloc)? == *range && range.copied(alloc)? == *range)
-}
 
 fn reads_as(alloc: Global, text: &[u8], range: &VersionRange) -> Result<bool, AllocError> {
     match VersionRange::parse(alloc, text)? {
@@ -27,7 +23,7 @@ fn add_printed(alloc: Global, out: &mut String, range: &VersionRange) -> Result<
         reads_as(alloc, text.as_slice(), range)?,
         ", which reads otherwise",
     )?;
-    complain(out, equals_copies(alloc, range)?, ", copy differs")
+    check_copy(alloc, out, range)
 }
 
 /// The range that a text reads as.
@@ -55,6 +51,18 @@ pub fn within(alloc: Global, out: &mut String, text: &str) -> Result<(), AllocEr
     let (range, version) = text.split_once('|').unwrap_or((text, ""));
     match VersionRange::parse(alloc, range.as_bytes())? {
         Ok(range) => add_contains(alloc, out, &range, version.as_bytes()),
+        Err(fault) => write!(out, "{fault}"),
+    }
+}
+
+/// Whether the range that a text reads as is at least 0.0.0, and equals the one that is made so only then.
+pub fn at_least_zero(alloc: Global, out: &mut String, text: &[u8]) -> Result<(), AllocError> {
+    match VersionRange::parse(alloc, text)? {
+        Ok(range) => {
+            let is_same = range == VersionRange::at_least_zero();
+            write!(out, "{}", range.is_at_least_zero())?;
+            complain(out, is_same == range.is_at_least_zero(), ", made otherwise")
+        }
         Err(fault) => write!(out, "{fault}"),
     }
 }

@@ -1,7 +1,7 @@
 //! Types of values, numbers, and values read by their types.
 
-use crate::escapes::{bytes_of, complain, push_bytes};
-use osgi_base::copied::Copied;
+use crate::copies::check_copy;
+use crate::escapes::{bytes_of, push_bytes};
 use osgi_base::list::List;
 use osgi_model::reading::{read_long, read_value};
 use osgi_model::value::Value;
@@ -66,17 +66,13 @@ fn push_values(out: &mut String, values: &[Value], alloc: Global) -> Result<(), 
     out.push(']')
 }
 
-fn equals_copies(alloc: Global, value: &Value) -> Result<bool, AllocError> {
-    Ok(value.copy(alloc)? == *value && value.copied(alloc)? == *value)
-}
-
 /// What a text stands for, before which its type stands and a space.
 pub fn value(alloc: Global, out: &mut String, text: &str) -> Result<(), AllocError> {
     let (kind, text) = text.split_once(' ').unwrap_or((text, ""));
     match value_of(alloc, kind, text)? {
         Some(value) => {
             push_value(out, &value, alloc)?;
-            complain(out, equals_copies(alloc, &value)?, ", copy differs")
+            check_copy(alloc, out, &value)
         }
         None => out.push_str("none"),
     }

@@ -1,16 +1,12 @@
 //! Versions, their order, and their qualifiers.
 
+use crate::copies::check_copy;
 use crate::escapes::{complain, push_bytes};
-use osgi_base::copied::Copied;
 use osgi_version::qualifier::Qualifier;
 use osgi_version::version::Version;
 use std::alloc::{AllocError, Global};
 use std::cmp::Ordering;
 use std::fmt::Write;
-
-fn equals_copies(alloc: Global, version: &Version) -> Result<bool, AllocError> {
-    Ok(version.copy(alloc)? == *version && version.copied(alloc)? == *version)
-}
 
 fn reads_as(alloc: Global, text: &[u8], version: &Version) -> Result<bool, AllocError> {
     match Version::parse(alloc, text)? {
@@ -28,13 +24,24 @@ fn add_printed(alloc: Global, out: &mut String, version: &Version) -> Result<(),
         reads_as(alloc, text.as_slice(), version)?,
         ", which reads otherwise",
     )?;
-    complain(out, equals_copies(alloc, version)?, ", copy differs")
+    check_copy(alloc, out, version)
 }
 
 /// The version that a text reads as.
 pub fn version(alloc: Global, out: &mut String, text: &[u8]) -> Result<(), AllocError> {
     match Version::parse(alloc, text)? {
         Ok(version) => add_printed(alloc, out, &version),
+        Err(fault) => write!(out, "{fault}"),
+    }
+}
+
+/// The version of the numbers that a text reads as.
+pub fn numbered(alloc: Global, out: &mut String, text: &[u8]) -> Result<(), AllocError> {
+    match Version::parse(alloc, text)? {
+        Ok(read) => {
+            let version = Version::numbered(read.major, read.minor, read.micro);
+            add_printed(alloc, out, &version)
+        }
         Err(fault) => write!(out, "{fault}"),
     }
 }
@@ -71,13 +78,14 @@ pub fn order(alloc: Global, out: &mut String, text: &str) -> Result<(), AllocErr
     }
 }
 
-/// Whether a qualifier is that of its bytes, equals its copies, and is not below the empty one.
-fn is_kept(alloc: Global, qualifier: &Qualifier) -> Result<bool, AllocError> {
-    let bytes = qualifier.bytes();
-    let is_same = Qualifier::of(alloc, bytes)? == *qualifier;
-    let is_copied = qualifier.copy(alloc)? == *qualifier && qualifier.copied(alloc)? == *qualifier;
-    let is_above = Qualifier::of(alloc, b"")? < *qualifier;
-    Ok(is_same && is_copied && is_above != bytes.is_empty())
+/// Whether a qualifier is that of its bytes.
+fn is_of_its_bytes(alloc: Global, qualifier: &Qualifier) -> Result<bool, AllocError> {
+    Ok(Qualifier::of(alloc, qualifier.bytes())? == *qualifier)
+}
+
+/// Whether a qualifier is above the empty one.
+fn is_above_empty(alloc: Global, qualifier: &Qualifier) -> Result<bool, AllocError> {
+    Ok(Qualifier::of(alloc, b"")? < *qualifier)
 }
 
 fn add_qualifier(alloc: Global, out: &mut String, qualifier: &Qualifier) -> Result<(), AllocError> {
@@ -85,7 +93,17 @@ fn add_qualifier(alloc: Global, out: &mut String, qualifier: &Qualifier) -> Resu
         [] => out.push_str("none")?,
         bytes => push_bytes(out, bytes)?,
     }
-    complain(out, is_kept(alloc, qualifier)?, ", copy differs")
+    complain(
+        out,
+        is_of_its_bytes(alloc, qualifier)?,
+        ", its bytes make another",
+    )?;
+    complain(
+        out,
+        is_above_empty(alloc, qualifier)? != qualifier.bytes().is_empty(),
+        ", the order differs",
+    )?;
+    check_copy(alloc, out, qualifier)
 }
 
 /// The qualifier of the version that a text reads as.

@@ -33,13 +33,13 @@ fn is_among(name: &[u8], properties: &[Attribute]) -> bool
 }
 
 /// Up to so many names are compared with one another, which takes no memory.
-const FEW: usize = 16;
+const MAX_COMPARED: usize = 16;
 
 /// Whether two of the properties have one name.
 pub fn has_twins(alloc: Global, properties: &[Attribute]) -> Result<bool, AllocError>
     ensures twins { IfOk result (λ twins. twins ≡ spec.has_twins properties.now) }
 {
-    if properties.len() > FEW {
+    if properties.len() > MAX_COMPARED {
         return has_twins_of_many(alloc, properties);
     }
     Ok(has_twins_of_few(properties))

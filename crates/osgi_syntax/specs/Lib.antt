@@ -1,5 +1,6 @@
 -- What the words of a line say, and what they are read as.
 pub mod laws
+pub mod LineWords
 pub mod Properties
 pub mod PropertyReader
 pub mod Splitting

@@ -1,9 +1,11 @@
 //! The words that are ids of services.
 
-ghost use Rattle.std.specs.Prelude.{◌≡◌};
+ghost use Rattle.std.specs.Prelude.{◌≡◌, IfSome, Some};
 ghost use Rattle.std.specs.List.{list_all};
 ghost use Rattle.osgi_model.specs.computed.LongReader.{is_decimal, is_numeral};
+ghost use Rattle.osgi_base.specs.declared.ids.ServiceId.{ServiceId};
 ghost use Rattle.osgi_syntax.specs.WordReader.{id_of};
+ghost use Rattle.osgi_syntax.specs.Words.{IsId};
 
 use osgi_base::ids::ServiceId;
 use std::str;
@@ -29,6 +31,14 @@ fn is_numeral(word: &[u8]) -> bool
 
 /// A word as the id of a service: one to ten decimal digits. None where it is none.
 pub fn id(word: &[u8]) -> Option<ServiceId>
+    ensures id { result ≡ id_of word.now }
+    ensures reads { IfSome result (IsId word.now) }
+    ensures only { (service : ServiceId) → IsId word.now service → result ≡ Some service }
+{
+    service_id(word)
+}
+
+fn service_id(word: &[u8]) -> Option<ServiceId>
     ensures id { result ≡ id_of word.now }
 {
     if word.len() > MAX_ID_LEN || !is_numeral(word) {

@@ -1,10 +1,10 @@
 //! The words that are names: of classes, of what a script names itself, and of bundles.
 
-ghost use Rattle.std.specs.Prelude.{◌≡◌, IfOk};
+ghost use Rattle.std.specs.Prelude.{◌≡◌, ℕ, List, IfOk, IfSome, Some};
 ghost use Rattle.std.specs.List.{list_all, slice_split};
 ghost use Rattle.osgi_syntax.specs.Splitting.{texts_of};
 ghost use Rattle.osgi_syntax.specs.WordReader.{bundle_name_of, class_of, classes_of, is_class, is_comma, is_dot, is_name, is_token, name_of};
-ghost use Rattle.osgi_syntax.specs.Words.{begins_name, is_class_byte, is_name_byte, is_token_byte};
+ghost use Rattle.osgi_syntax.specs.Words.{AreClasses, begins_name, is_class_byte, is_name_byte, is_token_byte, IsBundleName, IsClass, IsName};
 
 use osgi_base::list::List;
 use osgi_base::text::Text;
@@ -28,6 +28,14 @@ fn is_class(name: &[u8]) -> bool
 
 /// A word as a class name; none where it is no class name.
 pub fn class(alloc: Global, word: &[u8]) -> Result<Option<Text>, AllocError>
+    ensures class { IfOk result (λ class. class ≡ class_of word.now) }
+    ensures reads { IfOk result (λ read. IfSome read (λ name. IsClass name × (word.now ≡ name))) }
+    ensures only { IsClass word.now → IfOk result (λ read. read ≡ Some word.now) }
+{
+    class_text(alloc, word)
+}
+
+fn class_text(alloc: Global, word: &[u8]) -> Result<Option<Text>, AllocError>
     ensures class { IfOk result (λ class. class ≡ class_of word.now) }
 {
     if !is_class(word) {
@@ -69,6 +77,14 @@ fn texts(alloc: Global, names: &[&[u8]]) -> Result<List<Text>, AllocError>
 /// The class names of a word, which stand between commas; none where one of them is no class name.
 pub fn classes(alloc: Global, word: &[u8]) -> Result<Option<List<Text>>, AllocError>
     ensures classes { IfOk result (λ classes. classes ≡ classes_of word.now) }
+    ensures reads { IfOk result (λ read. IfSome read (AreClasses word.now)) }
+    ensures only { (classes : List (List ℕ)) → AreClasses word.now classes → IfOk result (λ read. read ≡ Some classes) }
+{
+    class_texts(alloc, word)
+}
+
+fn class_texts(alloc: Global, word: &[u8]) -> Result<Option<List<Text>>, AllocError>
+    ensures classes { IfOk result (λ classes. classes ≡ classes_of word.now) }
 {
     let names = split_commas(alloc, word)?;
     if !are_classes(names.as_slice()) {
@@ -101,6 +117,14 @@ fn is_name(name: &[u8]) -> bool
 
 /// A word as the name of a variable, a listener or a job; none where it is no such name.
 pub fn name(alloc: Global, word: &[u8]) -> Result<Option<Text>, AllocError>
+    ensures name { IfOk result (λ name. name ≡ name_of word.now) }
+    ensures reads { IfOk result (λ read. IfSome read (λ name. IsName name × (word.now ≡ name))) }
+    ensures only { IsName word.now → IfOk result (λ read. read ≡ Some word.now) }
+{
+    name_text(alloc, word)
+}
+
+fn name_text(alloc: Global, word: &[u8]) -> Result<Option<Text>, AllocError>
     ensures name { IfOk result (λ name. name ≡ name_of word.now) }
 {
     if !is_name(word) {
@@ -146,6 +170,14 @@ fn split_dots<'a>(alloc: Global, word: &'a [u8]) -> Result<Vec<&'a [u8]>, AllocE
 
 /// A word as the symbolic name of a bundle: tokens with dots between them. None where it is none.
 pub fn bundle_name(alloc: Global, word: &[u8]) -> Result<Option<Text>, AllocError>
+    ensures name { IfOk result (λ name. name ≡ bundle_name_of word.now) }
+    ensures reads { IfOk result (λ read. IfSome read (λ name. IsBundleName name × (word.now ≡ name))) }
+    ensures only { IsBundleName word.now → IfOk result (λ read. read ≡ Some word.now) }
+{
+    bundle_name_text(alloc, word)
+}
+
+fn bundle_name_text(alloc: Global, word: &[u8]) -> Result<Option<Text>, AllocError>
     ensures name { IfOk result (λ name. name ≡ bundle_name_of word.now) }
 {
     let tokens = split_dots(alloc, word)?;

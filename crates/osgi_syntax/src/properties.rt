@@ -1,7 +1,9 @@
 //! The words that are properties: `key=value` or `key:Type=value`.
 
-ghost use Rattle.std.specs.Prelude.{◌≡◌, IfOk};
+ghost use Rattle.std.specs.Prelude.{◌≡◌, List, IfOk, IfSome, Some};
 ghost use Rattle.std.specs.List.{position};
+ghost use Rattle.osgi_model.specs.declared.value.Attribute.{Attribute};
+ghost use Rattle.osgi_syntax.specs.Properties.{AreProperties};
 ghost use Rattle.osgi_syntax.specs.PropertyReader.{attribute_of, ends_key, is_equals, properties_of, property_of, typed_of};
 ghost use Rattle.osgi_syntax.specs.Splitting.{texts_of};
 
@@ -77,6 +79,14 @@ fn property(alloc: Global, word: &[u8]) -> Result<Option<Attribute>, AllocError>
 
 /// The words as properties, in order; none where one of them is none.
 pub fn properties(alloc: Global, words: &[&[u8]]) -> Result<Option<Attributes>, AllocError>
+    ensures properties { IfOk result (λ properties. properties ≡ properties_of (texts_of words.now)) }
+    ensures reads { IfOk result (λ read. IfSome read (AreProperties (texts_of words.now))) }
+    ensures only { (properties : List Attribute) → AreProperties (texts_of words.now) properties → IfOk result (λ read. read ≡ Some properties) }
+{
+    attributes(alloc, words)
+}
+
+fn attributes(alloc: Global, words: &[&[u8]]) -> Result<Option<Attributes>, AllocError>
     ensures properties { IfOk result (λ properties. properties ≡ properties_of (texts_of words.now)) }
 {
     let mut properties = List::with_capacity(alloc, words.len())?;

@@ -1,7 +1,9 @@
 //! The words of a line: spaces separate them, except between quotes.
 
-ghost use Rattle.std.specs.Prelude.{◌≡◌, IfOk, MatchOption};
+ghost use Rattle.std.specs.Prelude.{◌≡◌, ℕ, List, ◌∷◌, IfOk, MatchOption};
 ghost use Rattle.osgi_syntax.specs.Splitting.{after_spaces, texts_of, words_of, BeginsWithWord, HasNoWord};
+ghost use Rattle.osgi_syntax.specs.LineWords.{AreLineWords};
+ghost use Rattle.osgi_syntax.specs.Words.{AreSpaces, IsSeparated};
 
 use osgi_base::parts::part_len;
 use std::alloc::{AllocError, Global};
@@ -28,8 +30,16 @@ pub fn split_word(text: &[u8]) -> Option<(&[u8], &[u8])>
     Some(text.split_at(part_len(b' ', text)))
 }
 
-/// All words of a text, in order.
+/// All words of a text, in order. A word with a quote that is not closed goes to the end of the text.
 pub fn split_words<'a>(alloc: Global, text: &'a [u8]) -> Result<Vec<&'a [u8]>, AllocError>
+    ensures words { IfOk result (λ words. texts_of words.items ≡ words_of text.now) }
+    ensures separated { IfOk result (λ words. IsSeparated AreSpaces (texts_of words.items) (32 ∷ text.now)) }
+    ensures only { (words : List (List ℕ)) → AreLineWords words → IsSeparated AreSpaces words (32 ∷ text.now) → IfOk result (λ split. texts_of split.items ≡ words) }
+{
+    all_words(alloc, text)
+}
+
+fn all_words<'a>(alloc: Global, text: &'a [u8]) -> Result<Vec<&'a [u8]>, AllocError>
     ensures words { IfOk result (λ words. texts_of words.items ≡ words_of text.now) }
 {
     let mut words = Vec::new(alloc);

@@ -1,7 +1,7 @@
 -- The grammar of ranges: a plain version, or two versions with a comma between and brackets round them.
 use Rattle.std.specs.Prelude.{ℕ, ◌≡◌, Bool, true, false, List, ◌∷◌, ◌++◌, Option, Some, None}
 use Rattle.osgi_version.specs.Bytes.{Each, IsBlank}
-use Rattle.osgi_version.specs.Versions.{Parts, SpellsVersion, ReadsVersion}
+use Rattle.osgi_version.specs.Versions.{Parts, SpellsVersion, ReadsVersion, numbered}
 
 -- what a range says; without `high` it has no upper bound
 pub record RangeParts : Type 0 where
@@ -9,6 +9,10 @@ pub record RangeParts : Type 0 where
   pub low_in : Bool
   pub high : Option Parts
   pub high_in : Bool
+
+-- all versions: what a plain 0.0.0 says, and a range that is left out
+abbrev pub at_least_zero : RangeParts
+at_least_zero = record { low = numbered 0 0 0; low_in = true; high = None; high_in = false }
 
 -- `[` (the byte 91) lets the bound in and `(` (40) does not
 pub data Opens : ℕ → Bool → Type 0 where

@@ -1,5 +1,5 @@
 -- Versions as values: what one says, the order of two, and the text that is printed of one.
-use Rattle.std.specs.Prelude.{ℕ, List, [], ◌∷◌, ◌++◌}
+use Rattle.std.specs.Prelude.{ℕ, ◌≤◌, List, [], ◌∷◌, ◌++◌}
 use Rattle.std.specs.Fmt.{decimal}
 use Rattle.std.specs.declared.cmp.Ordering.{Ordering}
 use Rattle.std.specs.Ordering.{nat_cmp, ordering_then}
@@ -9,6 +9,10 @@ use Rattle.osgi_version.specs.declared.version.Version.{Version}
 
 abbrev pub parts : Version → Parts
 parts v = record { major = v.major; minor = v.minor; micro = v.micro; qualifier = v.qualifier }
+
+-- the version of three numbers, with the empty qualifier
+abbrev pub version_numbered : (major minor micro : ℕ) → (major ≤ 2147483647) × (minor ≤ 2147483647) × (micro ≤ 2147483647) → Version
+version_numbered major minor micro fit = record { major = major; minor = minor; micro = micro; qualifier = []; in_range = fit }
 
 -- by the three numbers, then by the qualifier's bytes
 abbrev pub order : Parts → Parts → Ordering

@@ -11,6 +11,10 @@ pub record Parts : Type 0 where
   pub micro : ℕ
   pub qualifier : List ℕ
 
+-- three numbers, and the empty qualifier
+abbrev pub numbered : ℕ → ℕ → ℕ → Parts
+numbered major minor micro = record { major = major; minor = minor; micro = micro; qualifier = [] }
+
 -- one or more digits, and the number that they write
 pub record IsNumber (text : List ℕ) (n : ℕ) : Type 0 where
   pub numeral : IsNumeral 10 text

@@ -1,6 +1,6 @@
 //! Qualifiers of versions. Contracts see one as the list of its bytes.
 
-ghost use Rattle.std.specs.Prelude.{◌≡◌, ◌==◌, ◌↔◌, IfOk, IsTrue};
+ghost use Rattle.std.specs.Prelude.{◌≡◌, ◌==◌, ◌↔◌, [], IfOk, IsTrue};
 ghost use Rattle.std.proofs.Common.{rules};
 ghost use Rattle.std.specs.Cmp.{partial_order_from_own_ties};
 ghost use Rattle.std.specs.Cmp.Lexicographic.{slice_cmp, pointwise, bytes_decides};
@@ -35,6 +35,14 @@ impl Model for Qualifier {
 }
 
 impl Qualifier {
+    pub fn empty() -> Qualifier
+        ensures bytes { result ≡ [] }
+    {
+        Qualifier {
+            bytes: Text::empty(),
+        }
+    }
+
     /// A qualifier of these bytes.
     pub fn of(alloc: Global, bytes: &[u8]) -> Result<Qualifier, AllocError>
         requires words { Each IsWordByte bytes.now }

@@ -1,10 +1,10 @@
 //! Ranges of versions.
 
-ghost use Rattle.std.specs.Prelude.{◌≡◌, ◌≤◌, ℕ, List, length, true, Some, IfOk, MatchOption, MatchResult, IsOkAnd};
+ghost use Rattle.std.specs.Prelude.{◌≡◌, ◌≤◌, ◌↔◌, ℕ, List, length, true, Some, IfOk, IsTrue, MatchOption, MatchResult, IsOkAnd};
 ghost use Rattle.osgi_version.specs.Faults.{IsFault};
 ghost use Rattle.osgi_version.specs.computed.RangeMachine.{step_range, is_fine_range, may_end_range, held_range};
 ghost use Rattle.osgi_version.specs.RangeValues.{range_parts, range_text, is_within, is_above, is_below_high};
-ghost use Rattle.osgi_version.specs.Ranges.{RangeParts, ReadsRange, IsSpelledRange, IsReadableRange};
+ghost use Rattle.osgi_version.specs.Ranges.{RangeParts, ReadsRange, IsSpelledRange, IsReadableRange, at_least_zero};
 ghost use Rattle.osgi_version.specs.computed.Run.{run, advance};
 ghost use Rattle.osgi_version.specs.Versions.{ReadsVersion, IsReadableVersion};
 ghost use Rattle.osgi_version.specs.VersionValues.{parts};
@@ -44,6 +44,25 @@ impl VersionRange {
             }
             Err(fault) => Ok(Err(fault)),
         }
+    }
+
+    /// The range of all versions: at least 0.0.0.
+    pub fn at_least_zero() -> VersionRange
+        ensures range { range_parts result ≡ at_least_zero }
+    {
+        VersionRange {
+            low: Version::numbered(0, 0, 0),
+            low_in: true,
+            high: None,
+            high_in: false,
+        }
+    }
+
+    /// Whether it is the range that a plain 0.0.0 or nothing at all stands for.
+    pub fn is_at_least_zero(&self) -> bool
+        ensures exactly { IsTrue result ↔ range_parts self.now ≡ at_least_zero }
+    {
+        self.high.is_none() && self.low_in && !self.high_in && self.low.is_zero()
     }
 
     /// The brackets with the two versions and a comma between, or the plain version.

@@ -21,11 +21,24 @@ pub struct Version {
 }
 
 impl Version {
-    ghost use Rattle.std.specs.Prelude.{◌≡◌, ◌++◌, ◌↔◌, IfOk, IsNone, IsOkAnd, MatchResult, Some};
+    ghost use Rattle.std.specs.Prelude.{◌≡◌, ◌++◌, ◌↔◌, IfOk, IsNone, IsTrue, IsOkAnd, MatchResult, Some};
     ghost use Rattle.osgi_version.specs.Faults.{IsFault};
     ghost use Rattle.osgi_version.specs.computed.FoundParts.{found_parts};
     ghost use Rattle.osgi_version.specs.VersionValues.{order, parts, text_of};
-    ghost use Rattle.osgi_version.specs.Versions.{Parts, ReadsVersion, IsReadableVersion, IsSpelledVersion};
+    ghost use Rattle.osgi_version.specs.Versions.{Parts, ReadsVersion, IsReadableVersion, IsSpelledVersion, numbered};
+
+    /// The version of these numbers, with the empty qualifier.
+    pub fn numbered(major: u32, minor: u32, micro: u32) -> Version
+        requires fit { (major ≤ 2147483647) × (minor ≤ 2147483647) × (micro ≤ 2147483647) }
+        ensures parts { parts result ≡ numbered major minor micro }
+    {
+        Version {
+            major,
+            minor,
+            micro,
+            qualifier: Qualifier::empty(),
+        }
+    }
 
     /// The version that the bytes read as, or why they are none.
     pub fn parse(alloc: Global, bytes: &[u8]) -> Result<Result<Version, VersionFault>, AllocError>
@@ -74,6 +87,13 @@ impl Version {
             micro: self.micro,
             qualifier: self.qualifier.bytes(),
         }
+    }
+
+    /// Whether it is 0.0.0 with the empty qualifier.
+    pub(crate) fn is_zero(&self) -> bool
+        ensures zero { IsTrue result ↔ parts self.now ≡ numbered 0 0 0 }
+    {
+        self.major == 0 && self.minor == 0 && self.micro == 0 && self.qualifier.bytes().is_empty()
     }
 
     pub(crate) fn order(&self, other: &Found) -> Ordering

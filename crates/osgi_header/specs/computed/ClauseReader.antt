@@ -1,7 +1,6 @@
 -- What the reader computes of the clauses of a value and of their parts. No public promise speaks of this: it is proved to
 -- give the readings of the grammar.
-use Rattle.std.specs.Prelude.{ℕ, ◌+◌, ◌==◌, ◌&&◌, ◌||◌, if◌then◌else◌, not, Bool, true, false, List, [], ◌∷◌, ◌++◌, length, map, reverse, take, drop, codes, Option, None, Some, option_and_then, Result, Ok, Err}
-use Rattle.std.specs.Borrow.{Bor}
+use Rattle.std.specs.Prelude.{ℕ, ◌+◌, ◌==◌, ◌&&◌, ◌||◌, if◌then◌else◌, not, Bool, false, List, [], ◌∷◌, ◌++◌, length, map, reverse, take, drop, codes, Option, None, Some, option_and_then, Result, Ok, Err}
 use Rattle.std.specs.List.{list_all, position}
 use Rattle.std.specs.Option.{option_map}
 use Rattle.osgi_base.specs.QuoteReader.{quoted_of}

@@ -23,7 +23,8 @@ use Rattle.osgi_base.specs.laws.Places.{Fails, Found, found, nowhere, position-f
 use Rattle.osgi_base.specs.laws.Quoting.{quoted_read, quoted_sound}
 use Rattle.osgi_base.specs.Parts.{scan}
 use Rattle.osgi_base.specs.laws.Scans.{other_byte, scan_quoted}
-use Rattle.osgi_syntax.specs.laws.Whole.{AreWhole, bare_by, IsWhole, scan-bare, scan_bare}
+use Rattle.osgi_syntax.specs.laws.Whole.{bare_by, scan-bare, scan_bare}
+use Rattle.osgi_syntax.specs.LineWords.{AreLineWords, IsLineWord}
 use Rattle.osgi_base.specs.declared.parts.QuoteState.TheVariants.{Bare}
 use Rattle.osgi_syntax.specs.PropertyReader.{attribute_of, begins_with_quote, ends_key, is_equals, properties_of, property_by, property_from, property_of, typed_of, value_named, value_text_of}
 use Rattle.osgi_syntax.specs.Properties.{AreProperties, bare, is_bare_byte, is_key_byte, IsKey, IsProperty, IsValueText, quoted, typed, untyped}
@@ -199,7 +200,7 @@ property_found word property (somewhere key b rest fails passes is) e =
 pub property_sound : (word : List ℕ) (property : Attribute) → property_of word ≡ Some property → IsProperty word property
 property_sound word property e = property_found word property (found ends_key word) e
 
-pub whole_property : (word : List ℕ) (property : Attribute) → IsProperty word property → IsWhole word
+pub whole_property : (word : List ℕ) (property : Attribute) → IsProperty word property → IsLineWord word
 whole_property word property (untyped {key = key} {spelled = spelled} {text = text} is spells) = record {
   some = omega (arith, is.0, length-append key (61 ∷ spelled));
   scanned = scan-bare key (61 ∷ spelled) (bare_by is_key_byte key refl refl is.1) ∙ scan_value_text spelled text spells;
@@ -230,7 +231,7 @@ properties_sound (word ∷ words) properties e =
     let read = mapped (λ rest. first ∷ rest) (properties_of words) properties made in
     rw (← read.is) (property_sound word first was, properties_sound words read.value read.was))
 
-pub whole_properties : (words : List (List ℕ)) (properties : List Attribute) → AreProperties words properties → AreWhole words
+pub whole_properties : (words : List (List ℕ)) (properties : List Attribute) → AreProperties words properties → AreLineWords words
 whole_properties [] properties are = tt
 whole_properties (word ∷ words) [] are = absurd are
 whole_properties (word ∷ words) (property ∷ properties) are = (whole_property word property are.0, whole_properties words properties are.1)

@@ -8,8 +8,9 @@ use Rattle.std.proofs.lemmas.Str.Parse.{digits_value_short, IsNumeralModel, nume
 use Rattle.osgi_base.specs.declared.ids.ServiceId.{ServiceId}
 use Rattle.osgi_model.specs.laws.Numerals.{digits_pass, is_numeral-from, numeral_from}
 use Rattle.osgi_model.specs.computed.LongReader.{is_decimal, is_numeral}
-use Rattle.osgi_syntax.specs.laws.Whole.{bare_by, IsWhole, whole_bare}
+use Rattle.osgi_syntax.specs.laws.Whole.{bare_by, whole_bare}
 use Rattle.osgi_syntax.specs.WordReader.{id_of}
+use Rattle.osgi_syntax.specs.LineWords.{IsLineWord}
 use Rattle.osgi_syntax.specs.Words.{IsId}
 
 -- std's words for digits and their number
@@ -38,5 +39,5 @@ id_read word service id =
     let same : ◌≡◌ {A = ServiceId} (record { 0 = digits_value 10 word }) service = λ i. record { 0 = sym id.number i } in
     id_of-digits word (le-leb (length word) 10 id.short) (is_numeral-from word id.numeral) ∙ ap Some same
 
-pub whole_id : (word : List ℕ) (service : ServiceId) → IsId word service → IsWhole word
+pub whole_id : (word : List ℕ) (service : ServiceId) → IsId word service → IsLineWord word
 whole_id word service id = whole_bare word id.numeral.0 (bare_by is_decimal word refl refl (digits_pass word id.numeral.1))

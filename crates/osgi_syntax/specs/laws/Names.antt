@@ -9,9 +9,10 @@ use Rattle.std.proofs.lemmas.List.Splits.{join_with_byte-slice_split, length-sli
 use Rattle.std.proofs.lemmas.List.Sums.{AllPass-from_list_all, list_all-from_AllPass}
 use Rattle.osgi_base.specs.laws.Places.{Fails}
 use Rattle.osgi_base.specs.laws.Scans.{other_byte}
-use Rattle.osgi_syntax.specs.laws.Whole.{bare_by, IsWhole, whole_bare}
+use Rattle.osgi_syntax.specs.laws.Whole.{bare_by, whole_bare}
 use Rattle.osgi_syntax.specs.Properties.{is_bare_byte}
 use Rattle.osgi_syntax.specs.WordReader.{bundle_name_of, class_of, classes_of, is_bundle_name, is_class, is_comma, is_dot, is_name, is_some_of, is_token, name_of}
+use Rattle.osgi_syntax.specs.LineWords.{IsLineWord}
 use Rattle.osgi_syntax.specs.Words.{AreClasses, AreJoined, begins_name, is_class_byte, is_name_byte, is_token_byte, IsBundleName, IsClass, IsName, IsSomeOf}
 
 -- ---- one or more bytes that pass
@@ -135,18 +136,18 @@ some_joined p separator (part ∷ []) some each = (All-head (IsSomeOf p) part []
 some_joined p separator (part ∷ second ∷ rest) some each = omega (arith, length-append part (separator ∷ join_with_byte separator (second ∷ rest)))
 
 whole_joined : (p : ℕ → Bool) (separator : ℕ) (text : List ℕ) (parts : List (List ℕ)) → p 32 ≡ false → p 34 ≡ false → is_bare_byte separator ≡ true →
-    AreJoined p separator text parts → IsWhole text
+    AreJoined p separator text parts → IsLineWord text
 whole_joined p separator text parts no_space no_quote bare are =
     rw are.joined
     (whole_bare (join_with_byte separator parts) (some_joined p separator parts are.some are.each) (bare_joined p separator parts no_space no_quote bare are.each))
 
-pub whole_class : (name : List ℕ) → IsClass name → IsWhole name
+pub whole_class : (name : List ℕ) → IsClass name → IsLineWord name
 whole_class name class = whole_bare name class.0 (bare_by is_class_byte name refl refl class.1)
 
-pub whole_classes : (word : List ℕ) (classes : List (List ℕ)) → AreClasses word classes → IsWhole word
+pub whole_classes : (word : List ℕ) (classes : List (List ℕ)) → AreClasses word classes → IsLineWord word
 whole_classes word classes are = whole_joined is_class_byte 44 word classes refl refl refl are
 
-pub whole_bundle_name : (name : List ℕ) → IsBundleName name → IsWhole name
+pub whole_bundle_name : (name : List ℕ) → IsBundleName name → IsLineWord name
 whole_bundle_name name is = whole_joined is_token_byte 46 name is.0 refl refl refl is.1
 
 bare_begin : (b : ℕ) → begins_name b ≡ true → is_bare_byte b ≡ true
@@ -154,7 +155,7 @@ bare_begin b begins =
     All-head (λ x. is_bare_byte x ≡ true) b []
     (bare_by begins_name (b ∷ []) refl refl (All-cons (λ x. begins_name x ≡ true) b [] begins (λ k d below. absurd (omega arith))))
 
-pub whole_name : (name : List ℕ) → IsName name → IsWhole name
+pub whole_name : (name : List ℕ) → IsName name → IsLineWord name
 whole_name [] is = absurd is
 whole_name (b ∷ rest) is =
     whole_bare (b ∷ rest) (omega arith) (All-cons (λ x. is_bare_byte x ≡ true) b rest (bare_begin b is.0) (bare_by is_name_byte rest refl refl is.1))

@@ -21,7 +21,7 @@ pub record PartsFrom (place : QuoteState) (text : List ℕ) : Type 0 where
   pub rest : List ℕ
   pub are : words_from (Some place) text ≡ word ∷ words
   pub is : text ≡ word ++ rest
-  pub parted : IsSeparated AreSpaces words rest
+  pub separated : IsSeparated AreSpaces words rest
 
 -- spaces, and the words of a text after them
 Parts : List ℕ → Type 0
@@ -31,16 +31,16 @@ parts_space : (b : ℕ) (rest : List ℕ) → b ≡ 32 → Parts rest → Parts 
 unfolding Parts
 parts_space b rest is more spaces are some =
     let all : AreSpaces (spaces ++ b ∷ []) = All-append (λ x. x ≡ 32) spaces (b ∷ []) are (All-cons (λ x. x ≡ 32) b [] is no_spaces) in
-    let parted : IsSeparated AreSpaces (words_of rest) ((spaces ++ b ∷ []) ++ rest)
+    let separated : IsSeparated AreSpaces (words_of rest) ((spaces ++ b ∷ []) ++ rest)
     = more (spaces ++ b ∷ []) all (omega (arith, length-append spaces (b ∷ []))) in
-    rw (words_of-space b rest is, ← append_assoc spaces (b ∷ []) rest) parted
+    rw (words_of-space b rest is, ← append_assoc spaces (b ∷ []) rest) separated
 
 parts_word : (b : ℕ) (rest : List ℕ) → b ≢ 32 → PartsFrom (state_after Bare b) rest → Parts (b ∷ rest)
 unfolding Parts
 parts_word b rest other more spaces are some =
     let words : words_of (b ∷ rest) ≡ (b ∷ more.word) ∷ more.words
     = cond-false (b == 32) _ _ (ne_eqb b 32 other) ∙ ap (onto_first b) more.are in
-    rw words (spaces, more.rest, are, some, ap (λ l. spaces ++ b ∷ l) more.is, more.parted)
+    rw words (spaces, more.rest, are, some, ap (λ l. spaces ++ b ∷ l) more.is, more.separated)
 
 parts_end : (place : QuoteState) (b : ℕ) (rest : List ℕ) → ends_part 32 place b ≡ true → Parts rest → PartsFrom place (b ∷ rest)
 unfolding Parts
@@ -52,7 +52,7 @@ parts_end place b rest e more =
       rest = b ∷ rest;
       are = cond-true (ends_part 32 place b) _ _ e;
       is = refl;
-      parted = more (b ∷ []) (All-cons (λ x. x ≡ 32) b [] space no_spaces) (omega arith);
+      separated = more (b ∷ []) (All-cons (λ x. x ≡ 32) b [] space no_spaces) (omega arith);
     }
 
 parts_more : (place : QuoteState) (b : ℕ) (rest : List ℕ) → ends_part 32 place b ≡ false → PartsFrom (state_after place b) rest → PartsFrom place (b ∷ rest)
@@ -62,7 +62,7 @@ parts_more place b rest e more = record {
   rest = more.rest;
   are = cond-false (ends_part 32 place b) _ _ e ∙ ap (onto_first b) more.are;
   is = ap (λ l. b ∷ l) more.is;
-  parted = more.parted;
+  separated = more.separated;
 }
 
 -- both at once, since each needs the other
@@ -82,26 +82,26 @@ parts_both : (text : List ℕ) → PartsBoth text
 unfolding Parts
 parts_both [] = record {
   between = λ spaces are some. rw append-nil are;
-  within = λ place. record { word = []; words = []; rest = []; are = refl; is = refl; parted = no_spaces };
+  within = λ place. record { word = []; words = []; rest = []; are = refl; is = refl; separated = no_spaces };
 }
 parts_both (b ∷ rest) =
     let more = parts_both rest in
     record { between = between_by b rest (b == 32) refl more; within = λ place. within_by place b rest (ends_part 32 place b) refl more }
 
 -- the words of a line part it
-pub words_part : (line : List ℕ) → IsSeparated AreSpaces (words_of line) (32 ∷ line)
+pub words_separate : (line : List ℕ) → IsSeparated AreSpaces (words_of line) (32 ∷ line)
 unfolding Parts
-words_part line = (parts_both line).between (32 ∷ []) (All-cons (λ x. x ≡ 32) 32 [] refl no_spaces) (omega arith)
+words_separate line = (parts_both line).between (32 ∷ []) (All-cons (λ x. x ≡ 32) 32 [] refl no_spaces) (omega arith)
 
 -- the first word of a text, after a space, and what parts the rest
-pub front_parts : (IsEnd : List ℕ → Type 0) (words : List (List ℕ)) (text : List ℕ) → IsSeparated IsEnd words (after_word text) →
+pub first_separates : (IsEnd : List ℕ → Type 0) (words : List (List ℕ)) (text : List ℕ) → IsSeparated IsEnd words (after_word text) →
     IsSeparated IsEnd (first_word text ∷ words) (32 ∷ text)
-front_parts IsEnd words text parted =
+first_separates IsEnd words text separated =
     let prefix = spaced text in (
       32 ∷ prefix.spaces,
       after_word text,
       All-cons (λ x. x ≡ 32) 32 prefix.spaces refl prefix.are,
       omega arith,
       ap (λ l. 32 ∷ l) (prefix.is ∙ ap (λ l. prefix.spaces ++ l) (sym (take-append-drop (part_len 32 Bare (after_spaces text)) (after_spaces text)))),
-      parted,
+      separated,
     )

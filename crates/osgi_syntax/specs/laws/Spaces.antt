@@ -27,13 +27,13 @@ pub spaced : (text : List ℕ) → Spaced text
 spaced [] = record { spaces = []; are = no_spaces; is = refl }
 spaced (b ∷ rest) = spaced_by b rest (b == 32) refl (spaced rest)
 
-pub after_spaces-front : (spaces rest : List ℕ) → AreSpaces spaces → after_spaces (spaces ++ rest) ≡ after_spaces rest
-after_spaces-front [] rest are = refl
-after_spaces-front (b ∷ spaces) rest are =
-    cond-true (b == 32) _ _ (eq-eqb b 32 (All-head (λ x. x ≡ 32) b spaces are)) ∙ after_spaces-front spaces rest (All-tail (λ x. x ≡ 32) b spaces are)
+pub after_spaces-prefix : (spaces rest : List ℕ) → AreSpaces spaces → after_spaces (spaces ++ rest) ≡ after_spaces rest
+after_spaces-prefix [] rest are = refl
+after_spaces-prefix (b ∷ spaces) rest are =
+    cond-true (b == 32) _ _ (eq-eqb b 32 (All-head (λ x. x ≡ 32) b spaces are)) ∙ after_spaces-prefix spaces rest (All-tail (λ x. x ≡ 32) b spaces are)
 
 pub after_spaces-all : (spaces : List ℕ) → AreSpaces spaces → after_spaces spaces ≡ []
-after_spaces-all spaces are = ap after_spaces (sym (append-nil spaces)) ∙ after_spaces-front spaces [] are
+after_spaces-all spaces are = ap after_spaces (sym (append-nil spaces)) ∙ after_spaces-prefix spaces [] are
 
 -- what may follow a word
 pub data EndsWord : List ℕ → Type 0 where

@@ -7,23 +7,15 @@ use Rattle.std.proofs.lemmas.Bool.{cond-false, cond-true, eq-eqb, ne_eqb, not_fr
 use Rattle.std.proofs.lemmas.List.Elements.{All-head}
 use Rattle.osgi_base.specs.declared.parts.QuoteState.{QuoteState}
 use Rattle.osgi_base.specs.declared.parts.QuoteState.TheVariants.{Bare}
-use Rattle.osgi_syntax.specs.laws.Spaces.{after_spaces-all, after_spaces-front, EndsWord, with_nothing, with_space}
-use Rattle.osgi_syntax.specs.laws.Splitting.{begins, words_of-after_spaces}
+use Rattle.osgi_syntax.specs.laws.Spaces.{after_spaces-all, after_spaces-prefix, EndsWord, with_nothing, with_space}
+use Rattle.osgi_syntax.specs.laws.Splitting.{begins, words_of-after_spaces, words_of-space}
 use Rattle.osgi_base.specs.Parts.{ends_part, part_len, state_after, scan}
 use Rattle.osgi_base.specs.laws.Scans.{other_byte, plain_by, scan_more, scan-plain, scan_quoted}
 use Rattle.osgi_syntax.specs.Splitting.{after_spaces, after_word, first_word, words_of}
 use Rattle.osgi_syntax.specs.Properties.{is_bare_byte}
 use Rattle.osgi_base.specs.Quotes.{IsQuoted}
+use Rattle.osgi_syntax.specs.LineWords.{AreLineWords, IsLineWord}
 use Rattle.osgi_syntax.specs.Words.{AreSpaces, IsSeparated}
-
--- a word that ends neither within itself nor between quotes
-pub record IsWhole (word : List ℕ) : Type 0 where
-  pub some : 0 < length word
-  pub scanned : scan 32 Bare word ≡ Some Bare
-
-abbrev pub AreWhole : List (List ℕ) → Type 0
-AreWhole [] = Unit {0}
-AreWhole (word ∷ words) = IsWhole word × AreWhole words
 
 len_end : (rest : List ℕ) → EndsWord rest → part_len 32 Bare rest ≡ 0
 len_end [] with_nothing = refl
@@ -40,19 +32,19 @@ len_whole place (b ∷ word) rest scanned ends =
 plain_start : (b : ℕ) (word : List ℕ) → scan 32 Bare (b ∷ word) ≡ Some Bare → b ≢ 32
 plain_start b word scanned is = cc (scanned, cond-true (b == 32) None (scan 32 (state_after Bare b) word) (eq-eqb b 32 is))
 
-plain_front : (word rest : List ℕ) → IsWhole word → after_spaces (word ++ rest) ≡ word ++ rest
-plain_front [] rest whole = absurd (omega (arith, whole.some))
-plain_front (b ∷ word) rest whole = cond-false (b == 32) _ _ (ne_eqb b 32 (plain_start b word whole.scanned))
+first_plain : (word rest : List ℕ) → IsLineWord word → after_spaces (word ++ rest) ≡ word ++ rest
+first_plain [] rest whole = absurd (omega (arith, whole.some))
+first_plain (b ∷ word) rest whole = cond-false (b == 32) _ _ (ne_eqb b 32 (plain_start b word whole.scanned))
 
 -- the first word of a text, and what is left after it
-pub record HasFront (text word rest : List ℕ) : Type 0 where
+pub record HasFirstWord (text word rest : List ℕ) : Type 0 where
   pub some : 0 < length (after_spaces text)
   pub first : first_word text ≡ word
   pub remainder : after_word text ≡ rest
 
-whole_front : (spaces word rest : List ℕ) → AreSpaces spaces → IsWhole word → EndsWord rest → HasFront (spaces ++ (word ++ rest)) word rest
-whole_front spaces word rest are whole ends =
-    let prefix : after_spaces (spaces ++ (word ++ rest)) ≡ word ++ rest = after_spaces-front spaces (word ++ rest) are ∙ plain_front word rest whole in
+first_whole : (spaces word rest : List ℕ) → AreSpaces spaces → IsLineWord word → EndsWord rest → HasFirstWord (spaces ++ (word ++ rest)) word rest
+first_whole spaces word rest are whole ends =
+    let prefix : after_spaces (spaces ++ (word ++ rest)) ≡ word ++ rest = after_spaces-prefix spaces (word ++ rest) are ∙ first_plain word rest whole in
     let len : part_len 32 Bare (word ++ rest) ≡ length word = len_whole Bare word rest whole.scanned ends in
     record {
       some = rw prefix (omega (arith, length-append word rest, whole.some));
@@ -68,23 +60,26 @@ pub ends_all : (spaces : List ℕ) → AreSpaces spaces → EndsWord spaces
 ends_all [] are = with_nothing
 ends_all (b ∷ spaces) are = with_space b spaces (All-head (λ x. x ≡ 32) b spaces are)
 
-ends_parted : (IsEnd : List ℕ → Type 0) (words : List (List ℕ)) (rest : List ℕ) → ((end : List ℕ) → IsEnd end → EndsWord end) → IsSeparated IsEnd words rest → EndsWord rest
-ends_parted IsEnd [] rest end parted = end rest parted
-ends_parted IsEnd (word ∷ words) rest end parted = rw parted.4 (ends_spaces parted.0 (word ++ parted.1) parted.2 parted.3)
+ends_separated : (IsEnd : List ℕ → Type 0) (words : List (List ℕ)) (rest : List ℕ) → ((end : List ℕ) → IsEnd end → EndsWord end) → IsSeparated IsEnd words rest → EndsWord rest
+ends_separated IsEnd [] rest end separated = end rest separated
+ends_separated IsEnd (word ∷ words) rest end separated = rw separated.4 (ends_spaces separated.0 (word ++ separated.1) separated.2 separated.3)
 
 -- where whole words part a text, the first of them is its first word
-pub parted_front : (IsEnd : List ℕ → Type 0) (word : List ℕ) (words : List (List ℕ)) (text : List ℕ) → ((end : List ℕ) → IsEnd end → EndsWord end) → IsWhole word →
-    (parted : IsSeparated IsEnd (word ∷ words) text) → HasFront text word parted.1
-parted_front IsEnd word words text end whole parted =
-    subst (λ t. HasFront t word parted.1) (sym parted.4) (whole_front parted.0 word parted.1 parted.2 whole (ends_parted IsEnd words parted.1 end parted.5))
+pub first_separated : (IsEnd : List ℕ → Type 0) (word : List ℕ) (words : List (List ℕ)) (text : List ℕ) → ((end : List ℕ) → IsEnd end → EndsWord end) → IsLineWord word →
+    (separated : IsSeparated IsEnd (word ∷ words) text) → HasFirstWord text word separated.1
+first_separated IsEnd word words text end whole separated =
+    subst (λ t. HasFirstWord t word separated.1) (sym separated.4) (first_whole separated.0 word separated.1 separated.2 whole (ends_separated IsEnd words separated.1 end separated.5))
 
 -- and all of them are its words
-pub parted_words : (words : List (List ℕ)) (text : List ℕ) → AreWhole words → IsSeparated AreSpaces words text → words_of text ≡ words
-parted_words [] text whole are = sym (words_of-after_spaces text) ∙ ap words_of (after_spaces-all text are)
-parted_words (word ∷ words) text whole parted =
-    let prefix = parted_front AreSpaces word words text ends_all whole.0 parted in
+pub separated_words : (words : List (List ℕ)) (text : List ℕ) → AreLineWords words → IsSeparated AreSpaces words text → words_of text ≡ words
+separated_words [] text whole are = sym (words_of-after_spaces text) ∙ ap words_of (after_spaces-all text are)
+separated_words (word ∷ words) text whole separated =
+    let prefix = first_separated AreSpaces word words text ends_all whole.0 separated in
     (begins text prefix.some).words
-    ∙ rw (prefix.first, prefix.remainder) (ap (λ l. word ∷ l) (parted_words words parted.1 whole.1 parted.5))
+    ∙ rw (prefix.first, prefix.remainder) (ap (λ l. word ∷ l) (separated_words words separated.1 whole.1 separated.5))
+
+pub words_are : (text : List ℕ) (words : List (List ℕ)) → AreLineWords words → IsSeparated AreSpaces words (32 ∷ text) → words_of text ≡ words
+words_are text words are separated = sym (words_of-space 32 text refl) ∙ separated_words words (32 ∷ text) are separated
 
 -- ---- bytes without space and quote
 
@@ -98,10 +93,10 @@ scan-bare prefix rest all = scan-plain 32 prefix rest (λ k d below. plain_by 32
 pub scan_bare : (word : List ℕ) → AllPass is_bare_byte word → scan 32 Bare word ≡ Some Bare
 scan_bare word all = ap (scan 32 Bare) (sym (append-nil word)) ∙ scan-bare word [] all
 
-pub whole_bare : (word : List ℕ) → 0 < length word → AllPass is_bare_byte word → IsWhole word
+pub whole_bare : (word : List ℕ) → 0 < length word → AllPass is_bare_byte word → IsLineWord word
 whole_bare word some all = record { some = some; scanned = scan_bare word all }
 
 -- ---- quoted texts
 
-pub whole_quoted : (word text : List ℕ) → IsQuoted word text → IsWhole word
+pub whole_quoted : (word text : List ℕ) → IsQuoted word text → IsLineWord word
 whole_quoted word text quoted = record { some = rw quoted.is (omega arith); scanned = scan_quoted 32 word text quoted refl }

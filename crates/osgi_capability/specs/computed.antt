@@ -1,0 +1,2 @@
+-- What the code computes, for the contracts of private functions.
+pub mod Satisfied

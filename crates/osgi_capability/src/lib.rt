@@ -1,0 +1,7 @@
+//! Whether what one bundle offers is what another needs.
+#![tactic(auto)]
+
+mod imports;
+mod satisfying;
+
+pub use satisfying::satisfies;

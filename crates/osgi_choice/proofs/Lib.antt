@@ -1,0 +1,30 @@
+-- Lemmas on wirings, words and the search.
+pub mod Lists
+pub mod Agree
+pub mod Settled
+pub mod Inside
+pub mod Values
+pub mod Laws
+pub mod States
+pub mod Views
+pub mod Growth
+pub mod Twos
+pub mod Complete
+pub mod Restrict
+pub mod Follow
+pub mod Ends
+pub mod Words
+pub mod Order
+pub mod Walk
+pub mod Search
+pub mod Left
+pub mod Facts
+pub mod Checks
+pub mod Steps
+pub mod Drop
+pub mod Queue
+pub mod Preferred
+pub mod Depth
+pub mod Closure
+pub mod Decide
+mod Rows

@@ -1,0 +1,76 @@
+//! What rows ask of the machine.
+
+use crate::machine::{add_history, add_recorded};
+use crate::names::{add_join, add_limits, add_many, add_refusal};
+use osgi_base::ids::Tag;
+use osgi_core::Core;
+use osgi_ops::limits::Limits;
+use osgi_rows::asked::asked;
+use osgi_rows::words::{number, split_bundle, split_word};
+use std::alloc::{AllocError, Global};
+
+/// Limits with room for so many entries, a million at most.
+fn limited(entries: u32) -> Limits {
+    Limits {
+        budget: 0,
+        handings: 0,
+        entries: u64::from(entries).min(1_000_000),
+    }
+}
+
+fn begin(alloc: Global, out: &mut String, core: &mut Core, entries: u32) -> Result<(), AllocError> {
+    *core = Core::new(alloc, limited(entries))?;
+    out.push_str("begun")
+}
+
+/// The tag that a word writes, as `CALLER.NUMBER`.
+fn tag_of(word: &str) -> Option<Tag> {
+    let (caller, command) = word.split_once('.')?;
+    Some(Tag {
+        caller: number(caller),
+        command: number(command),
+    })
+}
+
+/// Asks for the command of a row that begins with a tag.
+fn ask(
+    alloc: Global,
+    out: &mut String,
+    core: &mut Core,
+    word: &str,
+    text: &str,
+) -> Result<(), AllocError> {
+    let Some(tag) = tag_of(word) else {
+        return out.push_str("no such row");
+    };
+    let (bundle, command) = split_bundle(text);
+    match asked(alloc, bundle, command)? {
+        Ok(op) => add_recorded(alloc, out, core, tag, op),
+        Err(why) => out.push_str(why),
+    }
+}
+
+/// Adds the answer to a row.
+pub fn add_answer(
+    alloc: Global,
+    out: &mut String,
+    core: &mut Core,
+    row: &str,
+) -> Result<(), AllocError> {
+    let (word, rest) = split_word(row);
+    if word == "core" {
+        begin(alloc, out, core, number(rest))
+    } else if word == "entries" {
+        add_history(alloc, out, core.entries())
+    } else if word == "refusal" {
+        add_refusal(alloc, out, rest)
+    } else if word == "many" {
+        add_many(out, rest)
+    } else if word == "join" {
+        add_join(alloc, out)
+    } else if word == "limits" {
+        add_limits(out)
+    } else {
+        ask(alloc, out, core, word, rest)
+    }
+}

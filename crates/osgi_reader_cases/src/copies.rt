@@ -1,0 +1,15 @@
+//! Values beside their copies.
+
+use crate::escapes::complain;
+use osgi_base::copied::Copied;
+use std::alloc::{AllocError, Global};
+
+/// Adds a complaint, unless a value equals its copy.
+pub fn check_copy<T: Copied + PartialEq>(
+    alloc: Global,
+    out: &mut String,
+    value: &T,
+) -> Result<(), AllocError> {
+    let copy = value.copied(alloc)?;
+    complain(out, copy == *value, ", copy differs")
+}

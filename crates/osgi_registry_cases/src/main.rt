@@ -1,0 +1,44 @@
+//! Reads rows, and prints each with what the registry answers to it, beside plain scans of the calls so far.
+//!
+//! An empty row, and one that begins with `#`, says nothing. The first word of any other says what it asks for:
+//!
+//! | Row | Asks for |
+//! |---|---|
+//! | `registry` | a new registry |
+//! | `BUNDLE COMMAND` | what the registry answers to a command of the console, asked by the bundle |
+//! | `where TEST: BUNDLE COMMAND` | the same, where TEST says which services are assignable |
+//! | `release BUNDLE`, `count` | the same calls of the registry |
+//! | `has BUNDLE modify ID PROP..` | whether the service is the bundle's, and has just these properties |
+//! | `check` | the services, their uses, and the services of each class, as the registry has them. The answer says so where plain scans of its calls have other services or uses |
+//!
+//! TEST is `all`, `none`, `owner BUNDLE` or `owner BUNDLE class CLASS`. Each operation, reply and entry of a row is compared
+//! with its copy; the answer says so where they differ.
+#![tactic(auto)]
+
+mod assignable;
+mod calls;
+mod checked;
+mod rows;
+mod scanned;
+mod trial;
+mod uses;
+
+use rows::add_answer;
+use std::io;
+use trial::Trial;
+
+fn main(rt: HostRuntime) -> io::Result<()> {
+    let mut trial = Trial::new(rt.alloc())?;
+    for line in rt.lines(rt.alloc()) {
+        let line = line?;
+        let line = line.as_str();
+        if line.is_empty() || line.starts_with('#') {
+            println!(rt; "{line}")?;
+        } else {
+            let mut answer = String::new(rt.alloc());
+            add_answer(rt.alloc(), &mut answer, &mut trial, line)?;
+            println!(rt; "{line} => {answer}")?;
+        }
+    }
+    Ok(())
+}

@@ -1,0 +1,183 @@
+//! A registry beside the entries that its calls leave.
+
+ghost use Rattle.std.specs.Prelude.{◌≡◌, ◌+◌, ◌<◌, ◌≤◌};
+
+use crate::assignable::Assignable;
+use crate::calls::reply_to;
+use crate::checked::{add_found, add_ids, add_live};
+use crate::scanned::{TAG, add_release, add_uses};
+use osgi_base::ids::{BundleId, ServiceId};
+use osgi_model::value::Attributes;
+use osgi_ops::entry::Entry;
+use osgi_ops::op::Op;
+use osgi_ops::service::Service;
+use osgi_registry::Registry;
+use osgi_rows::shown::{add_checked, complain, is_as_its_copy};
+use std::alloc::{AllocError, Global};
+use std::fmt::Write;
+
+/// A registry, and the entries that its calls leave.
+#[derive(Drop)]
+pub struct Trial {
+    alloc: Global,
+    registry: Registry,
+    entries: Vec<Entry>,
+    /// How many calls are left.
+    left: u32,
+    ghost ids_left: { registry.issued + left ≤ 4294967295 },
+}
+
+impl Trial {
+    pub fn new(alloc: Global) -> Result<Trial, AllocError> {
+        Ok(Trial {
+            alloc,
+            registry: Registry::new(alloc)?,
+            entries: Vec::new(alloc),
+            left: u32::MAX,
+        })
+    }
+
+    /// Adds what the registry answers to an operation.
+    pub fn ask(
+        &mut self,
+        out: &mut String,
+        op: Op,
+        assignable: Assignable<'_>,
+    ) -> Result<(), AllocError> {
+        let Some(left) = self.left.checked_sub(1) else {
+            return out.push_str("no calls left");
+        };
+        self.left = left;
+        ask(
+            self.alloc,
+            out,
+            &mut self.registry,
+            &mut self.entries,
+            op,
+            assignable,
+        )
+    }
+
+    pub fn release(&mut self, out: &mut String, bundle: BundleId) -> Result<(), AllocError> {
+        release(
+            self.alloc,
+            out,
+            &mut self.registry,
+            &mut self.entries,
+            bundle,
+        )
+    }
+
+    pub fn count(&self, out: &mut String) -> Result<(), AllocError> {
+        write!(out, "{}", self.registry.count())
+    }
+
+    /// Adds whether a service is as an operation that modifies it would make it.
+    pub fn has(&self, out: &mut String, op: &Op) -> Result<(), AllocError> {
+        let Op::Modify {
+            owner,
+            service,
+            properties,
+        } = op
+        else {
+            return out.push_str("nothing");
+        };
+        match live(&self.registry, *service) {
+            Some(service) => add_has(self.alloc, out, service, *owner, properties),
+            None => out.push_str("none"),
+        }
+    }
+
+    /// Adds the live services, their uses, and the services of each class.
+    pub fn check(&mut self, out: &mut String) -> Result<(), AllocError> {
+        check(self.alloc, out, &mut self.registry, self.entries.as_slice())
+    }
+}
+
+/// Does an operation; the entry that it comes to.
+fn answered(
+    alloc: Global,
+    registry: &mut Registry,
+    op: Op,
+    assignable: Assignable<'_>,
+) -> Result<Entry, AllocError>
+    requires { registry.old.issued < 4294967295 }
+    ensures issued { registry.new.issued ≤ registry.old.issued + 1 }
+{
+    let reply = reply_to(alloc, registry, op.copy(alloc)?, assignable)?;
+    Ok(Entry {
+        tag: TAG,
+        op,
+        reply,
+    })
+}
+
+/// Does an operation, keeps its entry, and adds it.
+fn ask(
+    alloc: Global,
+    out: &mut String,
+    registry: &mut Registry,
+    entries: &mut Vec<Entry>,
+    op: Op,
+    assignable: Assignable<'_>,
+) -> Result<(), AllocError>
+    requires { registry.old.issued < 4294967295 }
+    ensures issued { registry.new.issued ≤ registry.old.issued + 1 }
+{
+    let entry = answered(alloc, registry, op, assignable)?;
+    add_checked(alloc, out, &entry)?;
+    entries.push(entry)?;
+    Ok(())
+}
+
+/// Releases a bundle. Its entries are the ungets and the unregisters that come to the same.
+fn release(
+    alloc: Global,
+    out: &mut String,
+    registry: &mut Registry,
+    entries: &mut Vec<Entry>,
+    bundle: BundleId,
+) -> Result<(), AllocError>
+    ensures issued { registry.new.issued ≡ registry.old.issued }
+{
+    let services = registry.release(bundle)?;
+    add_release(alloc, entries, bundle, services.items())?;
+    add_ids(out, services.items())
+}
+
+/// Adds the live services, their uses, and the services of each class.
+fn check(
+    alloc: Global,
+    out: &mut String,
+    registry: &mut Registry,
+    entries: &[Entry],
+) -> Result<(), AllocError>
+    ensures issued { registry.new.issued ≡ registry.old.issued }
+{
+    add_live(alloc, out, registry, entries)?;
+    add_uses(out, registry, entries)?;
+    add_found(alloc, out, registry)
+}
+
+/// The row of a service, if it is live.
+fn live(registry: &Registry, service: ServiceId) -> Option<&Service> {
+    for row in registry.services() {
+        if row.service == service {
+            return Some(row);
+        }
+    }
+    None
+}
+
+/// Adds whether the bundle owns the service, and just these are its properties.
+fn add_has(
+    alloc: Global,
+    out: &mut String,
+    service: &Service,
+    owner: BundleId,
+    properties: &Attributes,
+) -> Result<(), AllocError> {
+    let has = service.owner == owner && service.properties == *properties;
+    out.push_str(if has { "yes" } else { "no" })?;
+    complain(out, is_as_its_copy(alloc, service)?, ", its copy differs")
+}

@@ -1,0 +1,10 @@
+-- The properties so far, before those of the words that are left, are those of the words.
+use Rattle.std.proofs.Common.{◌≡◌, ◌++◌, drop}
+use Rattle.std.specs.Option.{option_map}
+use Rattle.osgi_syntax.specs.PropertyReader.{properties_of}
+use Rattle.osgi_syntax.specs.Splitting.{texts_of}
+use Rattle.osgi_syntax.proofs.properties.attributes.Given as goal
+
+abbrev pub invariant-loop-word : goal.invariant-loop-word
+invariant-loop-word l =
+    option_map (λ rest. l.properties ++ rest) (properties_of (texts_of (drop l.word-index l.words))) ≡ properties_of (texts_of l.words)
