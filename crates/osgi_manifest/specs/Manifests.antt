@@ -1,6 +1,6 @@
 -- What a bundle's folder means, header by header, and its first fault in the order of the headers.
-use Rattle.std.specs.Prelude.{ℕ, ◌≡◌, ◌≢◌, ◌⊎◌, ◌<◌, ◌==◌, not, true, if◌then◌else◌, Bool, List, [], ◌∷◌, ◌++◌, length, codes, filter, find, map, All, IsSomeAnd, Option, None, Some, is_some, unwrap_or}
-use Rattle.std.specs.List.{AllPass, join_with_byte, list_any}
+use Rattle.std.specs.Prelude.{ℕ, ◌≡◌, ◌≢◌, ◌⊎◌, ◌<◌, ◌==◌, ◌||◌, nat_eq, not, true, if◌then◌else◌, Bool, List, [], ◌∷◌, ◌++◌, length, codes, filter, find, map, All, IsSomeAnd, Option, None, Some, is_some, unwrap_or}
+use Rattle.std.specs.List.{AllPass, join_with_byte, list_any, starts_with}
 use Rattle.std.specs.Str.{bytes_eq}
 use Rattle.osgi_base.specs.declared.folder.File.{File}
 use Rattle.osgi_base.specs.declared.folder.Folder.{Folder}
@@ -26,8 +26,8 @@ use Rattle.osgi_package.specs.Exports.{AreExports, SaysExports}
 use Rattle.osgi_package.specs.Imports.{AreImports, SaysImports}
 use Rattle.osgi_package.specs.Parameters.{HasValue, directive_value, is_directed, is_double, version_text}
 use Rattle.osgi_manifest.specs.ClauseFaults.{IsValueFault}
-use Rattle.osgi_manifest.specs.Members.{AreMade, IsHost, IsOwn, IsProvided, IsRequired, IsRequiredBundle, bundle_namespace}
-use Rattle.osgi_manifest.specs.Values.{AreClausesIn, Repeats, header_value, is_effective}
+use Rattle.osgi_manifest.specs.Members.{AreMade, IsHost, IsOwn, IsProvided, IsRequired, IsRequiredBundle}
+use Rattle.osgi_manifest.specs.Values.{AreClausesIn, Repeats, header_value, takes_part}
 
 -- ---- files
 
@@ -47,7 +47,7 @@ IsSymbolicName name = (texts : List (List ℕ)) × (0 < length texts) × All (λ
 abbrev pub IsNaming : Clause → Type 0
 IsNaming clause = (name : List ℕ) × (clause.paths ≡ name ∷ []) × IsSymbolicName name
 
--- a header of one clause is at fault in its second
+-- in a header of one clause the second is at fault, unless the first has a fault of its own
 abbrev pub name_faults : List Clause → Clause → List (ManifestKind → Type 0)
 name_faults before clause = Where fault.BadName ((before ≢ []) ⊎ (Repeats clause ⊎ (¬ IsNaming clause))) ∷ []
 
@@ -64,34 +64,26 @@ host_faults before clause =
 abbrev pub bundle_faults : List Clause → Clause → List (ManifestKind → Type 0)
 bundle_faults before clause = Where fault.BadClause (Repeats clause) ∷ bad_versions clause ∷ []
 
--- what a manifest calls the faults of its package headers
-abbrev pub import_kind : PackageKind → ManifestKind
-import_kind package_fault.Duplicate = fault.DuplicateImport
-import_kind package_fault.JavaExport = fault.JavaExport
-import_kind package_fault.ImplicitAttribute = fault.ImplicitAttribute
-import_kind package_fault.BadVersion = fault.BadRange
-import_kind package_fault.BadValue = fault.BadValue
-import_kind package_fault.DoubleType = fault.DoubleType
+-- what a manifest calls the faults of its package headers; a version or range that is none is called this
+abbrev pub kind_of : ManifestKind → PackageKind → ManifestKind
+kind_of unversioned package_fault.Duplicate = fault.DuplicateImport
+kind_of unversioned package_fault.JavaExport = fault.JavaExport
+kind_of unversioned package_fault.ImplicitAttribute = fault.ImplicitAttribute
+kind_of unversioned package_fault.BadVersion = unversioned
+kind_of unversioned package_fault.BadValue = fault.BadValue
+kind_of unversioned package_fault.DoubleType = fault.DoubleType
 
-abbrev pub export_kind : PackageKind → ManifestKind
-export_kind package_fault.Duplicate = fault.DuplicateImport
-export_kind package_fault.JavaExport = fault.JavaExport
-export_kind package_fault.ImplicitAttribute = fault.ImplicitAttribute
-export_kind package_fault.BadVersion = fault.BadVersion
-export_kind package_fault.BadValue = fault.BadValue
-export_kind package_fault.DoubleType = fault.DoubleType
+abbrev pub import_clause_faults : List Clause → Clause → List (ManifestKind → Type 0)
+import_clause_faults before clause =
+    Where fault.BadClause (Repeats clause) ∷ (λ kind. (p : PackageKind) × SaysImports before clause (refuses p) × (kind ≡ kind_of fault.BadRange p)) ∷ []
 
-abbrev pub import_faults : List Clause → Clause → List (ManifestKind → Type 0)
-import_faults before clause =
-    Where fault.BadClause (Repeats clause) ∷ (λ kind. (p : PackageKind) × SaysImports before clause (refuses p) × (kind ≡ import_kind p)) ∷ []
+abbrev pub export_clause_faults : List Clause → Clause → List (ManifestKind → Type 0)
+export_clause_faults before clause =
+    Where fault.BadClause (Repeats clause) ∷ (λ kind. (p : PackageKind) × SaysExports before clause (refuses p) × (kind ≡ kind_of fault.BadVersion p)) ∷ []
 
-abbrev pub export_faults : List Clause → Clause → List (ManifestKind → Type 0)
-export_faults before clause =
-    Where fault.BadClause (Repeats clause) ∷ (λ kind. (p : PackageKind) × SaysExports before clause (refuses p) × (kind ≡ export_kind p)) ∷ []
-
--- namespaces that other headers are for
+-- `osgi.identity`, and every namespace that begins with `osgi.wiring.`
 abbrev pub is_reserved : List ℕ → Bool
-is_reserved namespace = list_any (bytes_eq namespace) (codes "osgi.wiring.package" ∷ bundle_namespace ∷ codes "osgi.wiring.host" ∷ [])
+is_reserved namespace = bytes_eq namespace (codes "osgi.identity") || starts_with nat_eq namespace (codes "osgi.wiring.")
 
 abbrev pub required_faults : List Clause → Clause → List (ManifestKind → Type 0)
 required_faults before clause =
@@ -110,13 +102,15 @@ provided_faults before clause =
 
 -- ---- the faults of a manifest, in the order of the headers
 
--- it stands in this header; a header that is missing, or has no clauses, is at fault at 0
+-- the fault stands in this header
 abbrev pub InHeader : List ℕ → (ManifestKind → ℕ → Type 0) → ManifestFault → Type 0
 InHeader name Has found = (found.header ≡ name) × Has found.kind found.at
 
+-- a fault of the header as a whole, as one that is missing or has no clauses, stands at 0
 abbrev pub AtStart : ManifestKind → Type 0 → ManifestKind → ℕ → Type 0
-AtStart wanted fact kind at = (kind ≡ wanted) × (at ≡ 0) × fact
+AtStart called fact kind at = (kind ≡ called) × (at ≡ 0) × fact
 
+-- the first faulty clause of the header's value, if the header is there; `outside` is the kind of one outside the grammar
 abbrev pub InValue : List header.Header → List ℕ → (List Clause → Clause → List (ManifestKind → Type 0)) → ManifestKind → ManifestFault → Type 0
 InValue headers name faults outside = InHeader name (λ kind at. IsSomeAnd (header_value name headers) (λ value. IsValueFault faults outside value kind at))
 
@@ -126,11 +120,11 @@ IsEmptyHeader headers name = IsSomeAnd (header_value name headers) (λ value. Ar
 
 -- ---- what the folder means
 
-abbrev pub is_fragment : List header.Header → Bool
-is_fragment headers = is_some (header_value (codes "Fragment-Host") headers)
+abbrev pub has_host : List header.Header → Bool
+has_host headers = is_some (header_value (codes "Fragment-Host") headers)
 
 abbrev pub activator : List header.Header → Option (List ℕ)
-activator headers = if is_fragment headers then None else header_value (codes "Bundle-Activator") headers
+activator headers = if has_host headers then None else header_value (codes "Bundle-Activator") headers
 
 abbrev pub own_version : List header.Header → List ℕ
 own_version headers = unwrap_or (header_value (codes "Bundle-Version") headers) []
@@ -146,8 +140,8 @@ module _ (IsScript : List ℕ → Type 0) where
       ∷ InHeader (codes "Fragment-Host") (AtStart fault.BadClause (IsEmptyHeader headers (codes "Fragment-Host")))
       ∷ InValue headers (codes "Fragment-Host") host_faults fault.BadClause
       ∷ InValue headers (codes "Require-Bundle") bundle_faults fault.BadClause
-      ∷ InValue headers (codes "Import-Package") import_faults fault.BadClause
-      ∷ InValue headers (codes "Export-Package") export_faults fault.BadClause
+      ∷ InValue headers (codes "Import-Package") import_clause_faults fault.BadClause
+      ∷ InValue headers (codes "Export-Package") export_clause_faults fault.BadClause
       ∷ InValue headers (codes "Require-Capability") required_faults fault.BadClause
       ∷ InValue headers (codes "Provide-Capability") provided_faults fault.BadClause
       ∷ InHeader (codes "Bundle-Activator") (AtStart fault.NoScript (IsSomeAnd (activator headers) (λ class. file_at (class_file class) folder ≡ None)))
@@ -194,7 +188,7 @@ module _ (IsScript : List ℕ → Type 0) where
     pub in_provided : AreClausesIn headers (codes "Provide-Capability") provided_clauses
     pub are_own : AreOwn revision.host revision.name own
     pub are_exports : AreExports export_clauses exports
-    pub are_provided : AreMade IsProvided (filter is_effective provided_clauses) provided
+    pub are_provided : AreMade IsProvided (filter takes_part provided_clauses) provided
     pub are : revision.capabilities ≡ own ++ (exports ++ provided)
 
   -- required bundles, then imports, then others

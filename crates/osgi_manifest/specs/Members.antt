@@ -9,13 +9,13 @@ use Rattle.osgi_model.specs.declared.requirement.Requirement.{Requirement}
 use Rattle.osgi_version.specs.Ranges.{ReadsRange}
 use Rattle.osgi_version.specs.RangeValues.{range_parts}
 use Rattle.osgi_package.specs.Parameters.{IsAttribute, directive_value, is_directed, version_text}
-use Rattle.osgi_manifest.specs.Values.{is_effective}
+use Rattle.osgi_manifest.specs.Values.{takes_part}
 
 -- the namespace of bundles, as those that are required and as the hosts of fragments
 abbrev pub bundle_namespace : List ℕ
 bundle_namespace = codes "osgi.wiring.bundle"
 
--- a bundle that a clause of Require-Bundle or Fragment-Host names: its versions, and no other condition
+-- a bundle that a clause of Require-Bundle or Fragment-Host names: its version within this range, and no other condition
 pub record IsBundle (clause : Clause) (bundle : List ℕ) (requirement : Requirement) : Type 0 where
   pub namespace : requirement.namespace ≡ bundle_namespace
   pub name : requirement.name ≡ bundle
@@ -43,7 +43,8 @@ IsFilterOf None filter = filter ≡ None
 IsFilterOf (Some text) None = ⊥
 IsFilterOf (Some text) (Some filter) = ReadsFilter text filter
 
--- what a clause of Require-Capability asks of one of its namespaces; attributes have no effect
+-- what a clause of Require-Capability asks of one of its namespaces; attributes have no effect, nor has `cardinality`, since
+-- no requirement has several wires yet
 pub record IsRequired (clause : Clause) (namespace : List ℕ) (requirement : Requirement) : Type 0 where
   pub space : requirement.namespace ≡ namespace
   pub name : requirement.name ≡ namespace
@@ -53,9 +54,9 @@ pub record IsRequired (clause : Clause) (namespace : List ℕ) (requirement : Re
   pub no_attributes : requirement.equal ≡ []
   pub filtered : IsFilterOf (directive_value (codes "filter") clause) requirement.filter
   pub optional : requirement.optional ≡ is_directed (codes "resolution") (codes "optional") clause
-  pub multiple : requirement.multiple ≡ is_directed (codes "cardinality") (codes "multiple") clause
+  pub single : requirement.multiple ≡ false
   pub private : requirement.reexport ≡ false
-  pub effective : requirement.effective ≡ is_effective clause
+  pub effective : requirement.effective ≡ takes_part clause
 
 -- what a clause of Provide-Capability offers in one of its namespaces
 pub record IsProvided (clause : Clause) (namespace : List ℕ) (capability : Capability) : Type 0 where

@@ -21,6 +21,6 @@ AreClausesIn headers name clauses = MatchOption (header_value name headers) (cla
 abbrev pub Repeats : Clause → Type 0
 Repeats clause = (¬ AllPairs (λ (a b : Typed). a.name ≢ b.name) clause.attributes) ⊎ (¬ AllPairs (λ (a b : Pair). a.name ≢ b.name) clause.directives)
 
--- `effective` is `resolve`, which it is also where it is missing
-abbrev pub is_effective : Clause → Bool
-is_effective clause = option_map_or (λ given. bytes_eq given (codes "resolve")) (directive_value (codes "effective") clause) true
+-- it takes part in resolving: `effective` is `resolve`, which it is also where it is missing
+abbrev pub takes_part : Clause → Bool
+takes_part clause = option_map_or (λ given. bytes_eq given (codes "resolve")) (directive_value (codes "effective") clause) true
