@@ -5,8 +5,8 @@ use anyhow::{Result, bail};
 use osgi_filter::{Case, matches};
 use osgi_model::filter::Filter;
 use osgi_model::value::Attributes;
-use osgi_ops::command::Command;
-use osgi_ops::line::{Content, Line};
+use osgi_session::command::Command;
+use osgi_session::line::{Content, Line};
 use std::alloc::Global;
 
 /// The filter that a line `find CLASS FILTER` has.

@@ -6,7 +6,7 @@ use osgi_base::list::List;
 use osgi_console::parse;
 use osgi_core::Core;
 use osgi_ops::limits::Limits;
-use osgi_ops::line::{Content, Line};
+use osgi_session::line::{Content, Line};
 use std::alloc::{AllocError, Global};
 
 /// The bundle that asks for everything.

@@ -14,12 +14,12 @@ use Rattle.osgi_version.specs.Versions.{Parts, numbered}
 use Rattle.osgi_version.specs.declared.version.Version.{Version}
 use Rattle.osgi_model.specs.Comparing.{exact_value, value_eq}
 use Rattle.osgi_model.specs.Matching.{attribute_value, Matches, OneOf}
-use Rattle.osgi_model.specs.Satisfaction.{is_bundle, is_package, IsGiven, IsOrdinary, Satisfies, SatisfiesImport, version_in, ordinary, version, bundle_version, bundle_name}
+use Rattle.osgi_world.specs.Satisfaction.{is_bundle, is_package, IsGiven, IsOrdinary, Satisfies, SatisfiesImport, version_in, ordinary, version, bundle_version, bundle_name}
 use Rattle.osgi_model.specs.computed.MatchReader.{matches}
 use Rattle.osgi_model.specs.laws.Decided.{matches_decides}
-use Rattle.osgi_model.specs.declared.capability.Capability.{Capability}
+use Rattle.osgi_world.specs.declared.capability.Capability.{Capability}
 use Rattle.osgi_model.specs.declared.filter.Filter.{Filter}
-use Rattle.osgi_model.specs.declared.requirement.Requirement.{Requirement}
+use Rattle.osgi_world.specs.declared.requirement.Requirement.{Requirement}
 use Rattle.osgi_model.specs.declared.value.Attribute.{Attribute}
 use Rattle.osgi_model.specs.declared.value.Value.{Value}
 use Rattle.osgi_capability.specs.computed.Satisfied.{all_equal, all_given, fits_filter, fits_import, has_equal, is_at_least_zero, is_exporter, is_given, is_listed, is_satisfied, is_zero, meets}

@@ -4,15 +4,15 @@ ghost use Rattle.std.specs.Prelude.{◌≡◌, bytes_eq};
 ghost use Rattle.std.specs.Option.{option_copied};
 ghost use Rattle.osgi_capability.specs.computed.Satisfied.{all_equal, all_given, fits_import, has_equal, is_at_least_zero, is_exporter, is_given, is_listed};
 ghost use Rattle.osgi_model.specs.Matching.{attribute_value};
-ghost use Rattle.osgi_model.specs.Satisfaction.{version_of};
+ghost use Rattle.osgi_world.specs.Satisfaction.{version_of};
 ghost use Rattle.osgi_version.specs.RangeValues.{is_within, range_parts};
 
 use osgi_base::text::Text;
-use osgi_model::capability::Capability;
-use osgi_model::requirement::Requirement;
 use osgi_model::value::{Attribute, Value};
 use osgi_version::range::VersionRange;
 use osgi_version::version::Version;
+use osgi_world::capability::Capability;
+use osgi_world::requirement::Requirement;
 
 /// The value of the first attribute of this name.
 fn value_named<'a>(attributes: &'a [Attribute], name: &[u8]) -> Option<&'a Value>

@@ -3,16 +3,16 @@
 ghost use Rattle.std.specs.Prelude.{◌≡◌, ◌↔◌, IsTrue};
 ghost use Rattle.std.specs.Option.{option_copied};
 ghost use Rattle.osgi_capability.specs.computed.Satisfied.{fits_filter, is_satisfied, meets};
-ghost use Rattle.osgi_model.specs.Satisfaction.{Satisfies};
+ghost use Rattle.osgi_world.specs.Satisfaction.{Satisfies};
 
 use crate::imports::fits_import;
 use osgi_base::text::Text;
 use osgi_filter::{Case, matches};
-use osgi_model::capability::Capability;
 use osgi_model::filter::Filter;
-use osgi_model::requirement::Requirement;
 use osgi_model::value::Attributes;
 use osgi_version::version::Version;
+use osgi_world::capability::Capability;
+use osgi_world::requirement::Requirement;
 
 /// Whether the capability satisfies the requirement, for a provider of this symbolic name and version.
 ///

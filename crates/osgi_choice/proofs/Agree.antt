@@ -1,14 +1,14 @@
 -- What two lists of wirings that hold the same for some revisions say of the sources and the pairs of these.
 use Rattle.std.proofs.Common.{ℕ, inl, inr, ◌||◌, IsTrue, List}
 use Rattle.osgi_base.specs.declared.ids.RevisionId.{RevisionId}
-use Rattle.osgi_model.specs.Lookups.{capability_namespace}
-use Rattle.osgi_model.specs.Satisfaction.{is_bundle, is_package}
-use Rattle.osgi_model.specs.Sources.{GivesPackage, Implied, Sources, follows, itself, reexported, seen, substituted}
-use Rattle.osgi_model.specs.Wirings.{Attached, BundleWire, ExportUses, Exports, HasCapability, HasExport, HasWire, ImportsElsewhere, OnOffer, Owns, PackageWire, Reexports}
-use Rattle.osgi_model.specs.declared.wiring.CapRef.{CapRef}
-use Rattle.osgi_model.specs.declared.wiring.Wire.{Wire}
-use Rattle.osgi_model.specs.declared.wiring.Wiring.{Wiring}
-use Rattle.osgi_model.specs.declared.world.Known.{Known}
+use Rattle.osgi_world.specs.Lookups.{capability_namespace}
+use Rattle.osgi_world.specs.Satisfaction.{is_bundle, is_package}
+use Rattle.osgi_world.specs.Sources.{GivesPackage, Implied, Sources, follows, itself, reexported, seen, substituted}
+use Rattle.osgi_world.specs.Wirings.{Attached, BundleWire, ExportUses, Exports, HasCapability, HasExport, HasWire, ImportsElsewhere, OnOffer, Owns, PackageWire, Reexports}
+use Rattle.osgi_world.specs.declared.wiring.CapRef.{CapRef}
+use Rattle.osgi_world.specs.declared.wiring.Wire.{Wire}
+use Rattle.osgi_world.specs.declared.wiring.Wiring.{Wiring}
+use Rattle.osgi_world.specs.declared.world.Known.{Known}
 use Rattle.osgi_choice.proofs.Lists.{or-left, or-right}
 
 -- of r, W has no fragment, bundle wire or package wire that V has not

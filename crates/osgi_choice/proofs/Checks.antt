@@ -2,18 +2,18 @@
 use Rattle.std.proofs.Common.{◌≡◌, ℕ, ◌⊎◌, ◌↔◌, inl, inr, List, map, sym, subst}
 use Rattle.osgi_choice.specs.Checks as check
 use Rattle.osgi_base.specs.declared.ids.RevisionId.{RevisionId}
-use Rattle.osgi_model.specs.Candidates.{IsProblem}
-use Rattle.osgi_model.specs.Consistency.{AreRivals}
-use Rattle.osgi_model.specs.Decisions.{Made}
-use Rattle.osgi_model.specs.DueDecisions.{members}
-use Rattle.osgi_model.specs.Partial.{partial, wiring}
-use Rattle.osgi_model.specs.Hopeless.{Hopeless, IsSettled, all_refused, clashes, no_candidate, not_offered, two_providers, two_singletons, two_versions}
-use Rattle.osgi_model.specs.Lists.{Two}
-use Rattle.osgi_model.specs.Lookups.{symbolic_name}
-use Rattle.osgi_model.specs.Sources.{Clash, Implied}
-use Rattle.osgi_model.specs.Wirings.{InForce, InUse}
-use Rattle.osgi_model.specs.declared.problem.Problem.{Problem}
-use Rattle.osgi_model.specs.declared.wiring.Wiring.{Wiring}
+use Rattle.osgi_world.specs.Candidates.{IsProblem}
+use Rattle.osgi_world.specs.Consistency.{AreRivals}
+use Rattle.osgi_world.specs.Decisions.{Made}
+use Rattle.osgi_world.specs.DueDecisions.{members}
+use Rattle.osgi_world.specs.Partial.{partial, wiring}
+use Rattle.osgi_world.specs.Hopeless.{Hopeless, IsSettled, all_refused, clashes, no_candidate, not_offered, two_providers, two_singletons, two_versions}
+use Rattle.osgi_world.specs.Lists.{Two}
+use Rattle.osgi_world.specs.Lookups.{symbolic_name}
+use Rattle.osgi_world.specs.Sources.{Clash, Implied}
+use Rattle.osgi_world.specs.Wirings.{InForce, InUse}
+use Rattle.osgi_world.specs.declared.problem.Problem.{Problem}
+use Rattle.osgi_world.specs.declared.wiring.Wiring.{Wiring}
 use Rattle.osgi_choice.proofs.Agree.{implied-same, implied-starts, package-part}
 use Rattle.osgi_choice.proofs.Complete.{part-from, part-to, wire-was}
 use Rattle.osgi_choice.proofs.Inside.{clash-agree}
@@ -55,7 +55,7 @@ hopeless-member P L D (two_providers r x y p a b d) = elim (in_force-cases P D r
 ]
 hopeless-member P L D (two_versions g i t) = elim (in-append_cases P.world.wirings (map (wiring P D) (members P D)) g i) [
   | inl o ↦ absurd (L.consistent.coherent.one_version g o t)
-  | inr j ↦ let m = map-in (wiring P D) (members P D) g j in check.two_versions m.0 m.1 (subst (λ (g : Wiring). Two (λ e f. (symbolic_name P.world.known) e ≡ (symbolic_name P.world.known) f) g.fragments) m.2 t)
+  | inr j ↦ let m = map-in (wiring P D) (members P D) g j in check.two_versions m.0 m.1 (subst (λ (g : Wiring). Two (λ e f. symbolic_name P.world.known e ≡ symbolic_name P.world.known f) g.fragments) m.2 t)
 ]
 hopeless-member P L D (two_singletons r s a b d) = rivals-new P L D r s a b d (old-new P L D r a) (old-new P L D s b)
 hopeless-member P L D (not_offered m w i h s n) = check.not_offered m w i h s n

@@ -1,6 +1,6 @@
 -- Questions that have an answer; and what is reached by steps, as a list.
 use Rattle.std.proofs.Common.{◌≡◌, ℕ, zero, suc, ◌<◌, ◌≤◌, ◌⊎◌, ◌↔◌, inl, inr, Bool, true, false, IsTrue, List, [], ◌∷◌, length, filter, refl, sym, subst, arith}
-use Rattle.osgi_model.specs.Lists.{In, Two}
+use Rattle.osgi_world.specs.Lists.{In, Two}
 use Rattle.osgi_choice.proofs.Ends.{filter-less}
 use Rattle.osgi_choice.proofs.Lists.{filter-in, in-filter}
 use Rattle.osgi_choice.proofs.Twos.{any-dec}

@@ -4,22 +4,22 @@ use Rattle.std.specs.List.{list_any}
 use Rattle.std.specs.Prelude.{IsSome}
 use Rattle.std.specs.Option.{option_map_or}
 use Rattle.osgi_base.specs.declared.ids.RevisionId.{RevisionId}
-use Rattle.osgi_model.specs.Candidates.{IsPreferred, IsProblem, candidates, matching}
-use Rattle.osgi_model.specs.Consistency.{AreDouble, Consistent, Extends, MayJoin}
-use Rattle.osgi_model.specs.Decisions.{Made, Step, attaching, choose, is_yes, pick, value_made, wired_to}
-use Rattle.osgi_model.specs.DueDecisions.{fragments_of, is_in_force, members, next_decision, payload, pull_in, pulled}
-use Rattle.osgi_model.specs.Partial.{chosen_for, chosen_by, partial, wires_for, wiring}
-use Rattle.osgi_model.specs.Hopeless.{Hopeless, IsDecided, IsSettled, ReachedFrom, all_refused, clashes, first, more, no_candidate, not_offered, two_providers, two_singletons, two_versions}
-use Rattle.osgi_model.specs.Lists.{In, Two, item_at, below}
-use Rattle.osgi_model.specs.Lookups.{bundle_of, capability_count, is_effective, is_fragment, is_host_of, is_multiple, is_optional, requirement_count, is_current, known_at, IsKnown}
-use Rattle.osgi_model.specs.Payloads.{current_fragments, own_requirements}
-use Rattle.osgi_model.specs.Wirings.{Attached, HasRequirement, HasWire, InForce, IsWorld, OnOffer, Owns}
-use Rattle.osgi_model.specs.declared.problem.Problem.{Problem}
-use Rattle.osgi_model.specs.declared.world.Known.{Known}
-use Rattle.osgi_model.specs.declared.wiring.CapRef.{CapRef}
-use Rattle.osgi_model.specs.declared.wiring.ReqRef.{ReqRef}
-use Rattle.osgi_model.specs.declared.wiring.Wire.{Wire}
-use Rattle.osgi_model.specs.declared.wiring.Wiring.{Wiring}
+use Rattle.osgi_world.specs.Candidates.{IsPreferred, IsProblem, candidates, matching}
+use Rattle.osgi_world.specs.Consistency.{AreDouble, Consistent, Extends, MayJoin}
+use Rattle.osgi_world.specs.Decisions.{Made, Step, attaching, choose, is_yes, pick, value_made, wired_to}
+use Rattle.osgi_world.specs.DueDecisions.{fragments_of, is_in_force, members, next_decision, payload, pull_in, pulled}
+use Rattle.osgi_world.specs.Partial.{chosen_for, chosen_by, partial, wires_for, wiring}
+use Rattle.osgi_world.specs.Hopeless.{Hopeless, IsDecided, IsSettled, ReachedFrom, all_refused, clashes, first, more, no_candidate, not_offered, two_providers, two_singletons, two_versions}
+use Rattle.osgi_world.specs.Lists.{In, Two, item_at, below}
+use Rattle.osgi_world.specs.Lookups.{bundle_of, capability_count, is_effective, is_fragment, is_host_of, is_multiple, is_optional, requirement_count, is_current, known_at, IsKnown}
+use Rattle.osgi_world.specs.Payloads.{current_fragments, own_requirements}
+use Rattle.osgi_world.specs.Wirings.{Attached, HasRequirement, HasWire, InForce, IsWorld, OnOffer, Owns}
+use Rattle.osgi_world.specs.declared.problem.Problem.{Problem}
+use Rattle.osgi_world.specs.declared.world.Known.{Known}
+use Rattle.osgi_world.specs.declared.wiring.CapRef.{CapRef}
+use Rattle.osgi_world.specs.declared.wiring.ReqRef.{ReqRef}
+use Rattle.osgi_world.specs.declared.wiring.Wire.{Wire}
+use Rattle.osgi_world.specs.declared.wiring.Wiring.{Wiring}
 use Rattle.osgi_choice.proofs.Agree.{Part, implied-same, implied-starts, offer-same}
 use Rattle.osgi_choice.proofs.Inside.{bundle-inside, implied-inside, reexport-inside}
 use Rattle.osgi_choice.proofs.Laws.{laws}
@@ -117,9 +117,9 @@ fragments-single P L D m t = (laws P L).fragments_ordered (two-weaker ◌≡◌ 
     (two-unfilter ◌≡◌ (λ f. (is_host_of P.world.known) f m) (current_fragments P.world.known) (two-unfilter ◌≡◌ (λ f. is_yes (value_made D (attaching m f))) (matching P m) t)))
 
 own-once : (P : Problem) (r : RevisionId) → ¬ Two ◌≡◌ (own_requirements P.world.known r)
-own-once P r t = below-once ((requirement_count P.world.known) r)
-    (two-weaker (λ i j. let q : ReqRef = record { owner = r; index = i } in let n : ReqRef = record { owner = r; index = j } in q ≡ n) ◌≡◌ (λ i j e. ap (λ (q : ReqRef). q.index) e) (below ((requirement_count P.world.known) r))
-    (two-map (λ i. let q : ReqRef = record { owner = r; index = i } in q) ◌≡◌ (below ((requirement_count P.world.known) r)) t))
+own-once P r t = below-once (requirement_count P.world.known r)
+    (two-weaker (λ i j. let q : ReqRef = record { owner = r; index = i } in let n : ReqRef = record { owner = r; index = j } in q ≡ n) ◌≡◌ (λ i j e. ap (λ (q : ReqRef). q.index) e) (below (requirement_count P.world.known r))
+    (two-map (λ i. let q : ReqRef = record { owner = r; index = i } in q) ◌≡◌ (below (requirement_count P.world.known r)) t))
 
 owners-once : (P : Problem) → IsProblem P → (D : Made) (m : RevisionId) → Two ◌≡◌ (m ∷ fragments_of P D m) → ⊥
 owners-once P L D m (inl h) =
@@ -132,8 +132,8 @@ pub payload-once : (P : Problem) → IsProblem P → (D : Made) (m : RevisionId)
 payload-once P L D m t = owners-once P L D m
     (two-flat_map (own_requirements P.world.known) ◌≡◌ (own-once P) (λ a b y z i j e. sym (own-in P a y i).0 ∙ ap (λ (q : ReqRef). q.owner) e ∙ (own-in P b z j).0) (m ∷ fragments_of P D m) t)
 
-pub candidates-once : (P : Problem) → IsProblem P → (q : ReqRef) → ¬ Two ◌≡◌ ((candidates P) q)
-candidates-once P L q t = L.candidates_ordered q (two-weaker ◌≡◌ (λ c d. ¬ IsPreferred P c d) (λ c d e p. not-itself c (subst (IsPreferred P c) (sym e) p)) ((candidates P) q) t)
+pub candidates-once : (P : Problem) → IsProblem P → (q : ReqRef) → ¬ Two ◌≡◌ (candidates P q)
+candidates-once P L q t = L.candidates_ordered q (two-weaker ◌≡◌ (λ c d. ¬ IsPreferred P c d) (λ c d e p. not-itself c (subst (IsPreferred P c) (sym e) p)) (candidates P q) t)
   where
     not-itself : (c : CapRef) → IsPreferred P c c → ⊥
     not-itself c (inl h) = h.1 h.0
@@ -143,11 +143,11 @@ candidates-once P L q t = L.candidates_ordered q (two-weaker ◌≡◌ (λ c d. 
     not-itself c (inr (same, inr (none, inr (e, inr f)))) = let h = f.1 in omega (arith, h)
 
 chosen-single : (P : Problem) → IsProblem P → (D : Made) (m : RevisionId) (q : ReqRef) (b : Bool) → (is_multiple P.world.known q) ≡ b →
-    ¬ Two (λ c d. AreDouble P.world.known (record { requirement = q; capability = c }) (record { requirement = q; capability = d })) (if b then filter (λ c. is_yes (value_made D (pick m q c))) ((candidates P) q) else chosen_by P q (value_made D (choose m q)))
+    ¬ Two (λ c d. AreDouble P.world.known (record { requirement = q; capability = c }) (record { requirement = q; capability = d })) (if b then filter (λ c. is_yes (value_made D (pick m q c))) (candidates P q) else chosen_by P q (value_made D (choose m q)))
 chosen-single P L D m q true e t =
     candidates-once P L q (two-weaker (λ c d. AreDouble P.world.known (record { requirement = q; capability = c }) (record { requirement = q; capability = d })) ◌≡◌
-    (λ c d x. elim x.1 [ inl n ↦ absurd (n e) | inr s ↦ s ]) ((candidates P) q)
-    (two-unfilter (λ c d. AreDouble P.world.known (record { requirement = q; capability = c }) (record { requirement = q; capability = d })) (λ c. is_yes (value_made D (pick m q c))) ((candidates P) q) t))
+    (λ c d x. elim x.1 [ inl n ↦ absurd (n e) | inr s ↦ s ]) (candidates P q)
+    (two-unfilter (λ c d. AreDouble P.world.known (record { requirement = q; capability = c }) (record { requirement = q; capability = d })) (λ c. is_yes (value_made D (pick m q c))) (candidates P q) t))
 chosen-single P L D m q false e t = gets-single P q (value_made D (choose m q)) (λ c d. AreDouble P.world.known (record { requirement = q; capability = c }) (record { requirement = q; capability = d })) t
   where
     at-one : (R : CapRef → CapRef → Type 0) (xs : List CapRef) (n : ℕ) → ¬ Two R (item_at xs n)
@@ -158,7 +158,7 @@ chosen-single P L D m q false e t = gets-single P q (value_made D (choose m q)) 
 
     gets-single : (P : Problem) (q : ReqRef) (o : Option ℕ) (R : CapRef → CapRef → Type 0) → ¬ Two R (chosen_by P q o)
     gets-single P q None R t = elim t [ ]
-    gets-single P q (Some v) R t = at-one R ((candidates P) q) v t
+    gets-single P q (Some v) R t = at-one R (candidates P q) v t
 
 pub wires-single : (P : Problem) → IsProblem P → (D : Made) (m : RevisionId) → ¬ Two (AreDouble P.world.known) (wiring P D m).wires
 wires-single P L D m t = payload-once P L D m
@@ -266,7 +266,7 @@ single-mandatory : (P : Problem) → IsProblem P → (D : Made) → State P D �
 single-mandatory P L D s n r q i j e o k =
     let made = none-left P D n r (choose r q) i (in-due_choose P D r q (all-attached P D n r i) j e k) in
     let range = (sound P D s (choose r q) made.0 made.1).range in
-    let c = at-some ((candidates P) q) made.0 (mandatory-range (is_optional P.world.known q) (map (λ c. wired_to r q c ∷ []) ((candidates P) q)) (length ((candidates P) q)) made.0 o (length-map (λ c. wired_to r q c ∷ []) ((candidates P) q)) range) in
+    let c = at-some (candidates P q) made.0 (mandatory-range (is_optional P.world.known q) (map (λ c. wired_to r q c ∷ []) (candidates P q)) (length (candidates P q)) made.0 o (length-map (λ c. wired_to r q c ∷ []) (candidates P q)) range) in
     let w : Wire = record { requirement = q; capability = c.0 } in
     (w, wire-got P D s r w (record { decision = choose r q; chosen = made.0; made = made.1; added = adds-chosen P r q made.0 c.0 c.1 }), refl)
 
@@ -274,7 +274,7 @@ yes-or-no : (v : ℕ) → v < 2 → ¬ (v ≡ 0) → v ≡ 1
 yes-or-no v h n = grind (arith, h, n)
 
 refused : (P : Problem) (D : Made) → State P D → next_decision P D ≡ None → (r : RevisionId) (q : ReqRef) → In r (members P D) → In q (payload P D r) → IsTrue (is_effective P.world.known q) → (is_multiple P.world.known q) ≡ true →
-    ¬ ((c : CapRef) × In c ((candidates P) q) × (value_made D (pick r q c) ≡ Some 0)) → (c : CapRef) → In c ((candidates P) q) → value_made D (pick r q c) ≡ Some 1
+    ¬ ((c : CapRef) × In c (candidates P q) × (value_made D (pick r q c) ≡ Some 0)) → (c : CapRef) → In c (candidates P q) → value_made D (pick r q c) ≡ Some 1
 refused P D s n r q i j e k never c x =
     let made = none-left P D n r (pick r q c) i (in-due_pick P D r q c (all-attached P D n r i) j e k x) in
     let range = (sound P D s (pick r q c) made.0 made.1).range in
@@ -287,7 +287,7 @@ value-dec (Some (suc v)) = inr (λ e. let h = some-inj (suc v) 0 e in omega (ari
 
 multiple-mandatory : (P : Problem) → IsProblem P → (D : Made) → State P D → next_decision P D ≡ None → ¬ Hopeless P D → (r : RevisionId) (q : ReqRef) → In r (members P D) → In q (payload P D r) →
     IsTrue (is_effective P.world.known q) → ¬ IsTrue (is_optional P.world.known q) → (is_multiple P.world.known q) ≡ true →
-    ((c : CapRef) × In c ((candidates P) q) × (value_made D (pick r q c) ≡ Some 0)) ⊎ ¬ ((c : CapRef) × In c ((candidates P) q) × (value_made D (pick r q c) ≡ Some 0)) → (w : Wire) × HasWire (partial P D) r w × (w.requirement ≡ q)
+    ((c : CapRef) × In c (candidates P q) × (value_made D (pick r q c) ≡ Some 0)) ⊎ ¬ ((c : CapRef) × In c (candidates P q) × (value_made D (pick r q c) ≡ Some 0)) → (w : Wire) × HasWire (partial P D) r w × (w.requirement ≡ q)
 multiple-mandatory P L D s n hope r q i j e o k (inl a) =
     let w : Wire = record { requirement = q; capability = a.0 } in
     (w, wire-got P D s r w (record { decision = pick r q a.0; chosen = 0; made = a.2; added = inl refl }), refl)
@@ -298,7 +298,7 @@ member-mandatory : (P : Problem) → IsProblem P → (D : Made) → State P D �
 member-mandatory P L D s n hope r q i h e o =
     let j = requirement-payload P L D r q i h in
     elim (true-or-false (is_multiple P.world.known q)) [
-      | inl k ↦ multiple-mandatory P L D s n hope r q i j e o k (any-dec (λ c. value_made D (pick r q c) ≡ Some 0) (λ c. value-dec (value_made D (pick r q c))) ((candidates P) q))
+      | inl k ↦ multiple-mandatory P L D s n hope r q i j e o k (any-dec (λ c. value_made D (pick r q c) ≡ Some 0) (λ c. value-dec (value_made D (pick r q c))) (candidates P q))
       | inr k ↦ single-mandatory P L D s n r q i j e o k
     ]
 
@@ -349,7 +349,7 @@ member-joins P L D s m i = record {
   no_dynamics = λ w j.
       let q = flat_map-in (wires_for P D m) (payload P D m) w j in
       let o = payload-in P D m q.0 q.1 in
-      λ d. (laws P L).dynamics w.requirement d (subst (λ (x : ReqRef). x.index < (requirement_count P.world.known) x.owner) (sym (wires_for-in P D m q.0 w q.2).0) o.1);
+      λ d. (laws P L).dynamics w.requirement d (subst (λ (x : ReqRef). x.index < requirement_count P.world.known x.owner) (sym (wires_for-in P D m q.0 w q.2).0) o.1);
 }
 
 -- where no decision is left and the word is not hopeless, its wirings extend the present ones
@@ -373,7 +373,7 @@ settled-in_force P D r s = elim s.own [ inl o ↦ in_force-old P D r o | inr m �
 some-same : (o : Option ℕ) (v w : ℕ) → o ≡ Some v → o ≡ Some w → v ≡ w
 some-same o v w e f = some-inj v w (sym e ∙ f)
 
-refused-none : (P : Problem) (D : Made) → State P D → (m : RevisionId) (q : ReqRef) → (is_multiple P.world.known q) ≡ true → ((c : CapRef) → In c ((candidates P) q) → value_made D (pick m q c) ≡ Some 1) →
+refused-none : (P : Problem) (D : Made) → State P D → (m : RevisionId) (q : ReqRef) → (is_multiple P.world.known q) ≡ true → ((c : CapRef) → In c (candidates P q) → value_made D (pick m q c) ≡ Some 1) →
     (w : Wire) → w.requirement ≡ q → (g : Got P D m w) → Adder P g.decision g.chosen m w → ⊥
 refused-none P D s m q k all w e g (by_choice d i) =
     let x = due-asked P D m w.requirement (sound P D s (choose m w.requirement) g.chosen (subst (λ x. value_made D x ≡ Some g.chosen) (sym d) g.made)).due in

@@ -2,24 +2,24 @@
 use Rattle.std.proofs.Common.{◌≡◌, ◌↔◌, ◌≢◌, ℕ, ◌⊎◌, ◌||◌, inl, inr, IsTrue, List, [], ◌∷◌, ◌++◌, map, flat_map, Option, None, Some, refl, sym, ◌∙◌, ap, ap₂, subst}
 use Rattle.osgi_choice.specs.Checks as check
 use Rattle.osgi_base.specs.declared.ids.RevisionId.{RevisionId}
-use Rattle.osgi_model.specs.Candidates.{IsProblem, candidates}
-use Rattle.osgi_model.specs.Consistency.{AreRivals}
-use Rattle.osgi_model.specs.Decisions.{Decision, IsMade, Made, attaching, choose, pick, value_made}
-use Rattle.osgi_model.specs.DueDecisions.{due, fragments_of, members, payload}
-use Rattle.osgi_model.specs.Partial.{partial}
-use Rattle.osgi_model.specs.Hopeless.{IsDecided, IsHopeless, IsSettled, IsSpatial, ReachedFrom, first, more}
-use Rattle.osgi_model.specs.Lists.{In, Two, below}
-use Rattle.osgi_model.specs.Lookups.{capability_count, capability_name, capability_namespace, is_current, is_effective, is_multiple, is_optional, is_reexport, is_singleton, symbolic_name, requirement_namespace, used_packages}
-use Rattle.osgi_model.specs.Satisfaction.{is_bundle, is_package}
-use Rattle.osgi_model.specs.Sources.{Clash, GivesPackage, Implied, Sources, follows, itself, reexported, seen, substituted}
-use Rattle.osgi_model.specs.Wirings.{BundleWire, ExportUses, Exports, HasCapability, HasExport, HasWire, ImportsElsewhere, InForce, IsBundleWire, IsExport, OnOffer, Owns, PackageWire, InUse, Reexports}
-use Rattle.osgi_model.specs.ChoiceWords.{made_by}
-use Rattle.osgi_model.specs.declared.problem.Problem.{Problem}
-use Rattle.osgi_model.specs.declared.wiring.CapRef.{CapRef}
-use Rattle.osgi_model.specs.declared.wiring.ReqRef.{ReqRef}
-use Rattle.osgi_model.specs.declared.wiring.Wire.{Wire}
-use Rattle.osgi_model.specs.declared.wiring.Wiring.{Wiring}
-use Rattle.osgi_model.specs.declared.world.Known.{Known}
+use Rattle.osgi_world.specs.Candidates.{IsProblem, candidates}
+use Rattle.osgi_world.specs.Consistency.{AreRivals}
+use Rattle.osgi_world.specs.Decisions.{Decision, IsMade, Made, attaching, choose, pick, value_made}
+use Rattle.osgi_world.specs.DueDecisions.{due, fragments_of, members, payload}
+use Rattle.osgi_world.specs.Partial.{partial}
+use Rattle.osgi_world.specs.Hopeless.{IsDecided, IsHopeless, IsSettled, IsSpatial, ReachedFrom, first, more}
+use Rattle.osgi_world.specs.Lists.{In, Two, below}
+use Rattle.osgi_world.specs.Lookups.{capability_count, capability_name, capability_namespace, is_current, is_effective, is_multiple, is_optional, is_reexport, is_singleton, symbolic_name, requirement_namespace, used_packages}
+use Rattle.osgi_world.specs.Satisfaction.{is_bundle, is_package}
+use Rattle.osgi_world.specs.Sources.{Clash, GivesPackage, Implied, Sources, follows, itself, reexported, seen, substituted}
+use Rattle.osgi_world.specs.Wirings.{BundleWire, ExportUses, Exports, HasCapability, HasExport, HasWire, ImportsElsewhere, InForce, IsBundleWire, IsExport, OnOffer, Owns, PackageWire, InUse, Reexports}
+use Rattle.osgi_world.specs.ChoiceWords.{made_by}
+use Rattle.osgi_world.specs.declared.problem.Problem.{Problem}
+use Rattle.osgi_world.specs.declared.wiring.CapRef.{CapRef}
+use Rattle.osgi_world.specs.declared.wiring.ReqRef.{ReqRef}
+use Rattle.osgi_world.specs.declared.wiring.Wire.{Wire}
+use Rattle.osgi_world.specs.declared.wiring.Wiring.{Wiring}
+use Rattle.osgi_world.specs.declared.world.Known.{Known}
 use Rattle.osgi_choice.proofs.Checks.{hopeless-iff_member}
 use Rattle.osgi_choice.proofs.Closure.{Decided, Reach, Steps, all-dec, both-dec, closure, either-dec, empty-dec, goes, if-dec, item-dec, less-dec, map-dec, not-dec, starts, text-dec, true-dec, two-dec}
 use Rattle.osgi_choice.proofs.Lists.{below-in, flat_map-in, in-append_cases, in-append_left, in-append_right, in-below, in-flat_map, in-map, map-in}
@@ -277,19 +277,19 @@ option-dec None v = inr (λ e. cc)
 option-dec (Some w) v = map-dec (ap Some) (λ e. Rattle.osgi_choice.proofs.Values.some-inj w v e) (nat-dec w v)
 
 abbrev Lacks : Problem → ReqRef → Type 0
-Lacks P q = IsTrue (is_effective P.world.known q) × ((¬ IsTrue (is_optional P.world.known q)) × ((candidates P) q ≡ []))
+Lacks P q = IsTrue (is_effective P.world.known q) × ((¬ IsTrue (is_optional P.world.known q)) × (candidates P q ≡ []))
 
 no_candidate-dec : (P : Problem) (D : Made) → Decided ((m : RevisionId) × In m (members P D) × ((q : ReqRef) × In q (payload P D m) × Lacks P q))
 no_candidate-dec P D = any-dec (λ m. (q : ReqRef) × In q (payload P D m) × Lacks P q)
-    (λ m. any-dec (Lacks P) (λ q. both-dec (true-dec (is_effective P.world.known q)) (both-dec (not-dec (true-dec (is_optional P.world.known q))) (empty-dec ((candidates P) q)))) (payload P D m)) (members P D)
+    (λ m. any-dec (Lacks P) (λ q. both-dec (true-dec (is_effective P.world.known q)) (both-dec (not-dec (true-dec (is_optional P.world.known q))) (empty-dec (candidates P q)))) (payload P D m)) (members P D)
 
 abbrev Refuses : Problem → Made → RevisionId → ReqRef → Type 0
-Refuses P D m q = IsTrue (is_effective P.world.known q) × ((¬ IsTrue (is_optional P.world.known q)) × (IsTrue (is_multiple P.world.known q) × ((c : CapRef) → In c ((candidates P) q) → value_made D (pick m q c) ≡ Some 1)))
+Refuses P D m q = IsTrue (is_effective P.world.known q) × ((¬ IsTrue (is_optional P.world.known q)) × (IsTrue (is_multiple P.world.known q) × ((c : CapRef) → In c (candidates P q) → value_made D (pick m q c) ≡ Some 1)))
 
 refused-dec : (P : Problem) (D : Made) → Decided ((m : RevisionId) × In m (members P D) × ((q : ReqRef) × In q (payload P D m) × Refuses P D m q))
 refused-dec P D = any-dec (λ m. (q : ReqRef) × In q (payload P D m) × Refuses P D m q)
     (λ m. any-dec (Refuses P D m) (λ q. both-dec (true-dec (is_effective P.world.known q)) (both-dec (not-dec (true-dec (is_optional P.world.known q))) (both-dec (true-dec (is_multiple P.world.known q))
-    (all-dec (λ c. value_made D (pick m q c) ≡ Some 1) (λ c. option-dec (value_made D (pick m q c)) 1) ((candidates P) q))))) (payload P D m)) (members P D)
+    (all-dec (λ c. value_made D (pick m q c) ≡ Some 1) (λ c. option-dec (value_made D (pick m q c)) 1) (candidates P q))))) (payload P D m)) (members P D)
 
 abbrev Differs : List Known → Wire → Wire → Type 0
 Differs K v w = IsTrue (is_package (capability_namespace K v.capability.owner v.capability.index)) × (IsExport K w.capability.owner w.capability.index (capability_name K v.capability.owner v.capability.index) × (v.capability.provider ≢ w.capability.provider))
@@ -299,8 +299,8 @@ providers-dec P D = any-dec (λ m. (v : Wire) × HasWire (partial P D) m v × ((
     (λ m. some_wire-dec (partial P D) m (λ v. (w : Wire) × HasWire (partial P D) m w × Differs P.world.known v w)
     (λ v. some_wire-dec (partial P D) m (Differs P.world.known v) (λ w. both-dec (true-dec (is_package (capability_namespace P.world.known v.capability.owner v.capability.index))) (both-dec (export-dec P.world.known w.capability.owner w.capability.index (capability_name P.world.known v.capability.owner v.capability.index)) (not-dec (rev-dec v.capability.provider w.capability.provider)))))) (members P D)
 
-versions-dec : (P : Problem) (D : Made) → Decided ((m : RevisionId) × In m (members P D) × Two (λ e f. (symbolic_name P.world.known) e ≡ (symbolic_name P.world.known) f) (fragments_of P D m))
-versions-dec P D = any-dec (λ m. Two (λ e f. (symbolic_name P.world.known) e ≡ (symbolic_name P.world.known) f) (fragments_of P D m)) (λ m. two-dec (λ e f. (symbolic_name P.world.known) e ≡ (symbolic_name P.world.known) f) (λ e f. text-dec ((symbolic_name P.world.known) e) ((symbolic_name P.world.known) f)) (fragments_of P D m)) (members P D)
+versions-dec : (P : Problem) (D : Made) → Decided ((m : RevisionId) × In m (members P D) × Two (λ e f. symbolic_name P.world.known e ≡ symbolic_name P.world.known f) (fragments_of P D m))
+versions-dec P D = any-dec (λ m. Two (λ e f. symbolic_name P.world.known e ≡ symbolic_name P.world.known f) (fragments_of P D m)) (λ m. two-dec (λ e f. symbolic_name P.world.known e ≡ symbolic_name P.world.known f) (λ e f. text-dec (symbolic_name P.world.known e) (symbolic_name P.world.known f)) (fragments_of P D m)) (members P D)
 
 abbrev news : Problem → Made → List RevisionId
 news P D = members P D ++ flat_map (fragments_of P D) (members P D)
@@ -351,7 +351,7 @@ member-dec P D = map-dec to from
     to : ((m : RevisionId) × In m (members P D) × ((q : ReqRef) × In q (payload P D m) × Lacks P q))
         ⊎ (((m : RevisionId) × In m (members P D) × ((q : ReqRef) × In q (payload P D m) × Refuses P D m q))
         ⊎ (((m : RevisionId) × In m (members P D) × ((v : Wire) × HasWire (partial P D) m v × ((w : Wire) × HasWire (partial P D) m w × Differs P.world.known v w)))
-        ⊎ (((m : RevisionId) × In m (members P D) × Two (λ e f. (symbolic_name P.world.known) e ≡ (symbolic_name P.world.known) f) (fragments_of P D m))
+        ⊎ (((m : RevisionId) × In m (members P D) × Two (λ e f. symbolic_name P.world.known e ≡ symbolic_name P.world.known f) (fragments_of P D m))
         ⊎ (((r : RevisionId) × In r (news P D) × ((s : RevisionId) × In s (presents (partial P D)) × AreRivals P.world.known r s))
         ⊎ (((m : RevisionId) × In m (members P D) × ((w : Wire) × HasWire (partial P D) m w × (IsSettled P D w.capability.provider × ¬ OnOffer P.world.known (partial P D) w.capability)))
         ⊎ ((m : RevisionId) × In m (members P D) × ((e : RevisionId) × (u : List ℕ) × Implied P.world.known (partial P D) (IsSettled P D) m e u × Clash P.world.known (partial P D) m e u)))))))
@@ -368,7 +368,7 @@ member-dec P D = map-dec to from
     from : HopelessMember P D → ((m : RevisionId) × In m (members P D) × ((q : ReqRef) × In q (payload P D m) × Lacks P q))
         ⊎ (((m : RevisionId) × In m (members P D) × ((q : ReqRef) × In q (payload P D m) × Refuses P D m q))
         ⊎ (((m : RevisionId) × In m (members P D) × ((v : Wire) × HasWire (partial P D) m v × ((w : Wire) × HasWire (partial P D) m w × Differs P.world.known v w)))
-        ⊎ (((m : RevisionId) × In m (members P D) × Two (λ e f. (symbolic_name P.world.known) e ≡ (symbolic_name P.world.known) f) (fragments_of P D m))
+        ⊎ (((m : RevisionId) × In m (members P D) × Two (λ e f. symbolic_name P.world.known e ≡ symbolic_name P.world.known f) (fragments_of P D m))
         ⊎ (((r : RevisionId) × In r (news P D) × ((s : RevisionId) × In s (presents (partial P D)) × AreRivals P.world.known r s))
         ⊎ (((m : RevisionId) × In m (members P D) × ((w : Wire) × HasWire (partial P D) m w × (IsSettled P D w.capability.provider × ¬ OnOffer P.world.known (partial P D) w.capability)))
         ⊎ ((m : RevisionId) × In m (members P D) × ((e : RevisionId) × (u : List ℕ) × Implied P.world.known (partial P D) (IsSettled P D) m e u × Clash P.world.known (partial P D) m e u)))))))

@@ -1,11 +1,11 @@
 -- A search from the empty word comes to an end: there is a first good word or none, and the effort is a number.
 use Rattle.std.proofs.Common.{◌≡◌, ℕ, zero, suc, ◌+◌, ◌<◌, ◌≤◌, ◌⊎◌, inl, inr, List, [], ◌∷◌, ◌++◌, Option, None, Some, refl, sym, subst, arith}
-use Rattle.osgi_model.specs.Candidates.{IsProblem}
-use Rattle.osgi_model.specs.Decisions.{Decision, Made}
-use Rattle.osgi_model.specs.DueDecisions.{next_decision}
-use Rattle.osgi_model.specs.Hopeless.{IsHopeless}
-use Rattle.osgi_model.specs.ChoiceWords.{IsComplete, IsWord, arity_of, made_by, make, width}
-use Rattle.osgi_model.specs.declared.problem.Problem.{Problem}
+use Rattle.osgi_world.specs.Candidates.{IsProblem}
+use Rattle.osgi_world.specs.Decisions.{Decision, Made}
+use Rattle.osgi_world.specs.DueDecisions.{next_decision}
+use Rattle.osgi_world.specs.Hopeless.{IsHopeless}
+use Rattle.osgi_world.specs.ChoiceWords.{IsComplete, IsWord, arity_of, made_by, make, width}
+use Rattle.osgi_world.specs.declared.problem.Problem.{Problem}
 use Rattle.osgi_choice.proofs.Decide.{hopeless-dec}
 use Rattle.osgi_choice.proofs.Ends.{open-falls, open_count}
 use Rattle.osgi_choice.proofs.Search.{at-start, at-value, ended-effort, ended-none, found-effort, found-first, hopeless-effort, hopeless-none, tried-all, tried-hopeless, tried-none}

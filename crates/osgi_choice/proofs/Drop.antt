@@ -1,11 +1,11 @@
 -- Wirings that are dropped, with all that have a wire to them, leave consistent wirings.
 use Rattle.std.proofs.Common.{◌≡◌, Bool, IsTrue, List, filter, sym, subst}
 use Rattle.osgi_base.specs.declared.ids.RevisionId.{RevisionId}
-use Rattle.osgi_model.specs.Consistency.{Consistent}
-use Rattle.osgi_model.specs.Wirings.{HasWire, InForce, IsWorld}
-use Rattle.osgi_model.specs.declared.wiring.Wire.{Wire}
-use Rattle.osgi_model.specs.declared.wiring.Wiring.{Wiring}
-use Rattle.osgi_model.specs.declared.world.Known.{Known}
+use Rattle.osgi_world.specs.Consistency.{Consistent}
+use Rattle.osgi_world.specs.Wirings.{HasWire, InForce, IsWorld}
+use Rattle.osgi_world.specs.declared.wiring.Wire.{Wire}
+use Rattle.osgi_world.specs.declared.wiring.Wiring.{Wiring}
+use Rattle.osgi_world.specs.declared.world.Known.{Known}
 use Rattle.osgi_choice.proofs.Lists.{filter-in, in-filter}
 use Rattle.osgi_choice.proofs.Restrict.{cut-consistent}
 use Rattle.osgi_choice.proofs.Twos.{two-unfilter}

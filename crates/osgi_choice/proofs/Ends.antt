@@ -1,15 +1,15 @@
 -- Words end: each decision is one of a list that is fixed by the problem, and each step makes one that was open.
 use Rattle.std.proofs.Common.{◌≡◌, ℕ, zero, suc, ◌<◌, ◌≤◌, ◌⊎◌, inl, inr, Bool, true, false, cond, IsTrue, is_none, List, [], ◌∷◌, ◌++◌, length, map, filter, flat_map, Option, None, Some, refl, sym, ◌∙◌, ap, subst, arith}
 use Rattle.osgi_base.specs.declared.ids.RevisionId.{RevisionId}
-use Rattle.osgi_model.specs.Candidates.{IsProblem, candidates, matching}
-use Rattle.osgi_model.specs.Consistency.{Extends}
-use Rattle.osgi_model.specs.Decisions.{Decision, Made, arity, attaching, choose, is_open, pick, value_made}
-use Rattle.osgi_model.specs.DueDecisions.{attachments, fragments_of, next_decision, payload}
-use Rattle.osgi_model.specs.Lists.{In}
-use Rattle.osgi_model.specs.Payloads.{own_requirements}
-use Rattle.osgi_model.specs.declared.problem.Problem.{Problem}
-use Rattle.osgi_model.specs.declared.wiring.ReqRef.{ReqRef}
-use Rattle.osgi_model.specs.declared.wiring.Wiring.{Wiring}
+use Rattle.osgi_world.specs.Candidates.{IsProblem, candidates, matching}
+use Rattle.osgi_world.specs.Consistency.{Extends}
+use Rattle.osgi_world.specs.Decisions.{Decision, Made, arity, attaching, choose, is_open, pick, value_made}
+use Rattle.osgi_world.specs.DueDecisions.{attachments, fragments_of, next_decision, payload}
+use Rattle.osgi_world.specs.Lists.{In}
+use Rattle.osgi_world.specs.Payloads.{own_requirements}
+use Rattle.osgi_world.specs.declared.problem.Problem.{Problem}
+use Rattle.osgi_world.specs.declared.wiring.ReqRef.{ReqRef}
+use Rattle.osgi_world.specs.declared.wiring.Wiring.{Wiring}
 use Rattle.osgi_choice.proofs.Follow.{Follows, follows-next, follows-start}
 use Rattle.osgi_choice.proofs.Laws.{laws, revisions_of}
 use Rattle.osgi_choice.proofs.Lists.{in-append_left, in-append_right, in-flat_map, in-map}
@@ -19,7 +19,7 @@ use Rattle.osgi_choice.specs.States.{State, start, step}
 
 -- the decisions that a revision can have
 abbrev pub all_for : Problem → RevisionId → ReqRef → List Decision
-all_for P m q = choose m q ∷ map (pick m q) ((candidates P) q)
+all_for P m q = choose m q ∷ map (pick m q) (candidates P q)
 
 abbrev pub all_of : Problem → RevisionId → List Decision
 all_of P m = attachments P m ++ flat_map (all_for P m) (flat_map (own_requirements P.world.known) (m ∷ matching P m))
@@ -44,7 +44,7 @@ for-all P D m q d i j =
 due-all : (P : Problem) (D : Made) (m : RevisionId) (d : Decision) → IsDue P D m d → In d (all_of P m)
 due-all P D m d (attaches f i e) = subst (λ x. In x (all_of P m)) (sym e) (in-append_left (attachments P m) (flat_map (all_for P m) (flat_map (own_requirements P.world.known) (m ∷ matching P m))) (attaching m f) (in-map (attaching m) (matching P m) f i))
 due-all P D m d (chooses q i eff all k e) = for-all P D m q d i (inl e)
-due-all P D m d (picks q c i eff all k j e) = for-all P D m q d i (inr (subst (λ x. In x (map (pick m q) ((candidates P) q))) (sym e) (in-map (pick m q) ((candidates P) q) c j)))
+due-all P D m d (picks q c i eff all k j e) = for-all P D m q d i (inr (subst (λ x. In x (map (pick m q) (candidates P q))) (sym e) (in-map (pick m q) (candidates P q) c j)))
 
 pub next-all : (P : Problem) → IsProblem P → (D : Made) → State P D → (d : Decision) → next_decision P D ≡ Some d → In d (all_decisions P)
 next-all P L D s d n =

@@ -1,17 +1,17 @@
 -- The facts on words, for all extensions of a word.
 use Rattle.std.proofs.Common.{◌≡◌, ℕ, ◌<◌, ◌↔◌, List, [], ◌∷◌, ◌++◌, Option, None, Some, refl, sym, subst, arith}
 use Rattle.osgi_base.specs.declared.ids.RevisionId.{RevisionId}
-use Rattle.osgi_model.specs.Candidates.{IsProblem}
-use Rattle.osgi_model.specs.Consistency.{Extends}
-use Rattle.osgi_model.specs.Decisions.{Decision, Made}
-use Rattle.osgi_model.specs.DueDecisions.{members, next_decision}
-use Rattle.osgi_model.specs.Partial.{partial}
-use Rattle.osgi_model.specs.Hopeless.{IsDecided, IsSettled}
-use Rattle.osgi_model.specs.Lists.{In}
-use Rattle.osgi_model.specs.ChoiceWords.{FitsFrom, IsWord, made_after, decide, arity_of, made_by, make, partial_of}
-use Rattle.osgi_model.specs.declared.problem.Problem.{Problem}
-use Rattle.osgi_model.specs.declared.wiring.Wiring.{Wiring}
-use Rattle.osgi_model.specs.declared.world.Known.{Known}
+use Rattle.osgi_world.specs.Candidates.{IsProblem}
+use Rattle.osgi_world.specs.Consistency.{Extends}
+use Rattle.osgi_world.specs.Decisions.{Decision, Made}
+use Rattle.osgi_world.specs.DueDecisions.{members, next_decision}
+use Rattle.osgi_world.specs.Partial.{partial}
+use Rattle.osgi_world.specs.Hopeless.{IsDecided, IsSettled}
+use Rattle.osgi_world.specs.Lists.{In}
+use Rattle.osgi_world.specs.ChoiceWords.{FitsFrom, IsWord, made_after, decide, arity_of, made_by, make, partial_of}
+use Rattle.osgi_world.specs.declared.problem.Problem.{Problem}
+use Rattle.osgi_world.specs.declared.wiring.Wiring.{Wiring}
+use Rattle.osgi_world.specs.declared.world.Known.{Known}
 use Rattle.osgi_choice.proofs.Agree.{Part, offer-same}
 use Rattle.osgi_choice.proofs.Complete.{all-settled, hopeful-iff_extends}
 use Rattle.osgi_choice.proofs.Ends.{followed}

@@ -1,20 +1,20 @@
 -- Wirings that extend the present ones, cut down to what is reached from the root, are those of a complete word.
 use Rattle.std.proofs.Common.{◌≡◌, ◌≢◌, ℕ, zero, suc, ◌<◌, ◌⊎◌, inl, inr, Bool, true, false, IsTrue, if◌then◌else◌, List, [], ◌∷◌, ◌++◌, length, map, None, Some, refl, sym, ◌∙◌, ap, ap₂, subst, arith}
 use Rattle.osgi_base.specs.declared.ids.RevisionId.{RevisionId}
-use Rattle.osgi_model.specs.Candidates.{HasCandidates, IsCandidate, IsProblem, candidates, matching}
-use Rattle.osgi_model.specs.Consistency.{AreDouble, Consistent, Extends, MayJoin}
-use Rattle.osgi_model.specs.Decisions.{Decision, Made, Step, adds, arity, attaching, attached, choose, host, menu, pick, value_made, wired, wired_to}
-use Rattle.osgi_model.specs.DueDecisions.{fragments_of, is_in_force, members, next_decision, payload, provider_of, pulled}
-use Rattle.osgi_model.specs.Partial.{partial, wiring}
-use Rattle.osgi_model.specs.Lists.{In, Two, item_at, entry}
-use Rattle.osgi_model.specs.Lookups.{capability_count, is_current, is_effective, is_fragment, is_host_of, is_multiple, is_optional, symbolic_name}
-use Rattle.osgi_model.specs.Payloads.{current_fragments}
-use Rattle.osgi_model.specs.Wirings.{Attached, HasRequirement, HasWire, InForce, IsWorld, OnOffer, Owns}
-use Rattle.osgi_model.specs.declared.problem.Problem.{Problem}
-use Rattle.osgi_model.specs.declared.wiring.ReqRef.{ReqRef}
-use Rattle.osgi_model.specs.declared.wiring.Wire.{Wire}
-use Rattle.osgi_model.specs.declared.wiring.Wiring.{Wiring}
-use Rattle.osgi_model.specs.declared.world.Known.{Known}
+use Rattle.osgi_world.specs.Candidates.{HasCandidates, IsCandidate, IsProblem, candidates, matching}
+use Rattle.osgi_world.specs.Consistency.{AreDouble, Consistent, Extends, MayJoin}
+use Rattle.osgi_world.specs.Decisions.{Decision, Made, Step, adds, arity, attaching, attached, choose, host, menu, pick, value_made, wired, wired_to}
+use Rattle.osgi_world.specs.DueDecisions.{fragments_of, is_in_force, members, next_decision, payload, provider_of, pulled}
+use Rattle.osgi_world.specs.Partial.{partial, wiring}
+use Rattle.osgi_world.specs.Lists.{In, Two, item_at, entry}
+use Rattle.osgi_world.specs.Lookups.{capability_count, is_current, is_effective, is_fragment, is_host_of, is_multiple, is_optional, symbolic_name}
+use Rattle.osgi_world.specs.Payloads.{current_fragments}
+use Rattle.osgi_world.specs.Wirings.{Attached, HasRequirement, HasWire, InForce, IsWorld, OnOffer, Owns}
+use Rattle.osgi_world.specs.declared.problem.Problem.{Problem}
+use Rattle.osgi_world.specs.declared.wiring.ReqRef.{ReqRef}
+use Rattle.osgi_world.specs.declared.wiring.Wire.{Wire}
+use Rattle.osgi_world.specs.declared.wiring.Wiring.{Wiring}
+use Rattle.osgi_world.specs.declared.world.Known.{Known}
 use Rattle.osgi_choice.proofs.Agree.{offer-same}
 use Rattle.osgi_choice.proofs.Complete.{attached-of_member, attached-was, consistent-hopeful, fragments-single, hopeful-extends, in_force-inside, part-to, provider-in_force, wire-of_member, wire-was, wires-single}
 use Rattle.osgi_choice.proofs.Laws.{laws}
@@ -206,16 +206,16 @@ less-more n k v xs ys e h = let s = length-append xs ys in omega (arith, h, s, e
 
 -- the place of V's wire
 place-agrees : (P : Problem) → IsProblem P → (V : List Wiring) → Extends P.world.known P.world.wirings V P.root → (h : RevisionId) (q : ReqRef) → (is_multiple P.world.known q) ≡ false → (w : Wire) → HasWire V h w → w.requirement ≡ q →
-    (v : ℕ) → In w.capability (item_at ((candidates P) q) v) → Agrees P V (choose h q) v
+    (v : ℕ) → In w.capability (item_at (candidates P q) v) → Agrees P V (choose h q) v
 place-agrees P L V x h q k w has e v p = record {
   within = λ s i.
-      let c = entry-singles (wired_to h q) (is_optional P.world.known q) ((candidates P) q) v s i in
-      subst (Holds V) (sym c.2) (subst (HasWire V h) (wire-eq w (record { requirement = q; capability = c.0 }) e (at-once ((candidates P) q) v w.capability c.0 p c.1)) has);
+      let c = entry-singles (wired_to h q) (is_optional P.world.known q) (candidates P q) v s i in
+      subst (Holds V) (sym c.2) (subst (HasWire V h) (wire-eq w (record { requirement = q; capability = c.0 }) e (at-once (candidates P q) v w.capability c.0 p c.1)) has);
   whole = λ u s i g.
-      let c = entry-singles (wired_to h q) (is_optional P.world.known q) ((candidates P) q) u s i in
+      let c = entry-singles (wired_to h q) (is_optional P.world.known q) (candidates P q) u s i in
       let there : HasWire V h (record { requirement = q; capability = c.0 }) = subst (Holds V) c.2 g in
       let same : w ≡ record { requirement = q; capability = c.0 } = one-wire P.world.known V x.world x.consistent h w (record { requirement = q; capability = c.0 }) has there (e, inl (λ t. not-multiple (subst (λ n. IsTrue (is_multiple P.world.known n)) e t))) in
-      subst (λ s. In s (adds P (choose h q) v)) (sym c.2) (adds-chosen P h q v c.0 (subst (λ y. In y (item_at ((candidates P) q) v)) (ap (λ (w : Wire). w.capability) same) p));
+      subst (λ s. In s (adds P (choose h q) v)) (sym c.2) (adds-chosen P h q v c.0 (subst (λ y. In y (item_at (candidates P q) v)) (ap (λ (w : Wire). w.capability) same) p));
 }
   where
     not-multiple : IsTrue (is_multiple P.world.known q) → ⊥
@@ -233,9 +233,9 @@ wire-place : (P : Problem) → IsProblem P → (V : List Wiring) → Extends P.w
     (v : ℕ) × (v < arity P (choose h q)) × Agrees P V (choose h q) v
 wire-place P L V x h q k new asked w has e =
     let c = subst (λ n. IsCandidate P n w.capability) e (added-candidate P L V x h w new has) in
-    let p = in-at ((candidates P) q) w.capability ((L.candidates_are q w.capability asked).1 c) in (
+    let p = in-at (candidates P q) w.capability ((L.candidates_are q w.capability asked).1 c) in (
       p.0,
-      less-more (length ((candidates P) q)) 0 p.0 (map (λ c. wired_to h q c ∷ []) ((candidates P) q)) (if (is_optional P.world.known q) then [] ∷ [] else []) (length-map (λ c. wired_to h q c ∷ []) ((candidates P) q)) p.1,
+      less-more (length (candidates P q)) 0 p.0 (map (λ c. wired_to h q c ∷ []) (candidates P q)) (if (is_optional P.world.known q) then [] ∷ [] else []) (length-map (λ c. wired_to h q c ∷ []) (candidates P q)) p.1,
       place-agrees P L V x h q k w has e p.0 p.2,
     )
 
@@ -248,12 +248,12 @@ optional-room false n xs s e = cc
 
 no-wire : (P : Problem) (V : List Wiring) (h : RevisionId) (q : ReqRef) → ¬ WireFor V h q → (is_optional P.world.known q) ≡ true → (v : ℕ) × (v < arity P (choose h q)) × Agrees P V (choose h q) v
 no-wire P V h q never o = (
-  length ((candidates P) q),
-  optional-room (is_optional P.world.known q) (length ((candidates P) q)) (map (λ c. wired_to h q c ∷ []) ((candidates P) q)) (length-map (λ c. wired_to h q c ∷ []) ((candidates P) q)) o,
+  length (candidates P q),
+  optional-room (is_optional P.world.known q) (length (candidates P q)) (map (λ c. wired_to h q c ∷ []) (candidates P q)) (length-map (λ c. wired_to h q c ∷ []) (candidates P q)) o,
   record {
-    within = λ s i. let c = entry-singles (wired_to h q) (is_optional P.world.known q) ((candidates P) q) (length ((candidates P) q)) s i in absurd (past-end ((candidates P) q) c.0 c.1);
+    within = λ s i. let c = entry-singles (wired_to h q) (is_optional P.world.known q) (candidates P q) (length (candidates P q)) s i in absurd (past-end (candidates P q) c.0 c.1);
     whole = λ u s i g.
-        let c = entry-singles (wired_to h q) (is_optional P.world.known q) ((candidates P) q) u s i in
+        let c = entry-singles (wired_to h q) (is_optional P.world.known q) (candidates P q) u s i in
         absurd (never (record { wire = record { requirement = q; capability = c.0 }; has = subst (Holds V) c.2 g; is_for = refl }));
   },
 )
@@ -366,14 +366,14 @@ end-joins P L V x D s f n _ (onward {m = m} w j h new) =
     let here = end-wire P L V x D s f n m w (end-joins P L V x D s f n m j) h in
     elim (in_force-cases P D w.capability.provider (provider-in_force P L D m w here)) [ inl o ↦ absurd (new o) | inr i ↦ i ]
 
-versions-differ : (P : Problem) → IsProblem P → (V : List Wiring) → Extends P.world.known P.world.wirings V P.root → (D : Made) → State P D → Follows P V D → next_decision P D ≡ None → (m : RevisionId) → In m (members P D) → ¬ Two (λ e f. (symbolic_name P.world.known) e ≡ (symbolic_name P.world.known) f) (fragments_of P D m)
+versions-differ : (P : Problem) → IsProblem P → (V : List Wiring) → Extends P.world.known P.world.wirings V P.root → (D : Made) → State P D → Follows P V D → next_decision P D ≡ None → (m : RevisionId) → In m (members P D) → ¬ Two (λ e f. symbolic_name P.world.known e ≡ symbolic_name P.world.known f) (fragments_of P D m)
 versions-differ P L V x D s f n m i t =
-    let two = two-items (λ e f. (symbolic_name P.world.known) e ≡ (symbolic_name P.world.known) f) (fragments_of P D m) (fragments-single P L D m) t in
+    let two = two-items (λ e f. symbolic_name P.world.known e ≡ symbolic_name P.world.known f) (fragments_of P D m) (fragments-single P L D m) t in
     let here : (g : RevisionId) → In g (fragments_of P D m) → Attached V m g = λ g j. (f.agrees (attaching m g) 0 (fragments-in P D m g j).1).within (attached m g) (inl refl) in
     let a = here two.0 two.2 in
     let b = here two.1 two.3 in
     let same = one-wiring P.world.known V x.world a.wiring b.wiring a.stands b.stands (a.revision ∙ sym b.revision) in
-    x.consistent.coherent.one_version b.wiring b.stands (two-different (λ e f. (symbolic_name P.world.known) e ≡ (symbolic_name P.world.known) f) b.wiring.fragments two.0 two.1 two.4 (subst (λ (g : Wiring). In two.0 g.fragments) same a.has) b.has two.5 (sym two.5))
+    x.consistent.coherent.one_version b.wiring b.stands (two-different (λ e f. symbolic_name P.world.known e ≡ symbolic_name P.world.known f) b.wiring.fragments two.0 two.1 two.4 (subst (λ (g : Wiring). In two.0 g.fragments) same a.has) b.has two.5 (sym two.5))
 
 pub end-consistent : (P : Problem) → IsProblem P → (V : List Wiring) → Extends P.world.known P.world.wirings V P.root → (D : Made) → State P D → Follows P V D → next_decision P D ≡ None → Consistent P.world.known (partial P D)
 end-consistent P L V x D s f n = cut-consistent P.world.known (partial P D) V x.consistent (end-cut P L V x D s f n)
@@ -385,7 +385,7 @@ end-consistent P L V x D s f n = cut-consistent P.world.known (partial P D) V x.
     (λ g i. elim (in-append_cases P.world.wirings (map (wiring P D) (members P D)) g i) [
       | inl o ↦ L.consistent.coherent.one_version g o
       | inr j ↦ let m = map-in (wiring P D) (members P D) g j in
-          subst (λ (g : Wiring). ¬ Two (λ e f. (symbolic_name P.world.known) e ≡ (symbolic_name P.world.known) f) g.fragments) (sym m.2) (versions-differ P L V x D s f n m.0 m.1)
+          subst (λ (g : Wiring). ¬ Two (λ e f. symbolic_name P.world.known e ≡ symbolic_name P.world.known f) g.fragments) (sym m.2) (versions-differ P L V x D s f n m.0 m.1)
     ])
 
 -- so it extends the present wirings

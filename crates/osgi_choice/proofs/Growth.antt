@@ -1,19 +1,19 @@
 -- One decision more: what is closed keeps its part and stays closed, what is settled stays settled, and what is hopeless stays so.
 use Rattle.std.proofs.Common.{◌≡◌, ℕ, ◌<◌, ◌⊎◌, inl, inr, Bool, true, false, ◌||◌, cond, IsTrue, List, [], ◌∷◌, map, filter, Option, None, Some, refl, sym, ◌∙◌, ap, subst}
 use Rattle.osgi_base.specs.declared.ids.RevisionId.{RevisionId}
-use Rattle.osgi_model.specs.Candidates.{IsProblem, matching}
-use Rattle.osgi_model.specs.Decisions.{Decision, IsMade, Made, arity, attaching, host, is_yes, pick, value_made}
-use Rattle.osgi_model.specs.DueDecisions.{due, fragments_of, members, next_decision, payload}
-use Rattle.osgi_model.specs.Partial.{partial, wiring}
-use Rattle.osgi_model.specs.Hopeless.{Hopeless, IsDecided, IsSpatial, all_refused, clashes, no_candidate, not_offered, two_providers, two_singletons, two_versions}
-use Rattle.osgi_model.specs.Lists.{In, Two}
-use Rattle.osgi_model.specs.Lookups.{capability_namespace, symbolic_name, requirement_namespace}
-use Rattle.osgi_model.specs.Satisfaction.{is_bundle, is_package}
-use Rattle.osgi_model.specs.Wirings.{Attached, HasWire, InForce, InUse}
-use Rattle.osgi_model.specs.declared.problem.Problem.{Problem}
-use Rattle.osgi_model.specs.declared.wiring.ReqRef.{ReqRef}
-use Rattle.osgi_model.specs.declared.wiring.Wire.{Wire}
-use Rattle.osgi_model.specs.declared.wiring.Wiring.{Wiring}
+use Rattle.osgi_world.specs.Candidates.{IsProblem, matching}
+use Rattle.osgi_world.specs.Decisions.{Decision, IsMade, Made, arity, attaching, host, is_yes, pick, value_made}
+use Rattle.osgi_world.specs.DueDecisions.{due, fragments_of, members, next_decision, payload}
+use Rattle.osgi_world.specs.Partial.{partial, wiring}
+use Rattle.osgi_world.specs.Hopeless.{Hopeless, IsDecided, IsSpatial, all_refused, clashes, no_candidate, not_offered, two_providers, two_singletons, two_versions}
+use Rattle.osgi_world.specs.Lists.{In, Two}
+use Rattle.osgi_world.specs.Lookups.{capability_namespace, symbolic_name, requirement_namespace}
+use Rattle.osgi_world.specs.Satisfaction.{is_bundle, is_package}
+use Rattle.osgi_world.specs.Wirings.{Attached, HasWire, InForce, InUse}
+use Rattle.osgi_world.specs.declared.problem.Problem.{Problem}
+use Rattle.osgi_world.specs.declared.wiring.ReqRef.{ReqRef}
+use Rattle.osgi_world.specs.declared.wiring.Wire.{Wire}
+use Rattle.osgi_world.specs.declared.wiring.Wiring.{Wiring}
 use Rattle.osgi_choice.proofs.Agree.{Part, offer-same, package-part}
 use Rattle.osgi_choice.proofs.Laws.{laws}
 use Rattle.osgi_choice.proofs.Lists.{filter-in, in-append_cases, in-append_left, in-append_right, in-filter, in-map, map-in}
@@ -142,16 +142,16 @@ pub two-filter : {X : Type 0} (R : X → X → Type 0) (p q : X → Bool) → ((
 two-filter R p q up [] t = elim t [ ]
 two-filter R p q up (z ∷ xs) t = two-head R z (filter p xs) (filter q xs) (p z) (q z) (up z) (λ y i. let r = filter-in p xs y i in in-filter q xs y r.0 (up y r.1)) (two-filter R p q up xs) t
 
-versions-kept : (P : Problem) (D : Made) (d : Decision) (v : ℕ) → value_made D d ≡ None → (g : Wiring) → In g (partial P D) → Two (λ e f. (symbolic_name P.world.known) e ≡ (symbolic_name P.world.known) f) g.fragments → Hopeless P ((d, v) ∷ D)
+versions-kept : (P : Problem) (D : Made) (d : Decision) (v : ℕ) → value_made D d ≡ None → (g : Wiring) → In g (partial P D) → Two (λ e f. symbolic_name P.world.known e ≡ symbolic_name P.world.known f) g.fragments → Hopeless P ((d, v) ∷ D)
 versions-kept P D d v n g i t = elim (in-append_cases P.world.wirings (map (wiring P D) (members P D)) g i) [
   | inl o ↦ two_versions g (in-append_left P.world.wirings (map (wiring P ((d, v) ∷ D)) (members P ((d, v) ∷ D))) g o) t
   | inr j ↦ let m = map-in (wiring P D) (members P D) g j in
       two_versions (wiring P ((d, v) ∷ D) m.0)
       (in-append_right P.world.wirings (map (wiring P ((d, v) ∷ D)) (members P ((d, v) ∷ D))) (wiring P ((d, v) ∷ D) m.0)
       (in-map (wiring P ((d, v) ∷ D)) (members P ((d, v) ∷ D)) m.0 (member-kept P D d v m.0 m.1)))
-      (two-filter (λ e f. (symbolic_name P.world.known) e ≡ (symbolic_name P.world.known) f) (λ f. is_yes (value_made D (attaching m.0 f))) (λ f. is_yes (value_made ((d, v) ∷ D) (attaching m.0 f)))
+      (two-filter (λ e f. symbolic_name P.world.known e ≡ symbolic_name P.world.known f) (λ f. is_yes (value_made D (attaching m.0 f))) (λ f. is_yes (value_made ((d, v) ∷ D) (attaching m.0 f)))
       (λ f y. some-yes _ (value-kept D d v (attaching m.0 f) 0 n (yes-some _ y))) (matching P m.0)
-      (subst (λ (g : Wiring). Two (λ e f. (symbolic_name P.world.known) e ≡ (symbolic_name P.world.known) f) g.fragments) m.2 t))
+      (subst (λ (g : Wiring). Two (λ e f. symbolic_name P.world.known e ≡ symbolic_name P.world.known f) g.fragments) m.2 t))
 ]
 
 present-kept : (P : Problem) (D : Made) (d : Decision) (v : ℕ) → State P ((d, v) ∷ D) → value_made D d ≡ None → (r : RevisionId) → InUse (partial P D) r → InUse (partial P ((d, v) ∷ D)) r

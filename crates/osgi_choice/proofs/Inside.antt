@@ -1,10 +1,10 @@
 -- A set of revisions that wires do not leave: its sources and pairs stay inside, and wirings outside it are of no matter.
 use Rattle.std.proofs.Common.{ℕ, inl, inr, List, subst, sym}
 use Rattle.osgi_base.specs.declared.ids.RevisionId.{RevisionId}
-use Rattle.osgi_model.specs.Sources.{Clash, GivesPackage, Implied, Sources, follows, itself, reexported, seen, substituted}
-use Rattle.osgi_model.specs.Wirings.{BundleWire, PackageWire, Reexports}
-use Rattle.osgi_model.specs.declared.wiring.Wiring.{Wiring}
-use Rattle.osgi_model.specs.declared.world.Known.{Known}
+use Rattle.osgi_world.specs.Sources.{Clash, GivesPackage, Implied, Sources, follows, itself, reexported, seen, substituted}
+use Rattle.osgi_world.specs.Wirings.{BundleWire, PackageWire, Reexports}
+use Rattle.osgi_world.specs.declared.wiring.Wiring.{Wiring}
+use Rattle.osgi_world.specs.declared.world.Known.{Known}
 use Rattle.osgi_choice.proofs.Agree.{Part, implied-same, reexport-is_bundle, sources-same, uses-part}
 use Rattle.osgi_choice.specs.Cuts.{IsInside}
 

@@ -10,19 +10,19 @@ use Rattle.osgi_base.specs.declared.ids.RevisionId.{RevisionId}
 use Rattle.osgi_version.specs.RangeValues.{is_within, range_parts}
 use Rattle.osgi_version.specs.VersionValues.{order, parts}
 use Rattle.osgi_version.specs.Versions.{Parts}
-use Rattle.osgi_model.specs.Candidates.{IsProblem, is_higher}
-use Rattle.osgi_model.specs.Lists.{In, Two}
-use Rattle.osgi_model.specs.Candidates.{preference_version}
-use Rattle.osgi_model.specs.Lookups.{known_at, revision_at, is_current, is_fragment, is_host_of, is_dynamic, bundle_of, requirement_count, dynamic_count, requirement_namespace, capability_namespace, SatisfiesAs, SatisfiesAt}
-use Rattle.osgi_model.specs.Payloads.{current_fragments, by_bundle, insert_by_bundle}
-use Rattle.osgi_model.specs.Satisfaction.{matches_host, is_host_for}
-use Rattle.osgi_model.specs.declared.capability.Capability.{Capability}
-use Rattle.osgi_model.specs.declared.problem.Problem.{Problem}
-use Rattle.osgi_model.specs.declared.requirement.Requirement.{Requirement}
-use Rattle.osgi_model.specs.declared.revision.Revision.{Revision}
-use Rattle.osgi_model.specs.declared.wiring.CapRef.{CapRef}
-use Rattle.osgi_model.specs.declared.wiring.ReqRef.{ReqRef}
-use Rattle.osgi_model.specs.declared.world.Known.{Known}
+use Rattle.osgi_world.specs.Candidates.{IsProblem, is_higher}
+use Rattle.osgi_world.specs.Lists.{In, Two}
+use Rattle.osgi_world.specs.Candidates.{preference_version}
+use Rattle.osgi_world.specs.Lookups.{known_at, revision_at, is_current, is_fragment, is_host_of, is_dynamic, bundle_of, requirement_count, dynamic_count, requirement_namespace, capability_namespace, SatisfiesAs, SatisfiesAt}
+use Rattle.osgi_world.specs.Payloads.{current_fragments, by_bundle, insert_by_bundle}
+use Rattle.osgi_world.specs.Satisfaction.{matches_host, is_host_for}
+use Rattle.osgi_world.specs.declared.capability.Capability.{Capability}
+use Rattle.osgi_world.specs.declared.problem.Problem.{Problem}
+use Rattle.osgi_world.specs.declared.requirement.Requirement.{Requirement}
+use Rattle.osgi_world.specs.declared.revision.Revision.{Revision}
+use Rattle.osgi_world.specs.declared.wiring.CapRef.{CapRef}
+use Rattle.osgi_world.specs.declared.wiring.ReqRef.{ReqRef}
+use Rattle.osgi_world.specs.declared.world.Known.{Known}
 use Rattle.osgi_choice.proofs.Lists.{and-cases, and-both, in-map, map-in, filter-in, in-filter}
 use Rattle.osgi_choice.proofs.Twos.{only-one, two-and, two-map, two-unfilter}
 use Rattle.osgi_choice.proofs.Values.{rev-eq, rev-same, some-inj, find-some, find-none}

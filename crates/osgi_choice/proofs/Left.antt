@@ -1,8 +1,8 @@
 -- How much a search has left: the values that the decisions of a word still have.
 use Rattle.std.proofs.Common.{◌≡◌, ℕ, ◌+◌, ◌-◌, ◌<◌, List, [], ◌∷◌, ◌++◌, refl, sym, arith}
-use Rattle.osgi_model.specs.Decisions.{Made}
-use Rattle.osgi_model.specs.ChoiceWords.{IsWord, made_after, decide, made_by, width}
-use Rattle.osgi_model.specs.declared.problem.Problem.{Problem}
+use Rattle.osgi_world.specs.Decisions.{Made}
+use Rattle.osgi_world.specs.ChoiceWords.{IsWord, made_after, decide, made_by, width}
+use Rattle.osgi_world.specs.declared.problem.Problem.{Problem}
 use Rattle.osgi_choice.proofs.Words.{word-next}
 
 -- for each number of a word, the values from it on

@@ -1,7 +1,7 @@
 -- What is in a list that was made of others.
 use Rattle.std.proofs.Common.{◌≡◌, ℕ, zero, suc, ◌+◌, ◌<◌, ◌⊎◌, inl, inr, Bool, true, false, ◌||◌, ◌&&◌, cond, IsTrue, if◌then◌else◌, List, [], ◌∷◌, ◌++◌, length, map, filter, flat_map, refl, sym, ◌∙◌, ap, subst, arith}
 use Rattle.std.specs.List.{list_any}
-use Rattle.osgi_model.specs.Lists.{In, item_at, below, entry}
+use Rattle.osgi_world.specs.Lists.{In, item_at, below, entry}
 
 -- ---- tests
 

@@ -1,7 +1,7 @@
 -- The order of words, which is total, and what stands before w with one number more.
 use Rattle.std.proofs.Common.{◌≡◌, ℕ, ◌+◌, ◌<◌, ◌⊎◌, inl, inr, List, [], ◌∷◌, ◌++◌, zero, suc, refl, sym, ◌∙◌, subst, arith}
 use Rattle.std.proofs.Math.Nat.{eq-or-lt_of_le}
-use Rattle.osgi_model.specs.Effort.{IsBefore}
+use Rattle.osgi_world.specs.Effort.{IsBefore}
 
 -- the second begins with the first
 abbrev pub Begins : List ℕ → List ℕ → Type 0

@@ -5,16 +5,16 @@ use Rattle.std.specs.Prelude.{codes, ◌||◌, not}
 use Rattle.std.specs.Cmp.Lexicographic.{bytes_decides}
 use Rattle.std.proofs.lemmas.Bool.{false≢true}
 use Rattle.osgi_base.specs.declared.ids.RevisionId.{RevisionId}
-use Rattle.osgi_model.specs.Candidates.{IsProblem, candidates, matching}
-use Rattle.osgi_model.specs.Decisions.{Decision, IsMade, Made, attaching, choose, host, is_open, is_yes, pick, value_made}
-use Rattle.osgi_model.specs.DueDecisions.{attachments, decisions_of, due, fragments_of, in_turn, is_in_force, is_other, members, next_decision, of_kind, payload, pull_in, pulled, queue}
-use Rattle.osgi_model.specs.Lists.{In, Two}
-use Rattle.osgi_model.specs.Lookups.{bundle_of, is_effective, is_host_of, is_multiple, requirement_namespace}
-use Rattle.osgi_model.specs.Payloads.{current_fragments, own_requirements}
-use Rattle.osgi_model.specs.Satisfaction.{is_bundle, is_package}
-use Rattle.osgi_model.specs.declared.problem.Problem.{Problem}
-use Rattle.osgi_model.specs.declared.wiring.CapRef.{CapRef}
-use Rattle.osgi_model.specs.declared.wiring.ReqRef.{ReqRef}
+use Rattle.osgi_world.specs.Candidates.{IsProblem, candidates, matching}
+use Rattle.osgi_world.specs.Decisions.{Decision, IsMade, Made, attaching, choose, host, is_open, is_yes, pick, value_made}
+use Rattle.osgi_world.specs.DueDecisions.{attachments, decisions_of, due, fragments_of, in_turn, is_in_force, is_other, members, next_decision, of_kind, payload, pull_in, pulled, queue}
+use Rattle.osgi_world.specs.Lists.{In, Two}
+use Rattle.osgi_world.specs.Lookups.{bundle_of, is_effective, is_host_of, is_multiple, requirement_namespace}
+use Rattle.osgi_world.specs.Payloads.{current_fragments, own_requirements}
+use Rattle.osgi_world.specs.Satisfaction.{is_bundle, is_package}
+use Rattle.osgi_world.specs.declared.problem.Problem.{Problem}
+use Rattle.osgi_world.specs.declared.wiring.CapRef.{CapRef}
+use Rattle.osgi_world.specs.declared.wiring.ReqRef.{ReqRef}
 use Rattle.osgi_choice.proofs.Complete.{candidates-once, members-once, payload-once}
 use Rattle.osgi_choice.proofs.Laws.{laws}
 use Rattle.osgi_choice.proofs.Lists.{and-cases, any-in, filter-in, in-append_cases, in-append_left, in-append_right, in-map, map-in, true-or-false}
@@ -39,7 +39,7 @@ in_order-made (t ∷ D) d i = elim (in-append_cases (in_order D) (t.0 ∷ []) d 
     pick-value false v o m = m
 
     made-more : (x : Decision) (v : ℕ) (D : Made) (d : Decision) → IsMade D d → IsMade ((x, v) ∷ D) d
-    made-more x v D d m = pick-value (Rattle.osgi_model.specs.Decisions.same_decision x d) v (value_made D d) m
+    made-more x v D d m = pick-value (Rattle.osgi_world.specs.Decisions.same_decision x d) v (value_made D d) m
 
 pub made-in_order : (D : Made) (d : Decision) → IsMade D d → In d (in_order D)
 made-in_order [] d m = let e = m.1 in cc
@@ -125,12 +125,12 @@ one-once : {X : Type 0} (x : X) → ¬ Two ◌≡◌ (x ∷ [])
 one-once x (inl h) = elim h.1 [ ]
 one-once x (inr t) = elim t [ ]
 
-decisions-once : (P : Problem) → IsProblem P → (m : RevisionId) (q : ReqRef) (b : Bool) → ¬ Two ◌≡◌ (if b then map (pick m q) ((candidates P) q) else choose m q ∷ [])
-decisions-once P L m q true t = candidates-once P L q (two-weaker (λ c d. pick m q c ≡ pick m q d) ◌≡◌ (pick-candidate m q) ((candidates P) q) (two-map (pick m q) ◌≡◌ ((candidates P) q) t))
+decisions-once : (P : Problem) → IsProblem P → (m : RevisionId) (q : ReqRef) (b : Bool) → ¬ Two ◌≡◌ (if b then map (pick m q) (candidates P q) else choose m q ∷ [])
+decisions-once P L m q true t = candidates-once P L q (two-weaker (λ c d. pick m q c ≡ pick m q d) ◌≡◌ (pick-candidate m q) (candidates P q) (two-map (pick m q) ◌≡◌ (candidates P q) t))
 decisions-once P L m q false t = one-once (choose m q) t
 
-decision-of : (P : Problem) (m : RevisionId) (q n : ReqRef) (d : Decision) (b : Bool) → In d (if b then map (pick m q) ((candidates P) q) else choose m q ∷ []) → (requirement_of n d ≡ q) × ((h f : RevisionId) → d ≢ attaching h f)
-decision-of P m q n d true i = let c = map-in (pick m q) ((candidates P) q) d i in (ap (requirement_of n) c.2, λ h f e. let s = sym c.2 ∙ e in cc)
+decision-of : (P : Problem) (m : RevisionId) (q n : ReqRef) (d : Decision) (b : Bool) → In d (if b then map (pick m q) (candidates P q) else choose m q ∷ []) → (requirement_of n d ≡ q) × ((h f : RevisionId) → d ≢ attaching h f)
+decision-of P m q n d true i = let c = map-in (pick m q) (candidates P q) d i in (ap (requirement_of n) c.2, λ h f e. let s = sym c.2 ∙ e in cc)
 decision-of P m q n d false (inl e) = (ap (requirement_of n) e, λ h f g. let s = sym e ∙ g in cc)
 decision-of P m q n d false (inr i) = elim i [ ]
 
@@ -297,6 +297,6 @@ queued P L _ (step {D = D} {d = d} {v = v} s n r) =
     let is : queue P ((d, v) ∷ D) ≡ in_order ((d, v) ∷ D) ++ grown.0 = ap (flat_map (due P ((d, v) ∷ D))) new.1 ∙ grown.1 ∙ sym (append_assoc (in_order D) (d ∷ []) grown.0) in
     record { rest = grown.0; is = is; open_rest = rest-open P L ((d, v) ∷ D) grown.0 is }
 
--- so the next_decision decision is the first behind them
+-- so the next_decision decision is the first after them
 pub next-queued : (P : Problem) (D : Made) (q : IsQueued P D) → next_decision P D ≡ find (is_open D) q.rest
 next-queued P D q = ap (find (is_open D)) q.is ∙ find-behind D (in_order D) q.rest (in_order-made D)

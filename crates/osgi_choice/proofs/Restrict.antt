@@ -1,13 +1,13 @@
 -- Wirings that hold, of each revision that they have in force, what consistent wirings hold, are consistent.
 use Rattle.std.proofs.Common.{◌≡◌, ℕ, inl, inr, List}
 use Rattle.osgi_base.specs.declared.ids.RevisionId.{RevisionId}
-use Rattle.osgi_model.specs.Consistency.{AreDouble, Consistent}
-use Rattle.osgi_model.specs.Lists.{In, Two}
-use Rattle.osgi_model.specs.Lookups.{symbolic_name}
-use Rattle.osgi_model.specs.Wirings.{Attached, HasWire, InForce, Owns, PackageWire, InUse}
-use Rattle.osgi_model.specs.declared.wiring.Wire.{Wire}
-use Rattle.osgi_model.specs.declared.wiring.Wiring.{Wiring}
-use Rattle.osgi_model.specs.declared.world.Known.{Known}
+use Rattle.osgi_world.specs.Consistency.{AreDouble, Consistent}
+use Rattle.osgi_world.specs.Lists.{In, Two}
+use Rattle.osgi_world.specs.Lookups.{symbolic_name}
+use Rattle.osgi_world.specs.Wirings.{Attached, HasWire, InForce, Owns, PackageWire, InUse}
+use Rattle.osgi_world.specs.declared.wiring.Wire.{Wire}
+use Rattle.osgi_world.specs.declared.wiring.Wiring.{Wiring}
+use Rattle.osgi_world.specs.declared.world.Known.{Known}
 use Rattle.osgi_choice.proofs.Agree.{Part, implied-same, offer-same, package-part}
 use Rattle.osgi_choice.proofs.Inside.{clash-agree}
 use Rattle.osgi_choice.specs.Cuts.{IsCut, IsInside, SameOf}

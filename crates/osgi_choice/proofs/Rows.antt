@@ -8,23 +8,23 @@ use Rattle.osgi_version.specs.declared.version.Version.{Version}
 use Rattle.osgi_version.specs.RangeValues.{range_parts}
 use Rattle.osgi_version.specs.Ranges.{RangeParts, at_least_zero}
 use Rattle.osgi_version.specs.declared.range.VersionRange.{VersionRange}
-use Rattle.osgi_model.specs.Candidates.{IsCandidate, is_higher, matching}
-use Rattle.osgi_model.specs.ChoiceWords.{IsComplete, IsWord, made_by}
-use Rattle.osgi_model.specs.Decisions.{attaching, choose}
-use Rattle.osgi_model.specs.DueDecisions.{members, next_decision}
-use Rattle.osgi_model.specs.Partial.{partial}
-use Rattle.osgi_model.specs.Payloads.{current_fragments, by_bundle}
+use Rattle.osgi_world.specs.Candidates.{IsCandidate, is_higher, matching}
+use Rattle.osgi_world.specs.ChoiceWords.{IsComplete, IsWord, made_by}
+use Rattle.osgi_world.specs.Decisions.{attaching, choose}
+use Rattle.osgi_world.specs.DueDecisions.{members, next_decision}
+use Rattle.osgi_world.specs.Partial.{partial}
+use Rattle.osgi_world.specs.Payloads.{current_fragments, by_bundle}
 use Rattle.osgi_model.specs.Matching.{attribute_value}
-use Rattle.osgi_model.specs.Satisfaction.{is_bundle, IsGiven, ordinary, version, bundle_version, bundle_name, Satisfies, SatisfiesImport, StandsForPackage, prefixed}
-use Rattle.osgi_model.specs.declared.capability.Capability.{Capability}
-use Rattle.osgi_model.specs.declared.problem.Problem.{Problem}
-use Rattle.osgi_model.specs.declared.requirement.Requirement.{Requirement}
-use Rattle.osgi_model.specs.declared.revision.Revision.{Revision}
+use Rattle.osgi_world.specs.Satisfaction.{is_bundle, IsGiven, ordinary, version, bundle_version, bundle_name, Satisfies, SatisfiesImport, StandsForPackage, prefixed}
+use Rattle.osgi_world.specs.declared.capability.Capability.{Capability}
+use Rattle.osgi_world.specs.declared.problem.Problem.{Problem}
+use Rattle.osgi_world.specs.declared.requirement.Requirement.{Requirement}
+use Rattle.osgi_world.specs.declared.revision.Revision.{Revision}
 use Rattle.osgi_model.specs.declared.value.Attribute.{Attribute}
 use Rattle.osgi_model.specs.declared.value.Value.TheVariants as value
-use Rattle.osgi_model.specs.declared.wiring.CapRef.{CapRef}
-use Rattle.osgi_model.specs.declared.wiring.ReqRef.{ReqRef}
-use Rattle.osgi_model.specs.declared.world.Known.{Known}
+use Rattle.osgi_world.specs.declared.wiring.CapRef.{CapRef}
+use Rattle.osgi_world.specs.declared.wiring.ReqRef.{ReqRef}
+use Rattle.osgi_world.specs.declared.world.Known.{Known}
 
 -- ---- data
 

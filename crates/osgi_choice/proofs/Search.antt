@@ -1,15 +1,15 @@
 -- What a search that has come so far knows, and what it may answer.
 use Rattle.std.proofs.Common.{◌≡◌, ◌≢◌, ℕ, suc, ◌+◌, ◌<◌, ◌≤◌, ◌⊎◌, inl, inr, List, [], ◌∷◌, ◌++◌, length, refl, sym, ◌∙◌, subst, IsTrue, arith}
-use Rattle.osgi_model.specs.Candidates.{IsProblem, candidates}
-use Rattle.osgi_model.specs.Consistency.{Extends}
-use Rattle.osgi_model.specs.Effort.{IsBefore, IsCounted, IsEffort, IsEffortAbove, IsEffortWithin, IsFalling, IsFirst}
-use Rattle.osgi_model.specs.Hopeless.{IsHopeless, no_candidate}
-use Rattle.osgi_model.specs.Lists.{In}
-use Rattle.osgi_model.specs.Lookups.{is_effective, is_optional, requirement_count}
-use Rattle.osgi_model.specs.ChoiceWords.{IsComplete, IsGood, IsWord, made_by, width}
-use Rattle.osgi_model.specs.declared.problem.Problem.{Problem}
-use Rattle.osgi_model.specs.declared.wiring.ReqRef.{ReqRef}
-use Rattle.osgi_model.specs.declared.wiring.Wiring.{Wiring}
+use Rattle.osgi_world.specs.Candidates.{IsProblem, candidates}
+use Rattle.osgi_world.specs.Consistency.{Extends}
+use Rattle.osgi_world.specs.Effort.{IsBefore, IsCounted, IsEffort, IsEffortAbove, IsEffortWithin, IsFalling, IsFirst}
+use Rattle.osgi_world.specs.Hopeless.{IsHopeless, no_candidate}
+use Rattle.osgi_world.specs.Lists.{In}
+use Rattle.osgi_world.specs.Lookups.{is_effective, is_optional, requirement_count}
+use Rattle.osgi_world.specs.ChoiceWords.{IsComplete, IsGood, IsWord, made_by, width}
+use Rattle.osgi_world.specs.declared.problem.Problem.{Problem}
+use Rattle.osgi_world.specs.declared.wiring.ReqRef.{ReqRef}
+use Rattle.osgi_world.specs.declared.wiring.Wiring.{Wiring}
 use Rattle.osgi_choice.proofs.Order.{before-not_same, before-total, before-trans}
 use Rattle.osgi_choice.proofs.States.{in-payload}
 use Rattle.osgi_choice.proofs.Walk.{back, begins-hopeless, begun, ended, skip, visit}
@@ -197,5 +197,5 @@ pub none-extends : (P : Problem) → IsProblem P → ((w : List ℕ) → ¬ IsGo
 none-extends P L none V x = let w = good-of_extends P L V x in none w.0 w.1
 
 -- a mandatory requirement of the root's own without candidate makes the empty word hopeless
-pub root-missing : (P : Problem) (q : ReqRef) → q.owner ≡ P.root → q.index < (requirement_count P.world.known) P.root → IsTrue (is_effective P.world.known q) → ¬ IsTrue (is_optional P.world.known q) → (candidates P) q ≡ [] → IsHopeless P []
-root-missing P q o i e m none = no_candidate P.root q (inl refl) (in-payload P [] P.root q (inl o) (subst (λ r. q.index < (requirement_count P.world.known) r) (sym o) i)) (record { effective = e; mandatory = m }) none
+pub root-missing : (P : Problem) (q : ReqRef) → q.owner ≡ P.root → q.index < requirement_count P.world.known P.root → IsTrue (is_effective P.world.known q) → ¬ IsTrue (is_optional P.world.known q) → candidates P q ≡ [] → IsHopeless P []
+root-missing P q o i e m none = no_candidate P.root q (inl refl) (in-payload P [] P.root q (inl o) (subst (λ r. q.index < requirement_count P.world.known r) (sym o) i)) (record { effective = e; mandatory = m }) none

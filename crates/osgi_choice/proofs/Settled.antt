@@ -1,10 +1,10 @@
 -- What is settled stays settled where wirings grow, with the same offer and the same sources.
 use Rattle.std.proofs.Common.{ℕ, List}
 use Rattle.osgi_base.specs.declared.ids.RevisionId.{RevisionId}
-use Rattle.osgi_model.specs.Hopeless.{ReachedFrom, Settles, first, more}
-use Rattle.osgi_model.specs.Sources.{Clash, Implied, Sources}
-use Rattle.osgi_model.specs.declared.wiring.Wiring.{Wiring}
-use Rattle.osgi_model.specs.declared.world.Known.{Known}
+use Rattle.osgi_world.specs.Hopeless.{ReachedFrom, Settles, first, more}
+use Rattle.osgi_world.specs.Sources.{Clash, Implied, Sources}
+use Rattle.osgi_world.specs.declared.wiring.Wiring.{Wiring}
+use Rattle.osgi_world.specs.declared.world.Known.{Known}
 use Rattle.osgi_choice.proofs.Agree.{Part, bundle-part, implied-same, reexport-part, sources-same, uses-part}
 
 -- V grew from W, and what was closed is closed still and holds what it held

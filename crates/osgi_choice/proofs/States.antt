@@ -2,19 +2,19 @@
 use Rattle.std.proofs.Common.{◌≡◌, ℕ, ◌<◌, ◌==◌, ◌⊎◌, inl, inr, Bool, true, false, not, ◌||◌, ◌&&◌, IsTrue, if◌then◌else◌, List, [], ◌∷◌, ◌++◌, map, flat_map, None, Some, refl, sym, ap, subst}
 use Rattle.std.specs.List.{list_any}
 use Rattle.osgi_base.specs.declared.ids.RevisionId.{RevisionId}
-use Rattle.osgi_model.specs.Candidates.{HasCandidates, IsProblem, candidates, matching}
-use Rattle.osgi_model.specs.Decisions.{Decision, IsMade, Made, Step, adds, arity, attaching, attached, choose, host, is_open, is_yes, menu, pick, same_decision, value_made, wired, wired_to}
-use Rattle.osgi_model.specs.DueDecisions.{attachments, decisions_of, due, fragments_of, in_turn, is_in_force, is_other, members, next_decision, of_kind, payload, provider_of, pull_in, pulled, queue}
-use Rattle.osgi_model.specs.Lists.{In, below}
-use Rattle.osgi_model.specs.Lookups.{is_current, is_effective, is_fragment, is_host_of, is_multiple, is_optional, requirement_count, requirement_namespace}
-use Rattle.osgi_model.specs.Payloads.{current_fragments, own_requirements}
-use Rattle.osgi_model.specs.Satisfaction.{is_bundle, is_package}
-use Rattle.osgi_model.specs.Wirings.{InForce}
-use Rattle.osgi_model.specs.declared.problem.Problem.{Problem}
-use Rattle.osgi_model.specs.declared.wiring.CapRef.{CapRef}
-use Rattle.osgi_model.specs.declared.wiring.ReqRef.{ReqRef}
-use Rattle.osgi_model.specs.declared.wiring.Wire.{Wire}
-use Rattle.osgi_model.specs.declared.wiring.Wiring.{Wiring}
+use Rattle.osgi_world.specs.Candidates.{HasCandidates, IsProblem, candidates, matching}
+use Rattle.osgi_world.specs.Decisions.{Decision, IsMade, Made, Step, adds, arity, attaching, attached, choose, host, is_open, is_yes, menu, pick, same_decision, value_made, wired, wired_to}
+use Rattle.osgi_world.specs.DueDecisions.{attachments, decisions_of, due, fragments_of, in_turn, is_in_force, is_other, members, next_decision, of_kind, payload, provider_of, pull_in, pulled, queue}
+use Rattle.osgi_world.specs.Lists.{In, below}
+use Rattle.osgi_world.specs.Lookups.{is_current, is_effective, is_fragment, is_host_of, is_multiple, is_optional, requirement_count, requirement_namespace}
+use Rattle.osgi_world.specs.Payloads.{current_fragments, own_requirements}
+use Rattle.osgi_world.specs.Satisfaction.{is_bundle, is_package}
+use Rattle.osgi_world.specs.Wirings.{InForce}
+use Rattle.osgi_world.specs.declared.problem.Problem.{Problem}
+use Rattle.osgi_world.specs.declared.wiring.CapRef.{CapRef}
+use Rattle.osgi_world.specs.declared.wiring.ReqRef.{ReqRef}
+use Rattle.osgi_world.specs.declared.wiring.Wire.{Wire}
+use Rattle.osgi_world.specs.declared.wiring.Wiring.{Wiring}
 use Rattle.osgi_choice.proofs.Laws.{laws}
 use Rattle.osgi_choice.proofs.Lists.{and-both, and-cases, any-in, at-in, below-in, entry-in, entry-singles, filter-in, flat_map-in, in-any, in-append_cases, in-append_left, in-append_right, in-below, in-filter, in-flat_map, in-map, map-in, or-cases, or-left}
 use Rattle.osgi_choice.proofs.Values.{find-none, find-some, made-kept, made-not_open, rev-eq, rev-same, not-open_made, open-none, ref-eq, some-yes, value-cases, value-kept, yes-some}
@@ -123,24 +123,24 @@ in-fragments P D h f i e = in-filter (λ f. is_yes (value_made D (attaching h f)
 pub fragments-in : (P : Problem) (D : Made) (h f : RevisionId) → In f (fragments_of P D h) → In f (matching P h) × (value_made D (attaching h f) ≡ Some 0)
 fragments-in P D h f i = let r = filter-in (λ f. is_yes (value_made D (attaching h f))) (matching P h) f i in (r.0, yes-some _ r.1)
 
-pub own-in : (P : Problem) (r : RevisionId) (q : ReqRef) → In q (own_requirements P.world.known r) → (q.owner ≡ r) × (q.index < (requirement_count P.world.known) r)
+pub own-in : (P : Problem) (r : RevisionId) (q : ReqRef) → In q (own_requirements P.world.known r) → (q.owner ≡ r) × (q.index < requirement_count P.world.known r)
 own-in P r q i =
-    let m = map-in (λ i. let q : ReqRef = record { owner = r; index = i } in q) (below ((requirement_count P.world.known) r)) q i in
-    (ap (λ (q : ReqRef). q.owner) m.2, subst (λ i. i < (requirement_count P.world.known) r) (sym (ap (λ (q : ReqRef). q.index) m.2)) (below-in ((requirement_count P.world.known) r) m.0 m.1))
+    let m = map-in (λ i. let q : ReqRef = record { owner = r; index = i } in q) (below (requirement_count P.world.known r)) q i in
+    (ap (λ (q : ReqRef). q.owner) m.2, subst (λ i. i < requirement_count P.world.known r) (sym (ap (λ (q : ReqRef). q.index) m.2)) (below-in (requirement_count P.world.known r) m.0 m.1))
 
-pub in-own : (P : Problem) (r : RevisionId) (q : ReqRef) → q.owner ≡ r → q.index < (requirement_count P.world.known) r → In q (own_requirements P.world.known r)
+pub in-own : (P : Problem) (r : RevisionId) (q : ReqRef) → q.owner ≡ r → q.index < requirement_count P.world.known r → In q (own_requirements P.world.known r)
 in-own P r q e h =
     subst (λ x. In x (own_requirements P.world.known r)) (ref-eq (record { owner = r; index = q.index }) q (sym e) refl)
-    (in-map (λ i. let q : ReqRef = record { owner = r; index = i } in q) (below ((requirement_count P.world.known) r)) q.index (in-below ((requirement_count P.world.known) r) q.index h))
+    (in-map (λ i. let q : ReqRef = record { owner = r; index = i } in q) (below (requirement_count P.world.known r)) q.index (in-below (requirement_count P.world.known r) q.index h))
 
 -- the payload is that of the host and of its fragments
-pub payload-in : (P : Problem) (D : Made) (h : RevisionId) (q : ReqRef) → In q (payload P D h) → ((q.owner ≡ h) ⊎ In q.owner (fragments_of P D h)) × (q.index < (requirement_count P.world.known) q.owner)
+pub payload-in : (P : Problem) (D : Made) (h : RevisionId) (q : ReqRef) → In q (payload P D h) → ((q.owner ≡ h) ⊎ In q.owner (fragments_of P D h)) × (q.index < requirement_count P.world.known q.owner)
 payload-in P D h q i =
     let r = flat_map-in (own_requirements P.world.known) (h ∷ fragments_of P D h) q i in
     let o = own-in P r.0 q r.2 in
-    (subst (λ x. In x (h ∷ fragments_of P D h)) (sym o.0) r.1, subst (λ x. q.index < (requirement_count P.world.known) x) (sym o.0) o.1)
+    (subst (λ x. In x (h ∷ fragments_of P D h)) (sym o.0) r.1, subst (λ x. q.index < requirement_count P.world.known x) (sym o.0) o.1)
 
-pub in-payload : (P : Problem) (D : Made) (h : RevisionId) (q : ReqRef) → (q.owner ≡ h) ⊎ In q.owner (fragments_of P D h) → q.index < (requirement_count P.world.known) q.owner → In q (payload P D h)
+pub in-payload : (P : Problem) (D : Made) (h : RevisionId) (q : ReqRef) → (q.owner ≡ h) ⊎ In q.owner (fragments_of P D h) → q.index < requirement_count P.world.known q.owner → In q (payload P D h)
 in-payload P D h q o n = in-flat_map (own_requirements P.world.known) (h ∷ fragments_of P D h) q.owner q o (in-own P q.owner q refl n)
 
 pub fragments-kept : (P : Problem) (D : Made) (d : Decision) (v : ℕ) → value_made D d ≡ None → (h f : RevisionId) → In f (fragments_of P D h) → In f (fragments_of P ((d, v) ∷ D) h)
@@ -206,11 +206,11 @@ pub data IsDue (P : Problem) (D : Made) (h : RevisionId) (d : Decision) : Type 0
   chooses : (q : ReqRef) → In q (payload P D h) → IsTrue (is_effective P.world.known q) → AllAttached P D h →
       (is_multiple P.world.known q) ≡ false → d ≡ choose h q → IsDue P D h d
   picks : (q : ReqRef) (c : CapRef) → In q (payload P D h) → IsTrue (is_effective P.world.known q) → AllAttached P D h →
-      (is_multiple P.world.known q) ≡ true → In c ((candidates P) q) → d ≡ pick h q c → IsDue P D h d
+      (is_multiple P.world.known q) ≡ true → In c (candidates P q) → d ≡ pick h q c → IsDue P D h d
 
 requirement-due : (P : Problem) (D : Made) (h : RevisionId) (q : ReqRef) (d : Decision) (b : Bool) → (is_multiple P.world.known q) ≡ b → In q (payload P D h) → IsTrue (is_effective P.world.known q) → AllAttached P D h →
-    In d (if b then map (pick h q) ((candidates P) q) else choose h q ∷ []) → IsDue P D h d
-requirement-due P D h q d true m i e all j = let c = map-in (pick h q) ((candidates P) q) d j in picks q c.0 i e all m c.1 c.2
+    In d (if b then map (pick h q) (candidates P q) else choose h q ∷ []) → IsDue P D h d
+requirement-due P D h q d true m i e all j = let c = map-in (pick h q) (candidates P q) d j in picks q c.0 i e all m c.1 c.2
 requirement-due P D h q d false m i e all (inl same_decision) = chooses q i e all m same_decision
 requirement-due P D h q d false m i e all (inr j) = elim j [ ]
 
@@ -239,18 +239,18 @@ choice-due P D h q d false e all i eff j = in-flat_map (decisions_of P h) (in_tu
 pub in-due_of : (P : Problem) (D : Made) (h : RevisionId) (q : ReqRef) (d : Decision) → AllAttached P D h → In q (payload P D h) → IsTrue (is_effective P.world.known q) → In d (decisions_of P h q) → In d (due P D h)
 in-due_of P D h q d all i eff j = in-append_right (attachments P h) (if list_any (is_open D) (attachments P h) then [] else flat_map (decisions_of P h) (in_turn P (payload P D h))) d (choice-due P D h q d (list_any (is_open D) (attachments P h)) refl all i eff j)
 
-choose-of : (P : Problem) (h : RevisionId) (q : ReqRef) (b : Bool) → (is_multiple P.world.known q) ≡ b → b ≡ false → In (choose h q) (if b then map (pick h q) ((candidates P) q) else choose h q ∷ [])
+choose-of : (P : Problem) (h : RevisionId) (q : ReqRef) (b : Bool) → (is_multiple P.world.known q) ≡ b → b ≡ false → In (choose h q) (if b then map (pick h q) (candidates P q) else choose h q ∷ [])
 choose-of P h q true e f = cc
 choose-of P h q false e f = inl refl
 
-pick-of : (P : Problem) (h : RevisionId) (q : ReqRef) (c : CapRef) (b : Bool) → (is_multiple P.world.known q) ≡ b → b ≡ true → In c ((candidates P) q) → In (pick h q c) (if b then map (pick h q) ((candidates P) q) else choose h q ∷ [])
-pick-of P h q c true e f i = in-map (pick h q) ((candidates P) q) c i
+pick-of : (P : Problem) (h : RevisionId) (q : ReqRef) (c : CapRef) (b : Bool) → (is_multiple P.world.known q) ≡ b → b ≡ true → In c (candidates P q) → In (pick h q c) (if b then map (pick h q) (candidates P q) else choose h q ∷ [])
+pick-of P h q c true e f i = in-map (pick h q) (candidates P q) c i
 pick-of P h q c false e f i = cc
 
 pub in-due_choose : (P : Problem) (D : Made) (h : RevisionId) (q : ReqRef) → AllAttached P D h → In q (payload P D h) → IsTrue (is_effective P.world.known q) → (is_multiple P.world.known q) ≡ false → In (choose h q) (due P D h)
 in-due_choose P D h q all i eff m = in-due_of P D h q (choose h q) all i eff (choose-of P h q (is_multiple P.world.known q) refl m)
 
-pub in-due_pick : (P : Problem) (D : Made) (h : RevisionId) (q : ReqRef) (c : CapRef) → AllAttached P D h → In q (payload P D h) → IsTrue (is_effective P.world.known q) → (is_multiple P.world.known q) ≡ true → In c ((candidates P) q) → In (pick h q c) (due P D h)
+pub in-due_pick : (P : Problem) (D : Made) (h : RevisionId) (q : ReqRef) (c : CapRef) → AllAttached P D h → In q (payload P D h) → IsTrue (is_effective P.world.known q) → (is_multiple P.world.known q) ≡ true → In c (candidates P q) → In (pick h q c) (due P D h)
 in-due_pick P D h q c all i eff m j = in-due_of P D h q (pick h q c) all i eff (pick-of P h q c (is_multiple P.world.known q) refl m j)
 
 pub is_due-in : (P : Problem) (D : Made) (h : RevisionId) (d : Decision) → IsDue P D h d → In d (due P D h)
@@ -315,13 +315,13 @@ pub record GoesTo (P : Problem) (D : Made) (h : RevisionId) (w : Wire) : Type 0 
   pub in_payload : In w.requirement (payload P D h)
   pub effective : IsTrue (is_effective P.world.known w.requirement)
 
-single-candidate : (P : Problem) (D : Made) (h : RevisionId) (q : ReqRef) (r : RevisionId) (w : Wire) (c : CapRef) → wired r w ≡ wired_to h q c → In c ((candidates P) q) → In q (payload P D h) → IsTrue (is_effective P.world.known q) → GoesTo P D h w
+single-candidate : (P : Problem) (D : Made) (h : RevisionId) (q : ReqRef) (r : RevisionId) (w : Wire) (c : CapRef) → wired r w ≡ wired_to h q c → In c (candidates P q) → In q (payload P D h) → IsTrue (is_effective P.world.known q) → GoesTo P D h w
 unfolding wire_part
 single-candidate P D h q r w c e i j eff =
     let s = ap (wire_part w) e in
     let same_decision : q ≡ w.requirement = sym (ap (λ (w : Wire). w.requirement) s) in
     record {
-      listed = subst (λ n. In w.capability ((candidates P) n)) same_decision (subst (λ x. In x ((candidates P) q)) (sym (ap (λ (w : Wire). w.capability) s)) i);
+      listed = subst (λ n. In w.capability ((candidates P) n)) same_decision (subst (λ x. In x (candidates P q)) (sym (ap (λ (w : Wire). w.capability) s)) i);
       in_payload = subst (λ n. In n (payload P D h)) same_decision j;
       effective = subst (λ n. IsTrue (is_effective P.world.known n)) same_decision eff;
     }
@@ -336,8 +336,8 @@ due-candidate P D h d v r w (attaches f i e) j =
     let l = entry-in (menu P (attaching h f)) v (wired r w) (subst (λ x. In (wired r w) (adds P x v)) e j) in
     absurd (elim l.1 [ inl a ↦ not-attached r w h f (subst (In (wired r w)) a l.2) | inr (inl b) ↦ subst (In (wired r w)) b l.2 | inr (inr c) ↦ c ])
 due-candidate P D h d v r w (chooses q i eff all m e) j =
-    let s = entry-singles (wired_to h q) (is_optional P.world.known q) ((candidates P) q) v (wired r w) (subst (λ x. In (wired r w) (adds P x v)) e j) in
-    single-candidate P D h q r w s.0 s.2 (at-in ((candidates P) q) v s.0 s.1) i eff
+    let s = entry-singles (wired_to h q) (is_optional P.world.known q) (candidates P q) v (wired r w) (subst (λ x. In (wired r w) (adds P x v)) e j) in
+    single-candidate P D h q r w s.0 s.2 (at-in (candidates P q) v s.0 s.1) i eff
 due-candidate P D h d v r w (picks q c i eff all m k e) j =
     let l = entry-in (menu P (pick h q c)) v (wired r w) (subst (λ x. In (wired r w) (adds P x v)) e j) in
     elim l.1 [

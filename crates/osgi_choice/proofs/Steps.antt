@@ -1,16 +1,16 @@
 -- The wirings of a state hold what the present ones hold with the steps of its decisions: so both say the same of sources and clashes.
 use Rattle.std.proofs.Common.{◌≡◌, ℕ, ◌⊎◌, ◌↔◌, inl, inr, List, [], ◌∷◌, map, Some, refl, sym, ◌∙◌, ap, subst}
 use Rattle.osgi_base.specs.declared.ids.RevisionId.{RevisionId}
-use Rattle.osgi_model.specs.Decisions.{Decision, Made, Step, adds, attaching, attached, value_made, wired}
-use Rattle.osgi_model.specs.Partial.{partial}
-use Rattle.osgi_model.specs.Hopeless.{IsSettled}
-use Rattle.osgi_model.specs.Lists.{In}
-use Rattle.osgi_model.specs.Sources.{Sources}
-use Rattle.osgi_model.specs.Wirings.{Attached, HasWire}
-use Rattle.osgi_model.specs.declared.problem.Problem.{Problem}
-use Rattle.osgi_model.specs.declared.wiring.Wire.{Wire}
-use Rattle.osgi_model.specs.declared.wiring.Wiring.{Wiring}
-use Rattle.osgi_model.specs.declared.world.Known.{Known}
+use Rattle.osgi_world.specs.Decisions.{Decision, Made, Step, adds, attaching, attached, value_made, wired}
+use Rattle.osgi_world.specs.Partial.{partial}
+use Rattle.osgi_world.specs.Hopeless.{IsSettled}
+use Rattle.osgi_world.specs.Lists.{In}
+use Rattle.osgi_world.specs.Sources.{Sources}
+use Rattle.osgi_world.specs.Wirings.{Attached, HasWire}
+use Rattle.osgi_world.specs.declared.problem.Problem.{Problem}
+use Rattle.osgi_world.specs.declared.wiring.Wire.{Wire}
+use Rattle.osgi_world.specs.declared.wiring.Wiring.{Wiring}
+use Rattle.osgi_world.specs.declared.world.Known.{Known}
 use Rattle.osgi_choice.proofs.Agree.{Part, implied-same, sources-same, uses-part}
 use Rattle.osgi_choice.proofs.Lists.{in-append_cases, in-append_left, in-append_right, in-map, map-in}
 use Rattle.osgi_choice.proofs.States.{next-due}

@@ -1,12 +1,12 @@
 -- Lists in which no two places stand in a relation; and questions about lists that have an answer.
 use Rattle.std.proofs.Common.{◌∙◌, sym, ◌≡◌, ℕ, zero, suc, ◌⊎◌, inl, inr, Bool, true, false, cond, List, [], ◌∷◌, ◌++◌, map, filter, flat_map, refl, ap, ap₂, subst, arith}
 use Rattle.osgi_base.specs.declared.ids.RevisionId.{RevisionId}
-use Rattle.osgi_model.specs.Lists.{In, Two, item_at, below}
-use Rattle.osgi_model.specs.Wirings.{Attached, HasWire}
-use Rattle.osgi_model.specs.declared.wiring.CapRef.{CapRef}
-use Rattle.osgi_model.specs.declared.wiring.ReqRef.{ReqRef}
-use Rattle.osgi_model.specs.declared.wiring.Wire.{Wire}
-use Rattle.osgi_model.specs.declared.wiring.Wiring.{Wiring}
+use Rattle.osgi_world.specs.Lists.{In, Two, item_at, below}
+use Rattle.osgi_world.specs.Wirings.{Attached, HasWire}
+use Rattle.osgi_world.specs.declared.wiring.CapRef.{CapRef}
+use Rattle.osgi_world.specs.declared.wiring.ReqRef.{ReqRef}
+use Rattle.osgi_world.specs.declared.wiring.Wire.{Wire}
+use Rattle.osgi_world.specs.declared.wiring.Wiring.{Wiring}
 use Rattle.osgi_choice.proofs.Lists.{below-in, filter-in, flat_map-in, in-append_cases, map-in}
 use Rattle.osgi_choice.proofs.Values.{cap-eq, nat-dec, rev-dec, ref-eq}
 

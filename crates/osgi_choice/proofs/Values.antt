@@ -1,11 +1,11 @@
 -- The values of the decisions that are made.
 use Rattle.std.proofs.Common.{◌≡◌, ◌≢◌, ℕ, zero, suc, ◌==◌, ◌⊎◌, inl, inr, Bool, true, false, ◌&&◌, cond, IsTrue, is_none, if◌then◌else◌, List, [], ◌∷◌, find, Option, None, Some, refl, sym, ◌∙◌, ap, ap₂, subst, arith}
 use Rattle.osgi_base.specs.declared.ids.RevisionId.{RevisionId}
-use Rattle.osgi_model.specs.Candidates.{same_place}
-use Rattle.osgi_model.specs.Decisions.{Decision, IsMade, Made, attaching, choose, is_open, is_yes, pick, same_decision, same_capability, value_made}
-use Rattle.osgi_model.specs.Lists.{In}
-use Rattle.osgi_model.specs.declared.wiring.CapRef.{CapRef}
-use Rattle.osgi_model.specs.declared.wiring.ReqRef.{ReqRef}
+use Rattle.osgi_world.specs.Candidates.{same_place}
+use Rattle.osgi_world.specs.Decisions.{Decision, IsMade, Made, attaching, choose, is_open, is_yes, pick, same_decision, same_capability, value_made}
+use Rattle.osgi_world.specs.Lists.{In}
+use Rattle.osgi_world.specs.declared.wiring.CapRef.{CapRef}
+use Rattle.osgi_world.specs.declared.wiring.ReqRef.{ReqRef}
 use Rattle.osgi_choice.proofs.Lists.{and-both, and-cases}
 
 pub nat-eq : (a b : ℕ) → IsTrue (a == b) → a ≡ b

@@ -1,18 +1,18 @@
 -- What the wirings of a state hold: what was there before, and what is decided.
 use Rattle.std.proofs.Common.{◌≡◌, ℕ, zero, suc, ◌⊎◌, inl, inr, Bool, true, false, IsTrue, if◌then◌else◌, [], ◌∷◌, map, filter, flat_map, Option, None, Some, refl, sym, ◌∙◌, ap, subst}
 use Rattle.osgi_base.specs.declared.ids.RevisionId.{RevisionId}
-use Rattle.osgi_model.specs.Candidates.{IsCandidate, IsProblem, candidates, matching}
-use Rattle.osgi_model.specs.Decisions.{Decision, Made, Step, adds, attaching, attached, choose, host, is_yes, pick, value_made, wired, wired_to}
-use Rattle.osgi_model.specs.DueDecisions.{fragments_of, members, payload}
-use Rattle.osgi_model.specs.Partial.{chosen_for, chosen_by, partial, wires_for, wiring}
-use Rattle.osgi_model.specs.Lists.{In, item_at}
-use Rattle.osgi_model.specs.Lookups.{is_effective, is_multiple, is_optional}
-use Rattle.osgi_model.specs.Wirings.{Attached, HasWire, InForce}
-use Rattle.osgi_model.specs.declared.problem.Problem.{Problem}
-use Rattle.osgi_model.specs.declared.wiring.CapRef.{CapRef}
-use Rattle.osgi_model.specs.declared.wiring.ReqRef.{ReqRef}
-use Rattle.osgi_model.specs.declared.wiring.Wire.{Wire}
-use Rattle.osgi_model.specs.declared.wiring.Wiring.{Wiring}
+use Rattle.osgi_world.specs.Candidates.{IsCandidate, IsProblem, candidates, matching}
+use Rattle.osgi_world.specs.Decisions.{Decision, Made, Step, adds, attaching, attached, choose, host, is_yes, pick, value_made, wired, wired_to}
+use Rattle.osgi_world.specs.DueDecisions.{fragments_of, members, payload}
+use Rattle.osgi_world.specs.Partial.{chosen_for, chosen_by, partial, wires_for, wiring}
+use Rattle.osgi_world.specs.Lists.{In, item_at}
+use Rattle.osgi_world.specs.Lookups.{is_effective, is_multiple, is_optional}
+use Rattle.osgi_world.specs.Wirings.{Attached, HasWire, InForce}
+use Rattle.osgi_world.specs.declared.problem.Problem.{Problem}
+use Rattle.osgi_world.specs.declared.wiring.CapRef.{CapRef}
+use Rattle.osgi_world.specs.declared.wiring.ReqRef.{ReqRef}
+use Rattle.osgi_world.specs.declared.wiring.Wire.{Wire}
+use Rattle.osgi_world.specs.declared.wiring.Wiring.{Wiring}
 use Rattle.osgi_choice.proofs.Lists.{entry-singles, filter-in, flat_map-in, in-append_cases, in-append_left, in-append_right, in-filter, in-flat_map, in-map, map-in, singles-entry}
 use Rattle.osgi_choice.proofs.States.{AllAttached, IsDue, attaches, chooses, fragments-in, in-fragments, made-candidate, member-current, payload-asked, picks, sound, wire_part}
 use Rattle.osgi_choice.proofs.Values.{some-yes, yes-some}
@@ -72,7 +72,7 @@ due-asked P D h q (chooses n i eff all m e) =
     (record { in_payload = subst (λ x. In x (payload P D h)) s i; effective = subst (λ x. IsTrue (is_effective P.world.known x)) s eff; attached = all }, subst (λ x. (is_multiple P.world.known x) ≡ false) s m)
 due-asked P D h q (picks n c i eff all m j e) = cc
 
-pub due-picked : (P : Problem) (D : Made) (h : RevisionId) (q : ReqRef) (c : CapRef) → IsDue P D h (pick h q c) → Asked P D h q × ((is_multiple P.world.known q) ≡ true) × In c ((candidates P) q)
+pub due-picked : (P : Problem) (D : Made) (h : RevisionId) (q : ReqRef) (c : CapRef) → IsDue P D h (pick h q c) → Asked P D h q × ((is_multiple P.world.known q) ≡ true) × In c (candidates P q)
 due-picked P D h q c (attaches f i e) = cc
 due-picked P D h q c (chooses n i eff all m e) = cc
 due-picked P D h q c (picks n d i eff all m j e) =
@@ -105,7 +105,7 @@ adds-attached P (attaching h g) zero r f (inl e) = let p = attached-parts h g r 
 adds-attached P (attaching h g) zero r f (inr i) = elim i [ ]
 adds-attached P (attaching h g) (suc zero) r f i = elim i [ ]
 adds-attached P (attaching h g) (suc (suc v)) r f i = elim i [ ]
-adds-attached P (choose h q) v r f i = let s = entry-singles (wired_to h q) (is_optional P.world.known q) ((candidates P) q) v (attached r f) i in let e = s.2 in cc
+adds-attached P (choose h q) v r f i = let s = entry-singles (wired_to h q) (is_optional P.world.known q) (candidates P q) v (attached r f) i in let e = s.2 in cc
 adds-attached P (pick h q c) zero r f (inl e) = cc
 adds-attached P (pick h q c) zero r f (inr i) = elim i [ ]
 adds-attached P (pick h q c) (suc zero) r f i = elim i [ ]
@@ -116,12 +116,12 @@ pub data Adder (P : Problem) (d : Decision) (v : ℕ) (r : RevisionId) (w : Wire
   by_choice : choose r w.requirement ≡ d → In w.capability (item_at ((candidates P) w.requirement) v) → Adder P d v r w
   by_pick : pick r w.requirement w.capability ≡ d → v ≡ 0 → Adder P d v r w
 
-chosen-adder : (P : Problem) (h : RevisionId) (q : ReqRef) (v : ℕ) (r : RevisionId) (w : Wire) (c : CapRef) → In c (item_at ((candidates P) q) v) → wired r w ≡ wired_to h q c → Adder P (choose h q) v r w
+chosen-adder : (P : Problem) (h : RevisionId) (q : ReqRef) (v : ℕ) (r : RevisionId) (w : Wire) (c : CapRef) → In c (item_at (candidates P q) v) → wired r w ≡ wired_to h q c → Adder P (choose h q) v r w
 chosen-adder P h q v r w c i e =
     let p = wired-parts r h w (record { requirement = q; capability = c }) e in
     let rq : w.requirement ≡ q = ap (λ (w : Wire). w.requirement) p.1 in
     let cp : w.capability ≡ c = ap (λ (w : Wire). w.capability) p.1 in
-    by_choice (ap (λ x. choose x w.requirement) p.0 ∙ ap (choose h) rq) (subst (λ x. In w.capability (item_at ((candidates P) x) v)) (sym rq) (subst (λ x. In x (item_at ((candidates P) q) v)) (sym cp) i))
+    by_choice (ap (λ x. choose x w.requirement) p.0 ∙ ap (choose h) rq) (subst (λ x. In w.capability (item_at ((candidates P) x) v)) (sym rq) (subst (λ x. In x (item_at (candidates P q) v)) (sym cp) i))
 
 picked-adder : (P : Problem) (h : RevisionId) (q : ReqRef) (c : CapRef) (v : ℕ) (r : RevisionId) (w : Wire) → v ≡ 0 → wired r w ≡ wired_to h q c → Adder P (pick h q c) v r w
 picked-adder P h q c v r w z e =
@@ -135,7 +135,7 @@ adder P (attaching h g) zero r w (inl e) = cc
 adder P (attaching h g) zero r w (inr i) = elim i [ ]
 adder P (attaching h g) (suc zero) r w i = elim i [ ]
 adder P (attaching h g) (suc (suc v)) r w i = elim i [ ]
-adder P (choose h q) v r w i = let s = entry-singles (wired_to h q) (is_optional P.world.known q) ((candidates P) q) v (wired r w) i in chosen-adder P h q v r w s.0 s.1 s.2
+adder P (choose h q) v r w i = let s = entry-singles (wired_to h q) (is_optional P.world.known q) (candidates P q) v (wired r w) i in chosen-adder P h q v r w s.0 s.1 s.2
 adder P (pick h q c) zero r w (inl e) = picked-adder P h q c 0 r w refl e
 adder P (pick h q c) zero r w (inr i) = elim i [ ]
 adder P (pick h q c) (suc zero) r w i = elim i [ ]
@@ -144,8 +144,8 @@ adder P (pick h q c) (suc (suc v)) r w i = elim i [ ]
 pub adder-host : (P : Problem) (d : Decision) (v : ℕ) (r : RevisionId) (w : Wire) → In (wired r w) (adds P d v) → host d ≡ r
 adder-host P d v r w i = elim (adder P d v r w i) [ by_choice e c ↦ ap host (sym e) | by_pick e z ↦ ap host (sym e) ]
 
-pub adds-chosen : (P : Problem) (h : RevisionId) (q : ReqRef) (v : ℕ) (c : CapRef) → In c (item_at ((candidates P) q) v) → In (wired_to h q c) (adds P (choose h q) v)
-adds-chosen P h q v c i = singles-entry (wired_to h q) (if (is_optional P.world.known q) then [] ∷ [] else []) ((candidates P) q) v c i
+pub adds-chosen : (P : Problem) (h : RevisionId) (q : ReqRef) (v : ℕ) (c : CapRef) → In c (item_at (candidates P q) v) → In (wired_to h q c) (adds P (choose h q) v)
+adds-chosen P h q v c i = singles-entry (wired_to h q) (if (is_optional P.world.known q) then [] ∷ [] else []) (candidates P q) v c i
 
 -- ---- in force
 
@@ -208,16 +208,16 @@ pub record Got (P : Problem) (D : Made) (r : RevisionId) (w : Wire) : Type 0 whe
 pub wire-old : (P : Problem) (D : Made) (r : RevisionId) (w : Wire) → HasWire P.world.wirings r w → HasWire (partial P D) r w
 wire-old P D r w h = record { wiring = h.wiring; stands = in-append_left P.world.wirings (map (wiring P D) (members P D)) h.wiring h.stands; revision = h.revision; has = h.has }
 
-gets-some : (P : Problem) (q : ReqRef) (o : Option ℕ) (c : CapRef) → In c (chosen_by P q o) → (v : ℕ) × (o ≡ Some v) × In c (item_at ((candidates P) q) v)
+gets-some : (P : Problem) (q : ReqRef) (o : Option ℕ) (c : CapRef) → In c (chosen_by P q o) → (v : ℕ) × (o ≡ Some v) × In c (item_at (candidates P q) v)
 gets-some P q None c i = elim i [ ]
 gets-some P q (Some v) c i = (v, refl, i)
 
-some-gets : (P : Problem) (q : ReqRef) (o : Option ℕ) (v : ℕ) (c : CapRef) → o ≡ Some v → In c (item_at ((candidates P) q) v) → In c (chosen_by P q o)
+some-gets : (P : Problem) (q : ReqRef) (o : Option ℕ) (v : ℕ) (c : CapRef) → o ≡ Some v → In c (item_at (candidates P q) v) → In c (chosen_by P q o)
 some-gets P q o v c e i = subst (λ x. In c (chosen_by P q x)) (sym e) i
 
-chosen-got : (P : Problem) (D : Made) (r : RevisionId) (q : ReqRef) (c : CapRef) (b : Bool) → In c (if b then filter (λ c. is_yes (value_made D (pick r q c))) ((candidates P) q) else chosen_by P q (value_made D (choose r q))) → (w : Wire) → w ≡ record { requirement = q; capability = c } → Got P D r w
+chosen-got : (P : Problem) (D : Made) (r : RevisionId) (q : ReqRef) (c : CapRef) (b : Bool) → In c (if b then filter (λ c. is_yes (value_made D (pick r q c))) (candidates P q) else chosen_by P q (value_made D (choose r q))) → (w : Wire) → w ≡ record { requirement = q; capability = c } → Got P D r w
 chosen-got P D r q c true i w e =
-    let f = filter-in (λ c. is_yes (value_made D (pick r q c))) ((candidates P) q) c i in
+    let f = filter-in (λ c. is_yes (value_made D (pick r q c))) (candidates P q) c i in
     record { decision = pick r q c; chosen = 0; made = yes-some _ f.1; added = inl (ap (wired r) e) }
 chosen-got P D r q c false i w e =
     let g = gets-some P q (value_made D (choose r q)) c i in
@@ -228,14 +228,14 @@ wires_for-in P D r q w i =
     let m = map-in (λ c. let w : Wire = record { requirement = q; capability = c } in w) (chosen_for P D r q) w i in
     (ap (λ (w : Wire). w.requirement) m.2, chosen-got P D r q m.0 (is_multiple P.world.known q) m.1 w m.2)
 
-choice-chosen : (P : Problem) (D : Made) (r : RevisionId) (q : ReqRef) (v : ℕ) (c : CapRef) (b : Bool) → (is_multiple P.world.known q) ≡ b → b ≡ false → value_made D (choose r q) ≡ Some v → In c (item_at ((candidates P) q) v) →
-    In c (if b then filter (λ c. is_yes (value_made D (pick r q c))) ((candidates P) q) else chosen_by P q (value_made D (choose r q)))
+choice-chosen : (P : Problem) (D : Made) (r : RevisionId) (q : ReqRef) (v : ℕ) (c : CapRef) (b : Bool) → (is_multiple P.world.known q) ≡ b → b ≡ false → value_made D (choose r q) ≡ Some v → In c (item_at (candidates P q) v) →
+    In c (if b then filter (λ c. is_yes (value_made D (pick r q c))) (candidates P q) else chosen_by P q (value_made D (choose r q)))
 choice-chosen P D r q v c true e f h i = cc
 choice-chosen P D r q v c false e f h i = some-gets P q (value_made D (choose r q)) v c h i
 
-pick-chosen : (P : Problem) (D : Made) (r : RevisionId) (q : ReqRef) (c : CapRef) (b : Bool) → (is_multiple P.world.known q) ≡ b → b ≡ true → value_made D (pick r q c) ≡ Some 0 → In c ((candidates P) q) →
-    In c (if b then filter (λ c. is_yes (value_made D (pick r q c))) ((candidates P) q) else chosen_by P q (value_made D (choose r q)))
-pick-chosen P D r q c true e f h i = in-filter (λ c. is_yes (value_made D (pick r q c))) ((candidates P) q) c i (some-yes _ h)
+pick-chosen : (P : Problem) (D : Made) (r : RevisionId) (q : ReqRef) (c : CapRef) (b : Bool) → (is_multiple P.world.known q) ≡ b → b ≡ true → value_made D (pick r q c) ≡ Some 0 → In c (candidates P q) →
+    In c (if b then filter (λ c. is_yes (value_made D (pick r q c))) (candidates P q) else chosen_by P q (value_made D (choose r q)))
+pick-chosen P D r q c true e f h i = in-filter (λ c. is_yes (value_made D (pick r q c))) (candidates P q) c i (some-yes _ h)
 pick-chosen P D r q c false e f h i = cc
 
 -- where a wire of the word stands

@@ -1,11 +1,11 @@
 -- The moves of a search over words: how far it has come before and after each.
 use Rattle.std.proofs.Common.{◌≡◌, ℕ, ◌+◌, ◌⊎◌, inl, inr, List, [], ◌∷◌, ◌++◌, sym, subst, append_assoc, append-nil}
-use Rattle.osgi_model.specs.Candidates.{IsProblem}
-use Rattle.osgi_model.specs.Effort.{IsBefore}
-use Rattle.osgi_model.specs.Hopeless.{IsHopeless}
-use Rattle.osgi_model.specs.Lists.{In}
-use Rattle.osgi_model.specs.ChoiceWords.{IsComplete, IsWord, made_by, width}
-use Rattle.osgi_model.specs.declared.problem.Problem.{Problem}
+use Rattle.osgi_world.specs.Candidates.{IsProblem}
+use Rattle.osgi_world.specs.Effort.{IsBefore}
+use Rattle.osgi_world.specs.Hopeless.{IsHopeless}
+use Rattle.osgi_world.specs.Lists.{In}
+use Rattle.osgi_world.specs.ChoiceWords.{IsComplete, IsWord, made_by, width}
+use Rattle.osgi_world.specs.declared.problem.Problem.{Problem}
 use Rattle.osgi_choice.proofs.Order.{Begins, before-longer, begins-append, begins-split, below-child, below-zero, child-below, itself-below, next-down, next-up, no-before}
 use Rattle.osgi_choice.proofs.Words.{hopeless-more, word-next, word-prefix}
 use Rattle.osgi_choice.specs.Search.{IsHopefulEnd, Upto}

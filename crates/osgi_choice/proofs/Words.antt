@@ -1,14 +1,14 @@
 -- Words and the states that they come to.
 use Rattle.std.proofs.Common.{◌≡◌, ℕ, ◌<◌, List, [], ◌∷◌, ◌++◌, Option, None, Some, refl, sym, ◌∙◌, ap, subst, arith}
-use Rattle.osgi_model.specs.Candidates.{IsProblem}
-use Rattle.osgi_model.specs.Consistency.{Extends}
-use Rattle.osgi_model.specs.Decisions.{Decision, Made, arity}
-use Rattle.osgi_model.specs.DueDecisions.{next_decision}
-use Rattle.osgi_model.specs.Partial.{partial}
-use Rattle.osgi_model.specs.Hopeless.{Hopeless, IsHopeless}
-use Rattle.osgi_model.specs.ChoiceWords.{FitsFrom, IsComplete, IsGood, IsWord, made_after, decide, arity_of, made_by, make, partial_of, width}
-use Rattle.osgi_model.specs.declared.problem.Problem.{Problem}
-use Rattle.osgi_model.specs.declared.wiring.Wiring.{Wiring}
+use Rattle.osgi_world.specs.Candidates.{IsProblem}
+use Rattle.osgi_world.specs.Consistency.{Extends}
+use Rattle.osgi_world.specs.Decisions.{Decision, Made, arity}
+use Rattle.osgi_world.specs.DueDecisions.{next_decision}
+use Rattle.osgi_world.specs.Partial.{partial}
+use Rattle.osgi_world.specs.Hopeless.{Hopeless, IsHopeless}
+use Rattle.osgi_world.specs.ChoiceWords.{FitsFrom, IsComplete, IsGood, IsWord, made_after, decide, arity_of, made_by, make, partial_of, width}
+use Rattle.osgi_world.specs.declared.problem.Problem.{Problem}
+use Rattle.osgi_world.specs.declared.wiring.Wiring.{Wiring}
 use Rattle.osgi_choice.proofs.Complete.{consistent-hopeful, hopeful-extends}
 use Rattle.osgi_choice.proofs.Ends.{followed}
 use Rattle.osgi_choice.proofs.Follow.{end-extends}

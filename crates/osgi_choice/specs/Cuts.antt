@@ -1,10 +1,10 @@
 -- Wirings that are cut down to some of their revisions.
 use Rattle.std.specs.Prelude.{List}
 use Rattle.osgi_base.specs.declared.ids.RevisionId.{RevisionId}
-use Rattle.osgi_model.specs.Wirings.{Attached, HasWire, InForce}
-use Rattle.osgi_model.specs.declared.problem.Problem.{Problem}
-use Rattle.osgi_model.specs.declared.wiring.Wire.{Wire}
-use Rattle.osgi_model.specs.declared.wiring.Wiring.{Wiring}
+use Rattle.osgi_world.specs.Wirings.{Attached, HasWire, InForce}
+use Rattle.osgi_world.specs.declared.problem.Problem.{Problem}
+use Rattle.osgi_world.specs.declared.wiring.Wire.{Wire}
+use Rattle.osgi_world.specs.declared.wiring.Wiring.{Wiring}
 
 -- W has the same fragments and wires of r as V
 pub record SameOf (W V : List Wiring) (r : RevisionId) : Type 0 where

@@ -1,17 +1,17 @@
 -- What the resolver's proof needs of words.
 use Rattle.std.specs.Prelude.{◌≡◌, ℕ, ◌↔◌, List, ◌++◌}
 use Rattle.osgi_base.specs.declared.ids.RevisionId.{RevisionId}
-use Rattle.osgi_model.specs.Consistency.{Extends}
-use Rattle.osgi_model.specs.DueDecisions.{members}
-use Rattle.osgi_model.specs.Effort.{IsEffort, IsFirst}
-use Rattle.osgi_model.specs.Hopeless.{IsHopeless, IsSettled}
-use Rattle.osgi_model.specs.Lists.{In}
-use Rattle.osgi_model.specs.Sources.{Sources}
-use Rattle.osgi_model.specs.Wirings.{InForce, OnOffer}
-use Rattle.osgi_model.specs.ChoiceWords.{IsComplete, IsGood, IsWord, made_by, partial_of}
-use Rattle.osgi_model.specs.declared.problem.Problem.{Problem}
-use Rattle.osgi_model.specs.declared.wiring.CapRef.{CapRef}
-use Rattle.osgi_model.specs.declared.wiring.Wiring.{Wiring}
+use Rattle.osgi_world.specs.Consistency.{Extends}
+use Rattle.osgi_world.specs.DueDecisions.{members}
+use Rattle.osgi_world.specs.Effort.{IsEffort, IsFirst}
+use Rattle.osgi_world.specs.Hopeless.{IsHopeless, IsSettled}
+use Rattle.osgi_world.specs.Lists.{In}
+use Rattle.osgi_world.specs.Sources.{Sources}
+use Rattle.osgi_world.specs.Wirings.{InForce, OnOffer}
+use Rattle.osgi_world.specs.ChoiceWords.{IsComplete, IsGood, IsWord, made_by, partial_of}
+use Rattle.osgi_world.specs.declared.problem.Problem.{Problem}
+use Rattle.osgi_world.specs.declared.wiring.CapRef.{CapRef}
+use Rattle.osgi_world.specs.declared.wiring.Wiring.{Wiring}
 use Rattle.osgi_choice.specs.Cuts.{IsCut, Joins}
 
 -- what is settled stays settled in every extension of a word, with the same offer and the same sources

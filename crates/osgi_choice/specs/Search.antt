@@ -1,10 +1,10 @@
 -- How far a search over words has come.
 use Rattle.std.specs.Prelude.{◌≡◌, ℕ, List, ◌∷◌, [], ◌++◌, length}
-use Rattle.osgi_model.specs.Effort.{IsBefore, IsFalling}
-use Rattle.osgi_model.specs.Hopeless.{IsHopeless}
-use Rattle.osgi_model.specs.Lists.{In}
-use Rattle.osgi_model.specs.ChoiceWords.{IsComplete, IsWord}
-use Rattle.osgi_model.specs.declared.problem.Problem.{Problem}
+use Rattle.osgi_world.specs.Effort.{IsBefore, IsFalling}
+use Rattle.osgi_world.specs.Hopeless.{IsHopeless}
+use Rattle.osgi_world.specs.Lists.{In}
+use Rattle.osgi_world.specs.ChoiceWords.{IsComplete, IsWord}
+use Rattle.osgi_world.specs.declared.problem.Problem.{Problem}
 
 -- a complete word that is not hopeless
 abbrev pub IsHopefulEnd : Problem → List ℕ → Type 0

@@ -1,11 +1,11 @@
 -- Wirings to which one attachment or wire after the other is added. A revision can have several wirings here: it has what they hold together.
 use Rattle.std.specs.Prelude.{ℕ, List, [], ◌∷◌, ◌++◌, map}
 use Rattle.osgi_base.specs.declared.ids.RevisionId.{RevisionId}
-use Rattle.osgi_model.specs.Decisions.{Made, Step, adds, attached, wired}
-use Rattle.osgi_model.specs.Sources.{Clash, Implied}
-use Rattle.osgi_model.specs.declared.problem.Problem.{Problem}
-use Rattle.osgi_model.specs.declared.wiring.Wiring.{Wiring}
-use Rattle.osgi_model.specs.declared.world.Known.{Known}
+use Rattle.osgi_world.specs.Decisions.{Made, Step, adds, attached, wired}
+use Rattle.osgi_world.specs.Sources.{Clash, Implied}
+use Rattle.osgi_world.specs.declared.problem.Problem.{Problem}
+use Rattle.osgi_world.specs.declared.wiring.Wiring.{Wiring}
+use Rattle.osgi_world.specs.declared.world.Known.{Known}
 
 abbrev pub wiring_of : Step → Wiring
 wiring_of (attached h f) = record { revision = h; wires = []; fragments = f ∷ [] }

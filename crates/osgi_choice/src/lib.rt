@@ -2,8 +2,8 @@
 //! Each function here is a fact of that theory; it does nothing.
 #![tactic(auto)]
 
-ghost use Rattle.osgi_model.specs.Candidates.{IsProblem};
-ghost use Rattle.osgi_model.specs.declared.problem.Problem.{Problem};
+ghost use Rattle.osgi_world.specs.Candidates.{IsProblem};
+ghost use Rattle.osgi_world.specs.declared.problem.Problem.{Problem};
 ghost use Rattle.osgi_choice.specs.Facts.{SettledStays, HopelessStays, CompleteSettles, CompleteExtends, ExtensionsAreWords, HasOutcome};
 
 /// What is settled stays settled in every extension of a word, and keeps its offer and its sources.

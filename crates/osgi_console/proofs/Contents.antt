@@ -1,26 +1,26 @@
 -- The reader's content of a line is its reading by the grammar, and the only one.
-use Rattle.std.proofs.Common.{◌≡◌, ℕ, ◌+◌, List, [], ◌∷◌, ◌++◌, take, add-one, ap, sym, ◌∙◌, refl, append-nil, subst}
+use Rattle.std.proofs.Common.{◌≡◌, ℕ, ◌+◌, List, [], ◌∷◌, take, add-one, ap, sym, ◌∙◌, refl, subst}
 use Rattle.std.specs.Prelude.{Bool, true, false, Option, None, Some, option_and_then, Result, Ok, Err, IfOk}
 use Rattle.std.specs.Str.Lines.{lines}
 use Rattle.std.proofs.lemmas.Bool.{cond-false, cond-true, eqb-true}
-use Rattle.osgi_ops.specs.declared.command.Command.{Command}
-use Rattle.osgi_ops.specs.declared.line.Content.{Content}
-use Rattle.osgi_ops.specs.declared.line.Content.TheVariants.{Empty, Join, Bad, Run}
-use Rattle.osgi_ops.specs.declared.line.Line.{Line}
+use Rattle.osgi_session.specs.declared.command.Command.{Command}
+use Rattle.osgi_session.specs.declared.line.Content.{Content}
+use Rattle.osgi_session.specs.declared.line.Content.TheVariants.{Empty, Join, Bad, Run}
+use Rattle.osgi_session.specs.declared.line.Line.{Line}
 use Rattle.osgi_base.specs.declared.parts.QuoteState.TheVariants.{Bare}
-use Rattle.osgi_syntax.specs.laws.Spaces.{after_spaces-all, after_spaces-prefix, spaced}
+use Rattle.osgi_syntax.specs.LineReader.{is_silent}
+use Rattle.osgi_syntax.specs.Lines.{SaysNothing}
+use Rattle.osgi_syntax.specs.laws.Lines.{silent_read, silent_sound}
 use Rattle.osgi_console.proofs.Verbs.{command_read, command_sound}
-use Rattle.osgi_console.specs.Console.{AreLinesOf, AreReadFrom, blank, comment, LineReads, Says, SaysNothing}
-use Rattle.osgi_console.specs.computed.LineReader.{command_by, command_of, content_of, is_silent, numbered, run_or_bad, verb_of}
+use Rattle.osgi_console.specs.Console.{AreLinesOf, AreReadFrom, LineReads, Says}
+use Rattle.osgi_console.specs.computed.LineReader.{command_by, command_of, content_of, numbered, run_or_bad, verb_of}
 use Rattle.osgi_base.specs.Parts.{part_len}
 use Rattle.osgi_syntax.specs.Splitting.{after_spaces, after_word, first_word}
-use Rattle.osgi_syntax.specs.Words.{AreSpaces}
 
 -- ---- what the grammar says is read
 
 nothing_read : (line : List ℕ) → SaysNothing line → content_of line ≡ Empty
-nothing_read line (blank are) = rw (after_spaces-all line are) refl
-nothing_read line (comment spaces rest are e) = rw (e, after_spaces-prefix spaces (35 ∷ rest) are) refl
+nothing_read line nothing = cond-true (is_silent (after_spaces line)) _ _ (silent_read line nothing)
 
 -- a comment says no command
 no_comment : (rest : List ℕ) → verb_of (take (part_len 32 Bare (35 ∷ rest)) (35 ∷ rest)) ≡ None
@@ -56,10 +56,6 @@ IsSo line Join = ⊥
 IsSo line Bad = Unit {0}
 IsSo line (Run c) = Says line c
 
-so_silent : (line spaces remainder : List ℕ) → AreSpaces spaces → line ≡ spaces ++ remainder → is_silent remainder ≡ true → SaysNothing line
-so_silent line spaces [] are is silent = blank (subst AreSpaces (sym (is ∙ append-nil spaces)) are)
-so_silent line spaces (b ∷ rest) are is silent = comment spaces rest are (is ∙ ap (λ x. spaces ++ x ∷ rest) (eqb-true b 35 silent))
-
 so_said : (line : List ℕ) (read : Option Command) → command_of line ≡ read → IsSo line (run_or_bad read)
 unfolding IsSo
 so_said line None e = tt
@@ -67,9 +63,7 @@ so_said line (Some c) e = command_sound line c e
 
 so_by : (line : List ℕ) (test : Bool) → is_silent (after_spaces line) ≡ test → IsSo line (content_of line)
 unfolding IsSo
-so_by line true silent =
-    let prefix = spaced line in
-    subst (IsSo line) (sym (cond-true (is_silent (after_spaces line)) _ _ silent)) (so_silent line prefix.spaces (after_spaces line) prefix.are prefix.is silent)
+so_by line true silent = subst (IsSo line) (sym (cond-true (is_silent (after_spaces line)) _ _ silent)) (silent_sound line silent)
 so_by line false loud = subst (IsSo line) (sym (cond-false (is_silent (after_spaces line)) _ _ loud)) (so_said line (command_of line) refl)
 
 so : (line : List ℕ) → IsSo line (content_of line)

@@ -20,7 +20,7 @@ use Rattle.osgi_console.specs.declared.commands.Search.{Search}
 use Rattle.osgi_console.specs.computed.LineReader.{search_from, search_of}
 use Rattle.osgi_syntax.specs.Splitting.{after_spaces, after_word, first_word}
 use Rattle.osgi_syntax.specs.WordReader.{class_of}
-use Rattle.osgi_console.specs.Console.{IsFilterEnd}
+use Rattle.osgi_syntax.specs.Lines.{IsFilterEnd}
 use Rattle.osgi_syntax.specs.Words.{IsClass, IsSeparated}
 
 -- ---- the filter alone

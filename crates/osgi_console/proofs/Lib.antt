@@ -1,7 +1,6 @@
 -- Lemmas on the console's text.
 pub mod Contents
 pub mod Filters
-pub mod Lines
 pub mod Parts
 pub mod TextMap
 pub mod Verbs

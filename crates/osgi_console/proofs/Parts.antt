@@ -6,7 +6,7 @@ use Rattle.std.specs.List.{concat, join_with_byte}
 use Rattle.std.proofs.lemmas.List.{at_drop_all, at_drop_more}
 use Rattle.std.proofs.lemmas.Simd.{map-map}
 use Rattle.osgi_base.specs.declared.ids.ServiceId.{ServiceId}
-use Rattle.osgi_ops.specs.Rendering.{ids_text, row_text, rows_lines, with_line_end}
+use Rattle.osgi_session.specs.Rendering.{ids_text, row_text, rows_lines, with_line_end}
 use Rattle.osgi_ops.specs.declared.service.ServiceRow.{ServiceRow}
 
 -- a byte as it stands between quotes

@@ -11,13 +11,13 @@ use Rattle.std.specs.declared.vec.Vec.{Vec}
 use Rattle.std.proofs.lemmas.Bool.{cond-false, cond-true, eqb-true, ltb-true}
 use Rattle.std.proofs.lemmas.List.Folds.{list_any-append}
 use Rattle.std.proofs.Math.Bool.{or-true}
-use Rattle.osgi_ops.specs.laws.Texts.{entries_text-none, entries_text-push}
-use Rattle.osgi_ops.specs.Lines.{is_of}
-use Rattle.osgi_ops.specs.Rendering.{entries_text, entry_text, line_text}
+use Rattle.osgi_session.specs.laws.Texts.{entries_text-none, entries_text-push}
+use Rattle.osgi_session.specs.Lines.{is_of}
+use Rattle.osgi_session.specs.Rendering.{entries_text, entry_text, line_text}
 use Rattle.osgi_ops.specs.declared.entry.Entry.{Entry}
-use Rattle.osgi_ops.specs.declared.line.Content.{Content}
-use Rattle.osgi_ops.specs.declared.line.Content.TheVariants.{Empty, Join, Bad, Run}
-use Rattle.osgi_ops.specs.declared.line.Line.{Line}
+use Rattle.osgi_session.specs.declared.line.Content.{Content}
+use Rattle.osgi_session.specs.declared.line.Content.TheVariants.{Empty, Join, Bad, Run}
+use Rattle.osgi_session.specs.declared.line.Line.{Line}
 use Rattle.osgi_console.specs.computed.Texts.{AreTextsOf, line_text_by, text_at, text_of, Texts}
 
 has_entry-push : (number : ℕ) (history : List Entry) (e : Entry) → list_any (is_of number) (history ++ e ∷ []) ≡ (list_any (is_of number) history || is_of number e)

@@ -6,8 +6,8 @@ use Rattle.std.specs.Str.{bytes_eq}
 use Rattle.std.proofs.lemmas.Option.{option_and_then_some}
 use Rattle.osgi_base.specs.declared.ids.ServiceId.{ServiceId}
 use Rattle.osgi_model.specs.declared.filter.Filter.{Filter}
-use Rattle.osgi_ops.specs.declared.command.Command.{Command}
-use Rattle.osgi_ops.specs.declared.command.Command.TheVariants as command
+use Rattle.osgi_session.specs.declared.command.Command.{Command}
+use Rattle.osgi_session.specs.declared.command.Command.TheVariants as command
 use Rattle.osgi_console.specs.declared.commands.Search.{Search}
 use Rattle.osgi_base.specs.declared.parts.QuoteState.TheVariants.{Bare}
 use Rattle.osgi_console.specs.declared.commands.Verb.{Verb}
@@ -29,7 +29,7 @@ use Rattle.osgi_base.specs.Parts.{part_len}
 use Rattle.osgi_syntax.specs.Splitting.{after_spaces, after_word, first_word, words_of}
 use Rattle.osgi_base.specs.QuoteReader.{quoted_of}
 use Rattle.osgi_syntax.specs.WordReader.{classes_of, id_of}
-use Rattle.osgi_console.specs.Console.{IsFilterEnd}
+use Rattle.osgi_syntax.specs.Lines.{IsFilterEnd}
 use Rattle.osgi_syntax.specs.LineWords.{AreLineWords, IsLineWord}
 use Rattle.osgi_syntax.specs.Words.{AreSpaces, IsClass, IsId, IsSeparated}
 

@@ -1,29 +1,18 @@
 -- The text of the console: which lines the input has, and what each of them says.
-use Rattle.std.specs.Prelude.{ℕ, ◌≡◌, ◌+◌, List, [], ◌∷◌, ◌++◌, codes, Option, None, Some}
+use Rattle.std.specs.Prelude.{ℕ, ◌≡◌, ◌+◌, List, [], ◌∷◌, codes, Option}
 use Rattle.std.specs.Str.Lines.{lines}
 use Rattle.osgi_base.specs.declared.ids.ServiceId.{ServiceId}
-use Rattle.osgi_model.specs.Filters.{ReadsFilter}
 use Rattle.osgi_model.specs.declared.filter.Filter.{Filter}
 use Rattle.osgi_model.specs.declared.value.Attribute.{Attribute}
-use Rattle.osgi_ops.specs.declared.command.Command.{Command}
-use Rattle.osgi_ops.specs.declared.command.Command.TheVariants as command
-use Rattle.osgi_ops.specs.declared.line.Content.{Content}
-use Rattle.osgi_ops.specs.declared.line.Content.TheVariants.{Empty, Join, Bad, Run}
-use Rattle.osgi_ops.specs.declared.line.Line.{Line}
+use Rattle.osgi_session.specs.declared.command.Command.{Command}
+use Rattle.osgi_session.specs.declared.command.Command.TheVariants as command
+use Rattle.osgi_session.specs.declared.line.Content.{Content}
+use Rattle.osgi_session.specs.declared.line.Content.TheVariants.{Empty, Join, Bad, Run}
+use Rattle.osgi_session.specs.declared.line.Line.{Line}
+use Rattle.osgi_syntax.specs.Lines.{IsFilterEnd, SaysNothing}
 use Rattle.osgi_syntax.specs.Properties.{AreProperties}
 use Rattle.osgi_base.specs.Quotes.{IsQuoted}
 use Rattle.osgi_syntax.specs.Words.{AreClasses, AreSpaces, IsClass, IsId, IsSeparated}
-
--- the end of a line that may have a filter there: without one it is spaces; with one it begins with a space and reads as
--- the filter, round which white space may stand
-abbrev pub IsFilterEnd : Option Filter → List ℕ → Type 0
-IsFilterEnd None text = AreSpaces text
-IsFilterEnd (Some filter) text = (rest : List ℕ) × (text ≡ 32 ∷ rest) × ReadsFilter text filter
-
--- a line that says nothing: spaces, or a comment, whose first byte besides spaces is `#`
-pub data SaysNothing : List ℕ → Type 0 where
-  blank : {text : List ℕ} → AreSpaces text → SaysNothing text
-  comment : {text : List ℕ} (spaces rest : List ℕ) → AreSpaces spaces → text ≡ spaces ++ 35 ∷ rest → SaysNothing text
 
 -- the words of a command that is words alone
 pub data AreWordsOf : List (List ℕ) → Command → Type 0 where
@@ -44,8 +33,8 @@ pub data AreWordsOf : List (List ℕ) → Command → Type 0 where
   services : AreWordsOf (codes "services" ∷ []) command.Services
 
 -- the line says this command: it is the command's words, with spaces at both ends too, and may end with a filter where the
--- command has one. Each word wants spaces before it, and the first word of a line needs none: so a space is put before the
--- line
+-- command has one. One or more spaces stand before each word. Before the first word of a line there may be none, so one
+-- space is put before the line
 pub data Says (line : List ℕ) : Command → Type 0 where
   in_words : {words : List (List ℕ)} {c : Command} → AreWordsOf words c → IsSeparated AreSpaces words (32 ∷ line) → Says line c
   -- `find CLASS [FILTER]`

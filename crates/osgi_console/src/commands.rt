@@ -10,7 +10,7 @@ use osgi_base::quoted::quoted;
 use osgi_base::text::Text;
 use osgi_filter::parse;
 use osgi_model::filter::Filter;
-use osgi_ops::command::Command;
+use osgi_session::command::Command;
 use osgi_syntax::ids::id;
 use osgi_syntax::names::{class, classes};
 use osgi_syntax::properties::properties;

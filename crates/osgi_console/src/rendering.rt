@@ -3,18 +3,18 @@
 ghost use Rattle.std.specs.Prelude.{◌≡◌, ◌==◌, ◌||◌, if◌then◌else◌, ◌∷◌, [], ◌++◌, codes, map, IfOk, OnOk};
 ghost use Rattle.std.specs.Fmt.{decimal, signed_decimal};
 ghost use Rattle.std.specs.List.{concat, join_with_byte};
-ghost use Rattle.osgi_ops.specs.Rendering.{details, refusal_text, ids_text, quoted, row_text, rows_lines, truth, with_line_end, entry_text, render};
+ghost use Rattle.osgi_session.specs.Rendering.{details, refusal_text, ids_text, quoted, row_text, rows_lines, truth, with_line_end, entry_text, render};
 ghost use Rattle.osgi_console.specs.computed.Texts.{AreTextsOf, line_text_by, text_at};
 
 use itoa::Buffer;
 use osgi_base::ids::ServiceId;
 use osgi_base::text::Text;
 use osgi_ops::entry::Entry;
-use osgi_ops::line::{Content, Line};
 use osgi_ops::op::Op;
 use osgi_ops::refusal::Refusal;
 use osgi_ops::reply::Reply;
 use osgi_ops::service::ServiceRow;
+use osgi_session::line::{Content, Line};
 use std::alloc::{AllocError, Global};
 use std::collections::BTreeMap;
 
@@ -47,10 +47,7 @@ fn add_details(out: &mut Vec<u8>, refusal: &Refusal) -> Result<(), AllocError>
             out.push(b' ')?;
             add_number(out, u64::from(owner.0))
         }
-        Refusal::NoSuchBundle
-        | Refusal::NoSuchService
-        | Refusal::BadProperties
-        | Refusal::HistoryFull => Ok(()),
+        _ => Ok(()),
     }
 }
 

@@ -1,6 +1,6 @@
 -- What the registry answers is what is due after each history that it stands for.
 use Rattle.std.proofs.Common.{◌≡◌, ◌≢◌, ◌+◌, ◌≤◌, ◌<◌, ℕ, inl, inr, List, [], ◌∷◌, ◌++◌, length, map, drop, ap, sym, subst, ◌∙◌, refl, arith}
-use Rattle.std.specs.Prelude.{Bool, true, false, cond, ◌==◌, nat_le, nat_lt, Option, None, Some, Result, Ok, Err, IfOk, IsSomeAnd}
+use Rattle.std.specs.Prelude.{⊤, Bool, true, false, cond, ◌==◌, nat_le, nat_lt, Option, None, Some, Result, Ok, Err, IfOk, IsSomeAnd}
 use Rattle.std.specs.Option.{option_map_or, option_or}
 use Rattle.std.proofs.lemmas.Bool.{eq-eqb, eqb-false, eqb-true, leb-false, leb-true}
 use Rattle.osgi_base.specs.declared.ids.BundleId.{BundleId}
@@ -20,7 +20,7 @@ use Rattle.osgi_ops.specs.declared.op.Op.{Op}
 use Rattle.osgi_ops.specs.declared.op.Op.TheVariants as op
 use Rattle.osgi_ops.specs.declared.refusal.Many.TheVariants.{Services}
 use Rattle.osgi_ops.specs.declared.refusal.Refusal.{Refusal}
-use Rattle.osgi_ops.specs.declared.refusal.Refusal.TheVariants.{NoSuchBundle, NoSuchService, BadProperties, NotOwner, TooMany}
+use Rattle.osgi_ops.specs.declared.refusal.Refusal.TheVariants.{NoSuchBundle, InvalidOperation, NoSuchService, BadProperties, NotOwner, TooMany}
 use Rattle.osgi_ops.specs.declared.reply.Reply.{Reply}
 use Rattle.osgi_ops.specs.declared.reply.Reply.TheVariants as answer
 use Rattle.osgi_ops.specs.declared.service.Service.{Service}
@@ -28,7 +28,7 @@ use Rattle.osgi_ops.specs.declared.service.ServiceRow.{ServiceRow}
 use Rattle.osgi_registry.specs.laws.Standing.{Found, nowhere, quiet_find, quiet_find_all, quiet_list, quiet_refused, rows_found, rows_length, rows_services, stands_quiet, there}
 use Rattle.osgi_registry.specs.Rows.{count_of, IsOpenBy, modify_refusal, object_at, refusal_at, register_refusal, RegistryRows, Row, row_at, services_in, twins_refusal, use_count}
 use Rattle.osgi_registry.specs.Stands.{IsRowOf, StandsAfter, StandsFor}
-use Rattle.osgi_core.specs.computed.Replied.{IsReplied}
+use Rattle.osgi_core.specs.computed.Replied.{is_known, IsReplied}
 
 -- ---- bundles
 
@@ -106,6 +106,24 @@ refused_stands o old new refusal same = λ history tag stands.
 pub replied_no_bundle : (o : Op) (bundle : BundleId) (registry : RegistryRows) → Asks bundle o → (bundle.0 == 0) ≡ false → IsReplied o registry registry (answer.Refused NoSuchBundle)
 replied_no_bundle o bundle registry asks other =
     record { due = λ setting history tag stands. no_bundle o bundle (moment setting history tag) asks other; stands = refused_stands o registry registry NoSuchBundle refl }
+
+-- an operation that the framework does not have yet
+unknown_due : (now : Moment) (o : Op) → is_known o ≡ false → IsReply now o (answer.Refused InvalidOperation)
+unknown_due now (op.Register owner classes object properties) e = absurd (cc e)
+unknown_due now (op.Modify owner service properties) e = absurd (cc e)
+unknown_due now (op.Unregister owner service) e = absurd (cc e)
+unknown_due now (op.Find asker class filter) e = absurd (cc e)
+unknown_due now (op.FindAll asker class filter) e = absurd (cc e)
+unknown_due now (op.Get user service) e = absurd (cc e)
+unknown_due now (op.Unget user service) e = absurd (cc e)
+unknown_due now op.ListServices e = absurd (cc e)
+unknown_due now _ e = gives_first InvalidOperation ⊤ [] (λ reply. ⊥) tt
+
+pub replied_not_yet : (o : Op) (registry : RegistryRows) → is_known o ≡ false → IsReplied o registry registry (answer.Refused InvalidOperation)
+replied_not_yet o registry unknown = record {
+  due = λ setting history tag stood. unknown_due (moment setting history tag) o unknown;
+  stands = refused_stands o registry registry InvalidOperation refl;
+}
 
 -- Register
 room_is : (history : List Entry) (registry : RegistryRows) → StandsFor history registry → length registry.rows ≡ length (live history)

@@ -3,11 +3,11 @@
 //! A reply is made twice, for the caller and for the history, since both copies have to be there before the registry
 //! changes for good.
 
-ghost use Rattle.std.specs.Prelude.{◌≡◌, ◌==◌, ◌<◌, IfOk, OnErr, map};
+ghost use Rattle.std.specs.Prelude.{◌≡◌, ◌==◌, ◌<◌, false, IfOk, OnErr, map};
 ghost use Rattle.osgi_ops.specs.Operations.{row_of};
 ghost use Rattle.osgi_ops.specs.declared.op.Op.TheVariants as op;
 ghost use Rattle.osgi_registry.specs.Rows.{services_in, use_count};
-ghost use Rattle.osgi_core.specs.computed.Replied.{HasRoom, IsReplied, StandsStill};
+ghost use Rattle.osgi_core.specs.computed.Replied.{HasRoom, is_known, IsReplied, StandsStill};
 
 use osgi_base::ids::{BundleId, ServiceId};
 use osgi_base::list::List;
@@ -230,6 +230,15 @@ fn list_services(alloc: Global, registry: &Registry) -> Result<(Reply, Reply), A
     ))
 }
 
+/// The refusal of an operation that the framework does not have yet.
+fn not_yet(alloc: Global, registry: &Registry, op: &Op) -> Result<(Reply, Reply), AllocError>
+    requires unknown { is_known op.now ≡ false }
+    ensures twice { IfOk result (λ r. r.1 ≡ r.0) }
+    ensures replied { IfOk result (λ r. IsReplied op.now registry.now registry.now r.0) }
+{
+    refused(alloc, Refusal::InvalidOperation)
+}
+
 /// Carries an operation out, and answers its reply twice. If memory runs out, the registry stands for what it did.
 pub fn reply_to(
     alloc: Global,
@@ -267,5 +276,6 @@ pub fn reply_to(
         Op::Get { user, service } => get(alloc, registry, *user, *service),
         Op::Unget { user, service } => unget(alloc, registry, *user, *service),
         Op::ListServices => list_services(alloc, registry),
+        _ => not_yet(alloc, registry, op),
     }
 }

@@ -7,3 +7,4 @@ pub mod NameLists
 pub mod ReadClauses
 pub mod Spaces
 pub mod computed
+pub mod laws

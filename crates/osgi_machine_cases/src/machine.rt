@@ -41,6 +41,7 @@ fn kind(op: &Op) -> (&'static str, u32) {
         Op::Get { user, .. } => ("get", user.0),
         Op::Unget { user, .. } => ("unget", user.0),
         Op::ListServices => ("services", 0),
+        _ => ("later", 0),
     }
 }
 

@@ -6,12 +6,14 @@
 //! |---|---|
 //! | `core ENTRIES` | a new machine whose history has room for so many entries |
 //! | `CALLER.NUMBER BUNDLE COMMAND` | what the machine answers to a command of the console, asked by the bundle in that line |
+//! | `CALLER.NUMBER BUNDLE later NAME` | the same of an operation about the bundle, by its name, that the framework does not have yet |
 //! | `entries` | the machine's history |
 //! | `refusal NAME`, `many NAME`, `join`, `limits` | numbers and names of refusals, a line that joins, the standard limits |
 //!
 //! Each operation, reply, entry and line of a row is compared with its copy; the answer says so where they differ.
 #![tactic(auto)]
 
+mod later;
 mod machine;
 mod names;
 mod rows;

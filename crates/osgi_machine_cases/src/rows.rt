@@ -1,10 +1,12 @@
 //! What rows ask of the machine.
 
+use crate::later::later;
 use crate::machine::{add_history, add_recorded};
 use crate::names::{add_join, add_limits, add_many, add_refusal};
-use osgi_base::ids::Tag;
+use osgi_base::ids::{BundleId, Tag};
 use osgi_core::Core;
 use osgi_ops::limits::Limits;
+use osgi_ops::op::Op;
 use osgi_rows::asked::asked;
 use osgi_rows::words::{number, split_bundle, split_word};
 use std::alloc::{AllocError, Global};
@@ -32,7 +34,20 @@ fn tag_of(word: &str) -> Option<Tag> {
     })
 }
 
-/// Asks for the command of a row that begins with a tag.
+/// The operation that a row asks for, by a command of the console or by its name; or why it asks for none.
+fn op_of(
+    alloc: Global,
+    bundle: BundleId,
+    text: &str,
+) -> Result<Result<Op, &'static str>, AllocError> {
+    let (word, name) = split_word(text);
+    if word == "later" {
+        return Ok(later(alloc, name, bundle)?.ok_or("no such operation"));
+    }
+    asked(alloc, bundle, text)
+}
+
+/// Asks for the operation of a row that begins with a tag.
 fn ask(
     alloc: Global,
     out: &mut String,
@@ -44,7 +59,7 @@ fn ask(
         return out.push_str("no such row");
     };
     let (bundle, command) = split_bundle(text);
-    match asked(alloc, bundle, command)? {
+    match op_of(alloc, bundle, command)? {
         Ok(op) => add_recorded(alloc, out, core, tag, op),
         Err(why) => out.push_str(why),
     }

@@ -6,7 +6,7 @@ use Rattle.osgi_header.specs.declared.clause.ClauseAt.{ClauseAt}
 use Rattle.osgi_header.specs.declared.clause.ReadClauses.{ReadClauses}
 use Rattle.osgi_header.specs.declared.fault.HeaderFault.{HeaderFault}
 use Rattle.osgi_header.specs.ReadClauses.{AreReadFrom}
-use Rattle.osgi_model.specs.declared.manifest_fault.ManifestKind.{ManifestKind}
+use Rattle.osgi_world.specs.declared.manifest_fault.ManifestKind.{ManifestKind}
 
 -- the first of these faults in order
 abbrev pub IsFirstOf : List (ManifestKind → Type 0) → ManifestKind → Type 0

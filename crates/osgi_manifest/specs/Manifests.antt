@@ -11,12 +11,12 @@ use Rattle.osgi_header.specs.declared.clause.Clause.{Clause}
 use Rattle.osgi_header.specs.declared.fault.HeaderFault.{HeaderFault}
 use Rattle.osgi_header.specs.declared.header.Header as header
 use Rattle.osgi_model.specs.Filters.{IsReadableFilter}
-use Rattle.osgi_model.specs.declared.capability.Capability.{Capability}
-use Rattle.osgi_model.specs.declared.manifest_fault.ManifestFault.{ManifestFault}
-use Rattle.osgi_model.specs.declared.manifest_fault.ManifestKind.{ManifestKind}
-use Rattle.osgi_model.specs.declared.manifest_fault.ManifestKind.TheVariants as fault
-use Rattle.osgi_model.specs.declared.requirement.Requirement.{Requirement}
-use Rattle.osgi_model.specs.declared.revision.Revision.{Revision}
+use Rattle.osgi_world.specs.declared.capability.Capability.{Capability}
+use Rattle.osgi_world.specs.declared.manifest_fault.ManifestFault.{ManifestFault}
+use Rattle.osgi_world.specs.declared.manifest_fault.ManifestKind.{ManifestKind}
+use Rattle.osgi_world.specs.declared.manifest_fault.ManifestKind.TheVariants as fault
+use Rattle.osgi_world.specs.declared.requirement.Requirement.{Requirement}
+use Rattle.osgi_world.specs.declared.revision.Revision.{Revision}
 use Rattle.osgi_version.specs.Ranges.{IsReadableRange}
 use Rattle.osgi_version.specs.Versions.{IsReadableVersion, ReadsVersion}
 use Rattle.osgi_version.specs.VersionValues.{parts}

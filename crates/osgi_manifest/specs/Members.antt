@@ -3,9 +3,9 @@ use Rattle.std.specs.Prelude.{ℕ, ◌≡◌, true, false, List, [], ◌∷◌, 
 use Rattle.std.specs.List.{AllZip}
 use Rattle.osgi_header.specs.declared.clause.Clause.{Clause}
 use Rattle.osgi_model.specs.Filters.{ReadsFilter}
-use Rattle.osgi_model.specs.declared.capability.Capability.{Capability}
+use Rattle.osgi_world.specs.declared.capability.Capability.{Capability}
 use Rattle.osgi_model.specs.declared.filter.Filter.{Filter}
-use Rattle.osgi_model.specs.declared.requirement.Requirement.{Requirement}
+use Rattle.osgi_world.specs.declared.requirement.Requirement.{Requirement}
 use Rattle.osgi_version.specs.Ranges.{ReadsRange}
 use Rattle.osgi_version.specs.RangeValues.{range_parts}
 use Rattle.osgi_package.specs.Parameters.{IsAttribute, directive_value, is_directed, version_text}

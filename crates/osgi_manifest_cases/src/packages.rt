@@ -1,13 +1,14 @@
 //! Imported and exported packages.
 
-use crate::shown::{push_attributes, push_bytes, push_texts};
+use crate::shown::{push_attributes, push_texts};
 use osgi_base::list::List;
+use osgi_escapes::push_bytes;
 use osgi_header::clause::Clause;
 use osgi_header::clauses;
-use osgi_model::capability::Capability;
-use osgi_model::requirement::Requirement;
 use osgi_package::fault::PackageFault;
 use osgi_package::{exports, imports};
+use osgi_world::capability::Capability;
+use osgi_world::requirement::Requirement;
 use std::alloc::{AllocError, Global};
 use std::fmt::Write;
 
@@ -32,7 +33,8 @@ fn push_exporter(
     push_bytes(out, requirement.from_range.print(alloc)?.as_slice())
 }
 
-fn push_requirement(
+/// Adds a requirement without its namespace and without what only some of other namespaces say.
+pub fn push_requirement(
     alloc: Global,
     out: &mut String,
     requirement: &Requirement,
@@ -45,13 +47,14 @@ fn push_requirement(
     out.push(' ')?;
     push_attributes(alloc, out, requirement.equal.items())?;
     out.push_str(if requirement.optional {
-        " optional;"
+        " optional"
     } else {
-        " mandatory;"
+        " mandatory"
     })
 }
 
-fn push_capability(
+/// Adds a capability without its namespace.
+pub fn push_capability(
     alloc: Global,
     out: &mut String,
     capability: &Capability,
@@ -62,8 +65,7 @@ fn push_capability(
     out.push_str(" uses ")?;
     push_texts(out, capability.uses.items())?;
     out.push_str(" mandatory ")?;
-    push_texts(out, capability.mandatory.items())?;
-    out.push(';')
+    push_texts(out, capability.mandatory.items())
 }
 
 fn push_fault(out: &mut String, fault: PackageFault) -> Result<(), AllocError> {
@@ -81,6 +83,7 @@ fn push_requirements(
     }
     for requirement in requirements {
         push_requirement(alloc, out, requirement)?;
+        out.push(';')?;
     }
     Ok(())
 }
@@ -95,6 +98,7 @@ fn push_capabilities(
     }
     for capability in capabilities {
         push_capability(alloc, out, capability)?;
+        out.push(';')?;
     }
     Ok(())
 }

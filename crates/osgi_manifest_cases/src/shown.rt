@@ -1,17 +1,10 @@
 //! Texts, values and attributes as answers show them.
 
 use osgi_base::text::Text;
+use osgi_escapes::push_bytes;
 use osgi_model::value::{Attribute, Value};
 use std::alloc::{AllocError, Global};
 use std::fmt::Write;
-
-/// Adds bytes, which are ASCII.
-pub fn push_bytes(out: &mut String, bytes: &[u8]) -> Result<(), AllocError> {
-    for byte in bytes {
-        out.push(char::from(*byte))?;
-    }
-    Ok(())
-}
 
 /// Adds texts in brackets.
 pub fn push_texts(out: &mut String, texts: &[Text]) -> Result<(), AllocError> {

@@ -1,16 +1,12 @@
--- The definitions of operations, histories, plans and their texts.
+-- The definitions of operations and histories, and the names of refusals.
 pub mod Along
 pub mod Bundles
 pub mod Classes
 pub mod Legal
-pub mod Lines
 pub mod Names
 pub mod Operations
-pub mod Plans
 pub mod Properties
-pub mod Rendering
 pub mod Replies
 pub mod Services
-pub mod Sessions
 pub mod Settings
 pub mod laws

@@ -1,5 +1,5 @@
 -- What each operation answers: its refusals in order, each with its condition, and its answer.
-use Rattle.std.specs.Prelude.{◌≡◌, ◌≢◌, ◌+◌, ◌≤◌, nat_lt, true, List, [], ◌∷◌, Option, None, length, map, IsSomeAnd}
+use Rattle.std.specs.Prelude.{◌≡◌, ⊤, ◌≢◌, ◌+◌, ◌≤◌, nat_lt, true, List, [], ◌∷◌, Option, None, length, map, IsSomeAnd}
 use Rattle.osgi_base.specs.declared.ids.BundleId.{BundleId}
 use Rattle.osgi_base.specs.declared.ids.ServiceId.{ServiceId}
 use Rattle.osgi_base.specs.declared.ids.Tag.{Tag}
@@ -15,7 +15,7 @@ use Rattle.osgi_ops.specs.declared.op.Op.{Op}
 use Rattle.osgi_ops.specs.declared.op.Op.TheVariants as op
 use Rattle.osgi_ops.specs.declared.refusal.Many.TheVariants.{Services}
 use Rattle.osgi_ops.specs.declared.refusal.Refusal.{Refusal}
-use Rattle.osgi_ops.specs.declared.refusal.Refusal.TheVariants.{NoSuchBundle, NoSuchService, BadProperties, NotOwner, TooMany}
+use Rattle.osgi_ops.specs.declared.refusal.Refusal.TheVariants.{NoSuchBundle, InvalidOperation, NoSuchService, BadProperties, NotOwner, TooMany}
 use Rattle.osgi_ops.specs.declared.reply.Reply.{Reply}
 use Rattle.osgi_ops.specs.declared.reply.Reply.TheVariants as answer
 use Rattle.osgi_ops.specs.declared.entry.Entry.{Entry}
@@ -33,7 +33,8 @@ moment setting before tag = record { setting = setting; before = before; tag = t
 
 -- ---- refusals
 
--- the bundle is not there
+-- the bundle is not there. Who asks has to be up, too, else it is refused with 2 after this; only the system bundle is there so
+-- far, and it is always up
 abbrev pub no_such_bundle : Moment → BundleId → Refusal → Type 0
 no_such_bundle now bundle = Where NoSuchBundle (¬ IsLive now.before bundle)
 
@@ -44,6 +45,10 @@ no_such_service now service = Where NoSuchService (live_at service now.before �
 -- the service is live, and its owner is another than this one
 abbrev pub not_owner : Moment → BundleId → ServiceId → Refusal → Type 0
 not_owner now owner service refusal = IsSomeAnd (live_at service now.before) (λ r. (r.owner ≢ owner) × (refusal ≡ NotOwner r.owner))
+
+-- the framework does not have the operation yet
+abbrev pub not_yet : Refusal → Type 0
+not_yet = Where InvalidOperation ⊤
 
 -- the refusals of an operation in order, each where its condition holds
 abbrev pub conditions : Moment → Op → List (Refusal → Type 0)
@@ -60,6 +65,7 @@ conditions now (op.FindAll asker class filter) = no_such_bundle now asker ∷ []
 conditions now (op.Get user service) = no_such_bundle now user ∷ no_such_service now service ∷ []
 conditions now (op.Unget user service) = no_such_bundle now user ∷ []
 conditions now op.ListServices = []
+conditions now _ = not_yet ∷ []
 
 -- ---- answers
 
@@ -83,6 +89,7 @@ Answers now (op.FindAll asker class filter) reply = (found : List ServiceId) × 
 Answers now (op.Get user service) reply = IsSomeAnd (live_at service now.before) (λ r. reply ≡ answer.Object r.object)
 Answers now (op.Unget user service) reply = reply ≡ answer.Flag (nat_lt 0 (uses user service now.before))
 Answers now op.ListServices reply = reply ≡ answer.ServiceRows (map row_of (services now.before))
+Answers now _ reply = ⊥
 
 -- the reply is the first refusal whose condition holds now, else the answer
 abbrev pub IsReply : Moment → Op → Reply → Type 0

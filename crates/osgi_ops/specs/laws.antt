@@ -1,7 +1,4 @@
 -- Laws of the definitions, for the proofs of other crates, with what they rest on. No promise cites them.
 pub mod Histories
-pub mod Parts
 pub mod Refusals
 pub mod Services
-pub mod Sessions
-pub mod Texts

@@ -2,8 +2,10 @@
 
 ghost use Rattle.std.specs.Prelude.{◌≡◌, IfOk};
 
+use crate::kind::Kind;
+use crate::target::Target;
 use osgi_base::copied::{Copied, copy_option};
-use osgi_base::ids::{BundleId, ServiceId};
+use osgi_base::ids::{BundleId, ListenerId, ServiceId};
 use osgi_base::list::List;
 use osgi_base::text::Text;
 use osgi_model::filter::Filter;
@@ -19,13 +21,13 @@ pub enum Op {
         object: Text,
         properties: Attributes,
     },
-    /// Puts these properties in place of all that were given of a service.
+    /// Replaces all properties that were given for a service.
     Modify {
         owner: BundleId,
         service: ServiceId,
         properties: Attributes,
     },
-    /// Takes a service out.
+    /// Unregisters a service.
     Unregister {
         owner: BundleId,
         service: ServiceId,
@@ -53,11 +55,129 @@ pub enum Op {
         user: BundleId,
         service: ServiceId,
     },
-    /// Asks for all services.
+    /// Adds a listener, by the name of its section in the script of its bundle.
+    AddListener {
+        owner: BundleId,
+        name: Text,
+        kind: Kind,
+        filter: Option<Filter>,
+    },
+    /// Removes a listener.
+    RemoveListener {
+        owner: BundleId,
+        name: Text,
+    },
+    /// Hands the next event to the listener that it is for.
+    Hand,
+    /// Ends the handing of an event to a listener.
+    EndHand {
+        listener: ListenerId,
+    },
+    /// Queues a job, by the name of its section.
+    QueueJob {
+        owner: BundleId,
+        name: Text,
+    },
+    /// Takes the oldest job that is queued.
+    TakeJob,
+    /// Ends a job that was taken.
+    EndJob,
+    /// Prints a text.
+    Print {
+        owner: BundleId,
+        text: Text,
+    },
+    /// Says that a section fails, and why.
+    Fail {
+        owner: BundleId,
+        text: Text,
+    },
+    /// Installs the bundle at a location.
+    Install {
+        location: Text,
+    },
+    /// Resolves a bundle, and those that it needs.
+    Resolve {
+        bundle: BundleId,
+    },
+    /// Asks whether a bundle is to be started now. If it is not active yet and the start is not transient, the bundle is marked
+    /// to be started with its start level.
+    WishStart {
+        target: Target,
+        transient: bool,
+    },
+    /// Begins to start a bundle.
+    BeginStart {
+        bundle: BundleId,
+        transient: bool,
+    },
+    /// Ends the start of a bundle, whose section failed or did not.
+    EndStart {
+        bundle: BundleId,
+        failed: bool,
+    },
+    /// Begins to stop a bundle.
+    BeginStop {
+        target: Target,
+        transient: bool,
+    },
+    /// Ends the stop of a bundle, whose section failed or did not.
+    EndStop {
+        bundle: BundleId,
+        failed: bool,
+    },
+    /// Replaces what the bundle has by the folder at a location.
+    Update {
+        bundle: BundleId,
+        location: Text,
+    },
+    /// Uninstalls a bundle.
+    Uninstall {
+        bundle: BundleId,
+    },
+    /// Begins to refresh the bundles and those that depend on them; an empty list stands for all
+    /// that have a revision waiting for removal.
+    BeginRefresh {
+        bundles: List<BundleId>,
+    },
+    /// Removes the wirings of the bundles that are refreshed.
+    DropWirings,
+    /// Ends the refresh.
+    EndRefresh,
+    /// Begins to change the active start level.
+    BeginLevel {
+        target_level: u8,
+    },
+    /// Asks for the bundles of a start level that are starting, active or stopping.
+    ListLevel {
+        level: u8,
+    },
+    /// Moves the active start level by one.
+    MoveLevel {
+        to: u8,
+    },
+    /// Ends the change of the active start level.
+    EndLevel,
+    /// Sets a bundle's start level.
+    SetBundleLevel {
+        bundle: BundleId,
+        level: u8,
+    },
+    /// Asks which revision a bundle loads a class from.
+    Load {
+        bundle: BundleId,
+        class: Text,
+    },
+    /// Asks for all live bundles.
+    ListBundles,
+    /// Asks for all live services.
     ListServices,
+    /// Asks for the wires of a bundle.
+    ListWires {
+        bundle: BundleId,
+    },
 }
 
-/// The operation that registers copies of these.
 fn register(
     alloc: Global,
     owner: BundleId,
@@ -120,6 +240,23 @@ fn find_all(
     })
 }
 
+fn add_listener(
+    alloc: Global,
+    owner: BundleId,
+    name: &Text,
+    kind: Kind,
+    filter: &Option<Filter>,
+) -> Result<Op, AllocError>
+    ensures made { IfOk result (λ made. made ≡ Op.AddListener owner name.now kind filter.now) }
+{
+    Ok(Op::AddListener {
+        owner,
+        name: name.copy(alloc)?,
+        kind,
+        filter: copy_option(filter, alloc)?,
+    })
+}
+
 impl Op {
     pub fn copy(&self, alloc: Global) -> Result<Op, AllocError>
         ensures same { IfOk result (λ copy. copy ≡ self.now) }
@@ -149,7 +286,69 @@ impl Op {
             } => find_all(alloc, *asker, class, filter),
             &Op::Get { user, service } => Ok(Op::Get { user, service }),
             &Op::Unget { user, service } => Ok(Op::Unget { user, service }),
+            Op::AddListener {
+                owner,
+                name,
+                kind,
+                filter,
+            } => add_listener(alloc, *owner, name, *kind, filter),
+            Op::RemoveListener { owner, name } => Ok(Op::RemoveListener {
+                owner: *owner,
+                name: name.copy(alloc)?,
+            }),
+            Op::Hand => Ok(Op::Hand),
+            &Op::EndHand { listener } => Ok(Op::EndHand { listener }),
+            Op::QueueJob { owner, name } => Ok(Op::QueueJob {
+                owner: *owner,
+                name: name.copy(alloc)?,
+            }),
+            Op::TakeJob => Ok(Op::TakeJob),
+            Op::EndJob => Ok(Op::EndJob),
+            Op::Print { owner, text } => Ok(Op::Print {
+                owner: *owner,
+                text: text.copy(alloc)?,
+            }),
+            Op::Fail { owner, text } => Ok(Op::Fail {
+                owner: *owner,
+                text: text.copy(alloc)?,
+            }),
+            Op::Install { location } => Ok(Op::Install {
+                location: location.copy(alloc)?,
+            }),
+            &Op::Resolve { bundle } => Ok(Op::Resolve { bundle }),
+            Op::WishStart { target, transient } => Ok(Op::WishStart {
+                target: target.copy(alloc)?,
+                transient: *transient,
+            }),
+            &Op::BeginStart { bundle, transient } => Ok(Op::BeginStart { bundle, transient }),
+            &Op::EndStart { bundle, failed } => Ok(Op::EndStart { bundle, failed }),
+            Op::BeginStop { target, transient } => Ok(Op::BeginStop {
+                target: target.copy(alloc)?,
+                transient: *transient,
+            }),
+            &Op::EndStop { bundle, failed } => Ok(Op::EndStop { bundle, failed }),
+            Op::Update { bundle, location } => Ok(Op::Update {
+                bundle: *bundle,
+                location: location.copy(alloc)?,
+            }),
+            &Op::Uninstall { bundle } => Ok(Op::Uninstall { bundle }),
+            Op::BeginRefresh { bundles } => Ok(Op::BeginRefresh {
+                bundles: bundles.copy(alloc)?,
+            }),
+            Op::DropWirings => Ok(Op::DropWirings),
+            Op::EndRefresh => Ok(Op::EndRefresh),
+            &Op::BeginLevel { target_level } => Ok(Op::BeginLevel { target_level }),
+            &Op::ListLevel { level } => Ok(Op::ListLevel { level }),
+            &Op::MoveLevel { to } => Ok(Op::MoveLevel { to }),
+            Op::EndLevel => Ok(Op::EndLevel),
+            &Op::SetBundleLevel { bundle, level } => Ok(Op::SetBundleLevel { bundle, level }),
+            Op::Load { bundle, class } => Ok(Op::Load {
+                bundle: *bundle,
+                class: class.copy(alloc)?,
+            }),
+            Op::ListBundles => Ok(Op::ListBundles),
             Op::ListServices => Ok(Op::ListServices),
+            &Op::ListWires { bundle } => Ok(Op::ListWires { bundle }),
         }
     }
 }

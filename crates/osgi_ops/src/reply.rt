@@ -1,9 +1,13 @@
 //! What the framework answers to an operation.
 
+ghost use Rattle.std.specs.Prelude.{◌≡◌, IfOk};
+
+use crate::event::{Busy, Event};
 use crate::refusal::Refusal;
+use crate::rows::{BundleRow, WireRow};
 use crate::service::ServiceRow;
 use osgi_base::copied::Copied;
-use osgi_base::ids::ServiceId;
+use osgi_base::ids::{BundleId, ListenerId, RevisionId, ServiceId};
 use osgi_base::list::List;
 use osgi_base::text::Text;
 use std::alloc::{AllocError, Global};
@@ -11,20 +15,156 @@ use std::alloc::{AllocError, Global};
 #[derive(Debug, Drop, PartialEq, Eq)]
 pub enum Reply {
     /// The service was registered under this id.
-    Service { service: ServiceId },
+    Service {
+        service: ServiceId,
+    },
     /// It was done.
     Done,
     /// The best service, if there is one.
-    Best { service: Option<ServiceId> },
+    Best {
+        service: Option<ServiceId>,
+    },
     /// These services, the best first.
-    Services { services: List<ServiceId> },
+    Services {
+        services: List<ServiceId>,
+    },
     /// The service's object.
-    Object { text: Text },
+    Object {
+        text: Text,
+    },
     /// Whether there was something to take back.
-    Flag { value: bool },
-    /// All services, by rising id.
-    ServiceRows { rows: List<ServiceRow> },
-    Refused { refusal: Refusal },
+    Flag {
+        value: bool,
+    },
+    /// The listener was added under this id.
+    Listener {
+        listener: ListenerId,
+    },
+    /// The event is handed to this listener, whose section is that of the name in the script of the owner's depot row.
+    Handed {
+        listener: ListenerId,
+        owner: BundleId,
+        row: u32,
+        name: Text,
+        event: Event,
+    },
+    /// No event can be handed now. Each listener that has an event to come is busy with another one; these are they, by rising
+    /// id.
+    Nothing {
+        busy: List<Busy>,
+    },
+    /// The job that was taken: the section of the name in the script of the owner's depot row.
+    Job {
+        owner: BundleId,
+        row: u32,
+        name: Text,
+    },
+    /// No job is queued.
+    NoJob,
+    /// The bundle at the location, and whether it was known before.
+    Bundle {
+        bundle: BundleId,
+        known: bool,
+    },
+    /// These bundles were resolved, by rising id.
+    Resolved {
+        added: List<BundleId>,
+    },
+    /// The bundle is to be started.
+    Go {
+        bundle: BundleId,
+    },
+    /// The bundle is active already.
+    Active {
+        bundle: BundleId,
+    },
+    /// The bundle is not started now: its start level is above the active one, or above the target of a change of the level
+    /// under way. The start was not transient, so the bundle is marked to be started with its level.
+    Kept {
+        bundle: BundleId,
+    },
+    /// The start or stop of the bundle began; its script is that of this depot row.
+    Begun {
+        bundle: BundleId,
+        row: u32,
+    },
+    /// The bundle was installed or resolved, so there was nothing to stop.
+    Idle {
+        bundle: BundleId,
+    },
+    /// The bundles that are refreshed, by rising id, and those of them that are active, in the order of stopping.
+    Closure {
+        all: List<BundleId>,
+        active: List<BundleId>,
+    },
+    /// These bundles.
+    Ids {
+        ids: List<BundleId>,
+    },
+    /// The active start level, and the one that it is to become.
+    Level {
+        from: u8,
+        to: u8,
+    },
+    /// The active start level moved; these bundles are to be started.
+    Moved {
+        start: List<BundleId>,
+    },
+    /// The level was set. Whether the bundle is to be started now.
+    Leveled {
+        value: bool,
+    },
+    /// The bundle is active, and is to be stopped before its level is set.
+    Up {
+        bundle: BundleId,
+    },
+    /// The revision that the class is loaded from, if there is one.
+    Loaded {
+        by: Option<RevisionId>,
+    },
+    /// All live bundles, by rising id.
+    Bundles {
+        rows: List<BundleRow>,
+    },
+    /// All live services, by rising id.
+    ServiceRows {
+        rows: List<ServiceRow>,
+    },
+    /// The wires of the bundle, in the order of its requirements, its own before its fragments', and its fragments.
+    Wires {
+        rows: List<WireRow>,
+        fragments: List<WireRow>,
+    },
+    /// It was refused.
+    Refused {
+        refusal: Refusal,
+    },
+}
+
+fn closure(
+    alloc: Global,
+    all: &List<BundleId>,
+    active: &List<BundleId>,
+) -> Result<Reply, AllocError>
+    ensures made { IfOk result (λ made. made ≡ Reply.Closure all.now active.now) }
+{
+    Ok(Reply::Closure {
+        all: all.copy(alloc)?,
+        active: active.copy(alloc)?,
+    })
+}
+
+fn wires(
+    alloc: Global,
+    rows: &List<WireRow>,
+    fragments: &List<WireRow>,
+) -> Result<Reply, AllocError>
+    ensures made { IfOk result (λ made. made ≡ Reply.Wires rows.now fragments.now) }
+{
+    Ok(Reply::Wires {
+        rows: rows.copy(alloc)?,
+        fragments: fragments.copy(alloc)?,
+    })
 }
 
 impl Reply {
@@ -41,19 +181,66 @@ impl Reply {
         ensures same { IfOk result (λ copy. copy ≡ self.now) }
     {
         match self {
-            Reply::Service { service } => Ok(Reply::Service { service: *service }),
+            &Reply::Service { service } => Ok(Reply::Service { service }),
             Reply::Done => Ok(Reply::Done),
-            Reply::Best { service } => Ok(Reply::Best { service: *service }),
+            &Reply::Best { service } => Ok(Reply::Best { service }),
             Reply::Services { services } => Ok(Reply::Services {
                 services: services.copy(alloc)?,
             }),
             Reply::Object { text } => Ok(Reply::Object {
                 text: text.copy(alloc)?,
             }),
-            Reply::Flag { value } => Ok(Reply::Flag { value: *value }),
+            &Reply::Flag { value } => Ok(Reply::Flag { value }),
+            &Reply::Listener { listener } => Ok(Reply::Listener { listener }),
+            Reply::Handed {
+                listener,
+                owner,
+                row,
+                name,
+                event,
+            } => Ok(Reply::Handed {
+                listener: *listener,
+                owner: *owner,
+                row: *row,
+                name: name.copy(alloc)?,
+                event: *event,
+            }),
+            Reply::Nothing { busy } => Ok(Reply::Nothing {
+                busy: busy.copy(alloc)?,
+            }),
+            Reply::Job { owner, row, name } => Ok(Reply::Job {
+                owner: *owner,
+                row: *row,
+                name: name.copy(alloc)?,
+            }),
+            Reply::NoJob => Ok(Reply::NoJob),
+            &Reply::Bundle { bundle, known } => Ok(Reply::Bundle { bundle, known }),
+            Reply::Resolved { added } => Ok(Reply::Resolved {
+                added: added.copy(alloc)?,
+            }),
+            &Reply::Go { bundle } => Ok(Reply::Go { bundle }),
+            &Reply::Active { bundle } => Ok(Reply::Active { bundle }),
+            &Reply::Kept { bundle } => Ok(Reply::Kept { bundle }),
+            &Reply::Begun { bundle, row } => Ok(Reply::Begun { bundle, row }),
+            &Reply::Idle { bundle } => Ok(Reply::Idle { bundle }),
+            Reply::Closure { all, active } => closure(alloc, all, active),
+            Reply::Ids { ids } => Ok(Reply::Ids {
+                ids: ids.copy(alloc)?,
+            }),
+            &Reply::Level { from, to } => Ok(Reply::Level { from, to }),
+            Reply::Moved { start } => Ok(Reply::Moved {
+                start: start.copy(alloc)?,
+            }),
+            &Reply::Leveled { value } => Ok(Reply::Leveled { value }),
+            &Reply::Up { bundle } => Ok(Reply::Up { bundle }),
+            &Reply::Loaded { by } => Ok(Reply::Loaded { by }),
+            Reply::Bundles { rows } => Ok(Reply::Bundles {
+                rows: rows.copy(alloc)?,
+            }),
             Reply::ServiceRows { rows } => Ok(Reply::ServiceRows {
                 rows: rows.copy(alloc)?,
             }),
+            Reply::Wires { rows, fragments } => wires(alloc, rows, fragments),
             Reply::Refused { refusal } => Ok(Reply::Refused {
                 refusal: refusal.copy(alloc)?,
             }),

@@ -1,76 +1,14 @@
 -- Clauses give one answer, which the answer of each clause in order makes.
-use Rattle.std.proofs.Common.{◌≡◌, ◌<◌, ℕ, ◌+◌, List, [], ◌∷◌, ◌++◌, length, take, drop, get_or, ap, sym, ◌∙◌, refl, subst, inl, inr, arith, add-one, suc, append_assoc, drop-cons}
+use Rattle.std.proofs.Common.{◌≡◌, ◌<◌, ℕ, ◌+◌, List, [], ◌∷◌, ◌++◌, length, take, drop, get_or, ap, sym, ◌∙◌, refl, subst, arith, append_assoc}
 use Rattle.std.specs.Prelude.{Result, Ok, Err, IfOk}
-use Rattle.std.proofs.lemmas.List.{length-take-le, same_from_push, take-append-drop, take_more}
-use Rattle.osgi_base.specs.laws.Verdicts.{gives_first, gives_rest}
-use Rattle.osgi_base.specs.Verdict.{Gives, Verdict, Where, answers, refuses}
+use Rattle.std.proofs.lemmas.List.{length-take-le, same_from_push}
+use Rattle.osgi_base.specs.Verdict.{Verdict, answers, refuses}
 use Rattle.osgi_header.specs.declared.clause.Clause.{Clause}
 use Rattle.osgi_package.specs.computed.Answers.{IsAnswer, IsOnly, IsTheAnswer}
 use Rattle.osgi_package.specs.declared.fault.PackageFault.{PackageFault}
 use Rattle.osgi_package.specs.declared.fault.PackageKind.{PackageKind}
 use Rattle.osgi_package.specs.Faults.{AreGiven, IsFirstFault, more, none}
-
--- ---- the verdict of one clause
-
-pub first_only : {R A : Type 0} (refusal : R) (fact : Type 0) (rest : List (R → Type 0)) (answer : A → Type 0) → fact → IsOnly (Gives (Where refusal fact ∷ rest) answer) (refuses refusal)
-first_only {R} {A} refusal fact rest answer holds = record { holds = gives_first refusal fact rest answer holds; only = only }
-  where
-    only : (other : Verdict R A) → Gives (Where refusal fact ∷ rest) answer other → other ≡ refuses refusal
-    only other (inl (r, (is, f), alike)) = alike ∙ ap refuses is
-    only other (inr (uncalled, given)) = absurd (uncalled refusal (refl, holds))
-
-pub rest_only : {R A : Type 0} (refusal : R) (fact : Type 0) (rest : List (R → Type 0)) (answer : A → Type 0) (v : Verdict R A) → ¬ fact → IsOnly (Gives rest answer) v →
-    IsOnly (Gives (Where refusal fact ∷ rest) answer) v
-rest_only {R} {A} refusal fact rest answer v fails is = record { holds = gives_rest refusal fact rest answer v fails is.holds; only = only }
-  where
-    only : (other : Verdict R A) → Gives (Where refusal fact ∷ rest) answer other → other ≡ v
-    only other (inl (r, (is_it, f), alike)) = absurd (fails f)
-    only other (inr (uncalled, given)) = is.only other given
-
-pub end_only : {R A : Type 0} (answer : A → Type 0) (a : A) → IsOnly answer a → IsOnly (Gives {Refusal = R} [] answer) (answers a)
-end_only {R} {A} answer a is = record { holds = is.holds; only = only }
-  where
-    only : (other : Verdict R A) → Gives {Refusal = R} [] answer other → other ≡ answers a
-    only (refuses r) given = absurd given
-    only (answers b) given = ap answers (is.only b given)
-
--- ---- lists that are split at an item
-
--- how two splits of one list stand to each other
-pub data Splits {A : Type 0} (xs : List A) (x : A) (r ys : List A) (y : A) (s : List A) : Type 0 where
-  earlier : (mid : List A) → xs ≡ ys ++ y ∷ mid → Splits xs x r ys y s
-  same : ys ≡ xs → y ≡ x → Splits xs x r ys y s
-  later : (mid : List A) → ys ≡ xs ++ x ∷ mid → r ≡ mid ++ y ∷ s → Splits xs x r ys y s
-
-splits_more : {A : Type 0} (z w : A) (xs : List A) (x : A) (r ys : List A) (y : A) (s : List A) → z ≡ w → Splits xs x r ys y s → Splits (z ∷ xs) x r (w ∷ ys) y s
-splits_more z w xs x r ys y s e (earlier mid is) = earlier mid (λ i. e i ∷ is i)
-splits_more z w xs x r ys y s e (same is at) = same (λ i. sym e i ∷ is i) at
-splits_more z w xs x r ys y s e (later mid is rest) = later mid (λ i. sym e i ∷ is i) rest
-
-heads : {A : Type 0} (a b : A) (xs ys : List A) → a ∷ xs ≡ b ∷ ys → a ≡ b
-heads a b xs ys e = cc e
-
-tails : {A : Type 0} (a b : A) (xs ys : List A) → a ∷ xs ≡ b ∷ ys → xs ≡ ys
-tails a b xs ys e = cc e
-
-splits : {A : Type 0} (xs : List A) (x : A) (r ys : List A) (y : A) (s : List A) → xs ++ x ∷ r ≡ ys ++ y ∷ s → Splits xs x r ys y s
-splits [] x r [] y s e = same refl (sym (heads x y r s e))
-splits [] x r (w ∷ ys) y s e = later ys (λ i. sym (heads x w r (ys ++ y ∷ s) e) i ∷ ys) (tails x w r (ys ++ y ∷ s) e)
-splits (z ∷ xs) x r [] y s e = earlier xs (λ i. heads z y (xs ++ x ∷ r) s e i ∷ xs)
-splits (z ∷ xs) x r (w ∷ ys) y s e =
-    splits_more z w xs x r ys y s (heads z w (xs ++ x ∷ r) (ys ++ y ∷ s) e) (splits xs x r ys y s (tails z w (xs ++ x ∷ r) (ys ++ y ∷ s) e))
-
-no_item : {A : Type 0} (xs : List A) (x : A) (ys : List A) → [] ≡ xs ++ x ∷ ys → ⊥
-no_item [] x ys e = absurd (cc e)
-no_item (z ∷ xs) x ys e = absurd (cc e)
-
-pub split_at : {A : Type 0} (xs : List A) (n : ℕ) (x : A) → n < length xs → x ≡ get_or xs n x → take n xs ++ x ∷ drop (n + 1) xs ≡ xs
-split_at xs n x below is =
-    let rest : drop n xs ≡ x ∷ drop (n + 1) xs = rw add-one (drop-cons xs n x below ∙ ap (λ y. y ∷ drop (suc n) xs) (sym is)) in
-    ap (λ l. take n xs ++ l) (sym rest) ∙ take-append-drop n xs
-
-pub take_next : {A : Type 0} (xs : List A) (n : ℕ) (x : A) → n < length xs → x ≡ get_or xs n x → take (n + 1) xs ≡ take n xs ++ x ∷ []
-take_next xs n x below is = take_more xs n x below ∙ ap (λ y. take n xs ++ y ∷ []) (sym is)
+use Rattle.osgi_package.specs.laws.Splits.{earlier, later, no_item, same, split_at, splits, take_next}
 
 module _ {X : Type 0} (Says : List Clause → Clause → Verdict PackageKind (List X) → Type 0) where
   -- ---- what clauses give, taken apart

@@ -6,7 +6,7 @@ use Rattle.std.proofs.lemmas.Bool.{false≢true}
 use Rattle.osgi_base.specs.Verdict.{Gives, Where, answers, refuses}
 use Rattle.osgi_header.specs.declared.clause.Clause.{Clause}
 use Rattle.osgi_model.specs.computed.VersionReader.{version_of}
-use Rattle.osgi_model.specs.declared.capability.Capability.{Capability}
+use Rattle.osgi_world.specs.declared.capability.Capability.{Capability}
 use Rattle.osgi_model.specs.declared.value.Attribute.{Attribute}
 use Rattle.osgi_model.specs.laws.VersionTexts.{version_read, version_sound}
 use Rattle.osgi_version.specs.declared.version.Version.{Version}
@@ -19,8 +19,9 @@ use Rattle.osgi_package.specs.declared.fault.PackageKind.{PackageKind}
 use Rattle.osgi_package.specs.declared.fault.PackageKind.TheVariants.{BadValue, BadVersion, DoubleType, ImplicitAttribute, JavaExport}
 use Rattle.osgi_package.specs.Exports.{AreExported, AreExportsOf, IsExport, SaysExports, version_attribute}
 use Rattle.osgi_package.specs.Packages.{is_java}
-use Rattle.osgi_package.specs.Parameters.{HasValue, IsAttribute, is_double, is_other, is_the_exporters, version_text}
-use Rattle.osgi_package.proofs.Answering.{end_only, first_only, rest_only}
+use Rattle.osgi_package.specs.Parameters.{HasValue, IsAttribute, is_double, is_other, is_implicit, version_text}
+use Rattle.osgi_package.specs.laws.Versions.{readable, unread}
+use Rattle.osgi_package.specs.laws.Verdicts.{end_only, first_only, rest_only}
 use Rattle.osgi_package.proofs.Reading.{attributes_one}
 use Rattle.osgi_package.proofs.Valued.{Valued, bad, bad_value, double, double_value, good, past_values, valued}
 
@@ -29,35 +30,13 @@ use Rattle.osgi_package.proofs.Valued.{Valued, bad, bad_value, double, double_va
 abbrev own_version : Clause → List ℕ
 own_version clause = version_text (codes "version") clause
 
-made : (v : Parts) → Fits v → Version
-made v fits = record {
-  major = v.major;
-  minor = v.minor;
-  micro = v.micro;
-  qualifier = v.qualifier;
-  in_range = (omega (arith, fits.major), omega (arith, fits.minor), omega (arith, fits.micro));
-}
-
-made_parts : (v : Parts) (fits : Fits v) → parts (made v fits) ≡ v
-unfolding made
-made_parts v fits = refl
-
-unread : (text : List ℕ) → version_of text ≡ None → ¬ IsReadableVersion text
-unread text e readable =
-    let v : Parts = readable.0 in
-    let reads : ReadsVersion text v = readable.1 in
-    cc (sym e ∙ version_read text (made v reads.fits) (subst (ReadsVersion text) (sym (made_parts v reads.fits)) reads))
-
-readable : (text : List ℕ) (w : Version) → version_of text ≡ Some w → IsReadableVersion text
-readable text w e = (parts w, version_sound text w e)
-
 -- ---- the conditions after the version
 
 abbrev BadOne : Clause → Type 0
 BadOne clause = ¬ IsReadableVersion (own_version clause)
 
 abbrev after_values : Clause → List (PackageKind → Type 0)
-after_values clause = Where JavaExport (list_any is_java clause.paths ≡ true) ∷ Where ImplicitAttribute (list_any is_the_exporters clause.attributes ≡ true) ∷ []
+after_values clause = Where JavaExport (list_any is_java clause.paths ≡ true) ∷ Where ImplicitAttribute (list_any is_implicit clause.attributes ≡ true) ∷ []
 
 abbrev after_version : Clause → List (PackageKind → Type 0)
 after_version clause =
@@ -94,25 +73,25 @@ module _ (clause : Clause) (version : Version) (known : version_of (own_version 
 
   -- ---- names
 
-  named_by : (java its : Bool) → list_any is_java clause.paths ≡ java → list_any is_the_exporters clause.attributes ≡ its → (others : List Attribute) → Good others → (kind : PackageKind) →
+  named_by : (java its : Bool) → list_any is_java clause.paths ≡ java → list_any is_implicit clause.attributes ≡ its → (others : List Attribute) → Good others → (kind : PackageKind) →
       cond java (Some JavaExport) (cond its (Some ImplicitAttribute) None) ≡ Some kind → IsOnly (SaysExports [] clause) (refuses kind)
   named_by true its e f others is kind found =
       let same : JavaExport ≡ kind = cc found in
       subst (λ k. IsOnly (SaysExports [] clause) (refuses k)) same
       (past_version (refuses JavaExport)
       (past_values clause (after_values clause) (AreExportsOf clause) (refuses JavaExport) is.plain is.all
-      (first_only JavaExport (list_any is_java clause.paths ≡ true) (Where ImplicitAttribute (list_any is_the_exporters clause.attributes ≡ true) ∷ []) (AreExportsOf clause) e)))
+      (first_only JavaExport (list_any is_java clause.paths ≡ true) (Where ImplicitAttribute (list_any is_implicit clause.attributes ≡ true) ∷ []) (AreExportsOf clause) e)))
   named_by false true e f others is kind found =
       let same : ImplicitAttribute ≡ kind = cc found in
       subst (λ k. IsOnly (SaysExports [] clause) (refuses k)) same
       (past_version (refuses ImplicitAttribute)
       (past_values clause (after_values clause) (AreExportsOf clause) (refuses ImplicitAttribute) is.plain is.all
-      (rest_only JavaExport (list_any is_java clause.paths ≡ true) (Where ImplicitAttribute (list_any is_the_exporters clause.attributes ≡ true) ∷ []) (AreExportsOf clause) (refuses ImplicitAttribute)
+      (rest_only JavaExport (list_any is_java clause.paths ≡ true) (Where ImplicitAttribute (list_any is_implicit clause.attributes ≡ true) ∷ []) (AreExportsOf clause) (refuses ImplicitAttribute)
       (λ java. false≢true (sym e ∙ java))
-      (first_only ImplicitAttribute (list_any is_the_exporters clause.attributes ≡ true) [] (AreExportsOf clause) f))))
+      (first_only ImplicitAttribute (list_any is_implicit clause.attributes ≡ true) [] (AreExportsOf clause) f))))
   named_by false false e f others is kind found = absurd (cc found)
 
-  unnamed : (java its : Bool) → list_any is_java clause.paths ≡ java → list_any is_the_exporters clause.attributes ≡ its → cond java (Some JavaExport) (cond its (Some ImplicitAttribute) None) ≡ None →
+  unnamed : (java its : Bool) → list_any is_java clause.paths ≡ java → list_any is_implicit clause.attributes ≡ its → cond java (Some JavaExport) (cond its (Some ImplicitAttribute) None) ≡ None →
       (java ≡ false) × (its ≡ false)
   unnamed true its e f none = absurd (cc none)
   unnamed false true e f none = absurd (cc none)
@@ -154,14 +133,14 @@ module _ (clause : Clause) (version : Version) (known : version_of (own_version 
     exports_only (path ∷ paths) [] all = absurd all
     exports_only (path ∷ paths) (c ∷ cs) all = λ i. export_only path c all.0 i ∷ exports_only paths cs all.1 i
 
-    exports_of : (java its : Bool) → list_any is_java clause.paths ≡ java → list_any is_the_exporters clause.attributes ≡ its → (java ≡ false) × (its ≡ false) →
+    exports_of : (java its : Bool) → list_any is_java clause.paths ≡ java → list_any is_implicit clause.attributes ≡ its → (java ≡ false) × (its ≡ false) →
         IsOnly (SaysExports [] clause) (answers (capabilities_of template clause.paths))
     exports_of java its e f neither =
         past_version (answers (capabilities_of template clause.paths))
         (past_values clause (after_values clause) (AreExportsOf clause) (answers (capabilities_of template clause.paths)) is.plain is.all
-        (rest_only JavaExport (list_any is_java clause.paths ≡ true) (Where ImplicitAttribute (list_any is_the_exporters clause.attributes ≡ true) ∷ []) (AreExportsOf clause)
+        (rest_only JavaExport (list_any is_java clause.paths ≡ true) (Where ImplicitAttribute (list_any is_implicit clause.attributes ≡ true) ∷ []) (AreExportsOf clause)
         (answers (capabilities_of template clause.paths)) (λ yes_java. false≢true (sym (e ∙ neither.0) ∙ yes_java))
-        (rest_only ImplicitAttribute (list_any is_the_exporters clause.attributes ≡ true) [] (AreExportsOf clause) (answers (capabilities_of template clause.paths))
+        (rest_only ImplicitAttribute (list_any is_implicit clause.attributes ≡ true) [] (AreExportsOf clause) (answers (capabilities_of template clause.paths))
         (λ yes_its. false≢true (sym (f ∙ neither.1) ∙ yes_its))
         (end_only (AreExportsOf clause) (capabilities_of template clause.paths) (record { holds = exports_hold clause.paths; only = exports_only clause.paths })))))
 
@@ -173,7 +152,7 @@ module _ (clause : Clause) (version : Version) (known : version_of (own_version 
   pub said_names : (values : Result (List Attribute) PackageKind) (others : List Attribute) (fault : Option PackageKind) (kind : PackageKind) → values ≡ attributes_of clause → values ≡ Ok others →
       fault ≡ named_fault clause → fault ≡ Some kind → IsOnly (SaysExports [] clause) (refuses kind)
   said_names values others fault kind computed is named found =
-      named_by (list_any is_java clause.paths) (list_any is_the_exporters clause.attributes) refl refl others
+      named_by (list_any is_java clause.paths) (list_any is_implicit clause.attributes) refl refl others
       (good_values values (subst (Valued clause) (sym computed) (valued clause)) others is) kind (sym named ∙ found)
 
   pub said_all : (values : Result (List Attribute) PackageKind) (others : List Attribute) (fault : Option PackageKind) (template : Capability) (attributes : List Attribute) →
@@ -181,5 +160,5 @@ module _ (clause : Clause) (version : Version) (known : version_of (own_version 
       IsOnly (SaysExports [] clause) (answers (capabilities_of template clause.paths))
   said_all values others fault template attributes computed is named found made_of of =
       exports_of others (good_values values (subst (Valued clause) (sym computed) (valued clause)) others is) template (subst (λ l. IsOfferOf clause l template) made_of of)
-      (list_any is_java clause.paths) (list_any is_the_exporters clause.attributes) refl refl
-      (unnamed (list_any is_java clause.paths) (list_any is_the_exporters clause.attributes) refl refl (sym named ∙ found))
+      (list_any is_java clause.paths) (list_any is_implicit clause.attributes) refl refl
+      (unnamed (list_any is_java clause.paths) (list_any is_implicit clause.attributes) refl refl (sym named ∙ found))

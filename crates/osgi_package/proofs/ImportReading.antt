@@ -22,7 +22,7 @@ use Rattle.std.proofs.lemmas.Option.{same_Some}
 use Rattle.std.proofs.lemmas.Slice.Eq.{bytes_eq-Decides}
 use Rattle.osgi_base.specs.Verdict.{Where, answers, refuses}
 use Rattle.osgi_header.specs.declared.clause.Clause.{Clause}
-use Rattle.osgi_model.specs.declared.requirement.Requirement.{Requirement}
+use Rattle.osgi_world.specs.declared.requirement.Requirement.{Requirement}
 use Rattle.osgi_model.specs.declared.value.Attribute.{Attribute}
 use Rattle.osgi_version.specs.Comparing.{same_parts}
 use Rattle.osgi_version.specs.Faults.{IsFault}
@@ -40,28 +40,12 @@ use Rattle.osgi_package.specs.declared.fault.PackageKind.TheVariants.{BadValue, 
 use Rattle.osgi_package.specs.Imports.{AreImportsOf, IsImport, SaysImports}
 use Rattle.osgi_package.specs.Packages.{is_java, packages}
 use Rattle.osgi_package.specs.Parameters.{HasValue, IsAttribute, is_double, is_other, version_text}
-use Rattle.osgi_package.proofs.Answering.{answer_more, end_only, first_only, rest_only, split_at, take_next}
+use Rattle.osgi_package.specs.laws.Ranges.{range_read}
+use Rattle.osgi_package.specs.laws.Splits.{split_at, take_next}
+use Rattle.osgi_package.specs.laws.Verdicts.{end_only, first_only, rest_only}
+use Rattle.osgi_package.proofs.Answering.{answer_more}
 use Rattle.osgi_package.proofs.Reading.{attributes_one}
 use Rattle.osgi_package.proofs.Valued.{Valued, bad, bad_value, double, double_value, good, past_values, valued}
-
--- ---- ranges
-
-same_high : (a b : Option Version) → option_map parts a ≡ option_map parts b → a ≡ b
-same_high None None e = refl
-same_high None (Some y) e = absurd (cc e)
-same_high (Some x) None e = absurd (cc e)
-same_high (Some x) (Some y) e = ap Some (same_parts x y (same_Some (parts x) (parts y) e))
-
-same_range : (a b : VersionRange) → range_parts a ≡ range_parts b → a ≡ b
-same_range a b e =
-    let low : a.low ≡ b.low = same_parts a.low b.low (ap (λ r. r.low) e) in
-    let high : a.high ≡ b.high = same_high a.high b.high (ap (λ r. r.high) e) in
-    λ i. record { low = low i; low_in = (e i).low_in; high = high i; high_in = (e i).high_in }
-
-pub range_read : (text : List ℕ) (r : Result VersionRange VersionFault) → MatchResult r (λ r. ReadsRange text (range_parts r)) (IsFault IsSpelledRange IsReadableRange text) →
-    ((range : RangeParts) → ReadsRange text range → IsOkAnd r (λ w. range_parts w ≡ range)) → IsRangeOf text (result_ok r)
-range_read text (Ok w) reads only = record { holds = reads; only = λ other h. same_range other w (sym (only (range_parts other) h)) }
-range_read text (Err fault) reads only = λ readable. only readable.0 readable.1
 
 -- ---- the requirements of a clause
 

@@ -15,7 +15,7 @@ use Rattle.osgi_model.specs.declared.value_type.ValueType.{ValueType}
 use Rattle.osgi_model.specs.laws.TypeNames.{kind_is, kind_read, kind_sound}
 use Rattle.osgi_model.specs.laws.ValueTexts.{result_is, value_read, value_sound}
 use Rattle.osgi_model.specs.Values.{IsOfType, Names}
-use Rattle.osgi_package.specs.computed.AttributeReader.{attribute_of, others_of, others_onto, with_other}
+use Rattle.osgi_package.specs.computed.AttributeReader.{attribute_of, others_of, others_onto, values_of, with_other}
 use Rattle.osgi_package.specs.Parameters.{HasValue, IsAttribute, is_other}
 
 -- ---- one more attribute
@@ -122,3 +122,36 @@ attributes_one (typed ∷ rest) (a ∷ some) [] are all = absurd all
 attributes_one (typed ∷ rest) (a ∷ some) (b ∷ others) are all =
     let first : a ≡ b = cc (sym (attribute_read typed a are.0) ∙ attribute_read typed b all.0) in
     λ i. first i ∷ attributes_one rest some others are.1 all.1 i
+
+-- ---- all attributes
+
+values_onto : (values : List Attribute) (attribute : Attribute) (rest : Option (List Attribute)) →
+    others_onto values (option_map (λ more. attribute ∷ more) rest) ≡ others_onto (values ++ attribute ∷ []) rest
+values_onto values attribute None = refl
+values_onto values attribute (Some rest) = ap Some (sym (append_assoc values (attribute ∷ []) rest))
+
+pub values_step : (xs : List Typed) (i : ℕ) (typed : Typed) (attribute : Attribute) (values : List Attribute) → i < length xs → typed ≡ get_or xs i typed → Some attribute ≡ attribute_of typed →
+    others_onto values (values_of (drop i xs)) ≡ values_of xs → others_onto (values ++ attribute ∷ []) (values_of (drop (i + 1) xs)) ≡ values_of xs
+values_step xs i typed attribute values below is read so_far =
+    let split : drop i xs ≡ typed ∷ drop (i + 1) xs = rw add-one (drop-cons xs i typed below ∙ ap (λ t. t ∷ drop (suc i) xs) (sym is)) in
+    sym (values_onto values attribute (values_of (drop (i + 1) xs)))
+    ∙ ap (λ o. others_onto values (option_and_then (λ a. option_map (λ more. a ∷ more) (values_of (drop (i + 1) xs))) o)) read
+    ∙ ap (λ l. others_onto values (values_of l)) (sym split) ∙ so_far
+
+pub values_sound : (attributes : List Typed) (values : List Attribute) → values_of attributes ≡ Some values → AllZip IsAttribute attributes values
+values_sound [] values e =
+    let is : [] ≡ values = cc e in
+    subst (AllZip IsAttribute []) is tt
+values_sound (typed ∷ rest) values e =
+    option_and_then_some (λ attribute. option_map (λ more. attribute ∷ more) (values_of rest)) (attribute_of typed) values e
+    (λ attribute was made.
+    let read = mapped (λ more. attribute ∷ more) (values_of rest) values made in
+    subst (AllZip IsAttribute (typed ∷ rest)) read.is (attribute_sound typed attribute was, values_sound rest read.value read.was))
+
+pub values_read : (attributes : List Typed) (values : List Attribute) → AllZip IsAttribute attributes values → values_of attributes ≡ Some values
+values_read [] [] are = refl
+values_read [] (v ∷ values) are = absurd are
+values_read (typed ∷ rest) [] are = absurd are
+values_read (typed ∷ rest) (v ∷ values) are =
+    ap (option_and_then (λ attribute. option_map (λ more. attribute ∷ more) (values_of rest))) (attribute_read typed v are.0)
+    ∙ ap (option_map (λ more. v ∷ more)) (values_read rest values are.1)

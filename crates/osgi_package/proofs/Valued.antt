@@ -12,7 +12,7 @@ use Rattle.osgi_package.specs.computed.AttributeReader.{attributes_of, others_of
 use Rattle.osgi_package.specs.declared.fault.PackageKind.{PackageKind}
 use Rattle.osgi_package.specs.declared.fault.PackageKind.TheVariants.{BadValue, DoubleType}
 use Rattle.osgi_package.specs.Parameters.{HasValue, IsAttribute, is_double, is_other}
-use Rattle.osgi_package.proofs.Answering.{first_only, rest_only}
+use Rattle.osgi_package.specs.laws.Verdicts.{first_only, rest_only}
 use Rattle.osgi_package.proofs.Reading.{others_read, others_sound}
 
 -- the other attributes, where all have values and none is a Double, or what is wrong

@@ -3,7 +3,7 @@ use Rattle.std.specs.Prelude.{ℕ, ◌≡◌, true, List, [], ◌∷◌, ◌++�
 use Rattle.std.specs.List.{AllZip, list_any}
 use Rattle.osgi_base.specs.Verdict.{Gives, Verdict, Where}
 use Rattle.osgi_header.specs.declared.clause.Clause.{Clause}
-use Rattle.osgi_model.specs.declared.capability.Capability.{Capability}
+use Rattle.osgi_world.specs.declared.capability.Capability.{Capability}
 use Rattle.osgi_model.specs.declared.value.Attribute.{Attribute}
 use Rattle.osgi_model.specs.declared.value.Value.TheVariants.{Version as a_version}
 use Rattle.osgi_version.specs.declared.version.Version.{Version}
@@ -14,7 +14,7 @@ use Rattle.osgi_package.specs.declared.fault.PackageKind.{PackageKind}
 use Rattle.osgi_package.specs.declared.fault.PackageKind.TheVariants.{BadValue, BadVersion, DoubleType, ImplicitAttribute, JavaExport}
 use Rattle.osgi_package.specs.Faults.{AreGiven, IsFirstFault}
 use Rattle.osgi_package.specs.Packages.{is_java, package_namespace}
-use Rattle.osgi_package.specs.Parameters.{HasValue, IsAttribute, Lists, directive_value, is_double, is_other, is_the_exporters, version_text}
+use Rattle.osgi_package.specs.Parameters.{HasValue, IsAttribute, Lists, directive_value, is_double, is_other, is_implicit, version_text}
 
 abbrev pub version_attribute : Version → Attribute
 version_attribute version = record { name = codes "version"; value = a_version version }
@@ -46,7 +46,7 @@ export_faults clause =
     ∷ Where DoubleType (list_any is_double clause.attributes ≡ true)
     ∷ Where BadValue (¬ All HasValue clause.attributes)
     ∷ Where JavaExport (list_any is_java clause.paths ≡ true)
-    ∷ Where ImplicitAttribute (list_any is_the_exporters clause.attributes ≡ true)
+    ∷ Where ImplicitAttribute (list_any is_implicit clause.attributes ≡ true)
     ∷ []
 
 -- a clause says its first fault, or else its capabilities, whatever clauses stand before it

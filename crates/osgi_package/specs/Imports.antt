@@ -3,7 +3,7 @@ use Rattle.std.specs.Prelude.{ℕ, ◌≡◌, ◌≢◌, ◌⊎◌, not, true, f
 use Rattle.std.specs.List.{AllZip, list_any}
 use Rattle.osgi_base.specs.Verdict.{Gives, Verdict, Where}
 use Rattle.osgi_header.specs.declared.clause.Clause.{Clause}
-use Rattle.osgi_model.specs.declared.requirement.Requirement.{Requirement}
+use Rattle.osgi_world.specs.declared.requirement.Requirement.{Requirement}
 use Rattle.osgi_version.specs.Ranges.{IsReadableRange, ReadsRange}
 use Rattle.osgi_version.specs.RangeValues.{range_parts}
 use Rattle.osgi_package.specs.declared.fault.PackageFault.{PackageFault}
@@ -13,8 +13,8 @@ use Rattle.osgi_package.specs.Faults.{AreGiven, IsFirstFault}
 use Rattle.osgi_package.specs.Packages.{is_java, package_namespace, packages}
 use Rattle.osgi_package.specs.Parameters.{HasValue, IsAttribute, attribute_text, is_directed, is_double, is_other, version_text}
 
--- the requirement that a clause makes for one of its packages: a version of the package, and of an exporter of that name and
--- version, within these ranges; and equal values of all other attributes
+-- the requirement that a clause makes for one of its packages: the package in a version within this range, exported by a bundle of
+-- this name, if one is given, in a version within that range, with equal values of all other attributes
 pub record IsImport (clause : Clause) (imported : List ℕ) (requirement : Requirement) : Type 0 where
   pub namespace : requirement.namespace ≡ package_namespace
   pub name : requirement.name ≡ imported

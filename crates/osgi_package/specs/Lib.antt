@@ -4,4 +4,5 @@ pub mod Exports
 pub mod Faults
 pub mod Imports
 pub mod Packages
+pub mod laws
 pub mod Parameters

@@ -38,12 +38,12 @@ abbrev pub is_double : Typed → Bool
 is_double typed = bytes_eq typed.kind (codes "Double")
 
 -- the name of the bundle that exports a package, and its version: attributes that each export has by itself
-abbrev pub is_the_exporters : Typed → Bool
-is_the_exporters typed = is_named (codes "bundle-symbolic-name") typed || is_named (codes "bundle-version") typed
+abbrev pub is_implicit : Typed → Bool
+is_implicit typed = is_named (codes "bundle-symbolic-name") typed || is_named (codes "bundle-version") typed
 
 -- it is neither the version of the package nor one of the exporter's
 abbrev pub is_other : Typed → Bool
-is_other typed = not (is_named (codes "version") typed || is_the_exporters typed)
+is_other typed = not (is_named (codes "version") typed || is_implicit typed)
 
 -- ---- directives
 

@@ -1,9 +1,11 @@
 //! The attributes of a clause, read by their types.
 
-ghost use Rattle.std.specs.Prelude.{◌≡◌, [], ◌++◌, IfOk, OnOk};
-ghost use Rattle.std.specs.List.{list_any};
+ghost use Rattle.std.specs.Prelude.{◌≡◌, [], ◌++◌, List, IfOk, IfSome, OnOk, Some};
+ghost use Rattle.std.specs.List.{AllZip, list_any};
+ghost use Rattle.osgi_model.specs.declared.value.Attribute.{Attribute};
 ghost use Rattle.osgi_package.specs.Parameters as spec;
-ghost use Rattle.osgi_package.specs.computed.AttributeReader.{attribute_of, attributes_of, others_of, with_other};
+ghost use Rattle.osgi_package.specs.Parameters.{IsAttribute};
+ghost use Rattle.osgi_package.specs.computed.AttributeReader.{attribute_of, attributes_of, others_of, values_of, with_other};
 
 use crate::fault::PackageKind;
 use crate::parameters::{is_double, is_other};
@@ -59,7 +61,7 @@ fn others(alloc: Global, attributes: &[Typed]) -> Result<Option<Attributes>, All
 }
 
 /// Whether an attribute has the type Double.
-fn has_double(attributes: &[Typed]) -> bool
+pub fn has_double(attributes: &[Typed]) -> bool
     ensures double { result ≡ list_any spec.is_double attributes.now }
 {
     attributes.iter().any(|typed| is_double(typed))
@@ -77,4 +79,29 @@ pub fn attributes(
         return Ok(Err(PackageKind::DoubleType));
     }
     Ok(others(alloc, all)?.ok_or(PackageKind::BadValue))
+}
+
+fn values(alloc: Global, attributes: &[Typed]) -> Result<Option<Attributes>, AllocError>
+    ensures values { IfOk result (λ values. values ≡ values_of attributes.now) }
+{
+    let mut values = List::with_capacity(alloc, attributes.len())?;
+    for typed in attributes {
+        let Some(attribute) = attribute(alloc, typed)? else {
+            return Ok(None);
+        };
+        values.push(attribute)?;
+    }
+    Ok(Some(values))
+}
+
+/// All attributes with their values, in order; none where one of them has no value: where no type has the name of its type, or
+/// its text is no value of that type.
+pub fn read_attributes(
+    alloc: Global,
+    attributes: &[Typed],
+) -> Result<Option<Attributes>, AllocError>
+    ensures reads { IfOk result (λ read. IfSome read (AllZip IsAttribute attributes.now)) }
+    ensures only { (others : List Attribute) → AllZip IsAttribute attributes.now others → IfOk result (λ read. read ≡ Some others) }
+{
+    values(alloc, attributes)
 }

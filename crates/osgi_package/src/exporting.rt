@@ -4,7 +4,7 @@ ghost use Rattle.std.specs.Prelude.{◌≡◌, ◌<◌, [], ◌∷◌, ◌++◌,
 ghost use Rattle.std.specs.List.{list_any};
 ghost use Rattle.osgi_header.specs.declared.clause.Clause.{Clause};
 ghost use Rattle.osgi_model.specs.computed.VersionReader.{version_of};
-ghost use Rattle.osgi_model.specs.declared.capability.Capability.{Capability};
+ghost use Rattle.osgi_world.specs.declared.capability.Capability.{Capability};
 ghost use Rattle.osgi_package.specs.declared.fault.PackageFault.{PackageFault};
 ghost use Rattle.osgi_package.specs.Exports.{AreExports, IsExportFault, SaysExports, version_attribute};
 ghost use Rattle.osgi_package.specs.Packages as package_spec;
@@ -15,13 +15,13 @@ ghost use Rattle.osgi_package.specs.computed.ExportReader.{capabilities_of, IsAd
 
 use crate::attributes::attributes;
 use crate::fault::{PackageFault, PackageKind};
-use crate::parameters::{is_java, is_the_exporters, listed, version_text};
+use crate::parameters::{is_implicit, is_java, listed, version_text};
 use osgi_base::list::List;
 use osgi_base::text::Text;
 use osgi_header::clause::{Clause, Typed};
-use osgi_model::capability::Capability;
 use osgi_model::value::{Attribute, Attributes, Value};
 use osgi_version::version::Version;
+use osgi_world::capability::Capability;
 use std::alloc::{AllocError, Global};
 
 /// The version of the clause's packages; none where its text is none.
@@ -38,11 +38,9 @@ fn has_java(paths: &[Text]) -> bool
 }
 
 fn has_the_exporters(attributes: &[Typed]) -> bool
-    ensures its { result ≡ list_any spec.is_the_exporters attributes.now }
+    ensures its { result ≡ list_any spec.is_implicit attributes.now }
 {
-    attributes
-        .iter()
-        .any(|attribute| is_the_exporters(attribute))
+    attributes.iter().any(|attribute| is_implicit(attribute))
 }
 
 /// What is wrong with the names of a clause's packages or attributes.

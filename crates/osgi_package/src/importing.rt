@@ -3,7 +3,7 @@
 ghost use Rattle.std.specs.Prelude.{◌≡◌, ◌<◌, ◌++◌, ℕ, List, length, codes, IfOk, OnOk, MatchResult, Ok, Err};
 ghost use Rattle.std.specs.Bool.{OnTrue};
 ghost use Rattle.osgi_header.specs.declared.clause.Clause.{Clause};
-ghost use Rattle.osgi_model.specs.declared.requirement.Requirement.{Requirement};
+ghost use Rattle.osgi_world.specs.declared.requirement.Requirement.{Requirement};
 ghost use Rattle.osgi_package.specs.declared.fault.PackageFault.{PackageFault};
 ghost use Rattle.osgi_package.specs.Imports.{AreImports, IsImportFault, SaysImports};
 ghost use Rattle.osgi_package.specs.Packages.{packages};
@@ -17,9 +17,9 @@ use crate::parameters::{attribute_text, is_directed, is_java, version_text};
 use osgi_base::list::List;
 use osgi_base::text::Text;
 use osgi_header::clause::Clause;
-use osgi_model::requirement::Requirement;
 use osgi_model::value::Attributes;
 use osgi_version::range::VersionRange;
+use osgi_world::requirement::Requirement;
 use std::alloc::{AllocError, Global};
 use std::collections::BTreeSet;
 
@@ -125,7 +125,7 @@ fn add_requirements(
 }
 
 /// Adds packages to those that were seen; false where one was seen before.
-fn add_packages(
+pub fn add_packages(
     alloc: Global,
     seen: &mut BTreeSet<Text>,
     paths: &[Text],

@@ -19,8 +19,8 @@ fn is_named(name: &[u8], attribute: &Typed) -> bool
 }
 
 /// Whether it is one of those that each export has by itself: the exporting bundle's name or version.
-pub fn is_the_exporters(attribute: &Typed) -> bool
-    ensures its { result ≡ spec.is_the_exporters attribute.now }
+pub fn is_implicit(attribute: &Typed) -> bool
+    ensures its { result ≡ spec.is_implicit attribute.now }
 {
     is_named(b"bundle-symbolic-name", attribute) || is_named(b"bundle-version", attribute)
 }
@@ -29,7 +29,7 @@ pub fn is_the_exporters(attribute: &Typed) -> bool
 pub fn is_other(attribute: &Typed) -> bool
     ensures other { result ≡ spec.is_other attribute.now }
 {
-    !(is_named(b"version", attribute) || is_the_exporters(attribute))
+    !(is_named(b"version", attribute) || is_implicit(attribute))
 }
 
 /// Whether it has the type Double.

@@ -7,13 +7,13 @@ use Rattle.std.proofs.lemmas.Bool.{cond-false, cond-true, eqb-true}
 use Rattle.std.proofs.lemmas.List.Folds.{sum_by-zero}
 use Rattle.std.proofs.lemmas.List.Sums.{list_all-from_AllPass}
 use Rattle.std.specs.Str.Lines.{lines}
-use Rattle.osgi_ops.specs.laws.Parts.{tells_full}
-use Rattle.osgi_ops.specs.laws.Sessions.{AreNumberedFrom, Makes-cut, Makes-weaker, none_full, some_full}
-use Rattle.osgi_ops.specs.Rendering.{is_full}
-use Rattle.osgi_ops.specs.Sessions.{Makes, MayBeCut}
+use Rattle.osgi_session.specs.laws.Parts.{tells_full}
+use Rattle.osgi_session.specs.laws.Sessions.{AreNumberedFrom, Makes-cut, Makes-weaker, none_full, some_full}
+use Rattle.osgi_session.specs.Rendering.{is_full}
+use Rattle.osgi_session.specs.Sessions.{Makes, MayBeCut}
 use Rattle.osgi_ops.specs.Settings.{Setting}
 use Rattle.osgi_ops.specs.declared.entry.Entry.{Entry}
-use Rattle.osgi_ops.specs.declared.line.Line.{Line}
+use Rattle.osgi_session.specs.declared.line.Line.{Line}
 use Rattle.osgi_console.specs.Console.{AreReadFrom}
 use Rattle.osgi_program.specs.computed.Ended.{IsRun, status_by}
 use Rattle.osgi_program.specs.Outcome.{IsSession, is_handing, IsWrittenStatus, status_of}

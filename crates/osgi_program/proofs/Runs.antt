@@ -2,14 +2,14 @@
 use Rattle.std.proofs.Common.{◌≡◌, ℕ, inl, inr, List, [], ◌∷◌, ◌++◌, length, ap, subst, ◌∙◌, refl, append_assoc, append-nil, arith}
 use Rattle.std.specs.Prelude.{All}
 use Rattle.std.proofs.lemmas.List.Elements.{All-cons}
-use Rattle.osgi_ops.specs.laws.Sessions.{Makes-append, one_cut, one_follows}
+use Rattle.osgi_session.specs.laws.Sessions.{Makes-append, one_cut, one_follows}
 use Rattle.osgi_ops.specs.Bundles.{system}
-use Rattle.osgi_ops.specs.Plans.{op_of}
-use Rattle.osgi_ops.specs.Sessions.{idle, IsCutRunOf, IsRunOf, Makes, over, run}
-use Rattle.osgi_ops.specs.declared.command.Command.{Command}
+use Rattle.osgi_session.specs.Plans.{op_of}
+use Rattle.osgi_session.specs.Sessions.{idle, IsCutRunOf, IsRunOf, Makes, over, run}
+use Rattle.osgi_session.specs.declared.command.Command.{Command}
 use Rattle.osgi_ops.specs.declared.entry.Entry.{Entry}
-use Rattle.osgi_ops.specs.declared.line.Content.TheVariants.{Run}
-use Rattle.osgi_ops.specs.declared.line.Line.{Line}
+use Rattle.osgi_session.specs.declared.line.Content.TheVariants.{Run}
+use Rattle.osgi_session.specs.declared.line.Line.{Line}
 use Rattle.osgi_ops.specs.declared.reply.Reply.{Reply}
 use Rattle.osgi_program.specs.computed.Running.{IsAsked, IsCutAt, never, RunsLine, RunsLines, tag_of}
 use Rattle.osgi_program.specs.declared.runner.Ran.{Ran}

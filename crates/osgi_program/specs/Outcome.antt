@@ -3,14 +3,14 @@ use Rattle.std.specs.Prelude.{ℕ, ◌≡◌, ◌≤◌, ◌⊎◌, ◌||◌, if
 use Rattle.std.specs.List.{count_by, list_any}
 use Rattle.std.specs.Io.KnownBytes.{Appends}
 use Rattle.osgi_ops.specs.Legal.{Legal}
-use Rattle.osgi_ops.specs.Rendering.{is_full, render, IsFullWhereCut}
+use Rattle.osgi_session.specs.Rendering.{is_full, render, IsFullWhereCut}
 use Rattle.osgi_ops.specs.Replies.{is_refusal}
-use Rattle.osgi_ops.specs.Sessions.{IsWhole}
+use Rattle.osgi_session.specs.Sessions.{IsWhole}
 use Rattle.osgi_ops.specs.Settings.{Setting}
 use Rattle.osgi_ops.specs.declared.entry.Entry.{Entry}
-use Rattle.osgi_ops.specs.declared.line.Content.{Content}
-use Rattle.osgi_ops.specs.declared.line.Content.TheVariants.{Bad}
-use Rattle.osgi_ops.specs.declared.line.Line.{Line}
+use Rattle.osgi_session.specs.declared.line.Content.{Content}
+use Rattle.osgi_session.specs.declared.line.Content.TheVariants.{Bad}
+use Rattle.osgi_session.specs.declared.line.Line.{Line}
 use Rattle.osgi_ops.specs.declared.reply.Reply.{Reply}
 use Rattle.osgi_console.specs.Console.{AreLinesOf}
 use Rattle.osgi_program.specs.declared.session.Session.{Session}

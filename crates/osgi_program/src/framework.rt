@@ -18,13 +18,13 @@ use osgi_console::{parse, render};
 use osgi_core::Core;
 use osgi_ops::entry::Entry;
 use osgi_ops::limits::Limits;
-use osgi_ops::line::{Content, Line};
 use osgi_outside::gate::Gate;
 use osgi_outside::reading::{Input, read_all};
 use osgi_outside::shelf::Shelf;
 use osgi_outside::sink::Sink;
 use osgi_outside::source::Source;
 use osgi_outside::writing::write_all;
+use osgi_session::line::{Content, Line};
 use std::alloc::{AllocError, Global};
 
 /// Whether the words of the command line are the one word `run`.

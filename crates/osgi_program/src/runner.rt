@@ -2,16 +2,16 @@
 
 ghost use Rattle.std.specs.Prelude.{◌≡◌, IfOk};
 ghost use Rattle.osgi_ops.specs.Bundles.{system};
-ghost use Rattle.osgi_ops.specs.Plans.{op_of};
-ghost use Rattle.osgi_program.specs.computed.Running.{IsAsked, RunsLine, RunsLines, tag_of};
+ghost use Rattle.osgi_session.specs.Plans.{op_of};
+ghost use Rattle.osgi_program.specs.computed.Running.{IsAsked, ran_by, RunsLine, RunsLines, says_full, tag_of};
 
 use osgi_base::ids::{BundleId, Tag};
 use osgi_core::Core;
-use osgi_ops::command::Command;
-use osgi_ops::line::{Content, Line};
 use osgi_ops::op::Op;
 use osgi_ops::refusal::Refusal;
 use osgi_ops::reply::Reply;
+use osgi_session::command::Command;
+use osgi_session::line::{Content, Line};
 use std::alloc::{AllocError, Global};
 
 /// The system bundle, which runs the console's commands.
@@ -35,6 +35,29 @@ fn operation(alloc: Global, command: &Command) -> Result<Op, AllocError>
     Ok(command.copy(alloc)?.into_op(SYSTEM))
 }
 
+/// Whether a reply says that the history is full.
+fn says_full(reply: &Reply) -> bool
+    ensures full { result ≡ says_full reply.now }
+{
+    matches!(
+        reply,
+        Reply::Refused {
+            refusal: Refusal::HistoryFull,
+        }
+    )
+}
+
+/// How far a line came whose operation has this reply.
+fn ran_by(reply: Reply) -> Ran
+    ensures ran { result ≡ ran_by (says_full reply) }
+{
+    if says_full(&reply) {
+        Ran::Full
+    } else {
+        Ran::All
+    }
+}
+
 /// Runs the command of a line.
 fn run_command(alloc: Global, core: &mut Core, number: u32, command: &Command) -> Ran
     ensures setting { core.new.setting ≡ core.old.setting }
@@ -48,12 +71,7 @@ fn run_command(alloc: Global, core: &mut Core, number: u32, command: &Command) -
         command: number,
     };
     match core.apply(tag, op) {
-        Ok(
-            Reply::Refused {
-                refusal: Refusal::HistoryFull,
-            },
-        ) => Ran::Full,
-        Ok(_) => Ran::All,
+        Ok(reply) => ran_by(reply),
         Err(_) => Ran::Starved,
     }
 }

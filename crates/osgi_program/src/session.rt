@@ -2,7 +2,7 @@
 
 use osgi_base::list::List;
 use osgi_ops::entry::Entry;
-use osgi_ops::line::Line;
+use osgi_session::line::Line;
 
 /// The lines of an input and the history that they made.
 #[derive(Debug, Drop, PartialEq, Eq)]

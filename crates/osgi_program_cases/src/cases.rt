@@ -1,7 +1,7 @@
 //! Cases: what the program is run on, read from their lines.
 
-use crate::escapes::bytes_of;
 use osgi_base::text::Text;
+use osgi_escapes::bytes_of;
 use std::alloc::{AllocError, Global};
 
 /// What the program is run on.

@@ -7,8 +7,8 @@ use osgi_base::text::Text;
 use osgi_filter::print;
 use osgi_model::filter::Filter;
 use osgi_model::value::{Attribute, Attributes, Value};
-use osgi_ops::command::Command;
 use osgi_ops::op::Op;
+use osgi_session::command::Command;
 use std::alloc::{AllocError, Global};
 use std::fmt::Write;
 
@@ -29,6 +29,7 @@ pub fn put_command(alloc: Global, out: &mut String, command: &Command) -> Result
         Command::Get { service } => put_service(out, "get", *service),
         Command::Unget { service } => put_service(out, "unget", *service),
         Command::Services => out.push_str("services"),
+        other => write!(out, "{other:?}"),
     }
 }
 
@@ -40,7 +41,7 @@ fn asker(op: &Op) -> Option<BundleId> {
         }
         Op::Find { asker, .. } | Op::FindAll { asker, .. } => Some(*asker),
         Op::Get { user, .. } | Op::Unget { user, .. } => Some(*user),
-        Op::ListServices => None,
+        _ => None,
     }
 }
 
@@ -66,6 +67,7 @@ pub fn put_op(alloc: Global, out: &mut String, op: &Op) -> Result<(), AllocError
         Op::Get { service, .. } => put_service(out, "get", *service),
         Op::Unget { service, .. } => put_service(out, "unget", *service),
         Op::ListServices => out.push_str("services"),
+        other => write!(out, "{other:?}"),
     }
 }
 

@@ -1,56 +1,13 @@
-//! Bytes as a case or an answer writes them.
+//! Bytes between quotes, as an answer writes them.
 
-ghost use Rattle.std.specs.Prelude.{◌<◌, IfSome, length};
-
-use std::alloc::{AllocError, Global};
-use std::fmt::Write;
-
-/// The number of a hexadecimal digit; 0 for any other byte.
-fn digit(byte: u8) -> u8 {
-    match byte {
-        b'0'..=b'9' => byte - b'0',
-        b'a'..=b'f' => byte - b'a' + 10,
-        _ => 0,
-    }
-}
-
-/// The byte that a text begins with, and the text after it.
-fn first_byte(text: &[u8]) -> Option<(u8, &[u8])>
-    ensures shorter { IfSome result (λ r. length r.1.now < length text.now) }
-{
-    match text {
-        [] => None,
-        [b'\\', b'x', high, low, more @ ..] => {
-            let byte = digit(*high).wrapping_mul(16).wrapping_add(digit(*low));
-            Some((byte, more))
-        }
-        [b'\\', b'n', more @ ..] => Some((b'\n', more)),
-        [b'\\', b'r', more @ ..] => Some((b'\r', more)),
-        [b'\\', b't', more @ ..] => Some((b'\t', more)),
-        [b'\\', byte, more @ ..] | [byte, more @ ..] => Some((*byte, more)),
-    }
-}
-
-/// The bytes that a text stands for.
-pub fn bytes_of(alloc: Global, text: &str) -> Result<Vec<u8>, AllocError> {
-    let mut bytes = Vec::new(alloc);
-    let mut rest = text.as_bytes();
-    while let Some((byte, more)) = first_byte(rest) {
-        bytes.push(byte)?;
-        rest = more;
-    }
-    Ok(bytes)
-}
+use osgi_escapes::push_byte;
+use std::alloc::AllocError;
 
 fn put_byte(out: &mut String, byte: u8) -> Result<(), AllocError> {
-    match byte {
-        b'\n' => out.push_str("\\n"),
-        b'\r' => out.push_str("\\r"),
-        b'\t' => out.push_str("\\t"),
-        b'\\' => out.push_str("\\\\"),
-        b'"' => out.push_str("\\\""),
-        b' '..=b'~' => out.push(char::from(byte)),
-        _ => write!(out, "\\x{byte:02x}"),
+    if byte == b'"' {
+        out.push_str("\\\"")
+    } else {
+        push_byte(out, byte)
     }
 }
 

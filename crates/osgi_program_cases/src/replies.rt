@@ -24,6 +24,7 @@ pub fn put_reply(out: &mut String, reply: &Reply) -> Result<(), AllocError> {
         Reply::Flag { value } => write!(out, "flag {value}"),
         Reply::ServiceRows { rows } => put_rows(out, rows.items()),
         Reply::Refused { refusal } => write!(out, "refused {} {refusal:?}", refusal.number()),
+        other => write!(out, "{other:?}"),
     }
 }
 

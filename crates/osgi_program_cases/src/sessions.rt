@@ -4,8 +4,8 @@ use crate::commands::{put_command, put_op};
 use crate::replies::put_reply;
 use osgi_base::copied::Copied;
 use osgi_ops::entry::Entry;
-use osgi_ops::line::{Content, Line};
 use osgi_program::Session;
+use osgi_session::line::{Content, Line};
 use std::alloc::{AllocError, Global};
 use std::fmt::Write;
 

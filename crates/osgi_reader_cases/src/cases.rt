@@ -1,18 +1,19 @@
 //! A line's answer, by its first word.
 
 use crate::clauses::{clauses, read_clauses};
-use crate::escapes::bytes_of;
 use crate::filters::{filter, nested};
 use crate::headers::{headers, long_lines};
 use crate::matching::{add_attributes, attributes_of, is_match, passes};
 use crate::ranges::{at_least_zero, range, within};
 use crate::satisfying::satisfied;
+use crate::scripts::{script, statements};
 use crate::system::system;
 use crate::trees::tree;
 use crate::values::{long, named, value};
 use crate::versions::{numbered, order, qualifier, version};
 use crate::words::word_read;
 use osgi_base::list::List;
+use osgi_escapes::bytes_of;
 use osgi_filter::Case;
 use osgi_model::value::Attributes;
 use std::alloc::{AllocError, Global};
@@ -69,6 +70,8 @@ fn add_composed(alloc: Global, out: &mut String, word: &str, text: &str) -> Resu
         value(alloc, out, text)
     } else if word == "nested" {
         nested(alloc, out, text)
+    } else if word == "statements" {
+        statements(alloc, out, text)
     } else if word == "passes" {
         passes(alloc, out, text)
     } else if word == "satisfies" {
@@ -102,6 +105,8 @@ fn add_read(alloc: Global, out: &mut String, word: &str, text: &[u8]) -> Result<
         named(out, text)
     } else if word == "long" {
         long(out, text)
+    } else if word == "script" {
+        script(alloc, out, text)
     } else if word == "filter" {
         filter(alloc, out, text)
     } else if word == "tree" {

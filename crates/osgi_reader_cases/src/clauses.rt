@@ -1,9 +1,9 @@
 //! The clauses of header values.
 
 use crate::copies::check_copy;
-use crate::escapes::push_bytes;
 use crate::headers::push_fault;
 use osgi_base::list::List;
+use osgi_escapes::push_bytes;
 use osgi_header::clause::{Clause, ClauseAt, Pair, Typed};
 use std::alloc::{AllocError, Global};
 

@@ -1,7 +1,7 @@
 //! Values beside their copies.
 
-use crate::escapes::complain;
 use osgi_base::copied::Copied;
+use osgi_escapes::complain;
 use std::alloc::{AllocError, Global};
 
 /// Adds a complaint, unless a value equals its copy.

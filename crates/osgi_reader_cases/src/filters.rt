@@ -1,7 +1,7 @@
 //! Filters: read, printed and copied.
 
 use crate::copies::check_copy;
-use crate::escapes::{complain, push_bytes};
+use osgi_escapes::{complain, push_bytes};
 use osgi_filter::{parse, print};
 use osgi_model::filter::Filter;
 use std::alloc::{AllocError, Global};

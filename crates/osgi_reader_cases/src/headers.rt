@@ -1,8 +1,8 @@
 //! The headers of manifests.
 
 use crate::copies::check_copy;
-use crate::escapes::push_bytes;
 use osgi_base::list::List;
+use osgi_escapes::push_bytes;
 use osgi_header::fault::HeaderFault;
 use osgi_header::header::Header;
 use osgi_header::unfold;

@@ -23,6 +23,8 @@
 //! | `class TEXT`, `classes TEXT`, `name TEXT`, `bundle-name TEXT`, `id TEXT` | what a word says that is of this kind: `[TEXT]` each, or a number |
 //! | `words TEXT` | the words of a line, `[WORD]` each |
 //! | `name-list TEXT` | the names that a directive's value lists, `[NAME]` each |
+//! | `script TEXT` | the sections of a script, `HEAD[STATEMENT]..\|` each, or the line of its fault |
+//! | `statements COUNT` | how many statements the sections of a script have whose first has so many, and whose second has one; or the line of its fault |
 //! | `filter TEXT`, `tree TEXT` | what is printed of the filter; the filter as a tree |
 //! | `nested OPERATOR COUNT` | whether `(a=1)` is a filter within so many of the operator |
 //! | `attributes NAME:TYPE=TEXT;..` | the attributes, which the lines below are asked about. The type `[]` is the empty list's |
@@ -35,12 +37,12 @@
 mod cases;
 mod clauses;
 mod copies;
-mod escapes;
 mod filters;
 mod headers;
 mod matching;
 mod ranges;
 mod satisfying;
+mod scripts;
 mod system;
 mod trees;
 mod values;

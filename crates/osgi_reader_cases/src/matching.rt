@@ -1,10 +1,10 @@
 //! Attributes, and filters matched against them.
 
 use crate::copies::check_copy;
-use crate::escapes::{bytes_of, push_bytes};
 use crate::values::{push_value, value_of};
 use osgi_base::list::List;
 use osgi_base::text::Text;
+use osgi_escapes::{bytes_of, push_bytes};
 use osgi_filter::{Case, matches, parse};
 use osgi_model::value::{Attribute, Attributes};
 use std::alloc::{AllocError, Global};

@@ -1,7 +1,7 @@
 //! Ranges, and the versions within them.
 
 use crate::copies::check_copy;
-use crate::escapes::{complain, push_bytes};
+use osgi_escapes::{complain, push_bytes};
 use osgi_version::range::VersionRange;
 use osgi_version::version::Version;
 use std::alloc::{AllocError, Global};

@@ -5,12 +5,12 @@ use osgi_base::list::List;
 use osgi_base::text::Text;
 use osgi_capability::satisfies;
 use osgi_filter::parse;
-use osgi_model::capability::Capability;
 use osgi_model::filter::Filter;
-use osgi_model::requirement::Requirement;
 use osgi_model::value::Attributes;
 use osgi_version::range::VersionRange;
 use osgi_version::version::Version;
+use osgi_world::capability::Capability;
+use osgi_world::requirement::Requirement;
 use std::alloc::{AllocError, Global};
 use std::fmt::Write;
 

@@ -1,10 +1,10 @@
 //! What the system bundle says.
 
-use crate::escapes::push_bytes;
 use crate::matching::add_attributes;
-use osgi_model::capability::Capability;
-use osgi_model::revision::Revision;
-use osgi_model::system::known_system;
+use osgi_escapes::push_bytes;
+use osgi_world::capability::Capability;
+use osgi_world::revision::Revision;
+use osgi_world::system::known_system;
 use std::alloc::{AllocError, Global};
 use std::fmt::Write;
 

@@ -1,7 +1,7 @@
 //! Filters as trees.
 
-use crate::escapes::push_bytes;
 use osgi_base::text::Text;
+use osgi_escapes::push_bytes;
 use osgi_filter::parse;
 use osgi_model::filter::{Filter, Test};
 use std::alloc::{AllocError, Global};

@@ -1,8 +1,8 @@
 //! Types of values, numbers, and values read by their types.
 
 use crate::copies::check_copy;
-use crate::escapes::{bytes_of, push_bytes};
 use osgi_base::list::List;
+use osgi_escapes::{bytes_of, push_bytes};
 use osgi_model::reading::{read_long, read_value};
 use osgi_model::value::Value;
 use osgi_model::value_type::ValueType;

@@ -1,7 +1,7 @@
 //! Versions, their order, and their qualifiers.
 
 use crate::copies::check_copy;
-use crate::escapes::{complain, push_bytes};
+use osgi_escapes::{complain, push_bytes};
 use osgi_version::qualifier::Qualifier;
 use osgi_version::version::Version;
 use std::alloc::{AllocError, Global};

@@ -1,8 +1,8 @@
 //! Words of lines, read by their kinds, and the names that a directive lists.
 
-use crate::escapes::push_bytes;
 use osgi_base::list::List;
 use osgi_base::text::Text;
+use osgi_escapes::push_bytes;
 use osgi_header::names;
 use osgi_syntax::ids::id;
 use osgi_syntax::names::{bundle_name, class, classes, name};

@@ -1,7 +1,9 @@
 -- The registry's entries after a change at a key, and after a removal.
 use Rattle.std.proofs.Common.{◌≡◌, ℕ, suc, ◌≤◌, List, [], ◌∷◌, length, ap, sym, ◌∙◌, refl, arith, nat_eq}
 use Rattle.std.specs.Prelude.{Bool, true, false, cond, Some, All, AllPairs}
+use Rattle.std.specs.BTreeMap.{is_at}
 use Rattle.std.specs.Map.{lookup, remove_entry, set_value, values_of}
+use Rattle.std.specs.Ordering.{nat_cmp}
 use Rattle.std.proofs.lemmas.Bool.{eqb-true, ne_eqb}
 use Rattle.std.proofs.lemmas.List.Elements.{All-cons, All-head, All-map, All-tail}
 use Rattle.std.proofs.lemmas.List.Folds.{map_fixed}
@@ -11,6 +13,7 @@ use Rattle.osgi_base.specs.declared.ids.ServiceId.{ServiceId}
 use Rattle.osgi_registry.specs.computed.Kept.{IsBefore, AreKept, IsUnder}
 use Rattle.osgi_registry.specs.Rows.{change, id_of, is_service, Row, without}
 use Rattle.osgi_registry.proofs.Entries.{pairs_head, pairs_tail}
+use Rattle.osgi_registry.proofs.Keys.{found_by, set_by}
 
 -- ---- what stays true
 
@@ -91,8 +94,9 @@ kept_remove issued key entries kept = record {
 }
 
 -- a row put back as it was changes nothing
-pub set_same : (key : ℕ) (old new : Row) (entries : List (ℕ × Row)) → new ≡ old → lookup (nat_eq key) entries ≡ Some old → set_value (nat_eq key) entries new ≡ entries
-set_same key old new entries is found = rw is (set_value_same (nat_eq key) entries old found)
+pub written_same : (key : ℕ) (old new : Row) (entries written : List (ℕ × Row)) → new ≡ old → Some old ≡ lookup (is_at (nat_cmp key)) entries → written ≡ set_value (is_at (nat_cmp key)) entries new → written ≡ entries
+written_same key old new entries written is found put =
+    set_by key entries written new put ∙ ap (set_value (nat_eq key) entries) is ∙ set_value_same (nat_eq key) entries old (found_by key entries (Some old) found)
 
 -- ---- the rows
 
@@ -151,3 +155,9 @@ rows_remove issued service (e ∷ rest) under pairs =
     let others = All-tail (IsUnder issued) e rest under in
     rows_remove_by issued service e rest (nat_eq service.0 e.0) refl (All-head (IsUnder issued) e rest under).key others (pairs_head IsBefore e rest pairs)
     (rows_remove issued service rest others (pairs_tail IsBefore e rest pairs))
+
+-- a change of a row's uses alone
+pub uses_set : (issued : ℕ) (service : ServiceId) (old new : Row) (entries : List (ℕ × Row)) → AreKept issued entries → new.service ≡ old.service → lookup (nat_eq service.0) entries ≡ Some old →
+    values_of (set_value (nat_eq service.0) entries new) ≡ change service (λ row. record row { uses = new.uses }) (values_of entries)
+uses_set issued service old new entries kept same found =
+    rows_set issued service old new (λ row. record row { uses = new.uses }) entries kept.under kept.rising (ap (λ s. record { service = s; uses = new.uses }) (sym same)) found

@@ -1,57 +1,48 @@
--- What is found at the places of a class.
-use Rattle.std.proofs.Common.{◌≡◌, ◌<◌, ℕ, zero, suc, List, [], ◌∷◌, ap, sym, ◌∙◌, refl, arith, get_or, map, subst, nat_eq}
+-- What is found among the services of a class.
+use Rattle.std.proofs.Common.{◌≡◌, ℕ, zero, suc, List, [], ◌∷◌, ◌++◌, append_assoc, ap, sym, ◌∙◌, refl, arith, get_or, map, subst}
 use Rattle.std.specs.Prelude.{Bool, true, false, All, AllPairs, Contains, IfOk, IfSome, OnOk, Result, Ok, Err, Option, None, Some, filter, find}
 use Rattle.std.specs.Bool.{Decides}
 use Rattle.std.specs.declared.cmp.Ordering.{Ordering}
 use Rattle.std.specs.declared.cmp.Ordering.TheVariants.{Less, Equal, Greater}
-use Rattle.std.specs.BTreeMap.{is_at}
-use Rattle.std.specs.List.{list_all, list_any}
+use Rattle.std.specs.List.{list_all}
 use Rattle.std.specs.List.Sorted.{IsStrictlySortedBy}
-use Rattle.std.specs.Map.{lookup, values_of}
-use Rattle.std.specs.Option.{option_map, option_map_or}
+use Rattle.std.specs.Map.{keys_of, values_of}
+use Rattle.std.specs.Option.{option_map}
 use Rattle.std.specs.Ordering.{is_eq, is_gt}
 use Rattle.std.specs.Str.{str_eq_ignore_ascii_case}
-use Rattle.std.proofs.lemmas.Bool.{and_from, and_parts, eq-eqb, ne_eqb}
-use Rattle.std.proofs.lemmas.List.Elements.{All-contains, All-cons, All-filter, All-head, All-map, All-nil, All-tail, Contains-get_or, filter_passes}
-use Rattle.std.proofs.lemmas.List.Folds.{list_any_at}
+use Rattle.std.proofs.lemmas.Bool.{and_from, and_parts}
+use Rattle.std.proofs.lemmas.List.Elements.{All-contains, All-cons, All-filter, All-head, All-map, All-nil, All-tail, Contains-append_right, Contains-get_or, filter_passes}
 use Rattle.std.proofs.lemmas.List.Kept.{AllPairs-filter}
 use Rattle.std.proofs.lemmas.Map.Keys.{Less-from_sorted}
-use Rattle.std.proofs.lemmas.Map.Views.{any-filter_same}
 use Rattle.osgi_base.specs.declared.ids.BundleId.{BundleId}
 use Rattle.osgi_base.specs.declared.ids.ServiceId.{ServiceId}
 use Rattle.osgi_model.specs.laws.Decided.{matches_decides}
 use Rattle.osgi_model.specs.declared.filter.Filter.{Filter}
-use Rattle.osgi_ops.specs.Classes.{AreRanked, Fits, has_class, IsFound, IsOf, rank_cmp}
+use Rattle.osgi_ops.specs.Classes.{AreRanked, Fits, has_class, ids_of, IsFound, IsOf, rank_cmp}
 use Rattle.osgi_ops.specs.declared.service.Service.{Service}
 use Rattle.osgi_registry.specs.declared.place.Place.{Place}
-use Rattle.osgi_registry.specs.computed.Finding.{does_fit, is_open, passes_at, PassesAmong}
-use Rattle.osgi_registry.specs.computed.Kept.{AreKept, IsBefore, IsUnder}
-use Rattle.osgi_registry.specs.computed.Places.{Classes, IsIndexOf, place_cmp, place_of, places_at, service_at}
-use Rattle.osgi_registry.specs.Rows.{id_of, IsOneOf, IsOpenBy, Row, services_in}
-use Rattle.osgi_registry.proofs.Entries.{pairs_head, pairs_tail}
-use Rattle.osgi_registry.proofs.Exact.{place_exact, place_itself}
-use Rattle.osgi_registry.proofs.Placed.{Contains-services, held_at, IsAt, row_held}
-use Rattle.osgi_registry.proofs.Ranked.{at_places, every, ids_are, ordered, same_row}
+use Rattle.osgi_registry.specs.computed.Finding.{does_fit, is_open}
+use Rattle.osgi_registry.specs.computed.Places.{AreCurrent, Classes, entries_at, IsIndexOf, place_cmp, place_of, service_at}
+use Rattle.osgi_registry.specs.Rows.{IsOneOf, IsOpenBy, Row, services_in}
+use Rattle.osgi_registry.proofs.Entries.{pairs_head}
+use Rattle.osgi_registry.proofs.Exact.{place_itself}
+use Rattle.osgi_registry.proofs.Ranked.{all_listed, every_listed, ids_are, IsListed, ordered}
 
 -- one that does not pass is passed over
 pub passed_over : {X : Type 0} (passes : X → Bool) (x : X) (left rest : List X) → left ≡ x ∷ rest → passes x ≡ false → find passes rest ≡ find passes left
 passed_over passes x left rest is not = rw (is, not) refl
 
--- ---- rows under their ids
+-- what a test answered of a service that was read
+pub answered : (passes : Service → Bool) (s read : Service) (answer told : Bool) → answer ≡ passes read → read ≡ s → answer ≡ told → passes s ≡ told
+answered passes s read answer told test same is = ap passes (sym same) ∙ sym test ∙ is
 
-above : (n issued : ℕ) (entries : List (ℕ × Row)) → All (λ e. n < e.0) entries → All (IsUnder issued) entries → All (λ row. n < id_of row) (values_of entries)
-above n issued entries less under = All-map (λ row. n < id_of row) (λ e. e.1) entries (λ k d within. subst (λ m. n < m) (under k d within).key (less k d within))
+-- the first of those that are left passes
+pub one_more : (passes : Service → Bool) (ids : List ServiceId) (left rest : List Service) (s : Service) → left ≡ s ∷ rest → passes s ≡ true → (ids ++ s.service ∷ []) ++ ids_of (filter passes rest) ≡ ids ++ ids_of (filter passes left)
+one_more passes ids left rest s is own = rw (is, own) (append_assoc ids (s.service ∷ []) (ids_of (filter passes rest)))
 
--- a row that is there stands under its id
-pub keyed : (issued : ℕ) (entries : List (ℕ × Row)) (row : Row) → All (IsUnder issued) entries → AllPairs IsBefore entries → Contains (values_of entries) row → lookup (nat_eq (id_of row)) entries ≡ Some row
-keyed issued [] row under pairs (k, within, is) = absurd (omega (arith, within))
-keyed issued (e ∷ rest) row under pairs (zero, within, is) =
-    rw (eq-eqb (id_of row) e.0 (sym (ap id_of is) ∙ sym (All-head (IsUnder issued) e rest under).key), is) refl
-keyed issued (e ∷ rest) row under pairs (suc k, within, is) =
-    let there : Contains (values_of rest) row = (k, omega (arith, within), is) in
-    let less : e.0 < id_of row
-    = All-contains (λ r. e.0 < id_of r) (values_of rest) row (above e.0 issued rest (pairs_head IsBefore e rest pairs) (All-tail (IsUnder issued) e rest under)) there in
-    rw (ne_eqb (id_of row) e.0 (λ same. omega (arith, less, same))) (keyed issued rest row (All-tail (IsUnder issued) e rest under) (pairs_tail IsBefore e rest pairs) there)
+-- or does not
+pub none_more : (passes : Service → Bool) (ids : List ServiceId) (left rest : List Service) (s : Service) → left ≡ s ∷ rest → passes s ≡ false → ids ++ ids_of (filter passes rest) ≡ ids ++ ids_of (filter passes left)
+none_more passes ids left rest s is other = rw (is, other) refl
 
 -- ---- lists
 
@@ -114,87 +105,61 @@ pub found_of_ranked : (IsAsked : Service → Type 0) (services : List Service) (
 found_of_ranked IsAsked services ids ranked =
     subst (λ list. IsFound IsAsked services (front list)) (sym ranked.are) (best_of IsAsked services ranked.ranked ranked.in_order ranked.only ranked.every)
 
--- ---- places whose services pass
+-- what passes stays
+passes_kept_by : {X : Type 0} (p : X → Bool) (x y : X) (ys : List X) (here : Bool) → p y ≡ here → Contains (filter p ys) x → Contains (filter p (y ∷ ys)) x
+passes_kept_by p x y ys true is more = rw is (Contains-append_right (y ∷ []) (filter p ys) x more)
+passes_kept_by p x y ys false is more = rw is more
 
-module _ (issued : ℕ) (classes : Classes) (c : List ℕ) (entries : List (ℕ × Row)) (kept : AreKept issued entries) (index : IsIndexOf classes (values_of entries)) (passes : Service → Bool) where
-  -- what is told of a service by its place
-  told : (place : Place) (at : IsAt c (values_of entries) place) → passes_at passes entries place ≡ passes at.row.service
-  told place at =
-      let key : id_of at.row ≡ place.service = ap (λ (p : Place). p.service) at.is in
-      ap (λ row. option_map_or (λ (r : Row). passes r.service) row false) (subst (λ n. lookup (nat_eq n) entries ≡ Some at.row) key (keyed issued entries at.row kept.under kept.rising at.live))
+passes_kept : {X : Type 0} (p : X → Bool) (x : X) (xs : List X) → Contains xs x → p x ≡ true → Contains (filter p xs) x
+passes_kept p x [] there passes = absurd (omega (arith, there.1))
+passes_kept p x (y ∷ ys) (zero, within, is) passes = rw (ap p is ∙ passes) (subst (λ z. Contains (y ∷ filter p ys) z) is (Contains-get_or (y ∷ filter p ys) 0 y (omega arith)))
+passes_kept p x (y ∷ ys) (suc k, within, is) passes = passes_kept_by p x y ys (p y) refl (passes_kept p x ys (k, omega (arith, within), is) passes)
 
-  module _ (IsAsked : Service → Type 0) (tells : (s : Service) → has_class c s ≡ true → Decides (passes s) (IsAsked s)) (asked_has : (s : Service) → IsAsked s → has_class c s ≡ true) where
-    asked_at : (places : List Place) (at : All (IsAt c (values_of entries)) places) → All (λ p. passes_at passes entries p ≡ true) places →
-        All (λ s. Contains (services_in (values_of entries)) s × IsAsked s) (at_places c (values_of entries) places at)
-    asked_at [] at pass = All-nil (λ s. Contains (services_in (values_of entries)) s × IsAsked s)
-    asked_at (p ∷ rest) at pass =
-        let here = All-head (IsAt c (values_of entries)) p rest at in
-        All-cons (λ s. Contains (services_in (values_of entries)) s × IsAsked s) here.row.service (at_places c (values_of entries) rest (All-tail (IsAt c (values_of entries)) p rest at))
-        (Contains-services (values_of entries) here.row here.live, (tells here.row.service here.has).0 (sym (told p here) ∙ All-head (λ q. passes_at passes entries q ≡ true) p rest pass))
-        (asked_at rest (All-tail (IsAt c (values_of entries)) p rest at) (All-tail (λ q. passes_at passes entries q ≡ true) p rest pass))
+values_listed : (c : List ℕ) (rows : List Row) (entries : List (Place × Service)) → All (IsListed c rows) entries → All (λ s. Contains (services_in rows) s × (has_class c s ≡ true)) (values_of entries)
+values_listed c rows entries listed = All-map (λ s. Contains (services_in rows) s × (has_class c s ≡ true)) (λ (e : Place × Service). e.1) entries (λ k d within. let here = listed k d within in (here.live, here.has))
 
-    -- the services at the places that pass are those that are asked for, the better first
-    pub ranked_kept : IsStrictlySortedBy place_cmp (places_at classes c) → AreRanked IsAsked (services_in (values_of entries)) (map service_at (filter (passes_at passes entries) (places_at classes c)))
-    ranked_kept sorted =
-        let rows = values_of entries in
-        let places = places_at classes c in
-        let keep : Place → Bool = passes_at passes entries in
-        let at : All (IsAt c rows) places
-        = λ k d within. row_held classes c rows (get_or places k d) index (list_any_at (is_at (place_cmp (get_or places k d))) places k d within (place_itself (get_or places k d))) in
-        let left : All (IsAt c rows) (filter keep places) = All-filter keep (IsAt c rows) places at in
-        record {
-          ranked = at_places c rows (filter keep places) left;
-          are = ids_are c rows (filter keep places) left;
-          in_order = ordered c rows (filter keep places) left (AllPairs-filter (λ p q. place_cmp p q ≡ Less) keep places (λ i j d before within. Less-from_sorted place_cmp places i j d sorted before within));
-          only = asked_at (filter keep places) left (filter_passes keep places);
-          every =
-              All-map (λ s. IsAsked s → Contains (at_places c rows (filter keep places) left) s) (λ row. row.service) rows
-              (λ k d within asked.
-              let row : Row = get_or rows k d in
-              let has : has_class c row.service ≡ true = asked_has row.service asked in
-              let there : IsAt c rows (place_of row.service) = record { row = row; live = Contains-get_or rows k d within; has = has; is = refl } in
-              let held : list_any (is_at (place_cmp (place_of row.service))) places ≡ true = held_at classes c rows k d index within has in
-              let kept_here : list_any (is_at (place_cmp (place_of row.service))) (filter keep places) ≡ true
-              = any-filter_same (is_at (place_cmp (place_of row.service))) keep true
-              (λ q same. ap keep (sym (place_exact (place_of row.service) q same)) ∙ told (place_of row.service) there ∙ (tells row.service has).1 asked) places
-              ∙ held in
-              every c rows row (filter keep places) left (λ r live same. same_row issued entries r row kept live (Contains-get_or rows k d within) same) kept_here);
-        }
+-- ---- the services of a class that pass
 
-    -- and so they are where these places are given by themselves
-    pub ranked_under : (places : List Place) → places_at classes c ≡ places → IsStrictlySortedBy place_cmp places → AreRanked IsAsked (services_in (values_of entries)) (map service_at (filter (passes_at passes entries) places))
-    ranked_under places are sorted =
-        subst (λ (list : List Place). AreRanked IsAsked (services_in (values_of entries)) (map service_at (filter (passes_at passes entries) list))) are (ranked_kept (subst (λ (list : List Place). IsStrictlySortedBy place_cmp list) (sym are) sorted))
+module _ (classes : Classes) (c : List ℕ) (rows : List Row) (index : IsIndexOf classes rows) (current : AreCurrent classes rows) (passes : Service → Bool)
+    (IsAsked : Service → Type 0) (tells : (s : Service) → has_class c s ≡ true → Decides (passes s) (IsAsked s)) (asked_has : (s : Service) → IsAsked s → has_class c s ≡ true)
+    (entries : List (Place × Service)) (are : entries_at classes c ≡ entries) where
+  -- those that pass are those that are asked for, the better first
+  pub ranked_under : IsStrictlySortedBy place_cmp (keys_of entries) → AreRanked IsAsked (services_in rows) (ids_of (filter passes (values_of entries)))
+  ranked_under sorted =
+      let listed : All (IsListed c rows) entries = all_listed classes c rows index current entries are sorted in
+      let live : All (λ s. Contains (services_in rows) s × (has_class c s ≡ true)) (filter passes (values_of entries))
+      = All-filter passes (λ s. Contains (services_in rows) s × (has_class c s ≡ true)) (values_of entries) (values_listed c rows entries listed) in
+      record {
+        ranked = filter passes (values_of entries);
+        are = refl;
+        in_order = AllPairs-filter (λ a b. rank_cmp a b ≡ Less) passes (values_of entries) (ordered c rows entries listed (λ i j d before within. Less-from_sorted place_cmp (keys_of entries) i j d sorted before within));
+        only = λ k d within. let here = live k d within in (here.0, (tells (get_or (filter passes (values_of entries)) k d) here.1).0 (filter_passes passes (values_of entries) k d within));
+        every =
+            All-map (λ s. IsAsked s → Contains (filter passes (values_of entries)) s) (λ row. row.service) rows
+            (λ k d within asked.
+            let s : Service = (get_or rows k d).service in
+            let has : has_class c s ≡ true = asked_has s asked in
+            passes_kept passes s (values_of entries) (subst (λ (list : List (Place × Service)). Contains (values_of list) s) are (every_listed classes c rows index current k d within has)) ((tells s has).1 asked));
+      }
 
-    pub found_under : (places : List Place) → places_at classes c ≡ places → IsStrictlySortedBy place_cmp places → IsFound IsAsked (services_in (values_of entries)) (option_map service_at (find (passes_at passes entries) places))
-    found_under places are sorted =
-        subst (λ found. IsFound IsAsked (services_in (values_of entries)) found) (sym (front_found service_at (passes_at passes entries) places))
-        (found_of_ranked IsAsked (services_in (values_of entries)) (map service_at (filter (passes_at passes entries) places)) (ranked_under places are sorted))
+  -- the first of them is the best
+  pub found_under : IsStrictlySortedBy place_cmp (keys_of entries) → IsFound IsAsked (services_in rows) (option_map (λ (s : Service). s.service) (find passes (values_of entries)))
+  found_under sorted =
+      subst (λ found. IsFound IsAsked (services_in rows) found) (sym (front_found (λ (s : Service). s.service) passes (values_of entries)))
+      (found_of_ranked IsAsked (services_in rows) (ids_of (filter passes (values_of entries))) (ranked_under sorted))
 
-    -- what passes at one of these places is one of those that are asked for
-    pub one_passes : (places : List Place) → places_at classes c ≡ places → (id : ServiceId) → PassesAmong passes entries places id → IsOneOf IsAsked (services_in (values_of entries)) id
-    one_passes places are id found =
-        let there : list_any (is_at (place_cmp found.place)) places ≡ true
-        = list_any_at (is_at (place_cmp found.place)) places found.there.0 found.place found.there.1 (ap (is_at (place_cmp found.place)) found.there.2 ∙ place_itself found.place) in
-        let at : IsAt c (values_of entries) found.place
-        = row_held classes c (values_of entries) found.place index (ap (λ (list : List Place). list_any (is_at (place_cmp found.place)) list) are ∙ there) in
-        record {
-          service = at.row.service;
-          there = Contains-services (values_of entries) at.row at.live;
-          is = found.is ∙ ap service_at (sym at.is);
-          asked = (tells at.row.service at.has).0 (sym (told found.place at) ∙ found.fits);
-        }
+  -- one that passes is one of them
+  pub one_passes : IsStrictlySortedBy place_cmp (keys_of entries) → (id : ServiceId) → IsOneOf (λ s. passes s ≡ true) (values_of entries) id → IsOneOf IsAsked (services_in rows) id
+  one_passes sorted id one =
+      let here = All-contains (λ s. Contains (services_in rows) s × (has_class c s ≡ true)) (values_of entries) one.service (values_listed c rows entries (all_listed classes c rows index current entries are sorted)) one.there in
+      record { service = one.service; there = here.0; is = one.is; asked = (tells one.service here.1).0 one.asked }
 
-    -- where all services pass, none of the places is left out
-    pub all_ranked : (places : List Place) → ((s : Service) → passes s ≡ true) → places_at classes c ≡ places → IsStrictlySortedBy place_cmp places → AreRanked IsAsked (services_in (values_of entries)) (map service_at places)
-    all_ranked places all are sorted =
-        let at : All (λ p. passes_at passes entries p ≡ true) places
-        = λ k d within.
-        let here : IsAt c (values_of entries) (get_or places k d)
-        = row_held classes c (values_of entries) (get_or places k d) index
-        (subst (λ (list : List Place). list_any (is_at (place_cmp (get_or places k d))) list ≡ true) (sym are) (list_any_at (is_at (place_cmp (get_or places k d))) places k d within (place_itself (get_or places k d)))) in
-        told (get_or places k d) here ∙ all here.row.service in
-        subst (λ list. AreRanked IsAsked (services_in (values_of entries)) (map service_at list)) (filter_all (passes_at passes entries) places at) (ranked_under places are sorted)
+  -- where all pass, the ids are those of their places
+  pub all_ranked : ((s : Service) → passes s ≡ true) → IsStrictlySortedBy place_cmp (keys_of entries) → AreRanked IsAsked (services_in rows) (map service_at (keys_of entries))
+  all_ranked all sorted =
+      subst (λ list. AreRanked IsAsked (services_in rows) list)
+      (sym (ids_are c rows entries (all_listed classes c rows index current entries are sorted) ∙ ap ids_of (sym (filter_all passes (values_of entries) (λ k d within. all (get_or (values_of entries) k d))))))
+      (ranked_under sorted)
 
 -- ---- what is computed of filters and classes
 

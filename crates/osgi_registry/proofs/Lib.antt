@@ -1,6 +1,7 @@
 -- Lemmas on the registry.
 pub mod Changed
 pub mod Counting
+pub mod Current
 pub mod Entries
 pub mod Exact
 pub mod Found

@@ -14,11 +14,13 @@ use Rattle.osgi_base.specs.declared.ids.BundleId.{BundleId}
 use Rattle.osgi_base.specs.declared.ids.ServiceId.{ServiceId}
 use Rattle.osgi_registry.specs.declared.place.Place.{Place}
 use Rattle.osgi_registry.specs.computed.Kept.{AreKept, IsBefore, IsUnder}
-use Rattle.osgi_registry.specs.computed.Places.{Classes, is_placed, IsIndexOf, place_of, Takes}
+use Rattle.osgi_registry.specs.computed.Places.{AreCurrent, Classes, is_placed, IsIndexOf, place_of, Puts}
 use Rattle.osgi_ops.specs.Classes.{has_class}
 use Rattle.osgi_registry.specs.Rows.{id_of, ids_of, is_owned, others, released, Row, without_user}
 use Rattle.osgi_registry.proofs.Entries.{pairs_head, pairs_tail}
+use Rattle.osgi_registry.proofs.Current.{current_filter, current_map}
 use Rattle.osgi_registry.proofs.Exact.{place_exact}
+use Rattle.osgi_registry.proofs.Holds.{taken_held}
 
 -- ---- a user's uses taken out
 
@@ -110,12 +112,12 @@ after_apart rows i row within at apart = λ k d inside same.
 
 -- one of the bundle's goes
 pub goes : (old new : Classes) (bundle : BundleId) (rows : List Row) (i : ℕ) (row : Row) → i < length rows → slice_get rows i ≡ Some row → is_owned bundle row ≡ true → AllPairs (λ a b. id_of a ≢ id_of b) rows →
-    IsIndexOf old (others bundle (take i rows) ++ drop i rows) → Takes old new row.service.classes (place_of row.service) → IsIndexOf new (others bundle (take (i + 1) rows) ++ drop (i + 1) rows)
+    IsIndexOf old (others bundle (take i rows) ++ drop i rows) → Puts old new row.service.classes (place_of row.service) None → IsIndexOf new (others bundle (take (i + 1) rows) ++ drop (i + 1) rows)
 goes old new bundle rows i row within at own apart index taken = λ c p.
     let P = is_placed c p in
     let front = others bundle (take i rows) in
     let rest = drop (i + 1) rows in
-    taken c p
+    taken_held old new row.service.classes (place_of row.service) taken c p
     ∙ ap (λ b. not (P row) && b) (index c p ∙ ap (λ l. list_any P (front ++ l)) (rest_more rows i row within at) ∙ list_any-append P front (row ∷ rest))
     ∙ taken_out (P row) (list_any P front) (list_any P rest)
     (none_shared c p row front (All-filter (λ r. not (is_owned bundle r)) (λ r. id_of r ≢ id_of row) (take i rows) (before_apart rows i row within at apart)))
@@ -204,3 +206,8 @@ alike bundle c p (r ∷ rest) = ap (λ b. is_placed c p r || b) (alike bundle c 
 
 pub index_left : (classes : Classes) (bundle : BundleId) (entries : List (ℕ × Row)) → IsIndexOf classes (others bundle (values_of entries)) → IsIndexOf classes (values_of (left_of bundle entries))
 index_left classes bundle entries index = λ c p. index c p ∙ sym (ap (list_any (is_placed c p)) (values_left bundle entries) ∙ alike bundle c p (others bundle (values_of entries)))
+
+pub current_left : (classes : Classes) (bundle : BundleId) (entries : List (ℕ × Row)) → AreCurrent classes (values_of entries) → AreCurrent classes (values_of (left_of bundle entries))
+current_left classes bundle entries current =
+    rw (values_left bundle entries)
+    (current_map classes (without_user bundle) (others bundle (values_of entries)) (λ row. refl) (current_filter classes (λ row. not (is_owned bundle row)) (values_of entries) current))

@@ -1,25 +1,27 @@
 //! What is asked of services that are looked for.
 
-ghost use Rattle.std.specs.Prelude.{◌≡◌, ℕ, List, Bool, true, Some, IfOk, IfSome, OnOk, filter, find, map, nat_eq};
+ghost use Rattle.std.specs.Prelude.{◌≡◌, ℕ, List, Bool, true, Some, IfOk, IfSome, OnOk, filter, find, map};
 ghost use Rattle.std.specs.Bool.{OnTrue};
-ghost use Rattle.std.specs.Map.{lookup};
+ghost use Rattle.std.specs.BTreeMap.{keys, values};
 ghost use Rattle.std.specs.List.{list_all};
 ghost use Rattle.std.specs.List.Sorted.{IsStrictlySortedBy};
 ghost use Rattle.std.specs.Option.{option_copied, option_map};
 ghost use Rattle.osgi_base.specs.declared.ids.BundleId.{BundleId};
+ghost use Rattle.osgi_ops.specs.Classes.{ids_of};
 ghost use Rattle.osgi_registry.specs.computed.Finding as spec;
 ghost use Rattle.osgi_registry.specs.computed.Places.{place_cmp, service_at};
+ghost use Rattle.osgi_registry.specs.Rows.{IsOneOf};
 
-use crate::held::Held;
 use crate::place::Place;
 use osgi_base::ids::{BundleId, ServiceId};
 use osgi_base::list::List;
+use osgi_base::shared::Shared;
 use osgi_base::text::Text;
 use osgi_filter::{Case, matches};
 use osgi_model::filter::Filter;
 use osgi_ops::service::Service;
 use std::alloc::{AllocError, Global};
-use std::collections::{BTreeMap, BTreeSet};
+use std::collections::BTreeMap;
 
 /// Whether the filter, if there is one, matches the service's properties.
 pub fn does_fit(filter: Option<&Filter>, service: &Service) -> bool
@@ -48,90 +50,72 @@ pub fn is_assignable<F: Fn(BundleId, &Text) -> bool + Drop>(
     true
 }
 
-/// The service at the place.
-fn service_of(services: &BTreeMap<u64, Held>, place: Place) -> Option<&Service>
-    ensures service { option_copied result ≡ option_map (λ row. row.service) (lookup (nat_eq place.service) services.now.entries) }
-{
-    let held = services.get(&place.service().0)?;
-    Some(held.service())
-}
-
-/// Whether the service at the place fits the filter.
-fn fits_at(services: &BTreeMap<u64, Held>, place: Place, asked: &Filter) -> bool
-    ensures fits { result ≡ spec.passes_at (spec.does_fit (Some asked.now)) services.now.entries place }
-{
-    match service_of(services, place) {
-        Some(service) => does_fit(Some(asked), service),
-        None => false,
-    }
-}
-
-/// Whether the service at the place fits the filter and is assignable for each of its classes.
-fn is_open_at<F: Fn(BundleId, &Text) -> bool + Drop>(
-    services: &BTreeMap<u64, Held>,
-    place: Place,
+/// Whether the service fits the filter and is assignable for each of its classes.
+fn is_open<F: Fn(BundleId, &Text) -> bool + Drop>(
+    service: &Service,
     filter: Option<&Filter>,
     assignable: &F,
 ) -> bool
     requires callable { F.IsAlwaysCallable assignable.now }
     ensures open { (test : BundleId → List ℕ → Bool) → ((owner : BundleId) (class : _) (answer : Bool) → F.post assignable.now owner class answer → answer ≡ test owner class.now) →
-        result ≡ spec.passes_at (spec.is_open test (option_copied filter.entry)) services.now.entries place }
-    ensures fits { OnTrue result (spec.passes_at (spec.does_fit (option_copied filter.entry)) services.now.entries place ≡ true) }
+        result ≡ spec.is_open test (option_copied filter.entry) service.now }
+    ensures fits { OnTrue result (spec.does_fit (option_copied filter.entry) service.now ≡ true) }
 {
-    match service_of(services, place) {
-        Some(service) => does_fit(filter, service) && is_assignable(service, assignable),
-        None => false,
-    }
+    does_fit(filter, service) && is_assignable(service, assignable)
 }
 
-/// The first service in the order of the places that fits the filter and is assignable for each of its classes.
+/// The first of the services that fits the filter and is assignable for each of its classes.
 pub fn first_open<F: Fn(BundleId, &Text) -> bool + Drop>(
-    services: &BTreeMap<u64, Held>,
-    places: &BTreeSet<Place>,
+    services: &BTreeMap<Place, Shared<Service>>,
     filter: Option<&Filter>,
     assignable: &F,
 ) -> Option<ServiceId>
     requires callable { F.IsAlwaysCallable assignable.now }
     ensures first { (test : BundleId → List ℕ → Bool) → ((owner : BundleId) (class : _) (answer : Bool) → F.post assignable.now owner class answer → answer ≡ test owner class.now) →
-        result ≡ option_map service_at (find (spec.passes_at (spec.is_open test (option_copied filter.entry)) services.now.entries) places.now.keys) }
-    ensures fits { IfSome result (spec.PassesAmong (spec.does_fit (option_copied filter.entry)) services.now.entries places.now.keys) }
-    ensures ordered { IsStrictlySortedBy place_cmp places.now.keys }
+        result ≡ option_map (λ service. service.service) (find (spec.is_open test (option_copied filter.entry)) (values services.now)) }
+    ensures fits { IfSome result (IsOneOf (λ service. spec.does_fit (option_copied filter.entry) service ≡ true) (values services.now)) }
+    ensures ordered { IsStrictlySortedBy place_cmp (keys services.now) }
 {
-    for place in places.iter() {
-        if is_open_at(services, *place, filter, assignable) {
-            return Some(place.service());
+    for shared in services.values() {
+        let service = shared.get();
+        if is_open(service, filter, assignable) {
+            return Some(service.service);
         }
     }
     None
 }
 
-/// All services, in the order of the places.
-pub fn all_of(alloc: Global, places: &BTreeSet<Place>) -> Result<List<ServiceId>, AllocError>
-    ensures all { IfOk result (λ all. all ≡ map service_at places.now.keys) }
-    ensures ordered { OnOk result (IsStrictlySortedBy place_cmp places.now.keys) }
+/// All of the services, in their order.
+pub fn all_of(
+    alloc: Global,
+    services: &BTreeMap<Place, Shared<Service>>,
+) -> Result<List<ServiceId>, AllocError>
+    ensures all { IfOk result (λ all. all ≡ map service_at (keys services.now)) }
+    ensures ordered { OnOk result (IsStrictlySortedBy place_cmp (keys services.now)) }
 {
     let mut all = List::new(alloc)?;
-    for place in places.iter() {
+    for place in services.keys() {
         all.push(place.service())?;
     }
     Ok(all)
 }
 
-/// The services in the order of the places that fit the filter.
+/// Those of the services that fit the filter, in their order.
 pub fn all_fit(
     alloc: Global,
-    services: &BTreeMap<u64, Held>,
-    places: &BTreeSet<Place>,
+    services: &BTreeMap<Place, Shared<Service>>,
     asked: &Filter,
 ) -> Result<List<ServiceId>, AllocError>
-    ensures all { IfOk result (λ all. all ≡ map service_at (filter (spec.passes_at (spec.does_fit (Some asked.now)) services.now.entries) places.now.keys)) }
-    ensures ordered { OnOk result (IsStrictlySortedBy place_cmp places.now.keys) }
+    ensures all { IfOk result (λ all. all ≡ ids_of (filter (spec.does_fit (Some asked.now)) (values services.now))) }
+    ensures ordered { OnOk result (IsStrictlySortedBy place_cmp (keys services.now)) }
 {
     let mut all = List::new(alloc)?;
-    for place in places.iter() {
-        if fits_at(services, *place, asked) {
-            all.push(place.service())?;
+    for shared in services.values() {
+        let service = shared.get();
+        if !does_fit(Some(asked), service) {
+            continue;
         }
+        all.push(service.service)?;
     }
     Ok(all)
 }

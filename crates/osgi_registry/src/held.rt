@@ -6,12 +6,13 @@ ghost use Rattle.osgi_registry.specs.Rows.{count_of, used_less, used_more, witho
 
 use crate::uses::Uses;
 use osgi_base::ids::BundleId;
+use osgi_base::shared::Shared;
 use osgi_model::value::Attributes;
 use osgi_ops::service::Service;
 use std::alloc::{AllocError, Global};
 use std::marker::Model;
 
-/// A service, and how often each user holds it.
+/// A service, which the index by class shares, and how often each user holds it.
 ///
 /// Both are reached through one pointer, so that the nodes of a tree of these stay small: a look-up goes through few of them.
 #[derive(Drop)]
@@ -21,7 +22,7 @@ pub struct Held {
 
 #[derive(Drop)]
 struct Used {
-    service: Service,
+    service: Shared<Service>,
     uses: Uses,
 }
 
@@ -42,7 +43,8 @@ impl Held {
     pub fn new(alloc: Global, service: Service) -> Result<Held, AllocError>
         ensures service { IfOk result (λ held. held ≡ record { service = service; uses = [] }) }
     {
-        let uses = Uses::new(alloc);
+        let service = Shared::new(alloc, service)?;
+        let uses = Uses::new();
         Ok(Held {
             inner: Box::new(alloc, Used { service, uses })?,
         })
@@ -51,24 +53,31 @@ impl Held {
     pub fn service(&self) -> &Service
         ensures service { result.now ≡ self.now.service }
     {
+        self.inner.service.get()
+    }
+
+    /// The service, to be shared.
+    pub fn shared(&self) -> &Shared<Service>
+        ensures service { result.now ≡ self.now.service }
+    {
         &self.inner.service
     }
 
-    /// Puts these properties in place of the service's.
-    pub fn set_properties(&mut self, properties: Attributes)
-        ensures set { self.new ≡ record self.old { service = record self.old.service { properties = properties } } }
+    /// Puts this service in place of the one that was held.
+    pub fn replace(&mut self, service: Shared<Service>)
+        ensures replaced { self.new ≡ record self.old { service = service } }
     {
-        self.inner.service.properties = properties;
+        self.inner.service = service;
     }
 
     /// Counts one more use by the user.
-    pub fn add_use(&mut self, user: BundleId) -> Result<(), AllocError>
+    pub fn add_use(&mut self, alloc: Global, user: BundleId) -> Result<(), AllocError>
         requires room { count_of user self.old.uses < 18446744073709551615 }
         ensures service { self.new.service ≡ self.old.service }
         ensures used { OnOk result (self.new ≡ used_more user self.old) }
         ensures unchanged { OnErr result (self.new ≡ self.old) }
     {
-        self.inner.uses.add(user)
+        self.inner.uses.add(alloc, user)
     }
 
     /// Counts one use less by the user, and answers whether there was one.
@@ -87,4 +96,24 @@ impl Held {
     {
         self.inner.uses.forget(user);
     }
+}
+
+/// The service with these properties in place of its own.
+pub fn service_with(
+    alloc: Global,
+    service: &Service,
+    properties: Attributes,
+) -> Result<Shared<Service>, AllocError>
+    ensures changed { IfOk result (λ changed. changed ≡ record service.now { properties = properties }) }
+{
+    let classes = service.classes.copy(alloc)?;
+    let object = service.object.copy(alloc)?;
+    let changed = Service {
+        service: service.service,
+        owner: service.owner,
+        classes,
+        object,
+        properties,
+    };
+    Shared::new(alloc, changed)
 }

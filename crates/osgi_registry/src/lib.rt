@@ -4,6 +4,7 @@
 mod class_index;
 mod finding;
 mod held;
+mod others;
 mod place;
 pub mod properties;
 mod registry;

@@ -9,13 +9,13 @@ ghost use Rattle.std.specs.Result.{result_err};
 ghost use Rattle.std.specs.BTreeMap.{values};
 ghost use Rattle.osgi_ops.specs.declared.op.Op.TheVariants as op;
 ghost use Rattle.osgi_ops.specs.declared.reply.Reply.TheVariants as answers;
-ghost use Rattle.osgi_registry.specs.computed.Places.{IsIndexOf};
+ghost use Rattle.osgi_registry.specs.computed.Places.{HoldsNoMore, IsIndexOf};
 ghost use Rattle.osgi_registry.specs.Rows.{AreInOrder, change, change_refusal, id_of, ids_of, is_owned, IsOneOf, modify_refusal, IsOpenBy, new_row, object_at, others, register_refusal, released, row_at, services_in, use_count, used_less, used_more, with_properties, without, without_user};
 ghost use Rattle.osgi_registry.specs.Stands.{StandsAfter, StandsFor};
 
 use crate::class_index::ClassIndex;
 use crate::finding::{all_fit, all_of, first_open};
-use crate::held::Held;
+use crate::held::{Held, service_with};
 use crate::place::Place;
 use crate::properties::{FrameworkTexts, has_twins};
 use crate::services::Services;
@@ -150,7 +150,8 @@ impl Registry {
         let id = service.service.0;
         let place = Place::of(&service);
         let held = Held::new(self.alloc, service)?;
-        self.index.add_all(held.service().classes.items(), place)?;
+        self.index
+            .add_all(held.service().classes.items(), place, held.shared())?;
         if let Err(error) = self.services.insert(id, held) {
             let (_, held) = error.value;
             self.index.take_all(held.service().classes.items(), place);
@@ -205,10 +206,11 @@ impl Registry {
             now.service,
             now.owner,
         )?;
-        let place = Place::new(all.items(), now.service);
+        let next = service_with(self.alloc, now, all)?;
+        let place = Place::of(next.get());
         self.index
-            .move_all(now.classes.items(), Place::of(now), place)?;
-        held.set_properties(all);
+            .move_all(now.classes.items(), Place::of(now), place, &next)?;
+        held.replace(next);
         Ok(Ok(()))
     }
 
@@ -250,7 +252,7 @@ impl Registry {
             return Ok(Err(Refusal::NoSuchService));
         };
         let object = held.service().object.copy(self.alloc)?;
-        held.add_use(user)?;
+        held.add_use(self.alloc, user)?;
         Ok(Ok(object))
     }
 
@@ -282,8 +284,8 @@ impl Registry {
             IsFound (IsOpenBy test class.now (option_copied filter.entry)) (services_in self.now.rows) result }
         ensures fits { IfSome result (IsOneOf (IsOf class.now (option_copied filter.entry)) (services_in self.now.rows)) }
     {
-        let places = self.index.places(class)?;
-        first_open(&self.services, places, filter, &assignable)
+        let services = self.index.services(class)?;
+        first_open(services, filter, &assignable)
     }
 
     /// All live services of the class that the filter, if there is one, matches, the best first.
@@ -294,12 +296,12 @@ impl Registry {
     ) -> Result<List<ServiceId>, AllocError>
         ensures ranked { IfOk result (AreRanked (IsOf class.now (option_copied filter.entry)) (services_in self.now.rows)) }
     {
-        let Some(places) = self.index.places(class) else {
+        let Some(services) = self.index.services(class) else {
             return List::new(self.alloc);
         };
         match filter {
-            Some(asked) => all_fit(self.alloc, &self.services, places, asked),
-            None => all_of(self.alloc, places),
+            Some(asked) => all_fit(self.alloc, services, asked),
+            None => all_of(self.alloc, services),
         }
     }
 
@@ -348,6 +350,7 @@ fn take_places(index: &mut ClassIndex, services: &BTreeMap<u64, Held>, bundle: B
     requires apart { AllPairs (λ a b. id_of a ≢ id_of b) (values services.now) }
     requires index { IsIndexOf index.old.classes (values services.now) }
     ensures index { IsIndexOf index.new.classes (others bundle (values services.now)) }
+    ensures no_more { HoldsNoMore index.old.classes index.new.classes }
 {
     for held in services.values() {
         let service = held.service();

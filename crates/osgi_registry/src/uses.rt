@@ -5,7 +5,7 @@ ghost use Rattle.std.specs.Bool.{OnTrue, OnFalse};
 ghost use Rattle.osgi_registry.specs.Rows.{count_of, with_count};
 ghost use Rattle.osgi_registry.specs.computed.Uses.{uses_of};
 
-use indexmap::IndexMap;
+use crate::others::{Others, take_one};
 use osgi_base::ids::BundleId;
 use std::alloc::{AllocError, Global};
 use std::marker::Model;
@@ -16,7 +16,7 @@ use std::marker::Model;
 #[derive(Drop)]
 pub struct Uses {
     first: Option<(u32, u64)>,
-    others: IndexMap<u32, u64>,
+    others: Others,
 }
 
 impl Model for Uses {
@@ -25,22 +25,22 @@ impl Model for Uses {
 
     ghost Value = { List (ℕ × ℕ) };
 
-    ghost view = { λ u. uses_of u.first u.others.entries };
+    ghost view = { λ u. uses_of u.first u.others };
 }
 
 impl Uses {
     /// Nobody uses it yet.
-    pub fn new(alloc: Global) -> Uses
+    pub fn new() -> Uses
         ensures none { result ≡ [] }
     {
         Uses {
             first: None,
-            others: IndexMap::new(alloc),
+            others: Others::none(),
         }
     }
 
     /// Counts one more use by the user.
-    pub fn add(&mut self, user: BundleId) -> Result<(), AllocError>
+    pub fn add(&mut self, alloc: Global, user: BundleId) -> Result<(), AllocError>
         requires room { count_of user self.old < 18446744073709551615 }
         ensures added { OnOk result (self.new ≡ with_count user (count_of user self.old + 1) self.old) }
         ensures unchanged { OnErr result (self.new ≡ self.old) }
@@ -50,11 +50,11 @@ impl Uses {
                 *count += 1;
                 return Ok(());
             }
-        } else if self.others.is_empty() {
+        } else if self.others.is_none() {
             self.first = Some((user.0, 1));
             return Ok(());
         }
-        add_to(&mut self.others, user)
+        self.others.add(alloc, user)
     }
 
     /// Counts one use less by the user, and answers whether there was one.
@@ -68,7 +68,7 @@ impl Uses {
         {
             return take_one(count);
         }
-        take_from(&mut self.others, user)
+        self.others.take(user)
     }
 
     /// Forgets the uses by the user.
@@ -76,42 +76,8 @@ impl Uses {
         ensures forgotten { self.new ≡ filter (λ other. not (user.0 == other.0)) self.old }
     {
         self.first = other_than(user, self.first);
-        forget_from(&mut self.others, user);
+        self.others.forget(user);
     }
-}
-
-/// Takes one from the count, if it is not 0.
-fn take_one(count: &mut u64) -> bool
-    ensures answer { result ≡ nat_lt 0 count.old }
-    ensures taken { count.new ≡ count.old - 1 }
-    ensures unchanged { OnFalse result (count.new ≡ count.old) }
-{
-    if *count == 0 {
-        return false;
-    }
-    *count -= 1;
-    true
-}
-
-fn add_to(uses: &mut IndexMap<u32, u64>, user: BundleId) -> Result<(), AllocError>
-    requires room { count_of user uses.old.entries < 18446744073709551615 }
-    ensures added { OnOk result (uses.new.entries ≡ with_count user (count_of user uses.old.entries + 1) uses.old.entries) }
-    ensures unchanged { OnErr result (uses.new.entries ≡ uses.old.entries) }
-{
-    let count = uses.get(&user.0).copied().unwrap_or(0);
-    uses.insert(user.0, count + 1)?;
-    Ok(())
-}
-
-fn take_from(uses: &mut IndexMap<u32, u64>, user: BundleId) -> bool
-    ensures answer { result ≡ nat_lt 0 (count_of user uses.old.entries) }
-    ensures taken { OnTrue result (uses.new.entries ≡ with_count user (count_of user uses.old.entries - 1) uses.old.entries) }
-    ensures unchanged { OnFalse result (uses.new.entries ≡ uses.old.entries) }
-{
-    let Some(count) = uses.get_mut(&user.0) else {
-        return false;
-    };
-    take_one(count)
 }
 
 /// The count, if it is of another user.
@@ -123,10 +89,4 @@ fn other_than(user: BundleId, first: Option<(u32, u64)>) -> Option<(u32, u64)>
         return None;
     }
     first
-}
-
-fn forget_from(uses: &mut IndexMap<u32, u64>, user: BundleId)
-    ensures forgotten { uses.new.entries ≡ filter (λ other. not (user.0 == other.0)) uses.old.entries }
-{
-    uses.shift_remove(&user.0);
 }

@@ -105,5 +105,8 @@ pub fn reply_to(
         Op::ListServices => Ok(Reply::ServiceRows {
             rows: rows(alloc, registry)?,
         }),
+        _ => Ok(Reply::Refused {
+            refusal: Refusal::InvalidOperation,
+        }),
     }
 }

@@ -4,8 +4,8 @@ use crate::shown::is_as_its_copy;
 use osgi_base::ids::BundleId;
 use osgi_base::list::List;
 use osgi_console::parse;
-use osgi_ops::line::{Content, Line};
 use osgi_ops::op::Op;
+use osgi_session::line::{Content, Line};
 use std::alloc::{AllocError, Global};
 
 /// No row has as many bytes.

@@ -3,9 +3,9 @@
 use osgi_base::copied::Copied;
 use osgi_base::text::Text;
 use osgi_console::render;
-use osgi_ops::command::Command;
 use osgi_ops::entry::Entry;
-use osgi_ops::line::{Content, Line};
+use osgi_session::command::Command;
+use osgi_session::line::{Content, Line};
 use std::alloc::{AllocError, Global};
 use std::{slice, str};
 

@@ -1,5 +1,7 @@
 -- What the words of a line say, and what they are read as.
 pub mod laws
+pub mod LineReader
+pub mod Lines
 pub mod LineWords
 pub mod Properties
 pub mod PropertyReader

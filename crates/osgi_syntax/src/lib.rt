@@ -2,6 +2,7 @@
 #![tactic(auto)]
 
 pub mod ids;
+pub mod lines;
 pub mod names;
 pub mod properties;
 mod values;

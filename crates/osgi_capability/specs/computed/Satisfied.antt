@@ -9,11 +9,11 @@ use Rattle.osgi_version.specs.Versions.{Parts}
 use Rattle.osgi_version.specs.declared.version.Version.{Version}
 use Rattle.osgi_model.specs.Comparing.{value_eq}
 use Rattle.osgi_model.specs.Matching.{attribute_value}
-use Rattle.osgi_model.specs.Satisfaction.{is_bundle, is_package, version_in}
+use Rattle.osgi_world.specs.Satisfaction.{is_bundle, is_package, version_in}
 use Rattle.osgi_model.specs.computed.MatchReader.{matches}
-use Rattle.osgi_model.specs.declared.capability.Capability.{Capability}
+use Rattle.osgi_world.specs.declared.capability.Capability.{Capability}
 use Rattle.osgi_model.specs.declared.filter.Filter.{Filter}
-use Rattle.osgi_model.specs.declared.requirement.Requirement.{Requirement}
+use Rattle.osgi_world.specs.declared.requirement.Requirement.{Requirement}
 use Rattle.osgi_model.specs.declared.value.Attribute.{Attribute}
 
 abbrev pub has_equal : List Attribute → Attribute → Bool

@@ -1,3 +1,4 @@
+-- The fact, from what the definitions give.
 use Rattle.osgi_choice.proofs.Facts.{extensions_are_words}
 use Rattle.osgi_choice.proofs.extensions_are_words.Goals as goal
 

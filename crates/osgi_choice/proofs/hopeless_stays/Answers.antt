@@ -1,3 +1,4 @@
+-- The fact, from what the definitions give.
 use Rattle.osgi_choice.proofs.Facts.{hopeless_stays}
 use Rattle.osgi_choice.proofs.hopeless_stays.Goals as goal
 

@@ -1,19 +1,19 @@
 -- What the reader computes of commands and of lines. No public promise speaks of this: it is proved to give the
 -- readings of the grammar.
-use Rattle.std.specs.Prelude.{ℕ, ◌≡◌, ◌+◌, ◌<◌, ◌==◌, if◌then◌else◌, Bool, true, List, [], ◌∷◌, length, codes, Option, None, Some, option_and_then, find}
+use Rattle.std.specs.Prelude.{ℕ, ◌+◌, ◌==◌, if◌then◌else◌, List, [], ◌∷◌, length, codes, Option, None, Some, option_and_then, find}
 use Rattle.std.specs.Option.{option_map}
 use Rattle.std.specs.Str.{bytes_eq}
-use Rattle.std.specs.Str.Lines.{lines}
 use Rattle.osgi_base.specs.declared.ids.ServiceId.{ServiceId}
 use Rattle.osgi_filter.specs.computed.Reader.{read_filter}
-use Rattle.osgi_ops.specs.declared.command.Command.{Command}
-use Rattle.osgi_ops.specs.declared.command.Command.TheVariants as command
-use Rattle.osgi_ops.specs.declared.line.Content.{Content}
-use Rattle.osgi_ops.specs.declared.line.Content.TheVariants.{Empty, Bad, Run}
-use Rattle.osgi_ops.specs.declared.line.Line.{Line}
+use Rattle.osgi_session.specs.declared.command.Command.{Command}
+use Rattle.osgi_session.specs.declared.command.Command.TheVariants as command
+use Rattle.osgi_session.specs.declared.line.Content.{Content}
+use Rattle.osgi_session.specs.declared.line.Content.TheVariants.{Empty, Bad, Run}
+use Rattle.osgi_session.specs.declared.line.Line.{Line}
 use Rattle.osgi_console.specs.declared.commands.Search.{Search}
 use Rattle.osgi_console.specs.declared.commands.Verb.{Verb}
 use Rattle.osgi_console.specs.declared.commands.Verb.TheVariants as verb
+use Rattle.osgi_syntax.specs.LineReader.{is_silent}
 use Rattle.osgi_syntax.specs.Splitting.{after_spaces, after_word, first_word, words_of}
 use Rattle.osgi_base.specs.QuoteReader.{quoted_of}
 use Rattle.osgi_syntax.specs.WordReader.{class_of, classes_of, id_of}
@@ -81,22 +81,9 @@ command_of text = option_and_then (λ verb. command_by verb (after_word text)) (
 
 -- ---- lines
 
-abbrev pub is_line_feed : ℕ → Bool
-is_line_feed b = b == 10
-
--- the bytes begin with this line and its end, and what is left after that is shorter
-pub record BeginsWithLine (bytes line left : List ℕ) : Type 0 where
-  pub lines : lines bytes ≡ line ∷ lines left
-  pub shorter : length left < length bytes
-
 abbrev pub run_or_bad : Option Command → Content
 run_or_bad None = Bad
 run_or_bad (Some command) = Run command
-
--- whether this, which follows the spaces at the start, is nothing or a comment
-abbrev pub is_silent : List ℕ → Bool
-is_silent [] = true
-is_silent (b ∷ rest) = b == 35
 
 abbrev pub content_of : List ℕ → Content
 content_of text = if is_silent (after_spaces text) then Empty else run_or_bad (command_of text)

@@ -6,11 +6,11 @@ use Rattle.std.specs.Option.{option_map}
 use Rattle.std.specs.Ordering.{nat_cmp}
 use Rattle.std.specs.declared.alloc.Global.{Global}
 use Rattle.std.specs.declared.vec.Vec.{Vec}
-use Rattle.osgi_ops.specs.Lines.{is_of}
-use Rattle.osgi_ops.specs.Rendering.{entries_text}
+use Rattle.osgi_session.specs.Lines.{is_of}
+use Rattle.osgi_session.specs.Rendering.{entries_text}
 use Rattle.osgi_ops.specs.declared.entry.Entry.{Entry}
-use Rattle.osgi_ops.specs.declared.line.Content.{Content}
-use Rattle.osgi_ops.specs.declared.line.Content.TheVariants.{Empty, Join, Bad, Run}
+use Rattle.osgi_session.specs.declared.line.Content.{Content}
+use Rattle.osgi_session.specs.declared.line.Content.TheVariants.{Empty, Join, Bad, Run}
 
 abbrev pub Texts : Type 0
 Texts = BTreeMap ℕ (Vec ℕ Global)

@@ -45,6 +45,7 @@ none_full now (FindAll asker class filter) = ((λ c. cc c.0), tt)
 none_full now (Get user service) = ((λ c. cc c.0), ((λ c. cc c.0), tt))
 none_full now (Unget user service) = ((λ c. cc c.0), tt)
 none_full now ListServices = tt
+none_full now _ = ((λ c. cc c.0), tt)
 
 not_full : (now : Moment) (op : Op) → IsReply now op (Refused HistoryFull) → ⊥
 not_full now op given = none_gives (conditions now op) (Answers now op) HistoryFull (none_full now op) given

@@ -29,3 +29,8 @@ others_onto others rest = option_map (λ more. others ++ more) rest
 
 abbrev pub attributes_of : Clause → Result (List Attribute) PackageKind
 attributes_of clause = if list_any is_double clause.attributes then Err DoubleType else ok_or (others_of clause.attributes) BadValue
+
+-- all attributes, where all have values
+abbrev pub values_of : List Typed → Option (List Attribute)
+values_of [] = Some []
+values_of (typed ∷ rest) = option_and_then (λ attribute. option_map (λ more. attribute ∷ more) (values_of rest)) (attribute_of typed)

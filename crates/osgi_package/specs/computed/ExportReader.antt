@@ -4,19 +4,19 @@ use Rattle.std.specs.Prelude.{ℕ, ◌≡◌, if◌then◌else◌, List, [], ◌
 use Rattle.std.specs.List.{list_any}
 use Rattle.osgi_base.specs.Verdict.{answers, refuses}
 use Rattle.osgi_header.specs.declared.clause.Clause.{Clause}
-use Rattle.osgi_model.specs.declared.capability.Capability.{Capability}
+use Rattle.osgi_world.specs.declared.capability.Capability.{Capability}
 use Rattle.osgi_model.specs.declared.value.Attribute.{Attribute}
 use Rattle.osgi_package.specs.computed.Answers.{IsOnly}
 use Rattle.osgi_package.specs.declared.fault.PackageKind.{PackageKind}
 use Rattle.osgi_package.specs.declared.fault.PackageKind.TheVariants.{ImplicitAttribute, JavaExport}
 use Rattle.osgi_package.specs.Exports.{SaysExports}
 use Rattle.osgi_package.specs.Packages.{is_java, package_namespace}
-use Rattle.osgi_package.specs.Parameters.{directive_value, is_the_exporters, Lists}
+use Rattle.osgi_package.specs.Parameters.{directive_value, is_implicit, Lists}
 
 -- what is wrong with the names of a clause's packages or attributes
 abbrev pub named_fault : Clause → Option PackageKind
 named_fault clause =
-    if list_any is_java clause.paths then Some JavaExport else (if list_any is_the_exporters clause.attributes then Some ImplicitAttribute else None)
+    if list_any is_java clause.paths then Some JavaExport else (if list_any is_implicit clause.attributes then Some ImplicitAttribute else None)
 
 -- what a clause offers of each of its packages
 pub record IsOfferOf (clause : Clause) (given : List Attribute) (template : Capability) : Type 0 where

@@ -1,16 +1,27 @@
 -- How lines run on the machine.
-use Rattle.std.specs.Prelude.{ℕ, ◌≡◌, ◌⊎◌, List, [], ◌∷◌, ◌++◌, length}
+use Rattle.std.specs.Prelude.{ℕ, ◌≡◌, ◌⊎◌, Bool, true, false, List, [], ◌∷◌, ◌++◌, length}
 use Rattle.osgi_base.specs.declared.ids.Tag.{Tag}
-use Rattle.osgi_ops.specs.Sessions.{HasNoCommand, IsCutRunOf, IsRunOf, Makes}
+use Rattle.osgi_session.specs.Sessions.{HasNoCommand, IsCutRunOf, IsRunOf, Makes}
 use Rattle.osgi_ops.specs.declared.entry.Entry.{Entry}
-use Rattle.osgi_ops.specs.declared.line.Line.{Line}
+use Rattle.osgi_session.specs.declared.line.Line.{Line}
 use Rattle.osgi_ops.specs.declared.op.Op.{Op}
 use Rattle.osgi_ops.specs.declared.reply.Reply.{Reply}
+use Rattle.osgi_ops.specs.declared.reply.Reply.TheVariants.{Refused}
+use Rattle.osgi_ops.specs.declared.refusal.Refusal.TheVariants.{HistoryFull}
 use Rattle.osgi_program.specs.declared.runner.Ran.{Ran}
 use Rattle.osgi_program.specs.declared.runner.Ran.TheVariants.{All, Full, Starved}
 
 abbrev pub tag_of : ℕ → Tag
 tag_of number = record { caller = 0; command = number }
+
+-- the reply says that the history is full
+abbrev pub says_full : Reply → Bool
+says_full (Refused HistoryFull) = true
+says_full _ = false
+
+abbrev pub ran_by : Bool → Ran
+ran_by true = Full
+ran_by false = All
 
 -- one operation of a line: it has its entry, or the history is full, or memory ran out
 abbrev pub IsAsked : Ran → ℕ → Tag → Op → List Entry → List Entry → Type 0

@@ -2,7 +2,7 @@
 use Rattle.std.specs.Prelude.{ℕ, ◌≡◌, ◌<◌, ◌≤◌, List, All, AllPairs, length}
 use Rattle.std.specs.Map.{values_of}
 use Rattle.osgi_ops.specs.declared.limits.TheConstants.{MAX_SERVICES}
-use Rattle.osgi_registry.specs.computed.Places.{Classes, IsIndexOf}
+use Rattle.osgi_registry.specs.computed.Places.{AreCurrent, Classes, IsIndexOf}
 use Rattle.osgi_registry.specs.Rows.{Row, id_of}
 
 -- a row under its id, which was given
@@ -21,7 +21,8 @@ pub record AreKept (issued : ℕ) (entries : List (ℕ × Row)) : Type 0 where
   pub few : length entries ≤ MAX_SERVICES
   pub fits : issued ≤ 4294967295
 
--- and the index by class is theirs
+-- and the index by class is theirs, as they are now
 pub record IsKept (issued : ℕ) (entries : List (ℕ × Row)) (classes : Classes) : Type 0 where
   pub rows : AreKept issued entries
   pub index : IsIndexOf classes (values_of entries)
+  pub current : AreCurrent classes (values_of entries)

@@ -372,6 +372,7 @@ quiet_refused tag (op.FindAll asker class filter) refusal = record { registers =
 quiet_refused tag (op.Get user service) refusal = record { registers = λ n. refl; takes = λ s. refl; gives = λ s. refl; gets = λ u s. refl; ungets = λ u s. refl }
 quiet_refused tag (op.Unget user service) refusal = record { registers = λ n. refl; takes = λ s. refl; gives = λ s. refl; gets = λ u s. refl; ungets = λ u s. refl }
 quiet_refused tag op.ListServices refusal = record { registers = λ n. refl; takes = λ s. refl; gives = λ s. refl; gets = λ u s. refl; ungets = λ u s. refl }
+quiet_refused tag _ refusal = record { registers = λ n. refl; takes = λ s. refl; gives = λ s. refl; gets = λ u s. refl; ungets = λ u s. refl }
 
 pub quiet_find : (tag : Tag) (asker : BundleId) (class : List ℕ) (filter : Option Filter) (found : Option ServiceId) → IsQuiet (record { tag = tag; op = op.Find asker class filter; reply = answer.Best found })
 quiet_find tag asker class filter found = record { registers = λ n. refl; takes = λ s. refl; gives = λ s. refl; gets = λ u s. refl; ungets = λ u s. refl }

@@ -1,7 +1,7 @@
 -- Each service adds its line.
 use Rattle.std.proofs.Common.{◌≡◌, ◌++◌, arith, sym}
 use Rattle.std.proofs.lemmas.Grind.{common_steps}
-use Rattle.osgi_ops.specs.Rendering.{row_text, with_line_end}
+use Rattle.osgi_session.specs.Rendering.{row_text, with_line_end}
 use Rattle.osgi_ops.specs.declared.service.ServiceRow.{ServiceRow}
 use Rattle.osgi_console.proofs.Parts.{parts_end, parts_step, rows_lines-some}
 use Rattle.osgi_console.proofs.rendering.add_rows.Goals as goal

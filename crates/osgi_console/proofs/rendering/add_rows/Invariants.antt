@@ -1,7 +1,7 @@
 -- The text so far, and that of the services that are left.
 use Rattle.std.proofs.Common.{◌≡◌, ◌++◌, drop, map}
 use Rattle.std.specs.List.{concat}
-use Rattle.osgi_ops.specs.Rendering.{row_text, with_line_end}
+use Rattle.osgi_session.specs.Rendering.{row_text, with_line_end}
 use Rattle.osgi_console.proofs.rendering.add_rows.Given as goal
 
 abbrev pub invariant-loop-row : goal.invariant-loop-row

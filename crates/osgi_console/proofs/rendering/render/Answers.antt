@@ -1,8 +1,8 @@
 -- What a line writes by the texts is what it writes by the history.
 use Rattle.std.proofs.Common.{◌≡◌, ◌+◌, ◌++◌, ◌∷◌, List, ap, sym, ◌∙◌, drop, drop-cons, add-one, append_assoc, suc}
-use Rattle.osgi_ops.specs.Rendering.{line_text, render}
+use Rattle.osgi_session.specs.Rendering.{line_text, render}
 use Rattle.osgi_ops.specs.declared.entry.Entry.{Entry}
-use Rattle.osgi_ops.specs.declared.line.Line.{Line}
+use Rattle.osgi_session.specs.declared.line.Line.{Line}
 use Rattle.osgi_console.proofs.TextMap.{line_text_from}
 use Rattle.osgi_console.proofs.rendering.render.Goals as goal
 

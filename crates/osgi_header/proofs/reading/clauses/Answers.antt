@@ -9,7 +9,7 @@ use Rattle.osgi_header.specs.ClauseFaults.{IsClauseFault}
 use Rattle.osgi_header.specs.computed.ClauseReader.{all_or_fault}
 use Rattle.osgi_header.specs.Clauses.{AreClausesOf}
 use Rattle.osgi_header.specs.ReadClauses.{AreReadFrom}
-use Rattle.osgi_header.proofs.Answering.{all_only, all_reads, fault_only}
+use Rattle.osgi_header.specs.laws.AllClauses.{all_only, all_reads, fault_only}
 use Rattle.osgi_header.proofs.reading.clauses.Goals as goal
 
 reads : (value : List ℕ) (read : ReadClauses) (r : Result (Result (List Clause) HeaderFault) AllocError) → IfOk r (λ all. all ≡ all_or_fault read) → AreReadFrom value read →

@@ -1,7 +1,7 @@
 -- What is parsed is the range of the text.
 use Rattle.std.proofs.Common.{subst, sym}
 use Rattle.osgi_package.specs.computed.ImportReader.{IsRangeOf}
-use Rattle.osgi_package.proofs.ImportReading.{range_read}
+use Rattle.osgi_package.specs.laws.Ranges.{range_read}
 use Rattle.osgi_package.proofs.importing.range.Goals as goal
 
 pub returns : goal.returns

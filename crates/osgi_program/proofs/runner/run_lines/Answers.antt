@@ -1,9 +1,9 @@
 -- One line after another runs, up to one that could not.
 use Rattle.std.proofs.Common.{◌≡◌, ◌+◌, ◌++◌, ◌∷◌, [], List, ap, sym, subst, ◌∙◌, refl, append-nil, take, drop}
 use Rattle.std.proofs.lemmas.List.{drop_more, take_more, take-append-drop}
-use Rattle.osgi_ops.specs.Sessions.{over}
+use Rattle.osgi_session.specs.Sessions.{over}
 use Rattle.osgi_ops.specs.Settings.{Setting}
-use Rattle.osgi_ops.specs.declared.line.Line.{Line}
+use Rattle.osgi_session.specs.declared.line.Line.{Line}
 use Rattle.osgi_program.specs.computed.Running.{RunsLines}
 use Rattle.osgi_program.proofs.Runs.{cut_line, one_more, SoFar}
 use Rattle.osgi_program.proofs.runner.run_lines.Goals as goal

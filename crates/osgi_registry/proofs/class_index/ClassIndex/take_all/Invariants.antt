@@ -1,7 +1,8 @@
--- The place is taken out under the classes so far.
+-- Nothing is left at the place under the classes so far.
 use Rattle.std.proofs.Common.{take}
-use Rattle.osgi_registry.specs.computed.Places.{Takes}
+use Rattle.std.specs.Prelude.{None}
+use Rattle.osgi_registry.specs.computed.Places.{Puts}
 use Rattle.osgi_registry.proofs.class_index.ClassIndex.take_all.Given as goal
 
 abbrev pub invariant-loop-class : goal.invariant-loop-class
-invariant-loop-class l = Takes l.initial.self.classes l.self.classes (take l.class-index l.classes) l.place
+invariant-loop-class l = Puts l.initial.self.classes l.self.classes (take l.class-index l.classes) l.place None

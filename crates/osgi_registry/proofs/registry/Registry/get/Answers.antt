@@ -3,7 +3,8 @@ use Rattle.std.proofs.Common.{◌≡◌, ap, sym, ◌∙◌, refl, nat_eq}
 use Rattle.std.specs.Prelude.{None, Some, Ok}
 use Rattle.std.specs.Map.{lookup, values_of}
 use Rattle.std.proofs.lemmas.Result.{err_from_is_err_and}
-use Rattle.osgi_registry.proofs.Changed.{kept_set, rows_set, set_same}
+use Rattle.osgi_registry.proofs.Changed.{kept_set, rows_set, written_same}
+use Rattle.osgi_registry.proofs.Current.{current_kept}
 use Rattle.osgi_registry.proofs.Entries.{found_under, row_absent, row_present}
 use Rattle.osgi_registry.proofs.Keys.{found_by, set_by}
 use Rattle.osgi_registry.proofs.Placed.{index_kept}
@@ -18,14 +19,14 @@ returns-in_default-clause-object c =
 
 pub invariant_of-self-in_err-object : goal.invariant_of-self-in_err-object
 invariant_of-self-in_err-object c =
-    rw (set_by c.args.service.0 _ _ _ (c.get_mut.follows.holds c.in-Some.held.now).0, set_same c.args.service.0 c.in-Some.held.now c.in-Some.held.now _ refl (found_by c.args.service.0 _ _ c.in-Some.ensures.value)) c.self.invariant
+    rw (written_same c.args.service.0 c.in-Some.held.now c.in-Some.held.now _ _ refl c.in-Some.ensures.value (c.get_mut.follows.holds c.in-Some.held.now).0) c.self.invariant
 
 pub returns-in_err-object-clause-unchanged : goal.returns-in_err-object-clause-unchanged
 returns-in_err-object-clause-unchanged c =
     let p = err_from_is_err_and c.from_residual.result c.from_residual.ensures.1 in
     rw p.1
     (ap (λ es. record { rows = values_of es; issued = c.self.inside.issued })
-    (set_by c.args.service.0 _ _ _ (c.get_mut.follows.holds c.in-Some.held.now).0 ∙ set_same c.args.service.0 c.in-Some.held.now c.in-Some.held.now _ refl (found_by c.args.service.0 _ _ c.in-Some.ensures.value))
+    (written_same c.args.service.0 c.in-Some.held.now c.in-Some.held.now _ _ refl c.in-Some.ensures.value (c.get_mut.follows.holds c.in-Some.held.now).0)
     ∙ c.self.view_is)
 
 pub add_use-requires : goal.add_use-requires
@@ -35,14 +36,14 @@ add_use-requires c =
 
 pub invariant_of-self-in_err-add_use : goal.invariant_of-self-in_err-add_use
 invariant_of-self-in_err-add_use c =
-    rw (set_by c.args.service.0 _ _ _ (c.get_mut.follows.holds c.add_use.new.self).0, set_same c.args.service.0 c.in-Some.held.now c.add_use.new.self _ c.in_err-add_use.ensures.unchanged (found_by c.args.service.0 _ _ c.in-Some.ensures.value)) c.self.invariant
+    rw (written_same c.args.service.0 c.in-Some.held.now c.add_use.new.self _ _ c.in_err-add_use.ensures.unchanged c.in-Some.ensures.value (c.get_mut.follows.holds c.add_use.new.self).0) c.self.invariant
 
 pub returns-in_err-add_use-clause-unchanged : goal.returns-in_err-add_use-clause-unchanged
 returns-in_err-add_use-clause-unchanged c =
     let p = err_from_is_err_and c.from_residual-in_err-add_use.result c.from_residual-in_err-add_use.ensures.1 in
     rw p.1
     (ap (λ es. record { rows = values_of es; issued = c.self.inside.issued })
-    (set_by c.args.service.0 _ _ _ (c.get_mut.follows.holds c.add_use.new.self).0 ∙ set_same c.args.service.0 c.in-Some.held.now c.add_use.new.self _ c.in_err-add_use.ensures.unchanged (found_by c.args.service.0 _ _ c.in-Some.ensures.value))
+    (written_same c.args.service.0 c.in-Some.held.now c.add_use.new.self _ _ c.in_err-add_use.ensures.unchanged c.in-Some.ensures.value (c.get_mut.follows.holds c.add_use.new.self).0)
     ∙ c.self.view_is)
 
 pub invariant_of-self-2 : goal.invariant_of-self-2
@@ -52,6 +53,7 @@ invariant_of-self-2 c =
     (record {
       rows = kept_set _ c.args.service.0 _ _ c.self.invariant.rows (ap (λ s. s.service.0) c.add_use.ensures.service ∙ sym (found_under _ _ _ _ c.self.invariant.rows.under found).key);
       index = index_kept _ c.args.service c.in-Some.held.now c.add_use.new.self _ c.self.inside.index.classes c.self.invariant.rows c.self.invariant.index c.add_use.ensures.service found;
+      current = current_kept _ c.args.service c.in-Some.held.now c.add_use.new.self _ c.self.inside.index.classes c.self.invariant.rows c.self.invariant.current c.add_use.ensures.service found;
     })
 
 pub returns-clause-object : goal.returns-clause-object

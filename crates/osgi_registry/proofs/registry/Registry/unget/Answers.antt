@@ -3,7 +3,8 @@ use Rattle.std.proofs.Common.{◌≡◌, [], ◌∷◌, ◌++◌, ap, sym, subst
 use Rattle.std.specs.Prelude.{false, None, Some}
 use Rattle.std.specs.Map.{lookup, values_of}
 use Rattle.std.proofs.lemmas.Bool.{OnFalse_at, OnFalse_from, OnTrue_at, OnTrue_from}
-use Rattle.osgi_registry.proofs.Changed.{kept_set, rows_set, set_same}
+use Rattle.osgi_registry.proofs.Changed.{kept_set, rows_set, written_same}
+use Rattle.osgi_registry.proofs.Current.{current_kept}
 use Rattle.osgi_registry.proofs.Entries.{found_under, row_absent, row_present}
 use Rattle.osgi_registry.proofs.Keys.{found_by, set_by}
 use Rattle.osgi_registry.proofs.Placed.{index_kept, only_one}
@@ -26,6 +27,7 @@ invariant_of-self-2 c =
     (record {
       rows = kept_set _ c.args.service.0 _ _ c.self.invariant.rows (ap (λ s. s.service.0) c.take_use.ensures.service ∙ sym (found_under _ _ _ _ c.self.invariant.rows.under found).key);
       index = index_kept _ c.args.service c.in-Some.held.now c.take_use.new.self _ c.self.inside.index.classes c.self.invariant.rows c.self.invariant.index c.take_use.ensures.service found;
+      current = current_kept _ c.args.service c.in-Some.held.now c.take_use.new.self _ c.self.inside.index.classes c.self.invariant.rows c.self.invariant.current c.take_use.ensures.service found;
     })
 
 pub returns-clause-answer : goal.returns-clause-answer
@@ -45,7 +47,7 @@ returns-clause-unchanged c =
     OnFalse_from c.take_use.result _
     (λ no.
     ap (λ es. record { rows = values_of es; issued = c.self.inside.issued })
-    (set_by c.args.service.0 _ _ _ (c.get_mut.follows.holds c.take_use.new.self).0 ∙ set_same c.args.service.0 c.in-Some.held.now c.take_use.new.self _ (OnFalse_at no c.take_use.ensures.unchanged) (found_by c.args.service.0 _ _ c.in-Some.ensures.value))
+    (written_same c.args.service.0 c.in-Some.held.now c.take_use.new.self _ _ (OnFalse_at no c.take_use.ensures.unchanged) c.in-Some.ensures.value (c.get_mut.follows.holds c.take_use.new.self).0)
     ∙ c.self.view_is)
 
 pub returns-in_default-clause-unchanged : goal.returns-in_default-clause-unchanged

@@ -8,6 +8,6 @@ pub returns : goal.returns
 returns c = record {
   forgotten =
       rw (← c.self.view_is)
-      (left_apart (λ (other : ℕ × ℕ). not (c.args.user.0 == other.0)) c.self.inside.first c.other_than-self-inside.result c.self.inside.others.entries c.forget_from.new.uses.entries
-      c.other_than-self-inside.ensures.other c.forget_from.ensures.forgotten);
+      (left_apart (λ (other : ℕ × ℕ). not (c.args.user.0 == other.0)) c.self.inside.first c.other_than-self-inside.result c.self.inside.others c.forget.new.self
+      c.other_than-self-inside.ensures.other c.forget.ensures.forgotten);
 }

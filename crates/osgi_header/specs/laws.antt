@@ -1,0 +1,2 @@
+-- Laws of the definitions, for the proofs of this crate and of others. No promise cites them.
+pub mod AllClauses

@@ -1,0 +1,132 @@
+-- Conditions in stages: the first one that calls for a refusal, and what holds where none does.
+use Rattle.std.proofs.Common.{◌≡◌, List, [], ◌∷◌, ◌++◌, append-nil, ap, sym, subst, ◌∙◌, refl, inl, inr}
+use Rattle.std.specs.Prelude.{⊤, Result, Ok, Err}
+use Rattle.std.specs.Result.{IsErrAnd}
+use Rattle.osgi_base.specs.Verdict.{Gives, Verdict, answers, refuses}
+use Rattle.osgi_package.specs.computed.Answers.{IsOnly}
+use Rattle.osgi_world.specs.declared.manifest_fault.ManifestFault.{ManifestFault}
+use Rattle.osgi_manifest.specs.computed.Answers.{CallNone, IsStep, IsTheFirst}
+use Rattle.osgi_manifest.specs.declared.stop.Stop.{Stop}
+use Rattle.osgi_manifest.specs.declared.stop.Stop.TheVariants.{Fault, Memory}
+
+pub same_refusal : {R A : Type 0} (r s : R) → ◌≡◌ {A = Verdict R A} (refuses r) (refuses s) → r ≡ s
+same_refusal r s e = cc e
+
+-- conditions do not call for a refusal and for none
+pub not_both : {R A B : Type 0} (conditions : List (R → Type 0)) (some : A → Type 0) (other : B → Type 0) (r : R) (b : B) → Gives conditions some (refuses r) →
+    Gives conditions other (answers b) → ⊥
+not_both [] some other r b refused answered = absurd refused
+not_both (condition ∷ rest) some other r b refused (inl (s, called, e)) = absurd (cc e)
+not_both (condition ∷ rest) some other r b (inl (s, called, e)) (inr (uncalled, answered)) = uncalled s called
+not_both (condition ∷ rest) some other r b (inr (un, refused)) (inr (uncalled, answered)) = not_both rest some other r b refused answered
+
+-- the first condition calls for this refusal alone
+pub called_only : {R A : Type 0} (condition : R → Type 0) (rest : List (R → Type 0)) (answer : A → Type 0) (refusal : R) → IsOnly condition refusal →
+    IsOnly (Gives (condition ∷ rest) answer) (refuses refusal)
+called_only {R} {A} condition rest answer refusal is = record { holds = inl (refusal, is.holds, refl); only = only }
+  where
+    only : (other : Verdict R A) → Gives (condition ∷ rest) answer other → other ≡ refuses refusal
+    only other (inl (r, called, alike)) = alike ∙ ap refuses (is.only r called)
+    only other (inr (uncalled, given)) = absurd (uncalled refusal is.holds)
+
+pub uncalled_only : {R A : Type 0} (condition : R → Type 0) (rest : List (R → Type 0)) (answer : A → Type 0) (v : Verdict R A) → ((r : R) → ¬ condition r) →
+    IsOnly (Gives rest answer) v → IsOnly (Gives (condition ∷ rest) answer) v
+uncalled_only {R} {A} condition rest answer v uncalled is = record { holds = inr (uncalled, is.holds); only = only }
+  where
+    only : (other : Verdict R A) → Gives (condition ∷ rest) answer other → other ≡ v
+    only other (inl (r, called, alike)) = absurd (uncalled r called)
+    only other (inr (un, given)) = is.only other given
+
+-- ---- conditions, and others after them
+
+refused_on : {R A : Type 0} (conditions rest : List (R → Type 0)) (answer : A → Type 0) (r : R) → Gives conditions (λ (fine : Unit {0}). ⊤) (refuses r) →
+    Gives (conditions ++ rest) answer (refuses r)
+refused_on [] rest answer r refused = absurd refused
+refused_on (condition ∷ conditions) rest answer r (inl (s, called, e)) = inl (s, called, ap refuses (same_refusal r s e))
+refused_on (condition ∷ conditions) rest answer r (inr (uncalled, refused)) = inr (uncalled, refused_on conditions rest answer r refused)
+
+passed_on : {R A : Type 0} (conditions rest : List (R → Type 0)) (answer : A → Type 0) (v : Verdict R A) → CallNone conditions → Gives rest answer v → Gives (conditions ++ rest) answer v
+passed_on [] rest answer v uncalled given = given
+passed_on (condition ∷ conditions) rest answer v (inl (s, called, e)) given = absurd (cc e)
+passed_on (condition ∷ conditions) rest answer v (inr (un, uncalled)) given = inr (un, passed_on conditions rest answer v uncalled given)
+
+-- which of both gave the verdict
+data Parted {R A : Type 0} (conditions rest : List (R → Type 0)) (answer : A → Type 0) (v : Verdict R A) : Type 0 where
+  refused : (r : R) → v ≡ refuses r → Gives conditions (λ (fine : Unit {0}). ⊤) (refuses r) → Parted conditions rest answer v
+  passed : CallNone conditions → Gives rest answer v → Parted conditions rest answer v
+
+parted_more : {R A : Type 0} (condition : R → Type 0) (conditions rest : List (R → Type 0)) (answer : A → Type 0) (v : Verdict R A) → ((r : R) → ¬ condition r) →
+    Parted conditions rest answer v → Parted (condition ∷ conditions) rest answer v
+parted_more condition conditions rest answer v un (refused r e given) = refused r e (inr (un, given))
+parted_more condition conditions rest answer v un (passed uncalled given) = passed (inr (un, uncalled)) given
+
+parted : {R A : Type 0} (conditions rest : List (R → Type 0)) (answer : A → Type 0) (v : Verdict R A) → Gives (conditions ++ rest) answer v → Parted conditions rest answer v
+parted [] rest answer v given = passed tt given
+parted (condition ∷ conditions) rest answer v (inl (r, called, e)) = refused r e (inl (r, called, refl))
+parted (condition ∷ conditions) rest answer v (inr (un, given)) = parted_more condition conditions rest answer v un (parted conditions rest answer v given)
+
+-- the first refusal stays the first one where other conditions follow
+pub first_stays : {R A : Type 0} (conditions rest : List (R → Type 0)) (answer : A → Type 0) (refusal : R) → IsTheFirst conditions refusal →
+    IsOnly (Gives (conditions ++ rest) answer) (refuses refusal)
+first_stays {R} {A} conditions rest answer refusal is = record { holds = refused_on conditions rest answer refusal is.holds; only = only }
+  where
+    by : (v : Verdict R A) → Parted conditions rest answer v → v ≡ refuses refusal
+    by v (refused r e given) = e ∙ ap refuses (same_refusal r refusal (is.only (refuses r) given))
+    by v (passed uncalled given) = absurd (not_both conditions (λ (fine : Unit {0}). ⊤) (λ (fine : Unit {0}). ⊤) refusal tt is.holds uncalled)
+
+    only : (v : Verdict R A) → Gives (conditions ++ rest) answer v → v ≡ refuses refusal
+    only v given = by v (parted conditions rest answer v given)
+
+-- where the first conditions call for none, the others decide
+pub others_decide : {R A : Type 0} (conditions rest : List (R → Type 0)) (answer : A → Type 0) (v : Verdict R A) → CallNone conditions → IsOnly (Gives rest answer) v →
+    IsOnly (Gives (conditions ++ rest) answer) v
+others_decide {R} {A} conditions rest answer v uncalled is = record { holds = passed_on conditions rest answer v uncalled is.holds; only = only }
+  where
+    by : (w : Verdict R A) → Parted conditions rest answer w → w ≡ v
+    by w (refused r e given) = absurd (not_both conditions (λ (fine : Unit {0}). ⊤) (λ (fine : Unit {0}). ⊤) r tt given uncalled)
+    by w (passed un given) = is.only w given
+
+    only : (w : Verdict R A) → Gives (conditions ++ rest) answer w → w ≡ v
+    only w given = by w (parted conditions rest answer w given)
+
+pub none_of_both : {R : Type 0} (conditions rest : List (R → Type 0)) → CallNone conditions → CallNone rest → CallNone (conditions ++ rest)
+none_of_both conditions rest uncalled un = passed_on conditions rest (λ (fine : Unit {0}). ⊤) (answers tt) uncalled un
+
+-- ---- what all conditions decide
+
+answer_alone : {R A : Type 0} (answer : A → Type 0) (reply : A) → IsOnly answer reply → IsOnly (Gives {Refusal = R} [] answer) (answers reply)
+answer_alone {R} {A} answer reply is = record { holds = is.holds; only = only }
+  where
+    only : (v : Verdict R A) → Gives [] answer v → v ≡ answers reply
+    only (refuses r) given = absurd given
+    only (answers other) given = ap answers (is.only other given)
+
+-- the only answer, where none of them calls for a refusal
+pub answers_only : {R A : Type 0} (conditions : List (R → Type 0)) (answer : A → Type 0) (reply : A) → CallNone conditions → IsOnly answer reply →
+    IsOnly (Gives conditions answer) (answers reply)
+answers_only conditions answer reply uncalled is =
+    subst (λ l. IsOnly (Gives l answer) (answers reply)) (append-nil conditions) (others_decide conditions [] answer (answers reply) uncalled (answer_alone answer reply is))
+
+-- the first refusal, whatever the answer were
+pub refuses_only : {R A : Type 0} (conditions : List (R → Type 0)) (answer : A → Type 0) (refusal : R) → IsTheFirst conditions refusal → IsOnly (Gives conditions answer) (refuses refusal)
+refuses_only conditions answer refusal is =
+    subst (λ l. IsOnly (Gives l answer) (refuses refusal)) (append-nil conditions) (first_stays conditions [] answer refusal is)
+
+-- ---- steps, one after another
+
+module _ (conditions rest : List (ManifestFault → Type 0)) where
+  -- a fault of the first step is that of both
+  pub step_fails : {A B : Type 0} (First : A → Type 0) (Both : B → Type 0) (stop : Stop) → IsStep conditions First (Err stop) → IsStep (conditions ++ rest) Both (Err stop)
+  step_fails First Both (Fault fault) is = first_stays conditions rest (λ (fine : Unit {0}). ⊤) fault is
+  step_fails First Both Memory is = tt
+
+  -- where the first step has none, that of the second is
+  pub then_fails : {B C : Type 0} (Both : B → Type 0) (Second : C → Type 0) (stop : Stop) → CallNone conditions → IsStep rest Second (Err stop) → IsStep (conditions ++ rest) Both (Err stop)
+  then_fails Both Second (Fault fault) uncalled is = others_decide conditions rest (λ (fine : Unit {0}). ⊤) (refuses fault) uncalled is
+  then_fails Both Second Memory uncalled is = tt
+
+-- what is handed on of a step
+pub handed_on : {A : Type 0} (conditions : List (ManifestFault → Type 0)) (Reads : A → Type 0) (r : Result A Stop) (given : Stop) →
+    IsErrAnd r (λ stop. stop ≡ given) → IsStep conditions Reads (Err given) → IsStep conditions Reads r
+handed_on conditions Reads (Ok read) given handed is = absurd handed
+handed_on conditions Reads (Err stop) given handed is = subst (λ s. IsStep conditions Reads (Err s)) (sym handed) is

@@ -1,0 +1,15 @@
+-- What was made of the clauses is what the header says.
+use Rattle.std.proofs.Common.{subst}
+use Rattle.std.specs.Prelude.{codes}
+use Rattle.osgi_world.specs.declared.manifest_fault.ManifestKind.TheVariants.{BadClause}
+use Rattle.osgi_manifest.specs.computed.Answers.{Walked}
+use Rattle.osgi_manifest.specs.computed.Lone.{IsLone, SaysHost}
+use Rattle.osgi_manifest.specs.Manifests.{host_faults}
+use Rattle.osgi_manifest.proofs.InHeaders.{header_answer}
+use Rattle.osgi_manifest.proofs.host.host_header.Goals as goal
+
+pub returns : goal.returns
+returns c = record {
+  answer = header_answer host_faults BadClause (IsLone SaysHost) (codes "Fragment-Host") c.args.headers.now c.in_ok-read.read c.in_ok-made.made c.made_of.result c.in_ok-read.ensures.read
+      (subst (λ l. Walked host_faults (IsLone SaysHost) l c.in_ok-made.made) c.items.ensures.items c.in_ok-made.ensures.walked) c.made_of.ensures.made;
+}

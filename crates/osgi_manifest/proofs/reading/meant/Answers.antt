@@ -1,0 +1,24 @@
+-- What all steps read decides, or where one of them stopped.
+use Rattle.osgi_base.specs.Verdict.{Gives}
+use Rattle.osgi_manifest.specs.Manifests.{IsRevisionOf, manifest_faults}
+use Rattle.osgi_manifest.specs.computed.Steps.{AreSaid}
+use Rattle.osgi_manifest.proofs.Folders.{answers_on, stop_answers}
+use Rattle.osgi_manifest.proofs.Revisions.{revision_answers}
+use Rattle.osgi_script.specs.Scripts.{IsScript}
+use Rattle.osgi_manifest.proofs.reading.meant.Goals as goal
+
+pub returns-in_err-identity : goal.returns-in_err-identity
+returns-in_err-identity c =
+    let folder = c.args.folder.now in
+    let headers = c.args.headers.now in
+    let stop = c.in_err-identity.field-0.0 in
+    record {
+      only = answers_on (Gives (manifest_faults IsScript folder headers) (IsRevisionOf IsScript folder headers)) c.from_residual.result stop c.from_residual.ensures.1
+          (stop_answers folder headers (AreSaid headers) stop c.in_err-identity.ensures.step);
+    }
+
+pub returns : goal.returns
+returns c = record {
+  only = revision_answers IsScript c.args.folder.now c.args.headers.now c.in_ok-identity.identity c.in_ok-identity.hosted c.in_ok-identity.ensures.step.1 c.in_ok-revision.revision c.in_ok-revision.ensures.made
+      c.in_ok-identity.ensures.step.0;
+}

@@ -1,0 +1,100 @@
+-- What the steps of reading a manifest answer: a fault, and only it; or what is read, and only that. No public promise speaks
+-- of this.
+use Rattle.std.specs.Prelude.{ℕ, ◌≡◌, ⊤, List, [], ◌∷◌, ◌++◌, None, Option, Some, Ok, Err, Result, MatchOption}
+use Rattle.osgi_base.specs.Verdict.{Gives, answers, refuses}
+use Rattle.osgi_header.specs.declared.clause.Clause.{Clause}
+use Rattle.osgi_header.specs.declared.clause.ClauseAt.{ClauseAt}
+use Rattle.osgi_header.specs.declared.clause.ReadClauses.{ReadClauses}
+use Rattle.osgi_header.specs.declared.fault.HeaderFault.{HeaderFault}
+use Rattle.osgi_header.specs.declared.header.Header.{Header}
+use Rattle.osgi_header.specs.ReadClauses.{AreReadFrom}
+use Rattle.osgi_world.specs.declared.manifest_fault.ManifestFault.{ManifestFault}
+use Rattle.osgi_world.specs.declared.manifest_fault.ManifestKind.{ManifestKind}
+use Rattle.osgi_package.specs.computed.Answers.{IsOnly}
+use Rattle.osgi_manifest.specs.ClauseFaults.{AreFine, HasNone, clauses_of}
+use Rattle.osgi_manifest.specs.Manifests.{InValue}
+use Rattle.osgi_manifest.specs.Values.{AreClausesIn, header_value}
+use Rattle.osgi_manifest.specs.declared.stop.ClauseFault.{ClauseFault}
+use Rattle.osgi_manifest.specs.declared.stop.Stop.{Stop}
+use Rattle.osgi_manifest.specs.declared.stop.Stop.TheVariants.{Fault, Memory}
+
+-- ---- conditions
+
+-- the conditions call for this refusal first, and for no other
+abbrev pub IsTheFirst : {R : Type 0} → List (R → Type 0) → R → Type 0
+IsTheFirst conditions refusal = IsOnly (Gives conditions (λ (fine : Unit {0}). ⊤)) (refuses refusal)
+
+-- they call for none
+abbrev pub CallNone : {R : Type 0} → List (R → Type 0) → Type 0
+CallNone conditions = Gives conditions (λ (fine : Unit {0}). ⊤) (answers tt)
+
+-- ---- clauses
+
+-- what a clause makes of each of its paths, or its first fault
+abbrev pub IsTemplate : {X : Type 0} → List (ManifestKind → Type 0) → (List ℕ → X → Type 0) → (X → List ℕ → X) → Result X ManifestKind → Type 0
+IsTemplate faults Makes named (Ok template) = HasNone faults × ((path : List ℕ) → IsOnly (Makes path) (named template path))
+IsTemplate faults Makes named (Err kind) = IsTheFirst faults kind
+
+-- what a clause adds to the items so far, or its first fault
+abbrev pub IsAdded : {X : Type 0} → List (ManifestKind → Type 0) → (List X → Type 0) → List X → List X → Option ManifestKind → Type 0
+IsAdded faults Adds old new (Some kind) = IsTheFirst faults kind
+IsAdded {X} faults Adds old new None = HasNone faults × ((others : List X) × (new ≡ old ++ others) × IsOnly Adds others)
+
+-- the first faulty one of clauses, and its first fault
+pub record IsFirstFaulty (faults : List Clause → Clause → List (ManifestKind → Type 0)) (clauses : List ClauseAt) (fault : ClauseFault) : Type 0 where
+  pub before : List ClauseAt
+  pub clause : ClauseAt
+  pub rest : List ClauseAt
+  pub is : clauses ≡ before ++ clause ∷ rest
+  pub fine : AreFine faults (clauses_of before)
+  pub first : IsTheFirst (faults (clauses_of before) clause.clause) fault.kind
+  pub at : fault.at ≡ clause.at
+
+-- what clauses make, where none of them has a fault
+abbrev pub Walked : {A : Type 0} → (List Clause → Clause → List (ManifestKind → Type 0)) → (List Clause → A → Type 0) → List ClauseAt → Result A ClauseFault → Type 0
+Walked faults Makes clauses (Ok made) = AreFine faults (clauses_of clauses) × IsOnly (Makes (clauses_of clauses)) made
+Walked faults Makes clauses (Err fault) = IsFirstFaulty faults clauses fault
+
+-- ---- headers
+
+abbrev pub no_clauses : ReadClauses
+no_clauses = record { clauses = []; fault = None }
+
+-- what the header of this name says up to its first fault; without the header, nothing
+abbrev pub IsReadIn : List ℕ → List Header → ReadClauses → Type 0
+IsReadIn name headers read = MatchOption (header_value name headers) (read ≡ no_clauses) (λ value. IsOnly (AreReadFrom value) read)
+
+abbrev pub in_header : List ℕ → ManifestKind → ℕ → ManifestFault
+in_header name kind at = record { header = name; kind = kind; at = at }
+
+abbrev pub StopsAt : {A : Type 0} → ManifestFault → Result A Stop → Type 0
+StopsAt fault (Ok made) = ⊥
+StopsAt fault (Err (Fault found)) = found ≡ fault
+StopsAt fault (Err Memory) = ⊤
+
+abbrev pub GoesOn : {A : Type 0} → A → Result A Stop → Type 0
+GoesOn made result = result ≡ Ok made
+
+-- a clause outside the grammar is at fault where no clause before it is
+abbrev pub IsStopOf : {A : Type 0} → List ℕ → ManifestKind → Option HeaderFault → Result A ClauseFault → Result A Stop → Type 0
+IsStopOf name outside fault (Err found) = StopsAt (in_header name found.kind found.at)
+IsStopOf name outside (Some fault) (Ok made) = StopsAt (in_header name outside fault.at)
+IsStopOf name outside None (Ok made) = GoesOn made
+
+-- what the clauses of a header make
+abbrev pub IsMadeIn : {A : Type 0} → (List Clause → A → Type 0) → List Header → List ℕ → A → Type 0
+IsMadeIn Makes headers name made = (clauses : List Clause) × AreClausesIn headers name clauses × Makes clauses made
+
+-- what the header of this name makes, or its first fault, which it has only where it has something
+abbrev pub AnswersHeader : {A : Type 0} → (List Clause → Clause → List (ManifestKind → Type 0)) → ManifestKind → (List Clause → A → Type 0) → List Header → List ℕ → Result A Stop → Type 0
+AnswersHeader faults outside Makes headers name (Ok made) = ((found : ManifestFault) → ¬ InValue headers name faults outside found) × IsOnly (IsMadeIn Makes headers name) made
+AnswersHeader faults outside Makes headers name (Err (Fault fault)) = IsOnly (InValue headers name faults outside) fault × (¬ AreClausesIn headers name [])
+AnswersHeader faults outside Makes headers name (Err Memory) = ⊤
+
+-- ---- steps of reading
+
+-- none of these conditions calls for a fault, and this holds of what was read; or the first one that does
+abbrev pub IsStep : {A : Type 0} → List (ManifestFault → Type 0) → (A → Type 0) → Result A Stop → Type 0
+IsStep conditions Reads (Ok read) = CallNone conditions × Reads read
+IsStep conditions Reads (Err (Fault fault)) = IsTheFirst conditions fault
+IsStep conditions Reads (Err Memory) = ⊤

@@ -1,0 +1,110 @@
+//! The activator of a bundle, and its native code, of which there may be none.
+
+ghost use Rattle.std.specs.Prelude.{◌≡◌, ◌++◌, ℕ, List, codes, if◌then◌else◌, map, IfOk, MatchBool, OnOk};
+ghost use Rattle.std.specs.Option.{option_copied};
+ghost use Rattle.std.specs.Prelude.{◌==◌};
+ghost use Rattle.osgi_manifest.specs.Manifests as spec;
+ghost use Rattle.osgi_manifest.specs.computed.Answers.{IsStep};
+ghost use Rattle.osgi_manifest.specs.computed.Steps.{Anything, IsActivator, IsClassFault, activator_conditions, native_conditions};
+
+use crate::headers::{header_fault, header_value};
+use crate::host::has_host;
+use crate::stop::Stop;
+use osgi_base::folder::{File, Folder};
+use osgi_base::text::Text;
+use osgi_header::header::Header;
+use osgi_world::manifest_fault::ManifestKind;
+use std::alloc::{AllocError, Global};
+
+/// Tells which bytes are an activator's script.
+pub trait Scripts {
+    ghost is_script: { List ℕ → Type 0 };
+
+    fn is_script(alloc: Global, bytes: &[u8]) -> Result<bool, AllocError>
+        ensures script { IfOk result (λ r. MatchBool r (is_script bytes.now) (¬ is_script bytes.now)) };
+}
+
+/// The file of the path, if the folder has one.
+pub fn file_at<'a>(path: &[u8], folder: &'a Folder) -> Option<&'a File>
+    ensures file { option_copied result ≡ spec.file_at path.now folder.now }
+{
+    for file in folder.files.items() {
+        if file.path.bytes() == path {
+            return Some(file);
+        }
+    }
+    None
+}
+
+/// The path of the file of a class.
+fn class_file(alloc: Global, class: &[u8]) -> Result<Vec<u8>, AllocError>
+    ensures path { IfOk result (λ path. path.items ≡ spec.class_file class.now) }
+{
+    let mut path = Vec::new(alloc);
+    for b in class {
+        path.push(if *b == b'.' { b'/' } else { *b })?;
+    }
+    path.extend_from_slice(b".osc")?;
+    Ok(path)
+}
+
+/// The class that is the activator; a fragment has none.
+fn activator(headers: &[Header]) -> Option<&Text>
+    ensures class { option_copied result ≡ spec.activator headers.now }
+{
+    if has_host(headers) {
+        return None;
+    }
+    header_value(b"Bundle-Activator", headers)
+}
+
+/// The fault of a class whose file is missing or no script, if it has one.
+fn class_fault<S: Scripts>(
+    alloc: Global,
+    folder: &Folder,
+    class: &[u8],
+) -> Result<Option<ManifestKind>, AllocError>
+    ensures fault { IfOk result (IsClassFault S.is_script folder.now class.now) }
+{
+    let path = class_file(alloc, class)?;
+    let Some(file) = file_at(path.as_slice(), folder) else {
+        return Ok(Some(ManifestKind::NoScript));
+    };
+    if S::is_script(alloc, file.bytes.bytes())? {
+        Ok(None)
+    } else {
+        Ok(Some(ManifestKind::BadScript))
+    }
+}
+
+/// The class that is the activator, or the fault of its header.
+pub fn bundle_activator<S: Scripts>(
+    alloc: Global,
+    folder: &Folder,
+    headers: &[Header],
+) -> Result<Option<Text>, Stop>
+    ensures step { IsStep (activator_conditions S.is_script folder.now headers.now) (IsActivator headers.now) result }
+{
+    let Some(class) = activator(headers) else {
+        return Ok(None);
+    };
+    if let Some(kind) = class_fault::<S>(alloc, folder, class.bytes())? {
+        return Err(Stop::Fault(header_fault(alloc, b"Bundle-Activator", kind, 0)?));
+    }
+    Ok(Some(class.copy(alloc)?))
+}
+
+/// The fault of a bundle that has native code.
+pub fn native_code(alloc: Global, headers: &[Header]) -> Result<(), Stop>
+    ensures step { IsStep (native_conditions headers.now) Anything result }
+{
+    match header_value(b"Bundle-NativeCode", headers) {
+        None => Ok(()),
+        Some(_) => Err(Stop::Fault(header_fault(
+            alloc,
+            b"Bundle-NativeCode",
+            ManifestKind::NativeCode,
+            0,
+        )?)),
+    }
+}

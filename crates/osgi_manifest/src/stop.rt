@@ -1,0 +1,37 @@
+//! Why reading a manifest stops.
+
+ghost use Rattle.std.specs.Prelude.{◌≡◌};
+ghost use Rattle.osgi_manifest.specs.declared.stop.Stop.TheVariants.{Memory};
+
+use osgi_world::manifest_fault::{ManifestFault, ManifestKind};
+use std::alloc::{AllocError, AllocFailed};
+
+/// What is wrong with a header's value: the kind, and the byte at which the first faulty clause begins.
+#[derive(Clone, Copy, Debug, PartialEq, Eq)]
+pub struct ClauseFault {
+    pub kind: ManifestKind,
+    pub at: u64,
+}
+
+/// The manifest is faulty, or memory ran out.
+#[derive(Debug, Drop)]
+pub enum Stop {
+    Fault(ManifestFault),
+    Memory,
+}
+
+impl From<AllocError> for Stop {
+    ghost from_gives = { λ _ e. e ≡ Memory };
+
+    fn from(_e: AllocError) -> Stop {
+        Stop::Memory
+    }
+}
+
+impl<T: Drop> From<AllocFailed<T>> for Stop {
+    ghost from_gives = { λ _ e. e ≡ Memory };
+
+    fn from(_e: AllocFailed<T>) -> Stop {
+        Stop::Memory
+    }
+}

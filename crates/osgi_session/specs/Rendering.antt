@@ -1,0 +1,100 @@
+-- The text of a session: what each line and each entry writes.
+use Rattle.std.specs.Prelude.{ℕ, ◌≡◌, ◌↔◌, ◌&&◌, ◌||◌, ◌==◌, not, if◌then◌else◌, Bool, true, false, List, [], ◌∷◌, ◌++◌, codes, map}
+use Rattle.std.specs.List.{concat, join_with_byte, list_any}
+use Rattle.std.specs.Fmt.{decimal, signed_decimal}
+use Rattle.std.specs.Option.{option_to_list}
+use Rattle.osgi_base.specs.declared.ids.ServiceId.{ServiceId}
+use Rattle.osgi_ops.specs.Along.{along}
+use Rattle.osgi_session.specs.Lines.{entries_of, has_command, is_of}
+use Rattle.osgi_ops.specs.Names.{many_name, refusal_name, refusal_number}
+use Rattle.osgi_session.specs.Sessions.{IsRunOf}
+use Rattle.osgi_ops.specs.declared.op.Op.{Op}
+use Rattle.osgi_ops.specs.declared.op.Op.TheVariants.{Modify, Unregister, Unget}
+use Rattle.osgi_ops.specs.declared.refusal.Refusal.{Refusal}
+use Rattle.osgi_ops.specs.declared.refusal.Refusal.TheVariants.{NotOwner, TooMany}
+use Rattle.osgi_ops.specs.declared.reply.Reply.{Reply}
+use Rattle.osgi_ops.specs.declared.reply.Reply.TheVariants.{Service, Done, Best, Services, Object, Flag, ServiceRows, Refused}
+use Rattle.osgi_ops.specs.declared.entry.Entry.{Entry}
+use Rattle.osgi_ops.specs.declared.service.ServiceRow.{ServiceRow}
+use Rattle.osgi_session.specs.declared.line.Content.{Content}
+use Rattle.osgi_session.specs.declared.line.Content.TheVariants.{Empty, Join, Bad, Run}
+use Rattle.osgi_session.specs.declared.line.Line.{Line}
+
+-- what a refusal says besides its number and name. Refusals that no operation gives yet say nothing more so far
+abbrev pub details : Refusal → List ℕ
+details (NotOwner owner) = codes " " ++ decimal owner.0
+details (TooMany kind) = codes " " ++ many_name kind
+details _ = []
+
+abbrev pub refusal_text : Refusal → List ℕ
+refusal_text refusal = codes "refused " ++ decimal (refusal_number refusal) ++ codes " " ++ refusal_name refusal ++ details refusal
+
+-- ids, each after a space; `none` where there are none
+abbrev pub ids_text : List ServiceId → List ℕ
+ids_text [] = codes " none"
+ids_text ids = concat (map (λ id. codes " " ++ decimal id.0) ids)
+
+-- a text between quotes, with a `\` before each `"` and `\`
+abbrev pub quoted : List ℕ → List ℕ
+quoted text = 34 ∷ concat (map (λ b. if (b == 34) || (b == 92) then 92 ∷ b ∷ [] else b ∷ []) text) ++ 34 ∷ []
+
+abbrev pub truth : Bool → List ℕ
+truth true = codes "true"
+truth false = codes "false"
+
+-- what the list of services shows of one
+abbrev pub row_text : ServiceRow → List ℕ
+row_text row =
+    codes "service " ++ decimal row.service.0 ++ codes " " ++ decimal row.owner.0 ++ codes " " ++ signed_decimal row.ranking ++ codes " "
+    ++ join_with_byte 44 row.classes ++ codes " " ++ quoted row.object
+
+abbrev pub rows_lines : List ServiceRow → List (List ℕ)
+rows_lines [] = codes "none" ∷ []
+rows_lines rows = map row_text rows
+
+-- the lines that an operation and its reply write, after the entries before them. Answers that no operation gives yet write
+-- nothing so far
+abbrev pub entry_lines : List Entry → Op → Reply → List (List ℕ)
+entry_lines before op (Service service) = (codes "service " ++ decimal service.0) ∷ []
+entry_lines before op (Best service) = (codes "found" ++ ids_text (option_to_list service)) ∷ []
+entry_lines before op (Services services) = (codes "found" ++ ids_text services) ∷ []
+entry_lines before op (Object text) = (codes "object " ++ quoted text) ∷ []
+entry_lines before op (ServiceRows rows) = rows_lines rows
+entry_lines before op (Refused refusal) = refusal_text refusal ∷ []
+entry_lines before (Modify owner service properties) Done = (codes "modified " ++ decimal service.0) ∷ []
+entry_lines before (Unregister owner service) Done = (codes "unregistered " ++ decimal service.0) ∷ []
+entry_lines before (Unget user service) (Flag value) = (codes "unget " ++ truth value) ∷ []
+entry_lines before _ _ = []
+
+abbrev pub with_line_end : List ℕ → List ℕ
+with_line_end line = line ++ 10 ∷ []
+
+abbrev pub entry_text : List Entry → Entry → List ℕ
+entry_text before e = concat (map with_line_end (entry_lines before e.op e.reply))
+
+-- the entries of a line write their texts, in order of the history
+abbrev pub entries_text : ℕ → List Entry → List ℕ
+entries_text number history = along (λ before e. if is_of number e then entry_text before e else []) [] history
+
+-- the line has a command and no entry
+abbrev pub is_full : List Entry → Line → Bool
+is_full history line = has_command line.content && not (list_any (is_of line.number) history)
+
+-- a line with a command is not full exactly where its entries are a whole run of its plan
+abbrev pub IsFullWhereCut : List Entry → Line → Type 0
+IsFullWhereCut history line =
+    has_command line.content ≡ true → (is_full history line ≡ false) ↔ IsRunOf 0 line (entries_of line history)
+
+abbrev pub content_text : List Entry → ℕ → Content → List ℕ
+content_text history number Empty = []
+content_text history number Join = []
+content_text history number Bad = with_line_end (codes "syntax")
+content_text history number (Run command) = entries_text number history
+
+-- a line writes its text, and `full` where it is so
+abbrev pub line_text : List Entry → Line → List ℕ
+line_text history line = content_text history line.number line.content ++ (if is_full history line then with_line_end (codes "full") else [])
+
+-- the lines write their texts in input order
+abbrev pub render : List Line → List Entry → List ℕ
+render lines history = concat (map (line_text history) lines)

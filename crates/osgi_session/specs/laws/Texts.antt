@@ -1,0 +1,52 @@
+-- The text of a line's entries, with one more entry.
+use Rattle.std.proofs.Common.{◌≡◌, ℕ, List, [], ◌∷◌, ◌++◌, map, ap, ◌∙◌, refl}
+use Rattle.std.specs.Prelude.{false, cond}
+use Rattle.std.specs.List.{concat, list_any}
+use Rattle.std.proofs.lemmas.Bool.{or_parts}
+use Rattle.osgi_ops.specs.laws.Histories.{along-push}
+use Rattle.osgi_ops.specs.Along.{along}
+use Rattle.osgi_session.specs.Lines.{is_of}
+use Rattle.osgi_session.specs.Rendering.{entries_text, entry_lines, entry_text, with_line_end}
+use Rattle.osgi_ops.specs.declared.op.Op.{Op}
+use Rattle.osgi_ops.specs.declared.op.Op.TheVariants.{Modify, Unregister, Unget}
+use Rattle.osgi_ops.specs.declared.reply.Reply.{Reply}
+use Rattle.osgi_ops.specs.declared.reply.Reply.TheVariants.{Service, Done, Best, Services, Object, Flag, ServiceRows, Refused}
+use Rattle.osgi_ops.specs.declared.entry.Entry.{Entry}
+
+-- no entry's text depends on those before it yet
+lines_alone : (before : List Entry) (op : Op) (reply : Reply) → entry_lines before op reply ≡ entry_lines [] op reply
+lines_alone before op (Service service) = refl
+lines_alone before op (Best service) = refl
+lines_alone before op (Services services) = refl
+lines_alone before op (Object text) = refl
+lines_alone before op (ServiceRows rows) = refl
+lines_alone before op (Refused refusal) = refl
+lines_alone before (Modify owner service properties) Done = refl
+lines_alone before (Unregister owner service) Done = refl
+lines_alone before (Unget user service) (Flag value) = refl
+lines_alone before op reply = refl
+
+pub text_alone : (before : List Entry) (e : Entry) → entry_text before e ≡ entry_text [] e
+text_alone before e = ap (λ (l : List (List ℕ)). concat (map with_line_end l)) (lines_alone before e.op e.reply)
+
+pub entries_text-push : (number : ℕ) (history : List Entry) (e : Entry) →
+    entries_text number (history ++ e ∷ []) ≡ entries_text number history ++ (cond (is_of number e) (entry_text [] e) [])
+entries_text-push number history e =
+    along-push (λ before (x : Entry). cond (is_of number x) (entry_text before x) []) [] history e
+    ∙ ap (λ t. entries_text number history ++ cond (is_of number e) t []) (text_alone history e)
+
+none_by : (number : ℕ) (before : List Entry) (e : Entry) (rest : List Entry) → is_of number e ≡ false →
+    along (λ before (x : Entry). cond (is_of number x) (entry_text before x) []) (before ++ e ∷ []) rest ≡ [] →
+    along (λ before (x : Entry). cond (is_of number x) (entry_text before x) []) before (e ∷ rest) ≡ []
+none_by number before e rest other more = rw other more
+
+none_from : (number : ℕ) (before history : List Entry) → list_any (is_of number) history ≡ false →
+    along (λ before (x : Entry). cond (is_of number x) (entry_text before x) []) before history ≡ []
+none_from number before [] none = refl
+none_from number before (e ∷ rest) none =
+    let parts = or_parts (is_of number e) (list_any (is_of number) rest) none in
+    none_by number before e rest parts.0 (none_from number (before ++ e ∷ []) rest parts.1)
+
+-- a line without entries has no text
+pub entries_text-none : (number : ℕ) (history : List Entry) → list_any (is_of number) history ≡ false → entries_text number history ≡ []
+entries_text-none number history none = none_from number [] history none

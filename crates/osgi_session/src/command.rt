@@ -1,0 +1,341 @@
+//! The commands of the console and of scripts.
+
+ghost use Rattle.std.specs.Prelude.{◌≡◌, true, IfOk};
+ghost use Rattle.osgi_ops.specs.declared.target.Target.TheVariants as target;
+ghost use Rattle.osgi_session.specs.Plans.{op_of};
+
+use osgi_base::copied::{Copied, copy_option};
+use osgi_base::ids::{BundleId, ServiceId};
+use osgi_base::list::List;
+use osgi_base::text::Text;
+use osgi_model::filter::Filter;
+use osgi_model::value::Attributes;
+use osgi_ops::kind::Kind;
+use osgi_ops::op::Op;
+use osgi_ops::target::Target;
+use std::alloc::{AllocError, Global};
+
+#[derive(Debug, Drop, PartialEq, Eq)]
+pub enum Command {
+    /// `register CLASS[,CLASS].. "TEXT" [PROP]..`
+    Register {
+        classes: List<Text>,
+        object: Text,
+        properties: Attributes,
+    },
+    /// `modify ID [PROP]..`
+    Modify {
+        service: ServiceId,
+        properties: Attributes,
+    },
+    /// `unregister ID`
+    Unregister {
+        service: ServiceId,
+    },
+    /// `find CLASS [FILTER]`
+    Find {
+        class: Text,
+        filter: Option<Filter>,
+    },
+    /// `findall CLASS [FILTER]`
+    FindAll {
+        class: Text,
+        filter: Option<Filter>,
+    },
+    /// `get ID`
+    Get {
+        service: ServiceId,
+    },
+    /// `unget ID`
+    Unget {
+        service: ServiceId,
+    },
+    /// `start [-t] ID`
+    Start {
+        target: Target,
+        transient: bool,
+    },
+    /// `stop [-t] ID`
+    Stop {
+        target: Target,
+        transient: bool,
+    },
+    /// `load ID CLASS`
+    Load {
+        bundle: BundleId,
+        class: Text,
+    },
+    /// `install LOCATION`
+    Install {
+        location: Text,
+    },
+    /// `update ID LOCATION`
+    Update {
+        bundle: BundleId,
+        location: Text,
+    },
+    /// `uninstall ID`
+    Uninstall {
+        bundle: BundleId,
+    },
+    /// `resolve ID`
+    Resolve {
+        bundle: BundleId,
+    },
+    /// `refresh [ID]..`
+    Refresh {
+        bundles: List<BundleId>,
+    },
+    /// `wires ID`
+    Wires {
+        bundle: BundleId,
+    },
+    /// `level N`
+    Level {
+        level: u8,
+    },
+    /// `blevel ID N`
+    BundleLevel {
+        bundle: BundleId,
+        level: u8,
+    },
+    /// `bundles`
+    Bundles,
+    /// `services`
+    Services,
+    /// `listen NAME service|all|bundle|framework [FILTER]`, in scripts
+    Listen {
+        name: Text,
+        kind: Kind,
+        filter: Option<Filter>,
+    },
+    /// `unlisten NAME`, in scripts
+    Unlisten {
+        name: Text,
+    },
+    /// `job NAME`, in scripts
+    Job {
+        name: Text,
+    },
+    /// `print "TEXT"`, in scripts
+    Print {
+        text: Text,
+    },
+    /// `fail "TEXT"`, in scripts
+    Fail {
+        text: Text,
+    },
+}
+
+fn register(
+    alloc: Global,
+    classes: &List<Text>,
+    object: &Text,
+    properties: &Attributes,
+) -> Result<Command, AllocError>
+    ensures made { IfOk result (λ made. made ≡ Command.Register classes.now object.now properties.now) }
+{
+    Ok(Command::Register {
+        classes: classes.copy(alloc)?,
+        object: object.copy(alloc)?,
+        properties: properties.copy(alloc)?,
+    })
+}
+
+fn modify(alloc: Global, service: ServiceId, properties: &Attributes) -> Result<Command, AllocError>
+    ensures made { IfOk result (λ made. made ≡ Command.Modify service properties.now) }
+{
+    Ok(Command::Modify {
+        service,
+        properties: properties.copy(alloc)?,
+    })
+}
+
+fn find(alloc: Global, class: &Text, filter: &Option<Filter>) -> Result<Command, AllocError>
+    ensures made { IfOk result (λ made. made ≡ Command.Find class.now filter.now) }
+{
+    Ok(Command::Find {
+        class: class.copy(alloc)?,
+        filter: copy_option(filter, alloc)?,
+    })
+}
+
+fn find_all(alloc: Global, class: &Text, filter: &Option<Filter>) -> Result<Command, AllocError>
+    ensures made { IfOk result (λ made. made ≡ Command.FindAll class.now filter.now) }
+{
+    Ok(Command::FindAll {
+        class: class.copy(alloc)?,
+        filter: copy_option(filter, alloc)?,
+    })
+}
+
+fn listen(
+    alloc: Global,
+    name: &Text,
+    kind: Kind,
+    filter: &Option<Filter>,
+) -> Result<Command, AllocError>
+    ensures made { IfOk result (λ made. made ≡ Command.Listen name.now kind filter.now) }
+{
+    Ok(Command::Listen {
+        name: name.copy(alloc)?,
+        kind,
+        filter: copy_option(filter, alloc)?,
+    })
+}
+
+impl Command {
+    pub fn copy(&self, alloc: Global) -> Result<Command, AllocError>
+        ensures same { IfOk result (λ copy. copy ≡ self.now) }
+    {
+        match self {
+            Command::Register {
+                classes,
+                object,
+                properties,
+            } => register(alloc, classes, object, properties),
+            Command::Modify {
+                service,
+                properties,
+            } => modify(alloc, *service, properties),
+            &Command::Unregister { service } => Ok(Command::Unregister { service }),
+            Command::Find { class, filter } => find(alloc, class, filter),
+            Command::FindAll { class, filter } => find_all(alloc, class, filter),
+            &Command::Get { service } => Ok(Command::Get { service }),
+            &Command::Unget { service } => Ok(Command::Unget { service }),
+            Command::Start { target, transient } => Ok(Command::Start {
+                target: target.copy(alloc)?,
+                transient: *transient,
+            }),
+            Command::Stop { target, transient } => Ok(Command::Stop {
+                target: target.copy(alloc)?,
+                transient: *transient,
+            }),
+            Command::Load { bundle, class } => Ok(Command::Load {
+                bundle: *bundle,
+                class: class.copy(alloc)?,
+            }),
+            Command::Install { location } => Ok(Command::Install {
+                location: location.copy(alloc)?,
+            }),
+            Command::Update { bundle, location } => Ok(Command::Update {
+                bundle: *bundle,
+                location: location.copy(alloc)?,
+            }),
+            &Command::Uninstall { bundle } => Ok(Command::Uninstall { bundle }),
+            &Command::Resolve { bundle } => Ok(Command::Resolve { bundle }),
+            Command::Refresh { bundles } => Ok(Command::Refresh {
+                bundles: bundles.copy(alloc)?,
+            }),
+            &Command::Wires { bundle } => Ok(Command::Wires { bundle }),
+            &Command::Level { level } => Ok(Command::Level { level }),
+            &Command::BundleLevel { bundle, level } => Ok(Command::BundleLevel { bundle, level }),
+            Command::Bundles => Ok(Command::Bundles),
+            Command::Services => Ok(Command::Services),
+            Command::Listen { name, kind, filter } => listen(alloc, name, *kind, filter),
+            Command::Unlisten { name } => Ok(Command::Unlisten {
+                name: name.copy(alloc)?,
+            }),
+            Command::Job { name } => Ok(Command::Job {
+                name: name.copy(alloc)?,
+            }),
+            Command::Print { text } => Ok(Command::Print {
+                text: text.copy(alloc)?,
+            }),
+            Command::Fail { text } => Ok(Command::Fail {
+                text: text.copy(alloc)?,
+            }),
+        }
+    }
+
+    /// The operation that the command's plan begins with, where the bundle runs it.
+    pub fn into_op(self, asker: BundleId) -> Op
+        ensures operation { result ≡ op_of asker self }
+    {
+        let (owner, user) = (asker, asker);
+        match self {
+            Command::Register {
+                classes,
+                object,
+                properties,
+            } => Op::Register {
+                owner,
+                classes,
+                object,
+                properties,
+            },
+            Command::Modify {
+                service,
+                properties,
+            } => Op::Modify {
+                owner,
+                service,
+                properties,
+            },
+            Command::Unregister { service } => Op::Unregister { owner, service },
+            Command::Find { class, filter } => Op::Find {
+                asker,
+                class,
+                filter,
+            },
+            Command::FindAll { class, filter } => Op::FindAll {
+                asker,
+                class,
+                filter,
+            },
+            Command::Get { service } => Op::Get { user, service },
+            Command::Unget { service } => Op::Unget { user, service },
+            Command::Start { target, transient } => Op::WishStart { target, transient },
+            Command::Stop { target, transient } => Op::BeginStop { target, transient },
+            Command::Load { bundle, class } => load(asker, bundle, class),
+            Command::Install { location } => Op::Install { location },
+            Command::Update { bundle, .. } | Command::Uninstall { bundle } => stop(bundle),
+            Command::Resolve { bundle } => Op::Resolve { bundle },
+            Command::Refresh { bundles } => Op::BeginRefresh { bundles },
+            Command::Wires { bundle } => Op::ListWires { bundle },
+            Command::Level { level } => Op::BeginLevel {
+                target_level: level,
+            },
+            Command::BundleLevel { bundle, level } => Op::SetBundleLevel { bundle, level },
+            Command::Bundles => Op::ListBundles,
+            Command::Services => Op::ListServices,
+            Command::Listen { name, kind, filter } => Op::AddListener {
+                owner,
+                name,
+                kind,
+                filter,
+            },
+            Command::Unlisten { name } => Op::RemoveListener { owner, name },
+            Command::Job { name } => Op::QueueJob { owner, name },
+            Command::Print { text } => Op::Print { owner, text },
+            Command::Fail { text } => Op::Fail { owner, text },
+        }
+    }
+}
+
+/// What a bundle asks for to load a class; the console resolves the bundle first.
+fn load(asker: BundleId, bundle: BundleId, class: Text) -> Op
+    ensures load { result ≡ op_of asker (Command.Load bundle class) }
+{
+    if asker.0 == 0 {
+        Op::Resolve { bundle }
+    } else {
+        Op::Load { bundle, class }
+    }
+}
+
+/// The stop with which an update and an uninstall begin. It is transient: a bundle that is marked to be started stays so.
+fn stop(bundle: BundleId) -> Op
+    ensures stop { result ≡ Op.BeginStop (target.Id bundle) true }
+{
+    Op::BeginStop {
+        target: Target::Id(bundle),
+        transient: true,
+    }
+}
+
+impl Copied for Command {
+    fn copied(&self, alloc: Global) -> Result<Command, AllocError> {
+        self.copy(alloc)
+    }
+}

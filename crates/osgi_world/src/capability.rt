@@ -1,0 +1,50 @@
+//! Capabilities: what a bundle offers to others.
+
+ghost use Rattle.std.specs.Prelude.{◌≡◌, IfOk};
+
+use osgi_base::copied::Copied;
+use osgi_base::list::List;
+use osgi_base::text::Text;
+use osgi_model::value::Attributes;
+use std::alloc::{AllocError, Global};
+
+/// A capability of a revision: in the package namespace a package that it exports, in the bundle namespace the bundle
+/// itself, in others what it provides. There the name is that of the namespace.
+#[derive(Debug, Drop, PartialEq, Eq)]
+pub struct Capability {
+    pub namespace: Text,
+    pub name: Text,
+    pub attributes: Attributes,
+    /// The packages that the types of an exported package name.
+    pub uses: List<Text>,
+    /// The attributes that an import has to give.
+    pub mandatory: List<Text>,
+}
+
+impl Capability {
+    pub fn copy(&self, alloc: Global) -> Result<Capability, AllocError>
+        ensures same { IfOk result (λ copy. copy ≡ self.now) }
+    {
+        let (uses, mandatory) = self.copy_directives(alloc)?;
+        Ok(Capability {
+            namespace: self.namespace.copy(alloc)?,
+            name: self.name.copy(alloc)?,
+            attributes: self.attributes.copy(alloc)?,
+            uses,
+            mandatory,
+        })
+    }
+
+    fn copy_directives(&self, alloc: Global) -> Result<(List<Text>, List<Text>), AllocError>
+        ensures same { IfOk result (λ copies. copies ≡ (self.now.uses, self.now.mandatory)) }
+    {
+        let uses = self.uses.copy(alloc)?;
+        Ok((uses, self.mandatory.copy(alloc)?))
+    }
+}
+
+impl Copied for Capability {
+    fn copied(&self, alloc: Global) -> Result<Capability, AllocError> {
+        self.copy(alloc)
+    }
+}

@@ -1,0 +1,131 @@
+//! Revisions: what the manifest of a bundle says, and which files its folder has.
+
+ghost use Rattle.std.specs.Prelude.{◌≤◌, ◌+◌, length};
+ghost use Rattle.osgi_world.specs.declared.revision.TheConstants.{MAX_MEMBERS};
+
+use crate::capability::Capability;
+use crate::requirement::Requirement;
+use osgi_base::copied::{Copied, copy_option};
+use osgi_base::list::List;
+use osgi_base::text::Text;
+use osgi_version::version::Version;
+use std::alloc::{AllocError, Global};
+
+/// How many capabilities a revision may have, and how many requirements, dynamic imports among them.
+pub const MAX_MEMBERS: usize = 4_294_967_294;
+
+/// Which classes activate a lazy bundle when they are loaded: those of the packages that are included, all packages where
+/// `include` is none, without those that are excluded.
+#[derive(Debug, Drop, PartialEq, Eq)]
+pub struct Policy {
+    pub include: Option<List<Text>>,
+    pub exclude: List<Text>,
+}
+
+impl Policy {
+    ghost use Rattle.std.specs.Prelude.{◌≡◌, IfOk};
+
+    pub fn copy(&self, alloc: Global) -> Result<Policy, AllocError>
+        ensures same { IfOk result (λ copy. copy ≡ self.now) }
+    {
+        Ok(Policy {
+            include: copy_option(&self.include, alloc)?,
+            exclude: self.exclude.copy(alloc)?,
+        })
+    }
+}
+
+impl Copied for Policy {
+    fn copied(&self, alloc: Global) -> Result<Policy, AllocError> {
+        self.copy(alloc)
+    }
+}
+
+/// A revision of a bundle.
+#[derive(Debug, Drop, PartialEq, Eq)]
+pub struct Revision {
+    /// The symbolic name.
+    pub name: Text,
+    pub version: Version,
+    pub singleton: bool,
+    /// Whether fragments may attach to it.
+    pub attach: bool,
+    /// The host that it is a fragment of, if it is a fragment.
+    pub host: Option<Requirement>,
+    /// The class that the manifest names as activator.
+    pub activator: Option<Text>,
+    pub capabilities: List<Capability>,
+    /// Required bundles, then imports, then others, each in the order of the manifest.
+    pub requirements: List<Requirement>,
+    /// Imports that are wired when a class is loaded.
+    pub dynamics: List<Requirement>,
+    pub lazy: Option<Policy>,
+    /// The paths of the folder's files.
+    pub files: List<Text>,
+    pub ghost capabilities_fit: { length capabilities ≤ MAX_MEMBERS },
+    pub ghost requirements_fit: { length requirements + length dynamics ≤ MAX_MEMBERS },
+}
+
+impl Revision {
+    ghost use Rattle.std.specs.Prelude.{◌≡◌, IfOk};
+
+    pub fn copy(&self, alloc: Global) -> Result<Revision, AllocError>
+        ensures same { IfOk result (λ copy. copy ≡ self.now) }
+    {
+        let (name, version, host) = self.copy_identity(alloc)?;
+        let (capabilities, requirements, dynamics) = self.copy_members(alloc)?;
+        let (activator, lazy, files) = self.copy_contents(alloc)?;
+        Ok(Revision {
+            name,
+            version,
+            singleton: self.singleton,
+            attach: self.attach,
+            host,
+            activator,
+            capabilities,
+            requirements,
+            dynamics,
+            lazy,
+            files,
+        })
+    }
+
+    fn copy_identity(
+        &self,
+        alloc: Global,
+    ) -> Result<(Text, Version, Option<Requirement>), AllocError>
+        ensures same { IfOk result (λ copies. copies ≡ (self.now.name, self.now.version, self.now.host)) }
+    {
+        let name = self.name.copy(alloc)?;
+        let version = self.version.copy(alloc)?;
+        Ok((name, version, copy_option(&self.host, alloc)?))
+    }
+
+    fn copy_members(
+        &self,
+        alloc: Global,
+    ) -> Result<(List<Capability>, List<Requirement>, List<Requirement>), AllocError>
+        ensures same { IfOk result (λ copies. copies ≡ (self.now.capabilities, self.now.requirements, self.now.dynamics)) }
+    {
+        let capabilities = self.capabilities.copy(alloc)?;
+        let requirements = self.requirements.copy(alloc)?;
+        Ok((capabilities, requirements, self.dynamics.copy(alloc)?))
+    }
+
+    fn copy_contents(
+        &self,
+        alloc: Global,
+    ) -> Result<(Option<Text>, Option<Policy>, List<Text>), AllocError>
+        ensures same { IfOk result (λ copies. copies ≡ (self.now.activator, self.now.lazy, self.now.files)) }
+    {
+        let activator = copy_option(&self.activator, alloc)?;
+        let lazy = copy_option(&self.lazy, alloc)?;
+        Ok((activator, lazy, self.files.copy(alloc)?))
+    }
+}
+
+impl Copied for Revision {
+    fn copied(&self, alloc: Global) -> Result<Revision, AllocError> {
+        self.copy(alloc)
+    }
+}
