@@ -5,6 +5,7 @@ use osgi_base::ids::{BundleId, Tag};
 use osgi_base::list::List;
 use osgi_console::parse;
 use osgi_core::Core;
+use osgi_ops::depot::Depot;
 use osgi_ops::limits::Limits;
 use osgi_session::line::{Content, Line};
 use std::alloc::{AllocError, Global};
@@ -53,7 +54,10 @@ fn run_block(rt: &HostRuntime, core: &mut Core, block: &str) -> Result<()> {
 
 /// Runs the blocks of a text on one machine.
 pub fn run(rt: &HostRuntime, text: &str) -> Result<()> {
-    let mut core = Core::new(rt.alloc(), Limits::standard())?;
+    let depot = Depot {
+        rows: List::new(rt.alloc())?,
+    };
+    let mut core = Core::new(rt.alloc(), Limits::standard(), depot)?;
     for block in text.split("\n.\n") {
         run_block(rt, &mut core, block)?;
     }

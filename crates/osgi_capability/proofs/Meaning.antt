@@ -2,10 +2,9 @@
 use Rattle.std.proofs.Common.{◌≡◌, ◌≢◌, ℕ, ◌⊎◌, inl, inr, List, [], ◌∷◌, ap, sym, ◌∙◌, refl, subst}
 use Rattle.std.specs.Prelude.{if◌then◌else◌, Bool, true, false, not, IsTrue, IfSome, IsSome, All, codes, bytes_eq, is_none, is_some, Option, Some, None}
 use Rattle.std.specs.Bool.{Decides}
-use Rattle.std.specs.List.{list_all, list_any}
 use Rattle.std.specs.Option.{option_map_or}
 use Rattle.std.proofs.lemmas.Bool.{false≢true}
-use Rattle.std.proofs.lemmas.Bool.Decides.{Decides-and, Decides-at, Decides-by_and, Decides-eqb, Decides-like, Decides-not, Decides-or}
+use Rattle.std.proofs.lemmas.Bool.Decides.{Decides-and, Decides-by_and, Decides-eqb, Decides-like, Decides-not, Decides-or}
 use Rattle.std.proofs.lemmas.Slice.Eq.{bytes_eq-Decides}
 use Rattle.osgi_version.specs.RangeValues.{is_within, range_parts}
 use Rattle.osgi_version.specs.Ranges.{RangeParts, at_least_zero}
@@ -14,15 +13,14 @@ use Rattle.osgi_version.specs.Versions.{Parts, numbered}
 use Rattle.osgi_version.specs.declared.version.Version.{Version}
 use Rattle.osgi_model.specs.Comparing.{exact_value, value_eq}
 use Rattle.osgi_model.specs.Matching.{attribute_value, Matches, OneOf}
-use Rattle.osgi_world.specs.Satisfaction.{is_bundle, is_package, IsGiven, IsOrdinary, Satisfies, SatisfiesImport, version_in, ordinary, version, bundle_version, bundle_name}
-use Rattle.osgi_model.specs.computed.MatchReader.{matches}
+use Rattle.osgi_world.specs.Satisfaction.{is_bundle, is_package, IsGiven, IsOrdinary, Satisfies, SatisfiesImport, ordinary, version, bundle_version, bundle_name}
 use Rattle.osgi_model.specs.laws.Decided.{matches_decides}
 use Rattle.osgi_world.specs.declared.capability.Capability.{Capability}
 use Rattle.osgi_model.specs.declared.filter.Filter.{Filter}
 use Rattle.osgi_world.specs.declared.requirement.Requirement.{Requirement}
 use Rattle.osgi_model.specs.declared.value.Attribute.{Attribute}
 use Rattle.osgi_model.specs.declared.value.Value.{Value}
-use Rattle.osgi_capability.specs.computed.Satisfied.{all_equal, all_given, fits_filter, fits_import, has_equal, is_at_least_zero, is_exporter, is_given, is_listed, is_satisfied, is_zero, meets}
+use Rattle.osgi_capability.specs.computed.Satisfied.{all_equal, all_given, fits_filter, fits_import, has_equal, is_at_least_zero, is_given, is_listed, is_satisfied, is_zero, meets}
 
 -- ---- the range at least 0.0.0
 

@@ -6,7 +6,7 @@ use Rattle.std.specs.List.{concat, join_with_byte}
 use Rattle.std.proofs.lemmas.List.{at_drop_all, at_drop_more}
 use Rattle.std.proofs.lemmas.Simd.{map-map}
 use Rattle.osgi_base.specs.declared.ids.ServiceId.{ServiceId}
-use Rattle.osgi_session.specs.Rendering.{ids_text, row_text, rows_lines, with_line_end}
+use Rattle.osgi_session.specs.Rendering.{ids_text, service_row_text, service_lines, with_line_end}
 use Rattle.osgi_ops.specs.declared.service.ServiceRow.{ServiceRow}
 
 -- a byte as it stands between quotes
@@ -35,9 +35,9 @@ ids_text-some [] none = absurd (cc)
 ids_text-some (id ∷ ids) some = refl
 
 -- the lines of services, where there are some
-pub rows_lines-some : (rows : List ServiceRow) → nat_eq (length rows) 0 ≡ false → map with_line_end (rows_lines rows) ≡ map (λ row. with_line_end (row_text row)) rows
-rows_lines-some [] none = absurd (cc)
-rows_lines-some (row ∷ rows) some = map-map with_line_end row_text (row ∷ rows)
+pub service_lines-some : (rows : List ServiceRow) → nat_eq (length rows) 0 ≡ false → map with_line_end (service_lines rows) ≡ map (λ row. with_line_end (service_row_text row)) rows
+service_lines-some [] none = absurd (cc)
+service_lines-some (row ∷ rows) some = map-map with_line_end service_row_text (row ∷ rows)
 
 -- joined pieces: the first, and the others each after a comma
 pub join-cons : (class : List ℕ) (classes : List (List ℕ)) → join_with_byte 44 (class ∷ classes) ≡ class ++ concat (map (λ c. 44 ∷ c) classes)

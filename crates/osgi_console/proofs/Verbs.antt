@@ -1,8 +1,9 @@
 -- Lines are read as the command that they say, and only as that.
 use Rattle.std.proofs.Common.{◌≡◌, ℕ, ◌<◌, List, [], ◌∷◌, length, ap, sym, ◌∙◌, refl, arith, subst, length-take}
-use Rattle.std.specs.Prelude.{Option, Some, option_and_then, codes}
+use Rattle.std.specs.Prelude.{◌==◌, Option, None, Some, option_and_then, codes}
 use Rattle.std.specs.Option.{option_map}
 use Rattle.std.specs.Str.{bytes_eq}
+use Rattle.std.proofs.lemmas.Bool.{cond-false, ne_eqb}
 use Rattle.std.proofs.lemmas.Option.{option_and_then_some}
 use Rattle.osgi_base.specs.declared.ids.ServiceId.{ServiceId}
 use Rattle.osgi_model.specs.declared.filter.Filter.{Filter}
@@ -16,6 +17,7 @@ use Rattle.osgi_model.specs.laws.Made.{mapped, passes_found, same_text}
 use Rattle.osgi_syntax.specs.laws.Attributes.{properties_read, properties_sound, whole_properties}
 use Rattle.osgi_syntax.specs.laws.Names.{classes_read, classes_sound, whole_classes}
 use Rattle.osgi_console.proofs.Filters.{filter_ends, wanted_read, wanted_sound}
+use Rattle.osgi_console.proofs.Locations.{location_read, location_sound}
 use Rattle.osgi_syntax.specs.laws.Ids.{id_read, id_sound, whole_id}
 use Rattle.osgi_syntax.specs.laws.Separating.{first_separates, words_separate}
 use Rattle.osgi_base.specs.laws.Quoting.{quoted_read, quoted_sound}
@@ -23,14 +25,14 @@ use Rattle.osgi_syntax.specs.laws.Spaces.{EndsWord}
 use Rattle.osgi_syntax.specs.laws.Splitting.{begins, after_word-ends}
 use Rattle.osgi_syntax.specs.laws.Whole.{ends_all, first_separated, HasFirstWord, separated_words, whole_quoted}
 use Rattle.osgi_console.specs.Console as says
-use Rattle.osgi_console.specs.computed.LineReader.{command_by, command_of, modify_of, name_of, only_id_of, register_of, services_command, verb_of, verbs, search_of}
+use Rattle.osgi_console.specs.computed.LineReader.{alone, command_by, command_of, location_of, modify_of, name_of, only_id_of, register_of, verb_of, verbs, search_of}
 use Rattle.osgi_syntax.specs.PropertyReader.{properties_of}
 use Rattle.osgi_base.specs.Parts.{part_len}
 use Rattle.osgi_syntax.specs.Splitting.{after_spaces, after_word, first_word, words_of}
 use Rattle.osgi_base.specs.QuoteReader.{quoted_of}
 use Rattle.osgi_syntax.specs.WordReader.{classes_of, id_of}
 use Rattle.osgi_syntax.specs.Lines.{IsFilterEnd}
-use Rattle.osgi_syntax.specs.LineWords.{AreLineWords, IsLineWord}
+use Rattle.osgi_syntax.specs.LineWords.{IsLineWord}
 use Rattle.osgi_syntax.specs.Words.{AreSpaces, IsClass, IsId, IsSeparated}
 
 -- ---- the first word
@@ -46,6 +48,8 @@ whole_name verb.Find = record { some = omega arith; scanned = refl }
 whole_name verb.FindAll = record { some = omega arith; scanned = refl }
 whole_name verb.Get = record { some = omega arith; scanned = refl }
 whole_name verb.Unget = record { some = omega arith; scanned = refl }
+whole_name verb.Install = record { some = omega arith; scanned = refl }
+whole_name verb.Bundles = record { some = omega arith; scanned = refl }
 whole_name verb.Services = record { some = omega arith; scanned = refl }
 
 -- a line with such a first word has one
@@ -103,11 +107,11 @@ modify_sound (id ∷ words) c e =
     let read = mapped (command.Modify service) (properties_of words) c behind_id in
     rw (← read.is) (says.modify (id_sound id service is) (properties_sound words read.value read.was)))
 
-services_sound : (arguments : List (List ℕ)) (c : Command) → services_command arguments ≡ Some c → says.AreWordsOf (codes "services" ∷ arguments) c
-services_sound [] c e =
-    let is : command.Services ≡ c = cc e in
-    rw (← is) says.services
-services_sound (word ∷ rest) c e = absurd (cc e)
+-- a command that is its name alone
+alone_sound : (name : List ℕ) (of c : Command) (arguments : List (List ℕ)) → alone of arguments ≡ Some c → says.AreWordsOf (name ∷ []) of → says.AreWordsOf (name ∷ arguments) c
+alone_sound name of c [] e said = subst (says.AreWordsOf (name ∷ [])) (cc e) said
+alone_sound name of c (word ∷ rest) e said =
+    absurd (cc (e, cond-false (length (word ∷ rest) == 0) (Some of) None (ne_eqb _ 0 (λ none. absurd (omega (arith, none))))))
 
 -- a command in words alone
 said_in_words : (v : Verb) (line : List ℕ) (c : Command) → name_of v ≡ first_word line → says.AreWordsOf (name_of v ∷ words_of (after_word line)) c → says.Says line c
@@ -128,6 +132,15 @@ said_of_class v make line c named e said =
     (first_separates (IsFilterEnd read.value.filter) (read.value.class ∷ []) line wanted.separated) in
     subst (says.Says line) read.is (said read.value.class read.value.filter wanted.class separated)
 
+-- a command of a location
+said_of_location : (line : List ℕ) (c : Command) → name_of verb.Install ≡ first_word line → option_map command.Install (location_of (after_word line)) ≡ Some c → says.Says line c
+said_of_location line c named e =
+    let read = mapped command.Install (location_of (after_word line)) c e in
+    let alone = location_sound (after_word line) read.value (after_word-ends line) read.was in
+    let separated : IsSeparated AreSpaces (codes "install" ∷ read.value ∷ []) (32 ∷ line)
+    = subst (λ l. IsSeparated AreSpaces (l ∷ read.value ∷ []) (32 ∷ line)) (sym named) (first_separates AreSpaces (read.value ∷ []) line alone.separated) in
+    subst (says.Says line) read.is (says.in_words (says.install alone.location) separated)
+
 says_by : (v : Verb) (line : List ℕ) (c : Command) → name_of v ≡ first_word line → command_by v (after_word line) ≡ Some c → says.Says line c
 says_by verb.Register line c named e = said_in_words verb.Register line c named (register_sound (words_of (after_word line)) c e)
 says_by verb.Modify line c named e = said_in_words verb.Modify line c named (modify_sound (words_of (after_word line)) c e)
@@ -140,7 +153,11 @@ says_by verb.Get line c named e =
     said_in_words verb.Get line c named (id_command (codes "get") command.Get (words_of (after_word line)) c e (λ word service id. says.get id))
 says_by verb.Unget line c named e =
     said_in_words verb.Unget line c named (id_command (codes "unget") command.Unget (words_of (after_word line)) c e (λ word service id. says.unget id))
-says_by verb.Services line c named e = said_in_words verb.Services line c named (services_sound (words_of (after_word line)) c e)
+says_by verb.Install line c named e = said_of_location line c named e
+says_by verb.Bundles line c named e =
+    said_in_words verb.Bundles line c named (alone_sound (codes "bundles") command.Bundles c (words_of (after_word line)) e says.bundles)
+says_by verb.Services line c named e =
+    said_in_words verb.Services line c named (alone_sound (codes "services") command.Services c (words_of (after_word line)) e says.services)
 
 pub command_sound : (line : List ℕ) (c : Command) → command_of line ≡ Some c → says.Says line c
 command_sound line c e =
@@ -157,63 +174,82 @@ verb_read verb.Find = refl
 verb_read verb.FindAll = refl
 verb_read verb.Get = refl
 verb_read verb.Unget = refl
+verb_read verb.Install = refl
+verb_read verb.Bundles = refl
 verb_read verb.Services = refl
 
 -- a line's first word is this one, and so the command is read from what follows it
 read_by : (v : Verb) (line rest : List ℕ) (c : Command) → HasFirstWord line (name_of v) rest → command_by v rest ≡ Some c → command_of line ≡ Some c
 read_by v line rest c prefix by = rw (prefix.first, prefix.remainder, verb_read v) by
 
--- words of a command: the name, and arguments from which the command is read
+only_id_read : (word : List ℕ) (service : ServiceId) (text : List ℕ) → IsId word service → IsSeparated AreSpaces (word ∷ []) text → only_id_of (words_of text) ≡ Some service
+only_id_read word service text is separated = ap only_id_of (separated_words (word ∷ []) text (whole_id word service is, tt) separated) ∙ id_read word service is
+
+-- words of a command: the name, and arguments; where these part a text, the command is read from it
 record HasVerb (words : List (List ℕ)) (c : Command) : Type 0 where
   verb : Verb
   arguments : List (List ℕ)
   is : words ≡ name_of verb ∷ arguments
-  whole : AreLineWords arguments
-  read : (text : List ℕ) → words_of text ≡ arguments → command_by verb text ≡ Some c
+  read : (text : List ℕ) → IsSeparated AreSpaces arguments text → command_by verb text ≡ Some c
 
 has_verb : (words : List (List ℕ)) (c : Command) → says.AreWordsOf words c → HasVerb words c
 has_verb words c (says.register {names = names} {quoted = quoted} {words = rest} {classes = classes} {object = object} {properties = properties} are is own) = record {
   verb = verb.Register;
   arguments = names ∷ quoted ∷ rest;
   is = refl;
-  whole = (whole_classes names classes are, (whole_quoted quoted object is, whole_properties rest properties own));
-  read = λ text e. ap register_of e ∙ rw (classes_read names classes are, quoted_read quoted object is, properties_read rest properties own) refl;
+  read = λ text separated.
+      ap register_of (separated_words (names ∷ quoted ∷ rest) text (whole_classes names classes are, (whole_quoted quoted object is, whole_properties rest properties own)) separated)
+      ∙ rw (classes_read names classes are, quoted_read quoted object is, properties_read rest properties own) refl;
 }
 has_verb words c (says.modify {id = id} {words = rest} {service = service} {properties = properties} is own) = record {
   verb = verb.Modify;
   arguments = id ∷ rest;
   is = refl;
-  whole = (whole_id id service is, whole_properties rest properties own);
-  read = λ text e. ap modify_of e ∙ rw (id_read id service is, properties_read rest properties own) refl;
+  read = λ text separated.
+      ap modify_of (separated_words (id ∷ rest) text (whole_id id service is, whole_properties rest properties own) separated)
+      ∙ rw (id_read id service is, properties_read rest properties own) refl;
 }
 has_verb words c (says.unregister {id = id} {service = service} is) = record {
   verb = verb.Unregister;
   arguments = id ∷ [];
   is = refl;
-  whole = (whole_id id service is, tt);
-  read = λ text e. ap (λ l. option_map command.Unregister (only_id_of l)) e ∙ ap (option_map command.Unregister) (id_read id service is);
+  read = λ text separated. ap (option_map command.Unregister) (only_id_read id service text is separated);
 }
 has_verb words c (says.get {id = id} {service = service} is) = record {
   verb = verb.Get;
   arguments = id ∷ [];
   is = refl;
-  whole = (whole_id id service is, tt);
-  read = λ text e. ap (λ l. option_map command.Get (only_id_of l)) e ∙ ap (option_map command.Get) (id_read id service is);
+  read = λ text separated. ap (option_map command.Get) (only_id_read id service text is separated);
 }
 has_verb words c (says.unget {id = id} {service = service} is) = record {
   verb = verb.Unget;
   arguments = id ∷ [];
   is = refl;
-  whole = (whole_id id service is, tt);
-  read = λ text e. ap (λ l. option_map command.Unget (only_id_of l)) e ∙ ap (option_map command.Unget) (id_read id service is);
+  read = λ text separated. ap (option_map command.Unget) (only_id_read id service text is separated);
 }
-has_verb words c says.services = record { verb = verb.Services; arguments = []; is = refl; whole = tt; read = λ text e. ap services_command e }
+has_verb words c (says.install {location = location} is) = record {
+  verb = verb.Install;
+  arguments = location ∷ [];
+  is = refl;
+  read = λ text separated. ap (option_map command.Install) (location_read location text is separated);
+}
+has_verb words c says.bundles = record {
+  verb = verb.Bundles;
+  arguments = [];
+  is = refl;
+  read = λ text separated. ap (alone command.Bundles) (separated_words [] text tt separated);
+}
+has_verb words c says.services = record {
+  verb = verb.Services;
+  arguments = [];
+  is = refl;
+  read = λ text separated. ap (alone command.Services) (separated_words [] text tt separated);
+}
 
 words_read : (words : List (List ℕ)) (line : List ℕ) (c : Command) → HasVerb words c → IsSeparated AreSpaces words (32 ∷ line) → command_of line ≡ Some c
 words_read words line c has separated =
     let named : IsSeparated AreSpaces (name_of has.verb ∷ has.arguments) (32 ∷ line) = subst (λ l. IsSeparated AreSpaces l (32 ∷ line)) has.is separated in
-    read_by has.verb line named.1 c (named_front AreSpaces has.verb has.arguments line ends_all named)
-    (has.read named.1 (separated_words has.arguments named.1 has.whole named.5))
+    read_by has.verb line named.1 c (named_front AreSpaces has.verb has.arguments line ends_all named) (has.read named.1 named.5)
 
 pub command_read : (line : List ℕ) (c : Command) → says.Says line c → command_of line ≡ Some c
 command_read line c (says.in_words {words = words} are separated) = words_read words line c (has_verb words c are) separated

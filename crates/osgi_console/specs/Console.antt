@@ -1,5 +1,5 @@
 -- The text of the console: which lines the input has, and what each of them says.
-use Rattle.std.specs.Prelude.{ℕ, ◌≡◌, ◌+◌, List, [], ◌∷◌, codes, Option}
+use Rattle.std.specs.Prelude.{ℕ, ◌≡◌, ◌+◌, ◌==◌, not, List, [], ◌∷◌, codes, Option}
 use Rattle.std.specs.Str.Lines.{lines}
 use Rattle.osgi_base.specs.declared.ids.ServiceId.{ServiceId}
 use Rattle.osgi_model.specs.declared.filter.Filter.{Filter}
@@ -12,7 +12,11 @@ use Rattle.osgi_session.specs.declared.line.Line.{Line}
 use Rattle.osgi_syntax.specs.Lines.{IsFilterEnd, SaysNothing}
 use Rattle.osgi_syntax.specs.Properties.{AreProperties}
 use Rattle.osgi_base.specs.Quotes.{IsQuoted}
-use Rattle.osgi_syntax.specs.Words.{AreClasses, AreSpaces, IsClass, IsId, IsSeparated}
+use Rattle.osgi_syntax.specs.Words.{AreClasses, AreSpaces, IsClass, IsId, IsSeparated, IsSomeOf}
+
+-- a location: one or more bytes other than a space
+abbrev pub IsLocation : List ℕ → Type 0
+IsLocation word = IsSomeOf (λ b. not (b == 32)) word
 
 -- the words of a command that is words alone
 pub data AreWordsOf : List (List ℕ) → Command → Type 0 where
@@ -29,6 +33,10 @@ pub data AreWordsOf : List (List ℕ) → Command → Type 0 where
   get : {id : List ℕ} {service : ServiceId} → IsId id service → AreWordsOf (codes "get" ∷ id ∷ []) (command.Get service)
   -- `unget ID`
   unget : {id : List ℕ} {service : ServiceId} → IsId id service → AreWordsOf (codes "unget" ∷ id ∷ []) (command.Unget service)
+  -- `install LOCATION`
+  install : {location : List ℕ} → IsLocation location → AreWordsOf (codes "install" ∷ location ∷ []) (command.Install location)
+  -- `bundles`
+  bundles : AreWordsOf (codes "bundles" ∷ []) command.Bundles
   -- `services`
   services : AreWordsOf (codes "services" ∷ []) command.Services
 

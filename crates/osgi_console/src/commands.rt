@@ -1,8 +1,10 @@
 //! The commands, read from lines: the first word says how the rest is read.
 
-ghost use Rattle.std.specs.Prelude.{◌≡◌, IfOk};
+ghost use Rattle.std.specs.Prelude.{◌≡◌, ◌==◌, length, None, Some, IfOk, MatchOption};
+ghost use Rattle.std.specs.List.{position};
+ghost use Rattle.std.specs.Option.{option_map};
 ghost use Rattle.osgi_filter.specs.computed.Reader.{read_filter};
-ghost use Rattle.osgi_console.specs.computed.LineReader.{command_by, command_of, modify_of, name_of, only_id_of, register_of, services_command, verb_of, search_of};
+ghost use Rattle.osgi_console.specs.computed.LineReader.{command_by, command_of, is_space, location_of, modify_of, name_of, only_id_of, register_of, verb_of, search_of};
 ghost use Rattle.osgi_syntax.specs.Splitting.{words_of};
 
 use osgi_base::ids::ServiceId;
@@ -27,10 +29,12 @@ enum Verb {
     FindAll,
     Get,
     Unget,
+    Install,
+    Bundles,
     Services,
 }
 
-const VERBS: [Verb; 8] = [
+const VERBS: [Verb; 10] = [
     Verb::Register,
     Verb::Modify,
     Verb::Unregister,
@@ -38,6 +42,8 @@ const VERBS: [Verb; 8] = [
     Verb::FindAll,
     Verb::Get,
     Verb::Unget,
+    Verb::Install,
+    Verb::Bundles,
     Verb::Services,
 ];
 
@@ -53,6 +59,8 @@ impl Verb {
             Verb::FindAll => b"findall",
             Verb::Get => b"get",
             Verb::Unget => b"unget",
+            Verb::Install => b"install",
+            Verb::Bundles => b"bundles",
             Verb::Services => b"services",
         }
     }
@@ -127,14 +135,43 @@ fn only_id(text: &[u8]) -> Option<ServiceId>
     }
 }
 
-/// `services`, from what follows its first word.
-fn services(text: &[u8]) -> Option<Command>
-    ensures command { result ≡ services_command (words_of text.now) }
+/// Whether no word is left.
+fn has_no_word(text: &[u8]) -> bool
+    ensures none { result ≡ (length (words_of text.now) == 0) }
 {
-    match split_word(text) {
-        Some(_) => None,
-        None => Some(Command::Services),
+    split_word(text).is_none()
+}
+
+fn first_space(text: &[u8]) -> Option<usize>
+    ensures place { result ≡ position is_space text.now }
+{
+    text.iter().position(|b| *b == b' ')
+}
+
+/// The one argument, which is a location; none where it is none. Quotes mean nothing in it.
+fn location(text: &[u8]) -> Option<&[u8]>
+    ensures location { MatchOption result (location_of text.now ≡ None) (λ word. location_of text.now ≡ Some word.now) }
+{
+    let text = skip_spaces(text);
+    let end = first_space(text).unwrap_or(text.len());
+    let (word, rest) = text.split_at(end);
+    if end != 0 && skip_spaces(rest).is_empty() {
+        Some(word)
+    } else {
+        None
     }
+}
+
+/// `install LOCATION`, from what follows its first word.
+fn install(alloc: Global, text: &[u8]) -> Result<Option<Command>, AllocError>
+    ensures command { IfOk result (λ command. command ≡ option_map Command.Install (location_of text.now)) }
+{
+    let Some(location) = location(text) else {
+        return Ok(None);
+    };
+    Ok(Some(Command::Install {
+        location: Text::of(alloc, location)?,
+    }))
 }
 
 /// The filter that a text reads as; none where it is none.
@@ -184,7 +221,9 @@ fn command_by(alloc: Global, verb: Verb, text: &[u8]) -> Result<Option<Command>,
         })),
         Verb::Get => Ok(only_id(text).map(|service| Command::Get { service })),
         Verb::Unget => Ok(only_id(text).map(|service| Command::Unget { service })),
-        Verb::Services => Ok(services(text)),
+        Verb::Install => install(alloc, text),
+        Verb::Bundles => Ok(has_no_word(text).then(|| Command::Bundles)),
+        Verb::Services => Ok(has_no_word(text).then(|| Command::Services)),
     }
 }
 

@@ -3,7 +3,9 @@
 
 mod commands;
 mod reading;
+mod refusals;
 mod rendering;
+mod writing;
 
 pub use reading::parse;
 pub use rendering::render;

@@ -1,68 +1,23 @@
 //! The text of a session.
 
-ghost use Rattle.std.specs.Prelude.{◌≡◌, ◌==◌, ◌||◌, if◌then◌else◌, ◌∷◌, [], ◌++◌, codes, map, IfOk, OnOk};
-ghost use Rattle.std.specs.Fmt.{decimal, signed_decimal};
+ghost use Rattle.std.specs.Prelude.{◌≡◌, [], ◌++◌, codes, map, IfOk, OnOk};
+ghost use Rattle.std.specs.Fmt.{decimal};
 ghost use Rattle.std.specs.List.{concat, join_with_byte};
-ghost use Rattle.osgi_session.specs.Rendering.{details, refusal_text, ids_text, quoted, row_text, rows_lines, truth, with_line_end, entry_text, render};
+ghost use Rattle.osgi_session.specs.Rendering.{bundle_row_text, ids_text, quoted, service_lines, service_row_text, truth, with_line_end, entry_text, render};
 ghost use Rattle.osgi_console.specs.computed.Texts.{AreTextsOf, line_text_by, text_at};
 
-use itoa::Buffer;
+use crate::refusals::add_refusal;
+use crate::writing::{add_quoted, add_ranking, add_spaced, add_spaced_number};
 use osgi_base::ids::ServiceId;
 use osgi_base::text::Text;
 use osgi_ops::entry::Entry;
 use osgi_ops::op::Op;
-use osgi_ops::refusal::Refusal;
 use osgi_ops::reply::Reply;
+use osgi_ops::rows::BundleRow;
 use osgi_ops::service::ServiceRow;
 use osgi_session::line::{Content, Line};
 use std::alloc::{AllocError, Global};
 use std::collections::BTreeMap;
-
-/// Adds a number in decimal.
-fn add_number(out: &mut Vec<u8>, number: u64) -> Result<(), AllocError>
-    ensures added { OnOk result (out.new.items ≡ out.old.items ++ decimal number) }
-{
-    let mut buffer = Buffer::new();
-    out.extend_from_slice(buffer.format(number).as_bytes())
-}
-
-/// Adds a ranking in decimal.
-fn add_ranking(out: &mut Vec<u8>, ranking: i32) -> Result<(), AllocError>
-    ensures added { OnOk result (out.new.items ≡ out.old.items ++ signed_decimal ranking) }
-{
-    let mut buffer = Buffer::new();
-    out.extend_from_slice(buffer.format(ranking).as_bytes())
-}
-
-/// Adds what a refusal says besides its number and name.
-fn add_details(out: &mut Vec<u8>, refusal: &Refusal) -> Result<(), AllocError>
-    ensures added { OnOk result (out.new.items ≡ out.old.items ++ details refusal.now) }
-{
-    match refusal {
-        Refusal::TooMany { kind } => {
-            out.push(b' ')?;
-            out.extend_from_slice(kind.name().as_bytes())
-        }
-        Refusal::NotOwner { owner } => {
-            out.push(b' ')?;
-            add_number(out, u64::from(owner.0))
-        }
-        _ => Ok(()),
-    }
-}
-
-/// Adds the line of a refusal.
-fn add_refusal(out: &mut Vec<u8>, refusal: &Refusal) -> Result<(), AllocError>
-    ensures added { OnOk result (out.new.items ≡ out.old.items ++ with_line_end (refusal_text refusal.now)) }
-{
-    out.extend_from_slice(b"refused ")?;
-    add_number(out, u64::from(refusal.number()))?;
-    out.push(b' ')?;
-    out.extend_from_slice(refusal.name().as_bytes())?;
-    add_details(out, refusal)?;
-    out.push(b'\n')?;
-    Ok(())
-}
 
 /// Adds ids, each after a space.
 fn add_ids(out: &mut Vec<u8>, ids: &[ServiceId]) -> Result<(), AllocError>
@@ -72,32 +27,8 @@ fn add_ids(out: &mut Vec<u8>, ids: &[ServiceId]) -> Result<(), AllocError>
         return out.extend_from_slice(b" none");
     }
     for id in ids {
-        out.push(b' ')?;
-        add_number(out, id.0)?;
+        add_spaced_number(out, id.0)?;
     }
-    Ok(())
-}
-
-/// Adds a byte as it stands between quotes.
-fn add_escaped(out: &mut Vec<u8>, byte: u8) -> Result<(), AllocError>
-    ensures added { OnOk result (out.new.items ≡ out.old.items ++ (if (byte == 34) || (byte == 92) then 92 ∷ byte ∷ [] else byte ∷ [])) }
-{
-    if byte == b'"' || byte == b'\\' {
-        return out.extend_from_slice(&[b'\\', byte]);
-    }
-    out.push(byte)?;
-    Ok(())
-}
-
-/// Adds a text between quotes, with a `\` before each `"` and `\`.
-fn add_quoted(out: &mut Vec<u8>, text: &[u8]) -> Result<(), AllocError>
-    ensures added { OnOk result (out.new.items ≡ out.old.items ++ quoted text.now) }
-{
-    out.push(b'"')?;
-    for byte in text {
-        add_escaped(out, *byte)?;
-    }
-    out.push(b'"')?;
     Ok(())
 }
 
@@ -116,43 +47,66 @@ fn add_classes(out: &mut Vec<u8>, classes: &[Text]) -> Result<(), AllocError>
     Ok(())
 }
 
-/// Adds what the list of services shows of one.
-fn add_row(out: &mut Vec<u8>, row: &ServiceRow) -> Result<(), AllocError>
-    ensures added { OnOk result (out.new.items ≡ out.old.items ++ row_text row.now) }
+/// Adds the line of a service in a list.
+fn add_service_row(out: &mut Vec<u8>, row: &ServiceRow) -> Result<(), AllocError>
+    ensures added { OnOk result (out.new.items ≡ out.old.items ++ with_line_end (service_row_text row.now)) }
 {
-    out.extend_from_slice(b"service ")?;
-    add_number(out, row.service.0)?;
-    out.push(b' ')?;
-    add_number(out, u64::from(row.owner.0))?;
+    out.extend_from_slice(b"service")?;
+    add_spaced_number(out, row.service.0)?;
+    add_spaced_number(out, u64::from(row.owner.0))?;
     out.push(b' ')?;
     add_ranking(out, row.ranking)?;
     out.push(b' ')?;
     add_classes(out, row.classes.items())?;
     out.push(b' ')?;
-    add_quoted(out, row.object.bytes())
+    add_quoted(out, row.object.bytes())?;
+    out.push(b'\n')?;
+    Ok(())
 }
 
 /// Adds the lines of a list of services.
-fn add_rows(out: &mut Vec<u8>, rows: &[ServiceRow]) -> Result<(), AllocError>
-    ensures added { OnOk result (out.new.items ≡ out.old.items ++ concat (map with_line_end (rows_lines rows.now))) }
+fn add_services(out: &mut Vec<u8>, rows: &[ServiceRow]) -> Result<(), AllocError>
+    ensures added { OnOk result (out.new.items ≡ out.old.items ++ concat (map with_line_end (service_lines rows.now))) }
 {
     if rows.is_empty() {
         return out.extend_from_slice(b"none\n");
     }
     for row in rows {
-        add_row(out, row)?;
-        out.push(b'\n')?;
+        add_service_row(out, row)?;
+    }
+    Ok(())
+}
+
+/// Adds the line of a bundle in a list.
+fn add_bundle_row(alloc: Global, out: &mut Vec<u8>, row: &BundleRow) -> Result<(), AllocError>
+    ensures added { OnOk result (out.new.items ≡ out.old.items ++ with_line_end (bundle_row_text row.now)) }
+{
+    out.extend_from_slice(b"bundle")?;
+    add_spaced_number(out, u64::from(row.bundle.0))?;
+    add_spaced_number(out, u64::from(row.state))?;
+    add_spaced_number(out, u64::from(row.level))?;
+    add_spaced(out, row.name.bytes())?;
+    add_spaced(out, row.version.print(alloc)?.as_slice())?;
+    out.push(b'\n')?;
+    Ok(())
+}
+
+/// Adds the lines of a list of bundles.
+fn add_bundles(alloc: Global, out: &mut Vec<u8>, rows: &[BundleRow]) -> Result<(), AllocError>
+    ensures added { OnOk result (out.new.items ≡ out.old.items ++ concat (map with_line_end (map bundle_row_text rows.now))) }
+{
+    for row in rows {
+        add_bundle_row(alloc, out, row)?;
     }
     Ok(())
 }
 
 /// Adds a line of a word and an id.
-fn add_id_line(out: &mut Vec<u8>, word: &[u8], id: ServiceId) -> Result<(), AllocError>
-    ensures added { OnOk result (out.new.items ≡ out.old.items ++ with_line_end (word.now ++ codes " " ++ decimal id.0)) }
+fn add_id_line(out: &mut Vec<u8>, word: &[u8], id: u64) -> Result<(), AllocError>
+    ensures added { OnOk result (out.new.items ≡ out.old.items ++ with_line_end (word.now ++ codes " " ++ decimal id)) }
 {
     out.extend_from_slice(word)?;
-    out.push(b' ')?;
-    add_number(out, id.0)?;
+    add_spaced_number(out, id)?;
     out.push(b'\n')?;
     Ok(())
 }
@@ -189,19 +143,21 @@ fn add_unget(out: &mut Vec<u8>, value: bool) -> Result<(), AllocError>
 }
 
 /// Adds the lines of an entry.
-fn add_entry(out: &mut Vec<u8>, entry: &Entry) -> Result<(), AllocError>
+fn add_entry(alloc: Global, out: &mut Vec<u8>, entry: &Entry) -> Result<(), AllocError>
     ensures added { OnOk result (out.new.items ≡ out.old.items ++ entry_text [] entry.now) }
 {
     match (&entry.op, &entry.reply) {
-        (_, Reply::Service { service }) => add_id_line(out, b"service", *service),
+        (_, Reply::Service { service }) => add_id_line(out, b"service", service.0),
         (_, Reply::Best { service }) => add_found(out, service.as_slice()),
         (_, Reply::Services { services }) => add_found(out, services.items()),
         (_, Reply::Object { text }) => add_object(out, text.bytes()),
-        (_, Reply::ServiceRows { rows }) => add_rows(out, rows.items()),
+        (_, Reply::Bundle { bundle, .. }) => add_id_line(out, b"bundle", u64::from(bundle.0)),
+        (_, Reply::Bundles { rows }) => add_bundles(alloc, out, rows.items()),
+        (_, Reply::ServiceRows { rows }) => add_services(out, rows.items()),
         (_, Reply::Refused { refusal }) => add_refusal(out, refusal),
-        (Op::Modify { service, .. }, Reply::Done) => add_id_line(out, b"modified", *service),
+        (Op::Modify { service, .. }, Reply::Done) => add_id_line(out, b"modified", service.0),
         (Op::Unregister { service, .. }, Reply::Done) => {
-            add_id_line(out, b"unregistered", *service)
+            add_id_line(out, b"unregistered", service.0)
         }
         (Op::Unget { .. }, Reply::Flag { value }) => add_unget(out, *value),
         _ => Ok(()),
@@ -217,7 +173,7 @@ fn texts(alloc: Global, entries: &[Entry]) -> Result<BTreeMap<u32, Vec<u8>>, All
         let number = entry.tag.command;
         // Taken out and put back: what the map then holds has a contract, which a loan into it has not.
         let mut text = texts.remove(&number).unwrap_or(Vec::new(alloc));
-        add_entry(&mut text, entry)?;
+        add_entry(alloc, &mut text, entry)?;
         texts.insert(number, text)?;
     }
     Ok(texts)

@@ -1,111 +1,94 @@
--- What the registry answers is what is due after each history that it stands for.
-use Rattle.std.proofs.Common.{◌≡◌, ◌≢◌, ◌+◌, ◌≤◌, ◌<◌, ℕ, inl, inr, List, [], ◌∷◌, ◌++◌, length, map, drop, ap, sym, subst, ◌∙◌, refl, arith}
-use Rattle.std.specs.Prelude.{⊤, Bool, true, false, cond, ◌==◌, nat_le, nat_lt, Option, None, Some, Result, Ok, Err, IfOk, IsSomeAnd}
-use Rattle.std.specs.Option.{option_map_or, option_or}
-use Rattle.std.proofs.lemmas.Bool.{eq-eqb, eqb-false, eqb-true, leb-false, leb-true}
-use Rattle.osgi_base.specs.declared.ids.BundleId.{BundleId}
-use Rattle.osgi_base.specs.declared.ids.ServiceId.{ServiceId}
-use Rattle.osgi_model.specs.declared.filter.Filter.{Filter}
-use Rattle.osgi_model.specs.declared.value.Attribute.{Attribute}
-use Rattle.osgi_base.specs.laws.Verdicts.{gives_first, gives_rest}
-use Rattle.osgi_ops.specs.Bundles.{IsLive, system}
-use Rattle.osgi_ops.specs.Classes.{AreRanked, IsFound, IsOf, IsOpenTo}
-use Rattle.osgi_ops.specs.Operations.{Answers, conditions, IsReply, moment, Moment, no_such_bundle, row_of}
-use Rattle.osgi_ops.specs.Properties.{has_twins}
-use Rattle.osgi_ops.specs.Services.{live, live_at, Registered, registered, services, uses, uses_of}
-use Rattle.osgi_ops.specs.declared.limits.TheConstants.{MAX_SERVICES}
-use Rattle.osgi_base.specs.Verdict.{answers, Gives, refuses, Verdict, Where}
+-- What the tables answer is what is due at each moment that they stand for.
+use Rattle.std.proofs.Common.{◌≡◌, ◌+◌, length, List, [], ◌∷◌, ◌++◌, map, ap, sym, subst, ◌∙◌, refl}
+use Rattle.std.specs.Prelude.{⊤, true, false, None, Option, Some, MatchOption, Result, Ok, Err, IfOk, OnErr}
+use Rattle.osgi_base.specs.Verdict.{Gives, refuses}
+use Rattle.osgi_base.specs.declared.ids.Tag.{Tag}
+use Rattle.osgi_base.specs.laws.Verdicts.{gives_first}
+use Rattle.osgi_bundle.specs.Rows.{row_of}
+use Rattle.osgi_bundle.specs.laws.Standing as table
+use Rattle.osgi_ops.specs.Bundles.{bundle_row, bundles, installed, installed_by}
+use Rattle.osgi_ops.specs.Moments.{later, Moment}
+use Rattle.osgi_ops.specs.Operations.{Answers, asker_of, IsReply, own_conditions}
+use Rattle.osgi_ops.specs.Replies.{verdict}
+use Rattle.osgi_ops.specs.Worlds.{Leaves, with_revision}
+use Rattle.osgi_ops.specs.declared.depot.DepotRow.{DepotRow}
 use Rattle.osgi_ops.specs.declared.entry.Entry.{Entry}
 use Rattle.osgi_ops.specs.declared.op.Op.{Op}
 use Rattle.osgi_ops.specs.declared.op.Op.TheVariants as op
-use Rattle.osgi_ops.specs.declared.refusal.Many.TheVariants.{Services}
 use Rattle.osgi_ops.specs.declared.refusal.Refusal.{Refusal}
-use Rattle.osgi_ops.specs.declared.refusal.Refusal.TheVariants.{NoSuchBundle, InvalidOperation, NoSuchService, BadProperties, NotOwner, TooMany}
+use Rattle.osgi_ops.specs.declared.refusal.Refusal.TheVariants.{InvalidOperation}
 use Rattle.osgi_ops.specs.declared.reply.Reply.{Reply}
 use Rattle.osgi_ops.specs.declared.reply.Reply.TheVariants as answer
-use Rattle.osgi_ops.specs.declared.service.Service.{Service}
-use Rattle.osgi_ops.specs.declared.service.ServiceRow.{ServiceRow}
-use Rattle.osgi_registry.specs.laws.Standing.{Found, nowhere, quiet_find, quiet_find_all, quiet_list, quiet_refused, rows_found, rows_length, rows_services, stands_quiet, there}
-use Rattle.osgi_registry.specs.Rows.{count_of, IsOpenBy, modify_refusal, object_at, refusal_at, register_refusal, RegistryRows, Row, row_at, services_in, twins_refusal, use_count}
-use Rattle.osgi_registry.specs.Stands.{IsRowOf, StandsAfter, StandsFor}
-use Rattle.osgi_core.specs.computed.Replied.{is_known, IsReplied}
+use Rattle.osgi_registry.specs.Rows.{RegistryRows}
+use Rattle.osgi_registry.specs.laws.Standing as registry
+use Rattle.osgi_core.proofs.Asking.{passed_by, refused_by}
+use Rattle.osgi_core.specs.computed.Asked.{asker_refusal}
+use Rattle.osgi_core.specs.computed.Replied.{is_known, IsReplied, StandsFor, StandsStill}
+use Rattle.osgi_core.specs.computed.Served.{IsServed, StillStands}
+use Rattle.osgi_core.specs.declared.tables.Tables.{Tables}
 
--- ---- bundles
+-- the operation with this reply installs no bundle
+abbrev pub InstallsNone : Op → Reply → Type 0
+InstallsNone o reply = (depot : List DepotRow) → installed_by depot o reply ≡ None
 
-is_system : (bundle : BundleId) → (bundle.0 == 0) ≡ true → bundle ≡ system
-is_system bundle is = λ i. record { 0 = eqb-true bundle.0 0 is i }
+refused_installs : (o : Op) (refusal : Refusal) → InstallsNone o (answer.Refused refusal)
+refused_installs (op.Install location) refusal depot = refl
+refused_installs _ refusal depot = refl
 
-not_system : (bundle : BundleId) → (bundle.0 == 0) ≡ false → bundle ≡ system → ⊥
-not_system bundle other is = eqb-false bundle.0 0 other (ap (λ (b : BundleId). b.0) is)
+world_stays : (now : Moment) (o : Op) (reply : Reply) (tables : Tables) → InstallsNone o reply → StandsFor now tables → Leaves now o reply tables.world
+world_stays now o reply tables none stood =
+    subst (λ made. MatchOption made (tables.world ≡ now.world)
+    (λ b. tables.world ≡ with_revision now.world (record { 0 = length (installed now.setting.depot now.before) + 1 }) b.bundle b.revision)) (sym (none now.setting.depot)) stood.world
 
--- an operation whose first condition is that a bundle is there
-abbrev pub Asks : BundleId → Op → Type 1
-Asks bundle o = (now : Moment) → conditions now o ≡ no_such_bundle now bundle ∷ drop 1 (conditions now o)
+-- ---- operations on services
 
-no_bundle : (o : Op) (bundle : BundleId) (now : Moment) → Asks bundle o → (bundle.0 == 0) ≡ false → IsReply now o (answer.Refused NoSuchBundle)
-no_bundle o bundle now asks other =
-    subst (λ cs. Gives cs (Answers now o) (refuses NoSuchBundle)) (sym (asks now)) (gives_first NoSuchBundle (¬ IsLive now.before bundle) (drop 1 (conditions now o)) (Answers now o) (not_system bundle other))
+abbrev with_services : RegistryRows → Tables → Tables
+with_services services tables = record tables { registry = services }
 
--- one that is there is not refused by it
-some_bundle : (o : Op) (bundle : BundleId) (now : Moment) (v : Verdict Refusal Reply) → Asks bundle o → (bundle.0 == 0) ≡ true → Gives (drop 1 (conditions now o)) (Answers now o) v → Gives (conditions now o) (Answers now o) v
-some_bundle o bundle now v asks is issued =
-    subst (λ cs. Gives cs (Answers now o) v) (sym (asks now)) (gives_rest NoSuchBundle (¬ IsLive now.before bundle) (drop 1 (conditions now o)) (Answers now o) v (λ not. not (is_system bundle is)) issued)
+pub replied_served : (o : Op) (old : Tables) (new : RegistryRows) (reply : Reply) → InstallsNone o reply → asker_refusal old.bundles (asker_of o) ≡ None → IsServed o old.registry new reply → IsReplied o old (with_services new old) reply
+replied_served o old new reply none passes served = record {
+  due = λ now stood. passed_by now old.bundles (asker_of o) (own_conditions now o) (Answers now o) (verdict reply) stood.bundles passes (served.due now stood.services);
+  left = λ now stood. world_stays now o reply old none stood;
+  stands = λ now stood.
+      let e : Entry = record { tag = now.tag; op = o; reply = reply } in
+      record {
+        depot = stood.depot;
+        services = served.stands now.before now.tag stood.services;
+        bundles = table.stands_quiet now.setting.depot now.before old.bundles e stood.bundles (none now.setting.depot);
+        world = refl;
+      };
+}
 
--- ---- services
+pub served_ok : {E : Type 0} (r : Result (Reply × Reply) E) (o : Op) (old : Tables) (new : RegistryRows) → ((reply : Reply) → InstallsNone o reply) → asker_refusal old.bundles (asker_of o) ≡ None → IfOk r (λ x. IsServed o old.registry new x.0) →
+    IfOk r (λ x. IsReplied o old (with_services new old) x.0)
+served_ok (Ok x) o old new none passes served = replied_served o old new x.0 (none x.0) passes served
+served_ok (Err e) o old new none passes served = tt
 
-abbrev Others : BundleId → Option Registered → Refusal → Type 0
-Others owner of refusal = IsSomeAnd of (λ r. (r.owner ≢ owner) × (refusal ≡ NotOwner r.owner))
+pub still_stands : {T E : Type 0} (r : Result T E) (old : Tables) (new : RegistryRows) → OnErr r (StillStands old.registry new) → OnErr r (StandsStill old (with_services new old))
+still_stands (Ok x) old new still = tt
+still_stands (Err e) old new still = λ now stood. record { depot = stood.depot; services = still now.before stood.services; bundles = stood.bundles; world = stood.world }
 
-same_owner : (row : Row) (r : Registered) → IsRowOf row r → row.service.owner ≡ r.owner
-same_owner row r is = ap (λ (s : Service). s.owner) is.service
+-- ---- refusals
 
-refused_there : (owner : BundleId) (row : Row) (r : Registered) (refusal : Refusal) (rest : List (Refusal → Type 0)) (due : Reply → Type 0) (own : Bool) → (owner.0 == row.service.owner.0) ≡ own → IsRowOf row r →
-    Some refusal ≡ cond own None (Some (NotOwner row.service.owner)) → Gives (Where NoSuchService (Some r ≡ None) ∷ Others owner (Some r) ∷ rest) due (refuses refusal)
-refused_there owner row r refusal rest due true own is e = absurd (cc e)
-refused_there owner row r refusal rest due false own is e =
-    let named : refusal ≡ NotOwner row.service.owner = cc e in
-    let other : r.owner ≡ owner → ⊥ = λ same. eqb-false owner.0 row.service.owner.0 own (ap (λ (b : BundleId). b.0) (sym same ∙ sym (same_owner row r is))) in
-    inr ((λ f called. cc called.1), inl (refusal, (other, named ∙ ap NotOwner (same_owner row r is)), refl))
+-- what refuses an operation changes no table
+pub replied_refused : (o : Op) (tables : Tables) (refusal : Refusal) → ((now : Moment) → StandsFor now tables → IsReply now o (answer.Refused refusal)) → IsReplied o tables tables (answer.Refused refusal)
+replied_refused o tables refusal due = record {
+  due = due;
+  left = λ now stood. world_stays now o (answer.Refused refusal) tables (refused_installs o refusal) stood;
+  stands = λ now stood.
+      let e : Entry = record { tag = now.tag; op = o; reply = answer.Refused refusal } in
+      record {
+        depot = stood.depot;
+        services = registry.stands_quiet now.before tables.registry e stood.services (registry.quiet_refused now.tag o refusal);
+        bundles = table.stands_quiet now.setting.depot now.before tables.bundles e stood.bundles (refused_installs o refusal now.setting.depot);
+        world = refl;
+      };
+}
 
--- the refusal by the row is the first that is called for
-change_refused : (owner : BundleId) (at : Option Row) (of : Option Registered) (refusal : Refusal) (rest : List (Refusal → Type 0)) (due : Reply → Type 0) → Found at of → Some refusal ≡ refusal_at owner at →
-    Gives (Where NoSuchService (of ≡ None) ∷ Others owner of ∷ rest) due (refuses refusal)
-change_refused owner None (Some r) refusal rest due found e = elim found [ ]
-change_refused owner (Some row) None refusal rest due found e = elim found [ ]
-change_refused owner None None refusal rest due nowhere e =
-    let named : refusal ≡ NoSuchService = cc e in
-    inl (NoSuchService, (refl, refl), ap refuses named)
-change_refused owner (Some row) (Some r) refusal rest due (there is) e = refused_there owner row r refusal rest due (owner.0 == row.service.owner.0) refl is e
-
-passed_there : (owner : BundleId) (row : Row) (r : Registered) (rest : List (Refusal → Type 0)) (due : Reply → Type 0) (v : Verdict Refusal Reply) (own : Bool) → (owner.0 == row.service.owner.0) ≡ own → IsRowOf row r →
-    None ≡ cond own None (Some (NotOwner row.service.owner)) → Gives rest due v → Gives (Where NoSuchService (Some r ≡ None) ∷ Others owner (Some r) ∷ rest) due v
-passed_there owner row r rest due v true own is e issued =
-    let same : r.owner ≡ owner = sym (same_owner row r is) ∙ (λ i. record { 0 = sym (eqb-true owner.0 row.service.owner.0 own) i }) in
-    inr ((λ f called. cc called.1), inr ((λ f called. called.0 same), issued))
-passed_there owner row r rest due v false own is e issued = absurd (cc e)
-
--- where there is none, neither is
-change_passed : (owner : BundleId) (at : Option Row) (of : Option Registered) (rest : List (Refusal → Type 0)) (due : Reply → Type 0) (v : Verdict Refusal Reply) → Found at of → None ≡ refusal_at owner at → Gives rest due v →
-    Gives (Where NoSuchService (of ≡ None) ∷ Others owner of ∷ rest) due v
-change_passed owner None (Some r) rest due v found e issued = elim found [ ]
-change_passed owner (Some row) None rest due v found e issued = elim found [ ]
-change_passed owner None None rest due v nowhere e issued = absurd (cc e)
-change_passed owner (Some row) (Some r) rest due v (there is) e issued = passed_there owner row r rest due v (owner.0 == row.service.owner.0) refl is e issued
-
--- ---- each operation
-
-found_now : (history : List Entry) (registry : RegistryRows) (service : ServiceId) → StandsFor history registry → Found (row_at service registry.rows) (live_at service history)
-found_now history registry service stands = rows_found service registry.rows (live history) stands.rows
-
--- what refuses an operation changes nothing that the registry stands for
-refused_stands : (o : Op) (old new : RegistryRows) (refusal : Refusal) → new ≡ old → StandsAfter o (answer.Refused refusal) old new
-refused_stands o old new refusal same = λ history tag stands.
-    subst (λ r. StandsFor (history ++ record { tag = tag; op = o; reply = answer.Refused refusal } ∷ []) r) (sym same) (stands_quiet history old _ stands (quiet_refused tag o refusal))
-
--- a bundle that is not there
-pub replied_no_bundle : (o : Op) (bundle : BundleId) (registry : RegistryRows) → Asks bundle o → (bundle.0 == 0) ≡ false → IsReplied o registry registry (answer.Refused NoSuchBundle)
-replied_no_bundle o bundle registry asks other =
-    record { due = λ setting history tag stands. no_bundle o bundle (moment setting history tag) asks other; stands = refused_stands o registry registry NoSuchBundle refl }
+-- who asks may not
+pub replied_unasked : (o : Op) (tables : Tables) (refusal : Refusal) → asker_refusal tables.bundles (asker_of o) ≡ Some refusal → IsReplied o tables tables (answer.Refused refusal)
+replied_unasked o tables refusal is =
+    replied_refused o tables refusal (λ now stood. refused_by now tables.bundles (asker_of o) (own_conditions now o) (Answers now o) refusal stood.bundles is)
 
 -- an operation that the framework does not have yet
 unknown_due : (now : Moment) (o : Op) → is_known o ≡ false → IsReply now o (answer.Refused InvalidOperation)
@@ -116,227 +99,37 @@ unknown_due now (op.Find asker class filter) e = absurd (cc e)
 unknown_due now (op.FindAll asker class filter) e = absurd (cc e)
 unknown_due now (op.Get user service) e = absurd (cc e)
 unknown_due now (op.Unget user service) e = absurd (cc e)
+unknown_due now (op.Install location) e = absurd (cc e)
+unknown_due now op.ListBundles e = absurd (cc e)
 unknown_due now op.ListServices e = absurd (cc e)
 unknown_due now _ e = gives_first InvalidOperation ⊤ [] (λ reply. ⊥) tt
 
-pub replied_not_yet : (o : Op) (registry : RegistryRows) → is_known o ≡ false → IsReplied o registry registry (answer.Refused InvalidOperation)
-replied_not_yet o registry unknown = record {
-  due = λ setting history tag stood. unknown_due (moment setting history tag) o unknown;
-  stands = refused_stands o registry registry InvalidOperation refl;
-}
+pub replied_not_yet : (o : Op) (tables : Tables) → is_known o ≡ false → IsReplied o tables tables (answer.Refused InvalidOperation)
+replied_not_yet o tables unknown = replied_refused o tables InvalidOperation (λ now stood. unknown_due now o unknown)
 
--- Register
-room_is : (history : List Entry) (registry : RegistryRows) → StandsFor history registry → length registry.rows ≡ length (live history)
-room_is history registry stands = rows_length registry.rows (live history) stands.rows
+-- ---- the list of bundles
 
-register_refused : (properties : List Attribute) (rows : List Row) (count : ℕ) (refusal : Refusal) (due : Reply → Type 0) (twins full : Bool) → has_twins properties ≡ twins → nat_le MAX_SERVICES (length rows) ≡ full → length rows ≡ count →
-    Some refusal ≡ option_or (cond twins (Some BadProperties) None) (cond full (Some (TooMany Services)) None) →
-    Gives (Where BadProperties (has_twins properties ≡ true) ∷ Where (TooMany Services) (MAX_SERVICES ≤ count) ∷ []) due (refuses refusal)
-register_refused properties rows count refusal due true full t f is e =
-    let named : refusal ≡ BadProperties = cc e in
-    inl (BadProperties, (refl, t), ap refuses named)
-register_refused properties rows count refusal due false true t f is e =
-    let named : refusal ≡ TooMany Services = cc e in
-    inr ((λ g called. absurd (cc (called.1, t))), inl (TooMany Services, (refl, rw is at (leb-true _ _ f)), ap refuses named))
-register_refused properties rows count refusal due false false t f is e = absurd (cc e)
+pub replied_bundles : (tables : Tables) → IsReplied op.ListBundles tables tables (answer.Bundles (map row_of tables.bundles.rows))
+replied_bundles tables =
+    let reply = answer.Bundles (map row_of tables.bundles.rows) in
+    record {
+      due = λ now stood. ap answer.Bundles (table.rows_shown now.setting.depot now.before tables.bundles stood.bundles);
+      left = λ now stood. stood.world;
+      stands = λ now stood.
+          let e : Entry = record { tag = now.tag; op = op.ListBundles; reply = reply } in
+          record {
+            depot = stood.depot;
+            services = registry.stands_quiet now.before tables.registry e stood.services (record { registers = λ n. refl; takes = λ s. refl; gives = λ s. refl; gets = λ u s. refl; ungets = λ u s. refl });
+            bundles = table.stands_quiet now.setting.depot now.before tables.bundles e stood.bundles refl;
+            world = refl;
+          };
+    }
 
-register_passed : (properties : List Attribute) (rows : List Row) (count : ℕ) (due : Reply → Type 0) (v : Verdict Refusal Reply) (twins full : Bool) → has_twins properties ≡ twins → nat_le MAX_SERVICES (length rows) ≡ full → length rows ≡ count →
-    None ≡ option_or (cond twins (Some BadProperties) None) (cond full (Some (TooMany Services)) None) → Gives [] due v →
-    Gives (Where BadProperties (has_twins properties ≡ true) ∷ Where (TooMany Services) (MAX_SERVICES ≤ count) ∷ []) due v
-register_passed properties rows count due v true full t f is e issued = absurd (cc e)
-register_passed properties rows count due v false true t f is e issued = absurd (cc e)
-register_passed properties rows count due v false false t f is e issued =
-    let room : length rows < MAX_SERVICES = leb-false _ _ f in
-    inr ((λ g called. absurd (cc (called.1, t))), inr ((λ g called. let c = called.1 in absurd (omega (arith, room, c, is))), issued))
+pub bundles_ok : {E : Type 0} (r : Result (Reply × Reply) E) (tables : Tables) → IfOk r (λ x. x.0 ≡ answer.Bundles (map row_of tables.bundles.rows)) → IfOk r (λ x. IsReplied op.ListBundles tables tables x.0)
+bundles_ok (Ok x) tables is = subst (IsReplied op.ListBundles tables tables) (sym is) (replied_bundles tables)
+bundles_ok (Err e) tables is = tt
 
-pub replied_registered : (owner : BundleId) (classes : List (List ℕ)) (object : List ℕ) (properties : List Attribute) (old new : RegistryRows) (service : ServiceId) → (owner.0 == 0) ≡ true → None ≡ register_refusal properties old.rows →
-    service.0 ≡ old.issued + 1 → StandsAfter (op.Register owner classes object properties) (answer.Service service) old new → IsReplied (op.Register owner classes object properties) old new (answer.Service service)
-replied_registered owner classes object properties old new service asked none id stands = record {
-  due = λ setting history tag stood.
-      let is : answer.Service service ≡ answer.Service (record { 0 = length (registered history) + 1 }) = λ i. answer.Service (record { 0 = (id ∙ ap (λ n. n + 1) stood.issued) i }) in
-      some_bundle (op.Register owner classes object properties) owner (moment setting history tag) (answers (answer.Service service)) (λ now. refl) asked
-      (register_passed properties old.rows (length (live history)) (Answers (moment setting history tag) (op.Register owner classes object properties)) (answers (answer.Service service)) (has_twins properties) (nat_le MAX_SERVICES (length old.rows)) refl refl (room_is history old stood) none is);
-  stands = stands;
-}
-
-pub replied_unregistered : (owner : BundleId) (classes : List (List ℕ)) (object : List ℕ) (properties : List Attribute) (old new : RegistryRows) (refusal : Refusal) → (owner.0 == 0) ≡ true → Some refusal ≡ register_refusal properties old.rows →
-    new ≡ old → IsReplied (op.Register owner classes object properties) old new (answer.Refused refusal)
-replied_unregistered owner classes object properties old new refusal asked some same = record {
-  due = λ setting history tag stood.
-      some_bundle (op.Register owner classes object properties) owner (moment setting history tag) (refuses refusal) (λ now. refl) asked
-      (register_refused properties old.rows (length (live history)) refusal (Answers (moment setting history tag) (op.Register owner classes object properties)) (has_twins properties) (nat_le MAX_SERVICES (length old.rows)) refl refl (room_is history old stood) some);
-  stands = refused_stands _ old new refusal same;
-}
-
--- Modify
-twins_refused : (properties : List Attribute) (refusal : Refusal) (due : Reply → Type 0) (twins : Bool) → has_twins properties ≡ twins → Some refusal ≡ cond twins (Some BadProperties) None →
-    Gives (Where BadProperties (has_twins properties ≡ true) ∷ []) due (refuses refusal)
-twins_refused properties refusal due true t e =
-    let named : refusal ≡ BadProperties = cc e in
-    inl (BadProperties, (refl, t), ap refuses named)
-twins_refused properties refusal due false t e = absurd (cc e)
-
-twins_passed : (properties : List Attribute) (due : Reply → Type 0) (v : Verdict Refusal Reply) (twins : Bool) → has_twins properties ≡ twins → None ≡ cond twins (Some BadProperties) None → Gives [] due v →
-    Gives (Where BadProperties (has_twins properties ≡ true) ∷ []) due v
-twins_passed properties due v true t e issued = absurd (cc e)
-twins_passed properties due v false t e issued = inr ((λ g called. absurd (cc (called.1, t))), issued)
-
-modify_refused : (owner : BundleId) (at : Option Row) (of : Option Registered) (properties : List Attribute) (refusal : Refusal) (due : Reply → Type 0) (first : Option Refusal) → Found at of → refusal_at owner at ≡ first →
-    Some refusal ≡ option_or first (twins_refusal properties) → Gives (Where NoSuchService (of ≡ None) ∷ Others owner of ∷ Where BadProperties (has_twins properties ≡ true) ∷ []) due (refuses refusal)
-modify_refused owner at of properties refusal due None found is e = change_passed owner at of (Where BadProperties (has_twins properties ≡ true) ∷ []) due (refuses refusal) found (sym is) (twins_refused properties refusal due (has_twins properties) refl e)
-modify_refused owner at of properties refusal due (Some other) found is e = change_refused owner at of refusal (Where BadProperties (has_twins properties ≡ true) ∷ []) due found (e ∙ sym is)
-
-modify_passed : (owner : BundleId) (at : Option Row) (of : Option Registered) (properties : List Attribute) (due : Reply → Type 0) (v : Verdict Refusal Reply) (first : Option Refusal) → Found at of → refusal_at owner at ≡ first →
-    None ≡ option_or first (twins_refusal properties) → Gives [] due v → Gives (Where NoSuchService (of ≡ None) ∷ Others owner of ∷ Where BadProperties (has_twins properties ≡ true) ∷ []) due v
-modify_passed owner at of properties due v None found is e issued = change_passed owner at of (Where BadProperties (has_twins properties ≡ true) ∷ []) due v found (sym is) (twins_passed properties due v (has_twins properties) refl e issued)
-modify_passed owner at of properties due v (Some other) found is e issued = absurd (cc e)
-
-pub replied_modified : (owner : BundleId) (service : ServiceId) (properties : List Attribute) (old new : RegistryRows) → (owner.0 == 0) ≡ true → None ≡ modify_refusal owner service properties old.rows →
-    StandsAfter (op.Modify owner service properties) answer.Done old new → IsReplied (op.Modify owner service properties) old new answer.Done
-replied_modified owner service properties old new asked none stands = record {
-  due = λ setting history tag stood.
-      some_bundle (op.Modify owner service properties) owner (moment setting history tag) (answers answer.Done) (λ now. refl) asked
-      (modify_passed owner (row_at service old.rows) (live_at service history) properties (Answers (moment setting history tag) (op.Modify owner service properties)) (answers answer.Done) _ (found_now history old service stood) refl none refl);
-  stands = stands;
-}
-
-pub replied_unmodified : (owner : BundleId) (service : ServiceId) (properties : List Attribute) (old new : RegistryRows) (refusal : Refusal) → (owner.0 == 0) ≡ true → Some refusal ≡ modify_refusal owner service properties old.rows → new ≡ old →
-    IsReplied (op.Modify owner service properties) old new (answer.Refused refusal)
-replied_unmodified owner service properties old new refusal asked some same = record {
-  due = λ setting history tag stood.
-      some_bundle (op.Modify owner service properties) owner (moment setting history tag) (refuses refusal) (λ now. refl) asked
-      (modify_refused owner (row_at service old.rows) (live_at service history) properties refusal (Answers (moment setting history tag) (op.Modify owner service properties)) _ (found_now history old service stood) refl some);
-  stands = refused_stands _ old new refusal same;
-}
-
--- Unregister
-pub replied_taken : (owner : BundleId) (service : ServiceId) (old new : RegistryRows) → (owner.0 == 0) ≡ true → None ≡ refusal_at owner (row_at service old.rows) → StandsAfter (op.Unregister owner service) answer.Done old new →
-    IsReplied (op.Unregister owner service) old new answer.Done
-replied_taken owner service old new asked none stands = record {
-  due = λ setting history tag stood.
-      some_bundle (op.Unregister owner service) owner (moment setting history tag) (answers answer.Done) (λ now. refl) asked (change_passed owner (row_at service old.rows) (live_at service history) [] (Answers (moment setting history tag) (op.Unregister owner service)) (answers answer.Done) (found_now history old service stood) none refl);
-  stands = stands;
-}
-
-pub replied_untaken : (owner : BundleId) (service : ServiceId) (old new : RegistryRows) (refusal : Refusal) → (owner.0 == 0) ≡ true → Some refusal ≡ refusal_at owner (row_at service old.rows) → new ≡ old →
-    IsReplied (op.Unregister owner service) old new (answer.Refused refusal)
-replied_untaken owner service old new refusal asked some same = record {
-  due = λ setting history tag stood.
-      some_bundle (op.Unregister owner service) owner (moment setting history tag) (refuses refusal) (λ now. refl) asked (change_refused owner (row_at service old.rows) (live_at service history) refusal [] (Answers (moment setting history tag) (op.Unregister owner service)) (found_now history old service stood) some);
-  stands = refused_stands _ old new refusal same;
-}
-
--- Find
-services_now : (history : List Entry) (registry : RegistryRows) → StandsFor history registry → services_in registry.rows ≡ services history
-services_now history registry stands = rows_services registry.rows (live history) stands.rows
-
--- what is found of services, where others say the same of what is asked
-found_alike : (P Q : Service → Type 0) (list : List Service) (found : Option ServiceId) → ((s : Service) → P s → Q s) → ((s : Service) → Q s → P s) → IsFound P list found → IsFound Q list found
-found_alike P Q list None to back none = λ k d within asked. none k d within (back _ asked)
-found_alike P Q list (Some id) to back best = record {
-  service = best.service;
-  there = best.there;
-  is = best.is;
-  asked = to best.service best.asked;
-  best = λ k d within asked. best.best k d within (back _ asked);
-}
-
-own : BundleId → BundleId → List ℕ → Bool
-own asker registrant class = registrant.0 == asker.0
-
--- a bundle's own services are those that are assignable to it
-open_there : (asker : BundleId) (class : List ℕ) (filter : Option Filter) (s : Service) → IsOpenBy (own asker) class filter s → IsOpenTo asker class filter s
-unfolding own
-open_there asker class filter s is = (is.0, λ k d within. λ i. record { 0 = eqb-true s.owner.0 asker.0 (is.1 k d within) i })
-
-open_back : (asker : BundleId) (class : List ℕ) (filter : Option Filter) (s : Service) → IsOpenTo asker class filter s → IsOpenBy (own asker) class filter s
-unfolding own
-open_back asker class filter s is = (is.0, λ k d within. eq-eqb s.owner.0 asker.0 (ap (λ (b : BundleId). b.0) (is.1 k d within)))
-
-pub replied_found : (asker : BundleId) (class : List ℕ) (filter : Option Filter) (registry : RegistryRows) (found : Option ServiceId) → (asker.0 == 0) ≡ true →
-    IsFound (IsOpenBy (λ registrant class. registrant.0 == asker.0) class filter) (services_in registry.rows) found → IsReplied (op.Find asker class filter) registry registry (answer.Best found)
-unfolding own
-replied_found asker class filter registry found asked is = record {
-  due = λ setting history tag stood.
-      some_bundle (op.Find asker class filter) asker (moment setting history tag) (answers (answer.Best found)) (λ now. refl) asked (
-        found,
-        refl,
-        subst (λ list. IsFound (IsOpenTo asker class filter) list found) (services_now history registry stood)
-            (found_alike (IsOpenBy (own asker) class filter) (IsOpenTo asker class filter) (services_in registry.rows) found (open_there asker class filter) (open_back asker class filter) is),
-      );
-  stands = λ history tag stood. stands_quiet history registry _ stood (quiet_find tag asker class filter found);
-}
-
--- FindAll
-pub replied_found_all : (asker : BundleId) (class : List ℕ) (filter : Option Filter) (registry : RegistryRows) (found : List ServiceId) → (asker.0 == 0) ≡ true → AreRanked (IsOf class filter) (services_in registry.rows) found →
-    IsReplied (op.FindAll asker class filter) registry registry (answer.Services found)
-replied_found_all asker class filter registry found asked ranked = record {
-  due = λ setting history tag stood.
-      some_bundle (op.FindAll asker class filter) asker (moment setting history tag) (answers (answer.Services found)) (λ now. refl) asked
-      (found, refl, subst (λ list. AreRanked (IsOf class filter) list found) (services_now history registry stood) ranked);
-  stands = λ history tag stood. stands_quiet history registry _ stood (quiet_find_all tag asker class filter found);
-}
-
--- Get
-get_refused : (at : Option Row) (of : Option Registered) (refusal : Refusal) (due : Reply → Type 0) → Found at of → Err refusal ≡ object_at at → Gives (Where NoSuchService (of ≡ None) ∷ []) due (refuses refusal)
-get_refused None (Some r) refusal due found e = elim found [ ]
-get_refused (Some row) None refusal due found e = elim found [ ]
-get_refused None None refusal due nowhere e =
-    let named : refusal ≡ NoSuchService = cc e in
-    inl (NoSuchService, (refl, refl), ap refuses named)
-get_refused (Some row) (Some r) refusal due (there is) e = absurd (cc e)
-
-get_answers : (at : Option Row) (of : Option Registered) (text : List ℕ) → Found at of → Ok text ≡ object_at at →
-    Gives (Where NoSuchService (of ≡ None) ∷ []) (λ reply. IsSomeAnd of (λ r. reply ≡ answer.Object r.object)) (answers (answer.Object text))
-get_answers None (Some r) text found e = elim found [ ]
-get_answers (Some row) None text found e = elim found [ ]
-get_answers None None text nowhere e = absurd (cc e)
-get_answers (Some row) (Some r) text (there is) e =
-    let same : text ≡ row.service.object = cc e in
-    inr ((λ f called. cc called.1), ap answer.Object (same ∙ ap (λ (s : Service). s.object) is.service))
-
-pub replied_got : (user : BundleId) (service : ServiceId) (old new : RegistryRows) (text : List ℕ) → (user.0 == 0) ≡ true → Ok text ≡ object_at (row_at service old.rows) → StandsAfter (op.Get user service) (answer.Object text) old new →
-    IsReplied (op.Get user service) old new (answer.Object text)
-replied_got user service old new text asked got stands = record {
-  due = λ setting history tag stood. some_bundle (op.Get user service) user (moment setting history tag) (answers (answer.Object text)) (λ now. refl) asked (get_answers (row_at service old.rows) (live_at service history) text (found_now history old service stood) got);
-  stands = stands;
-}
-
-pub replied_ungotten : (user : BundleId) (service : ServiceId) (old new : RegistryRows) (refusal : Refusal) → (user.0 == 0) ≡ true → Err refusal ≡ object_at (row_at service old.rows) → new ≡ old →
-    IsReplied (op.Get user service) old new (answer.Refused refusal)
-replied_ungotten user service old new refusal asked got same = record {
-  due = λ setting history tag stood. some_bundle (op.Get user service) user (moment setting history tag) (refuses refusal) (λ now. refl) asked (get_refused (row_at service old.rows) (live_at service history) refusal (Answers (moment setting history tag) (op.Get user service)) (found_now history old service stood) got);
-  stands = refused_stands _ old new refusal same;
-}
-
--- Unget
-count_found : (user : BundleId) (at : Option Row) (of : Option Registered) → Found at of → option_map_or (λ row. count_of user row.uses) at 0 ≡ option_map_or (uses_of user) of 0
-count_found user None (Some r) found = elim found [ ]
-count_found user (Some row) None found = elim found [ ]
-count_found user None None nowhere = refl
-count_found user (Some row) (Some r) (there is) = is.uses user
-
--- the registry counts the uses of the history
-pub uses_now : (history : List Entry) (registry : RegistryRows) (user : BundleId) (service : ServiceId) → StandsFor history registry → use_count user service registry.rows ≡ uses user service history
-uses_now history registry user service stands = count_found user (row_at service registry.rows) (live_at service history) (found_now history registry service stands)
-
-pub replied_ungot : (user : BundleId) (service : ServiceId) (old new : RegistryRows) (value : Bool) → (user.0 == 0) ≡ true → value ≡ nat_lt 0 (use_count user service old.rows) → StandsAfter (op.Unget user service) (answer.Flag value) old new →
-    IsReplied (op.Unget user service) old new (answer.Flag value)
-replied_ungot user service old new value asked is stands = record {
-  due = λ setting history tag stood. some_bundle (op.Unget user service) user (moment setting history tag) (answers (answer.Flag value)) (λ now. refl) asked (ap answer.Flag (is ∙ ap (nat_lt 0) (uses_now history old user service stood)));
-  stands = stands;
-}
-
--- ListServices
-pub replied_listed : (registry : RegistryRows) (rows : List ServiceRow) → rows ≡ map row_of (services_in registry.rows) → IsReplied op.ListServices registry registry (answer.ServiceRows rows)
-replied_listed registry rows are = record {
-  due = λ setting history tag stood. ap answer.ServiceRows (are ∙ ap (map row_of) (services_now history registry stood));
-  stands = λ history tag stood. stands_quiet history registry _ stood (quiet_list tag rows);
-}
-
--- ---- what a function answers
-
--- a refusal, made twice, that a function hands on
-pub by_refused : {E : Type 0} (r : Result (Reply × Reply) E) (P : Reply → Type 0) (refusal : Refusal) → IfOk r (λ x. (x.0 ≡ answer.Refused refusal) × (x.1 ≡ answer.Refused refusal)) → P (answer.Refused refusal) → IfOk r (λ x. P x.0)
-by_refused (Ok x) P refusal is p = subst P (sym is.0) p
-by_refused (Err e) P refusal is p = tt
+-- tables that stay stand for what they did
+pub nothing_changed : {T E : Type 0} (r : Result T E) (tables : Tables) → OnErr r (StandsStill tables tables)
+nothing_changed (Ok x) tables = tt
+nothing_changed (Err e) tables = λ now stood. stood

@@ -12,6 +12,7 @@
 //! | `long-source BYTES LIMIT` | so many bytes read to their end from a source over a slice |
 //! | `shelf BAD LOCATION..` | reads of a shelf with folders at `e`, `f` and again `f`, of which one read fails |
 //! | `folder BYTES FILES` | a read of a folder of so many files with so many bytes |
+//! | `dir LOCATION\|LOCATION..` | reads of a shelf over the file system: a folder's files with their lengths, and the bytes of short ones |
 //! | `order TEXT TEXT` | how two texts compare |
 //! | `copies` | whether values of each shared type equal their copies |
 //! | `module-copies` | whether values of each type of the module layer equal their copies |
@@ -24,6 +25,7 @@
 
 mod cases;
 mod copies;
+mod folders;
 mod frail;
 mod module_copies;
 mod shelves;
@@ -45,6 +47,10 @@ fn main(rt: HostRuntime) -> io::Result<()> {
                 OpenGate.at(&rt, 1, point);
             }
             println!(rt; "{case} => passed")?;
+        } else if let Some(locations) = case.strip_prefix("dir ") {
+            let mut answer = String::new(rt.alloc());
+            folders::read_each(&rt, &mut answer, locations)?;
+            println!(rt; "{case} => {answer}")?;
         } else {
             let mut answer = String::new(rt.alloc());
             cases::add_answer(rt.alloc(), &mut answer, case)?;

@@ -8,8 +8,8 @@ use osgi_ops::op::Op;
 use osgi_ops::target::Target;
 use std::alloc::{AllocError, Global};
 
-/// The operation of this name, where it has neither a text nor a list.
-fn plain(name: &str, bundle: BundleId) -> Option<Op> {
+/// The operation of this name, about the bundle, that has neither a text nor a list.
+pub fn later(name: &str, bundle: BundleId) -> Option<Op> {
     if name == "Hand" {
         Some(Op::Hand)
     } else if name == "EndHand" {
@@ -32,6 +32,11 @@ fn plain(name: &str, bundle: BundleId) -> Option<Op> {
             bundle,
             failed: true,
         })
+    } else if name == "BeginStop" {
+        Some(Op::BeginStop {
+            target: Target::Id(bundle),
+            transient: true,
+        })
     } else if name == "EndStop" {
         Some(Op::EndStop {
             bundle,
@@ -53,8 +58,6 @@ fn plain(name: &str, bundle: BundleId) -> Option<Op> {
         Some(Op::EndLevel)
     } else if name == "SetBundleLevel" {
         Some(Op::SetBundleLevel { bundle, level: 1 })
-    } else if name == "ListBundles" {
-        Some(Op::ListBundles)
     } else if name == "ListWires" {
         Some(Op::ListWires { bundle })
     } else {
@@ -79,8 +82,6 @@ fn with_text(name: &str, owner: BundleId, text: Text) -> Option<Op> {
         Some(Op::Print { owner, text })
     } else if name == "Fail" {
         Some(Op::Fail { owner, text })
-    } else if name == "Install" {
-        Some(Op::Install { location: text })
     } else if name == "Update" {
         Some(Op::Update {
             bundle: owner,
@@ -101,21 +102,16 @@ fn with_text(name: &str, owner: BundleId, text: Text) -> Option<Op> {
     }
 }
 
-/// The operation of this name, about the bundle.
-pub fn later(alloc: Global, name: &str, bundle: BundleId) -> Result<Option<Op>, AllocError> {
-    if let Some(op) = plain(name, bundle) {
-        return Ok(Some(op));
-    }
-    if name == "BeginStop" {
-        return Ok(Some(Op::BeginStop {
-            target: Target::Id(bundle),
-            transient: true,
-        }));
-    }
+/// The operation of this name, about the bundle, that has a text or a list.
+pub fn later_with_text(
+    alloc: Global,
+    name: &str,
+    bundle: BundleId,
+) -> Result<Option<Op>, AllocError> {
     if name == "BeginRefresh" {
-        return Ok(Some(Op::BeginRefresh {
-            bundles: List::new(alloc)?,
-        }));
+        let bundles = List::new(alloc)?;
+        Ok(Some(Op::BeginRefresh { bundles }))
+    } else {
+        Ok(with_text(name, bundle, Text::of(alloc, b"a text")?))
     }
-    Ok(with_text(name, bundle, Text::of(alloc, b"a text")?))
 }

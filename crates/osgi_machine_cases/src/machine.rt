@@ -4,14 +4,39 @@ use osgi_base::ids::Tag;
 use osgi_core::Core;
 use osgi_ops::entry::Entry;
 use osgi_ops::op::Op;
+use osgi_ops::reply::Reply;
 use osgi_rows::shown::{add_checked, add_shown};
 use std::alloc::{AllocError, Global};
 use std::fmt::Write;
 
+/// What the machine answers to an operation.
+fn answered(alloc: Global, core: &mut Core, tag: Tag, op: &Op) -> Result<Reply, AllocError> {
+    core.apply(tag, op.copy(alloc)?)
+}
+
 /// Applies an operation; the entry that it comes to.
 fn applied(alloc: Global, core: &mut Core, tag: Tag, op: Op) -> Result<Entry, AllocError> {
-    let reply = core.apply(tag, op.copy(alloc)?)?;
-    Ok(Entry { tag, op, reply })
+    match answered(alloc, core, tag, &op) {
+        Ok(reply) => Ok(Entry { tag, op, reply }),
+        Err(error) => {
+            drop(op);
+            Err(error)
+        }
+    }
+}
+
+/// Adds an entry, and whether it is the last of the history.
+fn add_compared(
+    alloc: Global,
+    out: &mut String,
+    core: &Core,
+    entry: &Entry,
+) -> Result<(), AllocError> {
+    add_checked(alloc, out, entry)?;
+    match core.entries() {
+        [.., last] if last == entry => Ok(()),
+        _ => out.push_str(", not recorded"),
+    }
 }
 
 /// Adds what the machine answers to an operation, and whether it is the last of the history.
@@ -23,11 +48,9 @@ pub fn add_recorded(
     op: Op,
 ) -> Result<(), AllocError> {
     let entry = applied(alloc, core, tag, op)?;
-    add_checked(alloc, out, &entry)?;
-    match core.entries() {
-        [.., last] if *last == entry => Ok(()),
-        _ => out.push_str(", not recorded"),
-    }
+    let added = add_compared(alloc, out, core, &entry);
+    drop(entry);
+    added
 }
 
 /// The kind of an operation, and the bundle that asked for it where it names one.
@@ -40,6 +63,8 @@ fn kind(op: &Op) -> (&'static str, u32) {
         Op::FindAll { asker, .. } => ("findall", asker.0),
         Op::Get { user, .. } => ("get", user.0),
         Op::Unget { user, .. } => ("unget", user.0),
+        Op::Install { .. } => ("install", 0),
+        Op::ListBundles => ("bundles", 0),
         Op::ListServices => ("services", 0),
         _ => ("later", 0),
     }

@@ -4,27 +4,31 @@
 //!
 //! | Row | Asks for |
 //! |---|---|
-//! | `core ENTRIES` | a new machine whose history has room for so many entries |
+//! | `core ENTRIES [LOCATION]` | a new machine whose history has room for so many entries, and whose depot has a bundle at the location, if one is given, of that name and version 1.0.0 |
 //! | `CALLER.NUMBER BUNDLE COMMAND` | what the machine answers to a command of the console, asked by the bundle in that line |
 //! | `CALLER.NUMBER BUNDLE later NAME` | the same of an operation about the bundle, by its name, that the framework does not have yet |
+//! | `CALLER.NUMBER BUNDLE later_with_text NAME` | the same where the operation has a text or a list |
 //! | `entries` | the machine's history |
+//! | `line NAME` | what the console writes of a refusal |
 //! | `refusal NAME`, `many NAME`, `join`, `limits` | numbers and names of refusals, a line that joins, the standard limits |
 //!
 //! Each operation, reply, entry and line of a row is compared with its copy; the answer says so where they differ.
 #![tactic(auto)]
 
+mod depot;
 mod later;
 mod machine;
 mod names;
 mod rows;
 
+use depot::depot_of;
 use osgi_core::Core;
 use osgi_ops::limits::Limits;
 use rows::add_answer;
 use std::io;
 
 fn main(rt: HostRuntime) -> io::Result<()> {
-    let mut core = Core::new(rt.alloc(), Limits::standard())?;
+    let mut core = Core::new(rt.alloc(), Limits::standard(), depot_of(rt.alloc(), "")?)?;
     for line in rt.lines(rt.alloc()) {
         let line = line?;
         let line = line.as_str();

@@ -1,8 +1,9 @@
 //! What rows ask of the machine.
 
-use crate::later::later;
+use crate::depot::depot_of;
+use crate::later::{later, later_with_text};
 use crate::machine::{add_history, add_recorded};
-use crate::names::{add_join, add_limits, add_many, add_refusal};
+use crate::names::{Form, add_join, add_limits, add_many, add_refusal};
 use osgi_base::ids::{BundleId, Tag};
 use osgi_core::Core;
 use osgi_ops::limits::Limits;
@@ -20,8 +21,15 @@ fn limited(entries: u32) -> Limits {
     }
 }
 
-fn begin(alloc: Global, out: &mut String, core: &mut Core, entries: u32) -> Result<(), AllocError> {
-    *core = Core::new(alloc, limited(entries))?;
+/// A new machine with room for so many entries, and the depot of the location.
+fn begin(
+    alloc: Global,
+    out: &mut String,
+    core: &mut Core,
+    entries: u32,
+    location: &str,
+) -> Result<(), AllocError> {
+    *core = Core::new(alloc, limited(entries), depot_of(alloc, location)?)?;
     out.push_str("begun")
 }
 
@@ -42,9 +50,12 @@ fn op_of(
 ) -> Result<Result<Op, &'static str>, AllocError> {
     let (word, name) = split_word(text);
     if word == "later" {
-        return Ok(later(alloc, name, bundle)?.ok_or("no such operation"));
+        Ok(later(name, bundle).ok_or("no such operation"))
+    } else if word == "later_with_text" {
+        Ok(later_with_text(alloc, name, bundle)?.ok_or("no such operation"))
+    } else {
+        asked(alloc, bundle, text)
     }
-    asked(alloc, bundle, text)
 }
 
 /// Asks for the operation of a row that begins with a tag.
@@ -74,11 +85,14 @@ pub fn add_answer(
 ) -> Result<(), AllocError> {
     let (word, rest) = split_word(row);
     if word == "core" {
-        begin(alloc, out, core, number(rest))
+        let (entries, location) = split_word(rest);
+        begin(alloc, out, core, number(entries), location)
     } else if word == "entries" {
         add_history(alloc, out, core.entries())
     } else if word == "refusal" {
-        add_refusal(alloc, out, rest)
+        add_refusal(alloc, out, rest, Form::Name)
+    } else if word == "line" {
+        add_refusal(alloc, out, rest, Form::Line)
     } else if word == "many" {
         add_many(out, rest)
     } else if word == "join" {

@@ -1,9 +1,9 @@
-//! The program `osgi_program`: hands the command line and the real streams to the top call.
+//! The program `osgi_program`: hands the command line, the real streams and the file system to the top call.
 #![tactic(auto)]
 
 use osgi_base::text::Text;
+use osgi_outside::dir_shelf::DirShelf;
 use osgi_outside::gate::OpenGate;
-use osgi_outside::memory_shelf::MemoryShelf;
 use osgi_outside::std_ends::{StdSink, StdSource};
 use osgi_program::framework_main;
 use std::io::{ErrorKind, writer};
@@ -32,7 +32,7 @@ fn main(rt: HostRuntime) -> ExitCode {
     };
     let mut source = StdSource::new(rt.reader());
     let mut sink = StdSink::new(writer(&rt));
-    let mut shelf = MemoryShelf::new(Vec::new(rt.alloc()), Vec::new(rt.alloc()));
+    let mut shelf = DirShelf::new(&rt);
     let finished = framework_main(
         &rt,
         rt.alloc(),

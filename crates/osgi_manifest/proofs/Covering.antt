@@ -1,5 +1,5 @@
 -- The conditions of all steps are the faults of a manifest, in their order.
-use Rattle.std.proofs.Common.{ℕ, List}
+use Rattle.std.proofs.Common.{List}
 use Rattle.osgi_base.specs.declared.folder.Folder.{Folder}
 use Rattle.osgi_base.specs.Verdict.{Gives, Verdict}
 use Rattle.osgi_header.specs.declared.header.Header.{Header}
@@ -9,6 +9,6 @@ use Rattle.osgi_package.specs.computed.Answers.{IsOnly}
 use Rattle.osgi_manifest.specs.computed.Steps.{said_conditions}
 use Rattle.osgi_manifest.specs.Manifests.{manifest_faults}
 
-pub covered : (IsScript : List ℕ → Type 0) (folder : Folder) (headers : List Header) (answer : Revision → Type 0) (v : Verdict ManifestFault Revision) →
-    IsOnly (Gives (said_conditions IsScript folder headers) answer) v → IsOnly (Gives (manifest_faults IsScript folder headers) answer) v
-covered IsScript folder headers answer v is = is
+pub covered : (folder : Folder) (headers : List Header) (answer : Revision → Type 0) (v : Verdict ManifestFault Revision) →
+    IsOnly (Gives (said_conditions folder headers) answer) v → IsOnly (Gives (manifest_faults folder headers) answer) v
+covered folder headers answer v is = is

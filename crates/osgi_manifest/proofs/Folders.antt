@@ -16,7 +16,6 @@ use Rattle.osgi_manifest.specs.declared.stop.Stop.TheVariants.{Fault, Memory}
 use Rattle.osgi_manifest.specs.Manifests.{IsRevisionOf, SaysManifest, file_at, headers, lines, manifest_faults, manifest_path, missing}
 use Rattle.osgi_manifest.specs.computed.Steps.{said_conditions}
 use Rattle.osgi_manifest.proofs.Revisions.{fault_refuses}
-use Rattle.osgi_script.specs.Scripts.{IsScript}
 use Rattle.osgi_world.specs.declared.manifest_fault.ManifestFault.{ManifestFault}
 use Rattle.osgi_world.specs.declared.manifest_fault.ManifestKind.{ManifestKind}
 use Rattle.osgi_world.specs.declared.manifest_fault.ManifestKind.TheVariants as fault
@@ -41,14 +40,14 @@ line_only folder text found is one none = record { holds = line is; only = only 
 
 -- where all lines are headers, what these say is the only verdict
 pub said_only : (folder : Folder) (text : List ℕ) (hs : List Header) → AreHeadersOf text hs → ((others : List Header) → AreHeadersOf text others → others ≡ hs) →
-    ((f : HeaderFault) → ¬ IsHeaderFault text f) → (v : Verdict ManifestFault Revision) → IsOnly (Gives (manifest_faults IsScript folder hs) (IsRevisionOf IsScript folder hs)) v →
+    ((f : HeaderFault) → ¬ IsHeaderFault text f) → (v : Verdict ManifestFault Revision) → IsOnly (Gives (manifest_faults folder hs) (IsRevisionOf folder hs)) v →
     IsOnly (SaysText folder text) v
 said_only folder text hs are one none v is = record { holds = said are is.holds; only = only }
   where
     only : (w : Verdict ManifestFault Revision) → SaysText folder text w → w ≡ v
     only _ (line {found = other} bad) = absurd (none other bad)
     only w (said {headers = others} other_are given) =
-        is.only w (subst (λ (l : List Header). Gives (manifest_faults IsScript folder l) (IsRevisionOf IsScript folder l) w) (one others other_are) given)
+        is.only w (subst (λ (l : List Header). Gives (manifest_faults folder l) (IsRevisionOf folder l) w) (one others other_are) given)
 
 -- what a reading of the text's lines says where it has headers
 module _ (text : List ℕ) (r : Result (List Header) HeaderFault) (hs : List Header) (is : r ≡ Ok hs) where
@@ -78,24 +77,24 @@ same_file : (a b : File) → Some a ≡ Some b → a ≡ b
 same_file a b e = cc e
 
 -- a folder without a manifest
-pub missing_only : (folder : Folder) → file_at (manifest_path IsScript) folder ≡ None → IsOnly (SaysManifest IsScript folder) (refuses (in_header [] fault.NoManifest 0))
+pub missing_only : (folder : Folder) → file_at manifest_path folder ≡ None → IsOnly (SaysManifest folder) (refuses (in_header [] fault.NoManifest 0))
 missing_only folder none = record { holds = missing none; only = only }
   where
-    only : (v : Verdict ManifestFault Revision) → SaysManifest IsScript folder v → v ≡ refuses (in_header [] fault.NoManifest 0)
+    only : (v : Verdict ManifestFault Revision) → SaysManifest folder v → v ≡ refuses (in_header [] fault.NoManifest 0)
     only _ (missing e) = refl
     only _ (lines there bad) = let e = sym none ∙ there in absurd (cc e)
     only v (headers there are given) = let e = sym none ∙ there in absurd (cc e)
 
 -- a folder with one says what its text says
-pub text_decides : (folder : Folder) (file : File) → file_at (manifest_path IsScript) folder ≡ Some file → (v : Verdict ManifestFault Revision) → IsOnly (SaysText folder file.bytes) v →
-    IsOnly (SaysManifest IsScript folder) v
+pub text_decides : (folder : Folder) (file : File) → file_at manifest_path folder ≡ Some file → (v : Verdict ManifestFault Revision) → IsOnly (SaysText folder file.bytes) v →
+    IsOnly (SaysManifest folder) v
 text_decides folder file there v is = record { holds = by v is.holds; only = only }
   where
-    by : (w : Verdict ManifestFault Revision) → SaysText folder file.bytes w → SaysManifest IsScript folder w
+    by : (w : Verdict ManifestFault Revision) → SaysText folder file.bytes w → SaysManifest folder w
     by _ (line bad) = lines there bad
     by w (said are given) = headers there are given
 
-    only : (w : Verdict ManifestFault Revision) → SaysManifest IsScript folder w → w ≡ v
+    only : (w : Verdict ManifestFault Revision) → SaysManifest folder w → w ≡ v
     only _ (missing none) = let e = sym none ∙ there in absurd (cc e)
     only _ (lines {file = other} {found = found} at bad) =
         is.only _ (line (subst (λ (f : File). IsHeaderFault f.bytes found) (same_file other file (sym at ∙ there)) bad))
@@ -103,14 +102,14 @@ text_decides folder file there v is = record { holds = by v is.holds; only = onl
         is.only w (said (subst (λ (f : File). AreHeadersOf f.bytes hs) (same_file other file (sym at ∙ there)) are) given)
 
 -- an answer of the one is an answer of the other
-pub text_answers : (folder : Folder) (file : File) → file_at (manifest_path IsScript) folder ≡ Some file → (r : Result Revision Stop) → AnswersOnly (SaysText folder file.bytes) r →
-    AnswersOnly (SaysManifest IsScript folder) r
+pub text_answers : (folder : Folder) (file : File) → file_at manifest_path folder ≡ Some file → (r : Result Revision Stop) → AnswersOnly (SaysText folder file.bytes) r →
+    AnswersOnly (SaysManifest folder) r
 text_answers folder file there (Ok revision) is = text_decides folder file there (answers revision) is
 text_answers folder file there (Err (Fault found)) is = text_decides folder file there (refuses found) is
 text_answers folder file there (Err Memory) is = tt
 
 pub said_answers : (folder : Folder) (text : List ℕ) (hs : List Header) → AreHeadersOf text hs → ((others : List Header) → AreHeadersOf text others → others ≡ hs) →
-    ((f : HeaderFault) → ¬ IsHeaderFault text f) → (r : Result Revision Stop) → AnswersOnly (Gives (manifest_faults IsScript folder hs) (IsRevisionOf IsScript folder hs)) r →
+    ((f : HeaderFault) → ¬ IsHeaderFault text f) → (r : Result Revision Stop) → AnswersOnly (Gives (manifest_faults folder hs) (IsRevisionOf folder hs)) r →
     AnswersOnly (SaysText folder text) r
 said_answers folder text hs are one none (Ok revision) is = said_only folder text hs are one none (answers revision) is
 said_answers folder text hs are one none (Err (Fault found)) is = said_only folder text hs are one none (refuses found) is
@@ -119,9 +118,9 @@ said_answers folder text hs are one none (Err Memory) is = tt
 -- ---- the headers
 
 -- what all steps answered before the revision was made
-pub stop_answers : (folder : Folder) (hs : List Header) {A : Type 0} (Reads : A → Type 0) (stop : Stop) → IsStep (said_conditions IsScript folder hs) Reads (Err stop) →
-    AnswersOnly (Gives (manifest_faults IsScript folder hs) (IsRevisionOf IsScript folder hs)) (Err stop)
-stop_answers folder hs Reads (Fault found) is = fault_refuses IsScript folder hs found is
+pub stop_answers : (folder : Folder) (hs : List Header) {A : Type 0} (Reads : A → Type 0) (stop : Stop) → IsStep (said_conditions folder hs) Reads (Err stop) →
+    AnswersOnly (Gives (manifest_faults folder hs) (IsRevisionOf folder hs)) (Err stop)
+stop_answers folder hs Reads (Fault found) is = fault_refuses folder hs found is
 stop_answers folder hs Reads Memory is = tt
 
 -- what is handed on of a stop

@@ -16,6 +16,7 @@ use Rattle.osgi_world.specs.declared.manifest_fault.ManifestFault.{ManifestFault
 use Rattle.osgi_world.specs.declared.manifest_fault.ManifestKind.{ManifestKind}
 use Rattle.osgi_world.specs.declared.manifest_fault.ManifestKind.TheVariants as fault
 use Rattle.osgi_world.specs.declared.requirement.Requirement.{Requirement}
+use Rattle.osgi_script.specs.Scripts.{IsScript}
 use Rattle.osgi_package.specs.computed.Answers.{IsOnly}
 use Rattle.osgi_manifest.specs.computed.Answers.{CallNone, IsMadeIn, IsTheFirst, in_header}
 use Rattle.osgi_manifest.specs.computed.Lone.{IsHostIn, IsLone, IsNamedAs, SaysHost, SaysNaming, host_conditions, name_conditions}
@@ -70,7 +71,7 @@ not_missing : {A : Type 0} (P : A → Type 0) (o : Option A) → IsSomeAnd o P �
 not_missing P None is e = is
 not_missing P (Some x) is e = cc e
 
-module _ (IsScript : List ℕ → Type 0) (folder : Folder) (headers : List Header) where
+module _ (folder : Folder) (headers : List Header) where
   abbrev IsMissing : Type 0
   IsMissing = IsSomeAnd (activator headers) (λ class. file_at (class_file class) folder ≡ None)
 
@@ -80,7 +81,7 @@ module _ (IsScript : List ℕ → Type 0) (folder : Folder) (headers : List Head
   abbrev bad_condition : List (ManifestFault → Type 0)
   bad_condition = InHeader (codes "Bundle-Activator") (AtStart fault.BadScript IsBad) ∷ []
 
-  pub no_activator : (class : Option (List ℕ)) → class ≡ None → class ≡ activator headers → CallNone (activator_conditions IsScript folder headers)
+  pub no_activator : (class : Option (List ℕ)) → class ≡ None → class ≡ activator headers → CallNone (activator_conditions folder headers)
   no_activator class none is =
       start_none (codes "Bundle-Activator") fault.NoScript IsMissing bad_condition (none_not _ (activator headers) (sym is ∙ none))
       (start_none (codes "Bundle-Activator") fault.BadScript IsBad [] (none_not _ (activator headers) (sym is ∙ none)) tt)
@@ -89,7 +90,7 @@ module _ (IsScript : List ℕ → Type 0) (folder : Folder) (headers : List Head
   one_class P class e is = subst (λ o. IsSomeAnd o P) e is
 
   class_by : (kind : ManifestKind) (class : List ℕ) (found : ManifestFault) → activator headers ≡ Some class → found ≡ in_header (codes "Bundle-Activator") kind 0 →
-      IsClassFault IsScript folder class (Some kind) → IsTheFirst (activator_conditions IsScript folder headers) found
+      IsClassFault folder class (Some kind) → IsTheFirst (activator_conditions folder headers) found
   class_by kind class found e is (inl (named, missing)) =
       starts (codes "Bundle-Activator") fault.NoScript IsMissing bad_condition found (is ∙ ap (λ k. in_header (codes "Bundle-Activator") k 0) named)
       (subst (λ o. IsSomeAnd o (λ c. file_at (class_file c) folder ≡ None)) (sym e) missing)
@@ -102,11 +103,11 @@ module _ (IsScript : List ℕ → Type 0) (folder : Folder) (headers : List Head
       (subst (λ o. IsSomeAnd o (λ c. IsSomeAnd (file_at (class_file c) folder) (λ file. ¬ IsScript file.bytes))) (sym e) bad))
 
   pub class_first : (result : Option (Bor (List ℕ))) (class : Bor (List ℕ)) (given : List ℕ) (kind : ManifestKind) (said : Option ManifestKind) (found : ManifestFault) → result ≡ Some class →
-      option_copied result ≡ activator headers → given ≡ class.now → said ≡ Some kind → IsClassFault IsScript folder given said → found ≡ in_header (codes "Bundle-Activator") kind 0 →
-      IsTheFirst (activator_conditions IsScript folder headers) found
+      option_copied result ≡ activator headers → given ≡ class.now → said ≡ Some kind → IsClassFault folder given said → found ≡ in_header (codes "Bundle-Activator") kind 0 →
+      IsTheFirst (activator_conditions folder headers) found
   class_first result class given kind said found e is same says fault_is found_is =
       class_by kind class.now found (sym is ∙ ap option_copied e) found_is
-      (subst (λ t. IsClassFault IsScript folder t (Some kind)) same (subst (IsClassFault IsScript folder given) says fault_is))
+      (subst (λ t. IsClassFault folder t (Some kind)) same (subst (IsClassFault folder given) says fault_is))
 
 -- ---- options with and without a value
 

@@ -25,6 +25,7 @@ use Rattle.osgi_package.specs.declared.fault.PackageKind.TheVariants as package_
 use Rattle.osgi_package.specs.Exports.{AreExports, SaysExports}
 use Rattle.osgi_package.specs.Imports.{AreImports, SaysImports}
 use Rattle.osgi_package.specs.Parameters.{HasValue, directive_value, is_directed, is_double, version_text}
+use Rattle.osgi_script.specs.Scripts.{IsScript}
 use Rattle.osgi_manifest.specs.ClauseFaults.{IsValueFault}
 use Rattle.osgi_manifest.specs.Members.{AreMade, IsHost, IsOwn, IsProvided, IsRequired, IsRequiredBundle}
 use Rattle.osgi_manifest.specs.Values.{AreClausesIn, Repeats, header_value, takes_part}
@@ -129,110 +130,108 @@ activator headers = if has_host headers then None else header_value (codes "Bund
 abbrev pub own_version : List header.Header → List ℕ
 own_version headers = unwrap_or (header_value (codes "Bundle-Version") headers) []
 
--- `IsScript` says which bytes are an activator's script
-module _ (IsScript : List ℕ → Type 0) where
-  abbrev pub manifest_faults : Folder → List header.Header → List (ManifestFault → Type 0)
-  manifest_faults folder headers =
-      InHeader (codes "Bundle-ManifestVersion") (AtStart fault.ManifestVersion (header_value (codes "Bundle-ManifestVersion") headers ≢ Some (codes "2")))
-      ∷ InHeader (codes "Bundle-SymbolicName") (AtStart fault.NoName (AreClausesIn headers (codes "Bundle-SymbolicName") []))
-      ∷ InValue headers (codes "Bundle-SymbolicName") name_faults fault.BadName
-      ∷ InHeader (codes "Bundle-Version") (AtStart fault.BadVersion (¬ IsReadableVersion (own_version headers)))
-      ∷ InHeader (codes "Fragment-Host") (AtStart fault.BadClause (IsEmptyHeader headers (codes "Fragment-Host")))
-      ∷ InValue headers (codes "Fragment-Host") host_faults fault.BadClause
-      ∷ InValue headers (codes "Require-Bundle") bundle_faults fault.BadClause
-      ∷ InValue headers (codes "Import-Package") import_clause_faults fault.BadClause
-      ∷ InValue headers (codes "Export-Package") export_clause_faults fault.BadClause
-      ∷ InValue headers (codes "Require-Capability") required_faults fault.BadClause
-      ∷ InValue headers (codes "Provide-Capability") provided_faults fault.BadClause
-      ∷ InHeader (codes "Bundle-Activator") (AtStart fault.NoScript (IsSomeAnd (activator headers) (λ class. file_at (class_file class) folder ≡ None)))
-      ∷ InHeader (codes "Bundle-Activator")
-      (AtStart fault.BadScript (IsSomeAnd (activator headers) (λ class. IsSomeAnd (file_at (class_file class) folder) (λ file. ¬ IsScript file.bytes))))
-      ∷ InHeader (codes "Bundle-NativeCode") (AtStart fault.NativeCode (header_value (codes "Bundle-NativeCode") headers ≢ None))
-      ∷ []
+abbrev pub manifest_faults : Folder → List header.Header → List (ManifestFault → Type 0)
+manifest_faults folder headers =
+    InHeader (codes "Bundle-ManifestVersion") (AtStart fault.ManifestVersion (header_value (codes "Bundle-ManifestVersion") headers ≢ Some (codes "2")))
+    ∷ InHeader (codes "Bundle-SymbolicName") (AtStart fault.NoName (AreClausesIn headers (codes "Bundle-SymbolicName") []))
+    ∷ InValue headers (codes "Bundle-SymbolicName") name_faults fault.BadName
+    ∷ InHeader (codes "Bundle-Version") (AtStart fault.BadVersion (¬ IsReadableVersion (own_version headers)))
+    ∷ InHeader (codes "Fragment-Host") (AtStart fault.BadClause (IsEmptyHeader headers (codes "Fragment-Host")))
+    ∷ InValue headers (codes "Fragment-Host") host_faults fault.BadClause
+    ∷ InValue headers (codes "Require-Bundle") bundle_faults fault.BadClause
+    ∷ InValue headers (codes "Import-Package") import_clause_faults fault.BadClause
+    ∷ InValue headers (codes "Export-Package") export_clause_faults fault.BadClause
+    ∷ InValue headers (codes "Require-Capability") required_faults fault.BadClause
+    ∷ InValue headers (codes "Provide-Capability") provided_faults fault.BadClause
+    ∷ InHeader (codes "Bundle-Activator") (AtStart fault.NoScript (IsSomeAnd (activator headers) (λ class. file_at (class_file class) folder ≡ None)))
+    ∷ InHeader (codes "Bundle-Activator")
+    (AtStart fault.BadScript (IsSomeAnd (activator headers) (λ class. IsSomeAnd (file_at (class_file class) folder) (λ file. ¬ IsScript file.bytes))))
+    ∷ InHeader (codes "Bundle-NativeCode") (AtStart fault.NativeCode (header_value (codes "Bundle-NativeCode") headers ≢ None))
+    ∷ []
 
-  -- what Bundle-SymbolicName says
-  pub record IsNamed (headers : List header.Header) (revision : Revision) : Type 0 where
-    pub clause : Clause
-    pub one : AreClausesIn headers (codes "Bundle-SymbolicName") (clause ∷ [])
-    pub name : clause.paths ≡ revision.name ∷ []
-    pub singleton : revision.singleton ≡ is_directed (codes "singleton") (codes "true") clause
-    pub attach : revision.attach ≡ not (is_directed (codes "fragment-attachment") (codes "never") clause)
+-- what Bundle-SymbolicName says
+pub record IsNamed (headers : List header.Header) (revision : Revision) : Type 0 where
+  pub clause : Clause
+  pub one : AreClausesIn headers (codes "Bundle-SymbolicName") (clause ∷ [])
+  pub name : clause.paths ≡ revision.name ∷ []
+  pub singleton : revision.singleton ≡ is_directed (codes "singleton") (codes "true") clause
+  pub attach : revision.attach ≡ not (is_directed (codes "fragment-attachment") (codes "never") clause)
 
-  -- the one clause and the one path of a fragment's host
-  pub record IsHosted (value : List ℕ) (host : Option Requirement) : Type 0 where
-    pub clause : Clause
-    pub path : List ℕ
-    pub requirement : Requirement
-    pub one : AreClausesOf value (clause ∷ [])
-    pub one_path : clause.paths ≡ path ∷ []
-    pub is : IsHost clause path requirement
-    pub host_is : host ≡ Some requirement
+-- the one clause and the one path of a fragment's host
+pub record IsHosted (value : List ℕ) (host : Option Requirement) : Type 0 where
+  pub clause : Clause
+  pub path : List ℕ
+  pub requirement : Requirement
+  pub one : AreClausesOf value (clause ∷ [])
+  pub one_path : clause.paths ≡ path ∷ []
+  pub is : IsHost clause path requirement
+  pub host_is : host ≡ Some requirement
 
-  abbrev pub HasHost : Option (List ℕ) → Option Requirement → Type 0
-  HasHost None host = host ≡ None
-  HasHost (Some value) host = IsHosted value host
+abbrev pub HasHost : Option (List ℕ) → Option Requirement → Type 0
+HasHost None host = host ≡ None
+HasHost (Some value) host = IsHosted value host
 
-  -- a bundle that is no fragment offers itself
-  abbrev pub AreOwn : Option Requirement → List ℕ → List Capability → Type 0
-  AreOwn None name own = (capability : Capability) × IsOwn name capability × (own ≡ capability ∷ [])
-  AreOwn (Some host) name own = own ≡ []
+-- a bundle that is no fragment offers itself
+abbrev pub AreOwn : Option Requirement → List ℕ → List Capability → Type 0
+AreOwn None name own = (capability : Capability) × IsOwn name capability × (own ≡ capability ∷ [])
+AreOwn (Some host) name own = own ≡ []
 
-  -- the bundle itself, then its packages, then what else it provides that takes part in resolving
-  pub record HasCapabilities (headers : List header.Header) (revision : Revision) : Type 0 where
-    pub export_clauses : List Clause
-    pub provided_clauses : List Clause
-    pub own : List Capability
-    pub exports : List Capability
-    pub provided : List Capability
-    pub in_exports : AreClausesIn headers (codes "Export-Package") export_clauses
-    pub in_provided : AreClausesIn headers (codes "Provide-Capability") provided_clauses
-    pub are_own : AreOwn revision.host revision.name own
-    pub are_exports : AreExports export_clauses exports
-    pub are_provided : AreMade IsProvided (filter takes_part provided_clauses) provided
-    pub are : revision.capabilities ≡ own ++ (exports ++ provided)
+-- the bundle itself, then its packages, then what else it provides that takes part in resolving
+pub record HasCapabilities (headers : List header.Header) (revision : Revision) : Type 0 where
+  pub export_clauses : List Clause
+  pub provided_clauses : List Clause
+  pub own : List Capability
+  pub exports : List Capability
+  pub provided : List Capability
+  pub in_exports : AreClausesIn headers (codes "Export-Package") export_clauses
+  pub in_provided : AreClausesIn headers (codes "Provide-Capability") provided_clauses
+  pub are_own : AreOwn revision.host revision.name own
+  pub are_exports : AreExports export_clauses exports
+  pub are_provided : AreMade IsProvided (filter takes_part provided_clauses) provided
+  pub are : revision.capabilities ≡ own ++ (exports ++ provided)
 
-  -- required bundles, then imports, then others
-  pub record HasRequirements (headers : List header.Header) (revision : Revision) : Type 0 where
-    pub bundle_clauses : List Clause
-    pub import_clauses : List Clause
-    pub required_clauses : List Clause
-    pub bundles : List Requirement
-    pub imports : List Requirement
-    pub required : List Requirement
-    pub in_bundles : AreClausesIn headers (codes "Require-Bundle") bundle_clauses
-    pub in_imports : AreClausesIn headers (codes "Import-Package") import_clauses
-    pub in_required : AreClausesIn headers (codes "Require-Capability") required_clauses
-    pub are_bundles : AreMade IsRequiredBundle bundle_clauses bundles
-    pub are_imports : AreImports import_clauses imports
-    pub are_required : AreMade IsRequired required_clauses required
-    pub are : revision.requirements ≡ bundles ++ (imports ++ required)
+-- required bundles, then imports, then others
+pub record HasRequirements (headers : List header.Header) (revision : Revision) : Type 0 where
+  pub bundle_clauses : List Clause
+  pub import_clauses : List Clause
+  pub required_clauses : List Clause
+  pub bundles : List Requirement
+  pub imports : List Requirement
+  pub required : List Requirement
+  pub in_bundles : AreClausesIn headers (codes "Require-Bundle") bundle_clauses
+  pub in_imports : AreClausesIn headers (codes "Import-Package") import_clauses
+  pub in_required : AreClausesIn headers (codes "Require-Capability") required_clauses
+  pub are_bundles : AreMade IsRequiredBundle bundle_clauses bundles
+  pub are_imports : AreImports import_clauses imports
+  pub are_required : AreMade IsRequired required_clauses required
+  pub are : revision.requirements ≡ bundles ++ (imports ++ required)
 
-  pub record IsRevisionOf (folder : Folder) (headers : List header.Header) (revision : Revision) : Type 0 where
-    pub named : IsNamed headers revision
-    pub version : ReadsVersion (own_version headers) (parts revision.version)
-    pub host : HasHost (header_value (codes "Fragment-Host") headers) revision.host
-    pub activator_is : revision.activator ≡ activator headers
-    pub capabilities : HasCapabilities headers revision
-    pub requirements : HasRequirements headers revision
-    pub no_dynamics : revision.dynamics ≡ []
-    pub not_lazy : revision.lazy ≡ None
-    pub files : revision.files ≡ map (λ (f : File). f.path) folder.files
+pub record IsRevisionOf (folder : Folder) (headers : List header.Header) (revision : Revision) : Type 0 where
+  pub named : IsNamed headers revision
+  pub version : ReadsVersion (own_version headers) (parts revision.version)
+  pub host : HasHost (header_value (codes "Fragment-Host") headers) revision.host
+  pub activator_is : revision.activator ≡ activator headers
+  pub capabilities : HasCapabilities headers revision
+  pub requirements : HasRequirements headers revision
+  pub no_dynamics : revision.dynamics ≡ []
+  pub not_lazy : revision.lazy ≡ None
+  pub files : revision.files ≡ map (λ (f : File). f.path) folder.files
 
-  abbrev pub manifest_path : List ℕ
-  manifest_path = codes "META-INF/MANIFEST.MF"
+abbrev pub manifest_path : List ℕ
+manifest_path = codes "META-INF/MANIFEST.MF"
 
-  -- a folder says that it has no manifest, or the fault of the manifest's lines, or the first fault of its headers, or else a revision
-  pub data SaysManifest (folder : Folder) : Verdict ManifestFault Revision → Type 0 where
-    missing : file_at manifest_path folder ≡ None → SaysManifest folder (refuses (record { header = []; kind = fault.NoManifest; at = 0 }))
-    lines : {file : File} {found : HeaderFault} → file_at manifest_path folder ≡ Some file → IsHeaderFault file.bytes found →
-        SaysManifest folder (refuses (record { header = []; kind = fault.Header; at = found.at }))
-    headers : {file : File} {headers : List header.Header} {verdict : Verdict ManifestFault Revision} → file_at manifest_path folder ≡ Some file →
-        AreHeadersOf file.bytes headers → Gives (manifest_faults folder headers) (IsRevisionOf folder headers) verdict → SaysManifest folder verdict
+-- a folder says that it has no manifest, or the fault of the manifest's lines, or the first fault of its headers, or else a revision
+pub data SaysManifest (folder : Folder) : Verdict ManifestFault Revision → Type 0 where
+  missing : file_at manifest_path folder ≡ None → SaysManifest folder (refuses (record { header = []; kind = fault.NoManifest; at = 0 }))
+  lines : {file : File} {found : HeaderFault} → file_at manifest_path folder ≡ Some file → IsHeaderFault file.bytes found →
+      SaysManifest folder (refuses (record { header = []; kind = fault.Header; at = found.at }))
+  headers : {file : File} {headers : List header.Header} {verdict : Verdict ManifestFault Revision} → file_at manifest_path folder ≡ Some file →
+      AreHeadersOf file.bytes headers → Gives (manifest_faults folder headers) (IsRevisionOf folder headers) verdict → SaysManifest folder verdict
 
-  -- the revision that a folder means
-  abbrev pub Means : Folder → Revision → Type 0
-  Means folder revision = SaysManifest folder (answers revision)
+-- the revision that a folder means
+abbrev pub Means : Folder → Revision → Type 0
+Means folder revision = SaysManifest folder (answers revision)
 
-  -- the fault of a folder that means nothing
-  abbrev pub IsManifestFault : Folder → ManifestFault → Type 0
-  IsManifestFault folder found = SaysManifest folder (refuses found)
+-- the fault of a folder that means nothing
+abbrev pub IsManifestFault : Folder → ManifestFault → Type 0
+IsManifestFault folder found = SaysManifest folder (refuses found)

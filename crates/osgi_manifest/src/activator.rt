@@ -1,6 +1,6 @@
 //! The activator of a bundle, and its native code, of which there may be none.
 
-ghost use Rattle.std.specs.Prelude.{◌≡◌, ◌++◌, ℕ, List, codes, if◌then◌else◌, map, IfOk, MatchBool, OnOk};
+ghost use Rattle.std.specs.Prelude.{◌≡◌, ◌++◌, codes, if◌then◌else◌, map, IfOk, OnOk};
 ghost use Rattle.std.specs.Option.{option_copied};
 ghost use Rattle.std.specs.Prelude.{◌==◌};
 ghost use Rattle.osgi_manifest.specs.Manifests as spec;
@@ -9,20 +9,13 @@ ghost use Rattle.osgi_manifest.specs.computed.Steps.{Anything, IsActivator, IsCl
 
 use crate::headers::{header_fault, header_value};
 use crate::host::has_host;
+use crate::scripts::is_script;
 use crate::stop::Stop;
 use osgi_base::folder::{File, Folder};
 use osgi_base::text::Text;
 use osgi_header::header::Header;
 use osgi_world::manifest_fault::ManifestKind;
 use std::alloc::{AllocError, Global};
-
-/// Tells which bytes are an activator's script.
-pub trait Scripts {
-    ghost is_script: { List ℕ → Type 0 };
-
-    fn is_script(alloc: Global, bytes: &[u8]) -> Result<bool, AllocError>
-        ensures script { IfOk result (λ r. MatchBool r (is_script bytes.now) (¬ is_script bytes.now)) };
-}
 
 /// The file of the path, if the folder has one.
 pub fn file_at<'a>(path: &[u8], folder: &'a Folder) -> Option<&'a File>
@@ -59,18 +52,18 @@ fn activator(headers: &[Header]) -> Option<&Text>
 }
 
 /// The fault of a class whose file is missing or no script, if it has one.
-fn class_fault<S: Scripts>(
+fn class_fault(
     alloc: Global,
     folder: &Folder,
     class: &[u8],
 ) -> Result<Option<ManifestKind>, AllocError>
-    ensures fault { IfOk result (IsClassFault S.is_script folder.now class.now) }
+    ensures fault { IfOk result (IsClassFault folder.now class.now) }
 {
     let path = class_file(alloc, class)?;
     let Some(file) = file_at(path.as_slice(), folder) else {
         return Ok(Some(ManifestKind::NoScript));
     };
-    if S::is_script(alloc, file.bytes.bytes())? {
+    if is_script(alloc, file.bytes.bytes())? {
         Ok(None)
     } else {
         Ok(Some(ManifestKind::BadScript))
@@ -78,17 +71,17 @@ fn class_fault<S: Scripts>(
 }
 
 /// The class that is the activator, or the fault of its header.
-pub fn bundle_activator<S: Scripts>(
+pub fn bundle_activator(
     alloc: Global,
     folder: &Folder,
     headers: &[Header],
 ) -> Result<Option<Text>, Stop>
-    ensures step { IsStep (activator_conditions S.is_script folder.now headers.now) (IsActivator headers.now) result }
+    ensures step { IsStep (activator_conditions folder.now headers.now) (IsActivator headers.now) result }
 {
     let Some(class) = activator(headers) else {
         return Ok(None);
     };
-    if let Some(kind) = class_fault::<S>(alloc, folder, class.bytes())? {
+    if let Some(kind) = class_fault(alloc, folder, class.bytes())? {
         return Err(Stop::Fault(header_fault(alloc, b"Bundle-Activator", kind, 0)?));
     }
     Ok(Some(class.copy(alloc)?))

@@ -4,14 +4,12 @@ ghost use Rattle.std.specs.Prelude.{◌≡◌, IfOk, MatchResult, Ok, Err};
 ghost use Rattle.osgi_base.specs.Verdict.{Gives};
 ghost use Rattle.osgi_manifest.specs.Manifests.{IsManifestFault, IsRevisionOf, Means, SaysManifest, manifest_faults};
 ghost use Rattle.osgi_manifest.specs.computed.Readings.{AnswersOnly, IsStopAt, SaysText};
-ghost use Rattle.osgi_script.specs.Scripts.{IsScript};
 ghost use Rattle.osgi_world.specs.declared.manifest_fault.ManifestFault.{ManifestFault};
 ghost use Rattle.osgi_world.specs.declared.revision.Revision.{Revision};
 
 use crate::activator::file_at;
 use crate::headers::header_fault;
 use crate::revision::revision;
-use crate::scripts::ActivatorScripts;
 use crate::steps::said;
 use crate::stop::Stop;
 use osgi_base::folder::Folder;
@@ -36,9 +34,9 @@ fn stop(alloc: Global, kind: ManifestKind, at: u64) -> Stop
 
 /// The revision that the headers mean, or the first of their faults.
 fn meant(alloc: Global, folder: &Folder, headers: &[Header]) -> Result<Revision, Stop>
-    ensures only { AnswersOnly (Gives (manifest_faults IsScript folder.now headers.now) (IsRevisionOf IsScript folder.now headers.now)) result }
+    ensures only { AnswersOnly (Gives (manifest_faults folder.now headers.now) (IsRevisionOf folder.now headers.now)) result }
 {
-    let (identity, hosted) = said::<ActivatorScripts>(alloc, folder, headers)?;
+    let (identity, hosted) = said(alloc, folder, headers)?;
     let revision = revision(alloc, folder, identity, hosted)?;
     Ok(revision)
 }
@@ -55,7 +53,7 @@ fn meant_by(alloc: Global, folder: &Folder, manifest: &[u8]) -> Result<Revision,
 
 /// The revision that the folder means, or its fault.
 fn read_folder(alloc: Global, folder: &Folder) -> Result<Revision, Stop>
-    ensures only { AnswersOnly (SaysManifest IsScript folder.now) result }
+    ensures only { AnswersOnly (SaysManifest folder.now) result }
 {
     match file_at(MANIFEST, folder) {
         Some(file) => meant_by(alloc, folder, file.bytes.bytes()),
@@ -71,9 +69,9 @@ fn read_folder(alloc: Global, folder: &Folder) -> Result<Revision, Stop>
 /// stands at the byte of the header's value where the first faulty clause begins, or at 0 where the header is missing or has no
 /// clauses.
 pub fn read(alloc: Global, folder: &Folder) -> Result<Result<Revision, ManifestFault>, AllocError>
-    ensures reads { IfOk result (λ r. MatchResult r (Means IsScript folder.now) (IsManifestFault IsScript folder.now)) }
-    ensures only { (revision : Revision) → Means IsScript folder.now revision → IfOk result (λ r. r ≡ Ok revision) }
-    ensures fault { (fault : ManifestFault) → IsManifestFault IsScript folder.now fault → IfOk result (λ r. r ≡ Err fault) }
+    ensures reads { IfOk result (λ r. MatchResult r (Means folder.now) (IsManifestFault folder.now)) }
+    ensures only { (revision : Revision) → Means folder.now revision → IfOk result (λ r. r ≡ Ok revision) }
+    ensures fault { (fault : ManifestFault) → IsManifestFault folder.now fault → IfOk result (λ r. r ≡ Err fault) }
 {
     match read_folder(alloc, folder) {
         Ok(revision) => Ok(Ok(revision)),

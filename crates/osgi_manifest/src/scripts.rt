@@ -1,18 +1,14 @@
-//! Activators' scripts, as `osgi_script` reads them.
+//! Whether bytes are an activator's script.
 
-use crate::activator::Scripts;
+ghost use Rattle.std.specs.Prelude.{IfOk, MatchBool};
+ghost use Rattle.osgi_script.specs.Scripts.{IsScript};
+
 use osgi_script::parse;
 use std::alloc::{AllocError, Global};
 
-/// The scripts of the grammar of activators.
-pub struct ActivatorScripts;
-
-impl Scripts for ActivatorScripts {
-    ghost use Rattle.osgi_script.specs.Scripts.{IsScript};
-
-    ghost is_script = { IsScript };
-
-    fn is_script(alloc: Global, bytes: &[u8]) -> Result<bool, AllocError> {
-        Ok(parse(alloc, bytes)?.is_ok())
-    }
+/// Whether the bytes are a script.
+pub fn is_script(alloc: Global, bytes: &[u8]) -> Result<bool, AllocError>
+    ensures script { IfOk result (λ r. MatchBool r (IsScript bytes.now) (¬ IsScript bytes.now)) }
+{
+    Ok(parse(alloc, bytes)?.is_ok())
 }

@@ -4,7 +4,7 @@ ghost use Rattle.osgi_manifest.specs.computed.Answers.{IsStep};
 ghost use Rattle.osgi_manifest.specs.computed.Lone.{host_conditions};
 ghost use Rattle.osgi_manifest.specs.computed.Steps.{Anything, AreContents, AreGeneric, AreHosted, AreSaid, AreLists, AreOffered, AreWanted, IsActivator, IsIdentity, activation_conditions, contents_conditions, generic_conditions, hosted_conditions, identity_conditions, lists_conditions, offered_conditions, said_conditions, wanted_conditions};
 
-use crate::activator::{Scripts, bundle_activator, native_code};
+use crate::activator::{bundle_activator, native_code};
 use crate::host::bundle_host;
 use crate::naming::{Naming, bundle_naming};
 use crate::sections::{
@@ -88,56 +88,48 @@ fn lists(alloc: Global, headers: &[Header]) -> Result<(Wanted, Offered), Stop>
 }
 
 /// The class that is the activator, of a bundle without native code.
-fn activation<S: Scripts>(
-    alloc: Global,
-    folder: &Folder,
-    headers: &[Header],
-) -> Result<Option<Text>, Stop>
-    ensures step { IsStep (activation_conditions S.is_script folder.now headers.now) (IsActivator headers.now) result }
+fn activation(alloc: Global, folder: &Folder, headers: &[Header]) -> Result<Option<Text>, Stop>
+    ensures step { IsStep (activation_conditions folder.now headers.now) (IsActivator headers.now) result }
 {
-    let class = bundle_activator::<S>(alloc, folder, headers)?;
+    let class = bundle_activator(alloc, folder, headers)?;
     native_code(alloc, headers)?;
     Ok(class)
 }
 
 /// All that the bundle asks for and offers, and the class that is the activator.
-pub fn contents<S: Scripts>(
-    alloc: Global,
-    folder: &Folder,
-    headers: &[Header],
-) -> Result<Contents, Stop>
-    ensures step { IsStep (contents_conditions S.is_script folder.now headers.now) (AreContents headers.now) result }
+pub fn contents(alloc: Global, folder: &Folder, headers: &[Header]) -> Result<Contents, Stop>
+    ensures step { IsStep (contents_conditions folder.now headers.now) (AreContents headers.now) result }
 {
     let lists = lists(alloc, headers)?;
-    let class = activation::<S>(alloc, folder, headers)?;
+    let class = activation(alloc, folder, headers)?;
     Ok((lists, class))
 }
 
 /// The host that the bundle is a fragment of, if it is one, and the rest. The host is read again at the end, so that nothing
 /// has to be kept of it while the rest is read.
-pub fn hosted<S: Scripts>(
+pub fn hosted(
     alloc: Global,
     folder: &Folder,
     headers: &[Header],
 ) -> Result<(Option<Requirement>, Contents), Stop>
-    ensures step { IsStep (hosted_conditions S.is_script folder.now headers.now) (AreHosted headers.now) result }
+    ensures step { IsStep (hosted_conditions folder.now headers.now) (AreHosted headers.now) result }
 {
     host_fault(alloc, headers)?;
-    let contents = contents::<S>(alloc, folder, headers)?;
+    let contents = contents(alloc, folder, headers)?;
     let host = bundle_host(alloc, headers)?;
     Ok((host, contents))
 }
 
 /// The name and the version of the bundle, and the rest: all that the manifest says, or the first of its faults in the order of
 /// the headers.
-pub fn said<S: Scripts>(
+pub fn said(
     alloc: Global,
     folder: &Folder,
     headers: &[Header],
 ) -> Result<((Naming, Version), (Option<Requirement>, Contents)), Stop>
-    ensures step { IsStep (said_conditions S.is_script folder.now headers.now) (AreSaid headers.now) result }
+    ensures step { IsStep (said_conditions folder.now headers.now) (AreSaid headers.now) result }
 {
     let identity = identity(alloc, headers)?;
-    let hosted = hosted::<S>(alloc, folder, headers)?;
+    let hosted = hosted(alloc, folder, headers)?;
     Ok((identity, hosted))
 }

@@ -31,7 +31,7 @@ Fits (Some filter) service = Matches str_eq_ignore_ascii_case service.properties
 abbrev pub IsOf : List ℕ → Option Filter → Service → Type 0
 IsOf class filter service = (has_class class service ≡ true) × Fits filter service
 
--- a registrant's service of the class is assignable to who asks: so far the system bundle alone is there, and a bundle's own
+-- a registrant's service of the class is assignable to who asks: so far the system bundle alone is up, and a bundle's own
 -- services are assignable to it
 abbrev pub IsAssignable : BundleId → BundleId → List ℕ → Type 0
 IsAssignable registrant asker class = registrant ≡ asker

@@ -1,27 +1,42 @@
 -- Which histories a framework can have, and what one call does.
 use Rattle.std.specs.Prelude.{◌≡◌, ◌<◌, ◌≤◌, List, [], ◌∷◌, ◌++◌, length}
-use Rattle.osgi_base.specs.declared.ids.Tag.{Tag}
 use Rattle.osgi_ops.specs.Along.{AllAlong}
-use Rattle.osgi_ops.specs.Operations.{moment, IsReply}
+use Rattle.osgi_ops.specs.Moments.{entries_in, Moment, moment, Told, world_after}
+use Rattle.osgi_ops.specs.Operations.{IsReply}
 use Rattle.osgi_ops.specs.Settings.{Setting}
+use Rattle.osgi_ops.specs.Worlds.{Leaves}
+use Rattle.osgi_ops.specs.declared.entry.Entry.{Entry}
 use Rattle.osgi_ops.specs.declared.op.Op.{Op}
 use Rattle.osgi_ops.specs.declared.refusal.Refusal.TheVariants.{HistoryFull}
 use Rattle.osgi_ops.specs.declared.reply.Reply.{Reply}
 use Rattle.osgi_ops.specs.declared.reply.Reply.TheVariants.{Refused}
-use Rattle.osgi_ops.specs.declared.entry.Entry.{Entry}
+use Rattle.osgi_world.specs.declared.world.World.{World}
 
--- an entry after the entries before it: there was room for it, and it has the reply that its operation was due
-pub record IsAllowed (setting : Setting) (before : List Entry) (e : Entry) : Type 0 where
-  pub room : length before < setting.bounds.entries
-  pub reply : IsReply (moment setting before e.tag) e.op e.reply
+-- an operation at a moment: there is room for its entry, and it has the reply that it is due and leaves a world that it may leave
+pub record IsAllowedNow (now : Moment) (op : Op) (reply : Reply) (world : World) : Type 0 where
+  pub room : length now.before < now.setting.bounds.entries
+  pub replied : IsReply now op reply
+  pub left : Leaves now op reply world
 
--- a history that replays from the empty framework: each entry is allowed after those before it
+-- an entry with the world after it, after what was told before
+abbrev pub IsAllowed : Setting → List Told → Told → Type 0
+IsAllowed setting before t = IsAllowedNow (moment setting before t.entry.tag) t.entry.op t.entry.reply t.world
+
+-- the history replays from the empty framework, and then this is the world: some telling of it, each entry with the world after it, is
+-- allowed step by step and ends with that world
+pub record IsReplayed (setting : Setting) (history : List Entry) (world : World) : Type 0 where
+  pub told : List Told
+  pub tells : entries_in told ≡ history
+  pub ends : world_after told ≡ world
+  pub allowed : AllAlong (IsAllowed setting) [] told
+
+-- a history that replays from the empty framework
 abbrev pub Legal : Setting → List Entry → Type 0
-Legal setting history = AllAlong (IsAllowed setting) [] history
+Legal setting history = (world : World) × IsReplayed setting history world
 
--- one call, with the history before and after it. A full history refuses whatever is asked and stays as it is;
--- any other gains the call's own entry, an allowed one
-pub record IsStep (setting : Setting) (before after : List Entry) (tag : Tag) (op : Op) (reply : Reply) : Type 0 where
-  pub full : setting.bounds.entries ≤ length before → (reply ≡ Refused HistoryFull) × (after ≡ before)
-  pub room : length before < setting.bounds.entries →
-      let e : Entry = record { tag = tag; op = op; reply = reply } in IsAllowed setting before e × (after ≡ before ++ e ∷ [])
+-- one call, at a moment, with the history and the world after it. A full history refuses whatever is asked, and nothing changes; any
+-- other gains the call's own entry, an allowed one
+pub record IsStep (now : Moment) (after : List Entry) (world : World) (op : Op) (reply : Reply) : Type 0 where
+  pub full : now.setting.bounds.entries ≤ length now.before → (reply ≡ Refused HistoryFull) × (after ≡ now.before) × (world ≡ now.world)
+  pub room : length now.before < now.setting.bounds.entries →
+      let e : Entry = record { tag = now.tag; op = op; reply = reply } in IsAllowedNow now op reply world × (after ≡ now.before ++ e ∷ [])

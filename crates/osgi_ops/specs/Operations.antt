@@ -1,42 +1,56 @@
 -- What each operation answers: its refusals in order, each with its condition, and its answer.
-use Rattle.std.specs.Prelude.{◌≡◌, ⊤, ◌≢◌, ◌+◌, ◌≤◌, nat_lt, true, List, [], ◌∷◌, Option, None, length, map, IsSomeAnd}
+use Rattle.std.specs.Prelude.{ℕ, ◌≡◌, ⊤, ◌≢◌, ◌+◌, ◌<◌, ◌≤◌, nat_lt, true, false, List, [], ◌∷◌, ◌++◌, Option, None, Some, Contains, length, map, IsSomeAnd}
 use Rattle.osgi_base.specs.declared.ids.BundleId.{BundleId}
 use Rattle.osgi_base.specs.declared.ids.ServiceId.{ServiceId}
-use Rattle.osgi_base.specs.declared.ids.Tag.{Tag}
-use Rattle.osgi_ops.specs.Bundles.{IsLive}
+use Rattle.osgi_ops.specs.Bundles.{Bundle, bundle_at, bundle_from, bundle_row, bundles, installed, state_of}
 use Rattle.osgi_ops.specs.Classes.{AreRanked, IsFound, IsOf, IsOpenTo}
+use Rattle.osgi_ops.specs.Depots.{revision_at, stored_at}
+use Rattle.osgi_ops.specs.Moments.{Moment}
 use Rattle.osgi_ops.specs.Properties.{has_twins, ranking}
 use Rattle.osgi_ops.specs.Replies.{verdict}
 use Rattle.osgi_ops.specs.Services.{live, live_at, registered, services, uses}
-use Rattle.osgi_ops.specs.Settings.{Setting}
+use Rattle.osgi_ops.specs.States.{is_up}
 use Rattle.osgi_base.specs.Verdict.{Gives, Where}
-use Rattle.osgi_ops.specs.declared.limits.TheConstants.{MAX_SERVICES}
+use Rattle.osgi_ops.specs.declared.depot.Stored.{Stored}
+use Rattle.osgi_ops.specs.declared.depot.Stored.TheVariants as stored
+use Rattle.osgi_ops.specs.declared.limits.TheConstants.{MAX_BUNDLES, MAX_SERVICES}
 use Rattle.osgi_ops.specs.declared.op.Op.{Op}
 use Rattle.osgi_ops.specs.declared.op.Op.TheVariants as op
-use Rattle.osgi_ops.specs.declared.refusal.Many.TheVariants.{Services}
+use Rattle.osgi_ops.specs.declared.refusal.Many.TheVariants.{Bundles, Locations, Services}
 use Rattle.osgi_ops.specs.declared.refusal.Refusal.{Refusal}
-use Rattle.osgi_ops.specs.declared.refusal.Refusal.TheVariants.{NoSuchBundle, InvalidOperation, NoSuchService, BadProperties, NotOwner, TooMany}
+use Rattle.osgi_ops.specs.declared.refusal.Refusal.TheVariants.{NoSuchBundle, InvalidOperation, ReadError, NoFolder, ManifestError, DuplicateBundle, NoSuchService, BadProperties, NotOwner, TooMany}
 use Rattle.osgi_ops.specs.declared.reply.Reply.{Reply}
 use Rattle.osgi_ops.specs.declared.reply.Reply.TheVariants as answer
-use Rattle.osgi_ops.specs.declared.entry.Entry.{Entry}
 use Rattle.osgi_ops.specs.declared.service.Service.{Service}
 use Rattle.osgi_ops.specs.declared.service.ServiceRow.{ServiceRow}
-
--- all that conditions and answers may read: the setting, the history so far, and who asks
-pub record Moment : Type 0 where
-  pub setting : Setting
-  pub before : List Entry
-  pub tag : Tag
-
-abbrev pub moment : Setting → List Entry → Tag → Moment
-moment setting before tag = record { setting = setting; before = before; tag = tag }
+use Rattle.osgi_world.specs.declared.revision.Revision.{Revision}
 
 -- ---- refusals
 
--- the bundle is not there. Who asks has to be up, too, else it is refused with 2 after this; only the system bundle is there so
--- far, and it is always up
+-- the bundle is not there: its id was never given, or it is uninstalled
 abbrev pub no_such_bundle : Moment → BundleId → Refusal → Type 0
-no_such_bundle now bundle = Where NoSuchBundle (¬ IsLive now.before bundle)
+no_such_bundle now bundle = Where NoSuchBundle (bundle_at now.setting.depot now.before bundle ≡ None)
+
+-- the bundle is not up
+abbrev pub not_up : Moment → BundleId → Refusal → Type 0
+not_up now bundle = Where InvalidOperation (is_up (state_of bundle) ≡ false)
+
+-- the bundle that asks for an operation, where one does: its owner, asker or user. Of the operations that the framework has; the others
+-- are refused whoever asks
+abbrev pub asker_of : Op → Option BundleId
+asker_of (op.Register owner classes object properties) = Some owner
+asker_of (op.Modify owner service properties) = Some owner
+asker_of (op.Unregister owner service) = Some owner
+asker_of (op.Find asker class filter) = Some asker
+asker_of (op.FindAll asker class filter) = Some asker
+asker_of (op.Get user service) = Some user
+asker_of (op.Unget user service) = Some user
+asker_of _ = None
+
+-- who asks has to be there, and up
+abbrev pub asker_conditions : Moment → Option BundleId → List (Refusal → Type 0)
+asker_conditions now (Some asker) = no_such_bundle now asker ∷ not_up now asker ∷ []
+asker_conditions now None = []
 
 -- the service is not live
 abbrev pub no_such_service : Moment → ServiceId → Refusal → Type 0
@@ -46,26 +60,61 @@ no_such_service now service = Where NoSuchService (live_at service now.before �
 abbrev pub not_owner : Moment → BundleId → ServiceId → Refusal → Type 0
 not_owner now owner service refusal = IsSomeAnd (live_at service now.before) (λ r. (r.owner ≢ owner) × (refusal ≡ NotOwner r.owner))
 
+-- what the depot's answer for a location refuses: a folder that could not be read or is too large, one that is not there, and a
+-- manifest at fault; and locations that were skipped
+abbrev pub depot_refusal : Option Stored → Option Refusal
+depot_refusal None = Some NoFolder
+depot_refusal (Some stored.Skipped) = Some (TooMany Locations)
+depot_refusal (Some (stored.Failed before after)) = Some ReadError
+depot_refusal (Some (stored.TooLarge bytes files)) = Some ReadError
+depot_refusal (Some stored.NoFolder) = Some NoFolder
+depot_refusal (Some (stored.Bad fault)) = Some (ManifestError fault)
+depot_refusal (Some (stored.Read revision manifest)) = None
+
+-- the depot has no revision at the location
+abbrev pub not_read : Moment → List ℕ → Refusal → Type 0
+not_read now location refusal = depot_refusal (stored_at now.setting.depot location) ≡ Some refusal
+
+-- another live bundle has the name and the version of the location's revision
+pub record IsDuplicate (now : Moment) (location : List ℕ) (refusal : Refusal) : Type 0 where
+  pub revision : Revision
+  pub is : revision_at now.setting.depot location ≡ Some revision
+  pub other : Bundle
+  pub live : Contains (bundles now.setting.depot now.before) other
+  pub name : other.revision.name ≡ revision.name
+  pub version : other.revision.version ≡ revision.version
+  pub says : refusal ≡ DuplicateBundle other.bundle
+
+-- the refusals of an Install, where this is the live bundle that has its location, if one has. Such a bundle is answered. The system
+-- bundle is not counted
+abbrev pub install_conditions : Option Bundle → Moment → List ℕ → List (Refusal → Type 0)
+install_conditions (Some bundle) now location = []
+install_conditions None now location =
+    not_read now location ∷ IsDuplicate now location ∷ Where (TooMany Bundles) (MAX_BUNDLES < length (bundles now.setting.depot now.before)) ∷ []
+
 -- the framework does not have the operation yet
 abbrev pub not_yet : Refusal → Type 0
 not_yet = Where InvalidOperation ⊤
 
--- the refusals of an operation in order, each where its condition holds
+-- the refusals that are an operation's own, in order, each where its condition holds
+abbrev pub own_conditions : Moment → Op → List (Refusal → Type 0)
+own_conditions now (op.Register owner classes object properties) =
+    Where BadProperties (has_twins properties ≡ true) ∷ Where (TooMany Services) (MAX_SERVICES ≤ length (live now.before)) ∷ []
+own_conditions now (op.Modify owner service properties) =
+    no_such_service now service ∷ not_owner now owner service ∷ Where BadProperties (has_twins properties ≡ true) ∷ []
+own_conditions now (op.Unregister owner service) = no_such_service now service ∷ not_owner now owner service ∷ []
+own_conditions now (op.Find asker class filter) = []
+own_conditions now (op.FindAll asker class filter) = []
+own_conditions now (op.Get user service) = no_such_service now service ∷ []
+own_conditions now (op.Unget user service) = []
+own_conditions now (op.Install location) = install_conditions (bundle_from now.setting.depot now.before location) now location
+own_conditions now op.ListBundles = []
+own_conditions now op.ListServices = []
+own_conditions now _ = not_yet ∷ []
+
+-- the refusals of an operation in order: those of who asks, and its own
 abbrev pub conditions : Moment → Op → List (Refusal → Type 0)
-conditions now (op.Register owner classes object properties) =
-    no_such_bundle now owner
-    ∷ Where BadProperties (has_twins properties ≡ true)
-    ∷ Where (TooMany Services) (MAX_SERVICES ≤ length (live now.before))
-    ∷ []
-conditions now (op.Modify owner service properties) =
-    no_such_bundle now owner ∷ no_such_service now service ∷ not_owner now owner service ∷ Where BadProperties (has_twins properties ≡ true) ∷ []
-conditions now (op.Unregister owner service) = no_such_bundle now owner ∷ no_such_service now service ∷ not_owner now owner service ∷ []
-conditions now (op.Find asker class filter) = no_such_bundle now asker ∷ []
-conditions now (op.FindAll asker class filter) = no_such_bundle now asker ∷ []
-conditions now (op.Get user service) = no_such_bundle now user ∷ no_such_service now service ∷ []
-conditions now (op.Unget user service) = no_such_bundle now user ∷ []
-conditions now op.ListServices = []
-conditions now _ = not_yet ∷ []
+conditions now o = asker_conditions now (asker_of o) ++ own_conditions now o
 
 -- ---- answers
 
@@ -79,7 +128,13 @@ row_of service = record {
   object = service.object;
 }
 
--- the answer of an operation that is not refused. Service ids count from 1 and are never used again
+-- what an Install answers: the live bundle that has its location, or a bundle whose id is one more than the number of those installed
+-- earlier
+abbrev pub installs : Option Bundle → ℕ → Reply
+installs (Some b) earlier = answer.Bundle b.bundle true
+installs None earlier = answer.Bundle (record { 0 = earlier + 1 }) false
+
+-- the answer of an operation that is not refused. The ids of services and of bundles count from 1 and are never used again
 abbrev pub Answers : Moment → Op → Reply → Type 0
 Answers now (op.Register owner classes object properties) reply = reply ≡ answer.Service (record { 0 = length (registered now.before) + 1 })
 Answers now (op.Modify owner service properties) reply = reply ≡ answer.Done
@@ -88,6 +143,9 @@ Answers now (op.Find asker class filter) reply = (found : Option ServiceId) × (
 Answers now (op.FindAll asker class filter) reply = (found : List ServiceId) × (reply ≡ answer.Services found) × AreRanked (IsOf class filter) (services now.before) found
 Answers now (op.Get user service) reply = IsSomeAnd (live_at service now.before) (λ r. reply ≡ answer.Object r.object)
 Answers now (op.Unget user service) reply = reply ≡ answer.Flag (nat_lt 0 (uses user service now.before))
+Answers now (op.Install location) reply =
+    reply ≡ installs (bundle_from now.setting.depot now.before location) (length (installed now.setting.depot now.before))
+Answers now op.ListBundles reply = reply ≡ answer.Bundles (map bundle_row (bundles now.setting.depot now.before))
 Answers now op.ListServices reply = reply ≡ answer.ServiceRows (map row_of (services now.before))
 Answers now _ reply = ⊥
 

@@ -12,4 +12,5 @@ pub mod reply;
 pub mod rows;
 pub mod section;
 pub mod service;
+pub mod state;
 pub mod target;

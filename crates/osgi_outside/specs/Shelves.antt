@@ -1,7 +1,9 @@
 -- What a shelf answers, if it exposes its folders.
 use Rattle.std.specs.Prelude.{ℕ, ◌≡◌, ◌-◌, ◌^◌, ◌==◌, ◌||◌, ⊤, Bool, true, false, List, length, min, find, sum_by, nat_lt, Option, IfSome, if◌then◌else◌}
 use Rattle.std.specs.Option.{option_map, option_map_or}
-use Rattle.std.specs.Cmp.Lexicographic.{pointwise}
+use Rattle.std.specs.Cmp.Lexicographic.{pointwise, slice_cmp}
+use Rattle.std.specs.List.Sorted.{IsSortedByKey}
+use Rattle.std.specs.Ordering.{nat_cmp}
 use Rattle.osgi_base.specs.declared.folder.Folder.{Folder}
 use Rattle.osgi_outside.specs.declared.shelf.TheConstants.{MAX_BYTES, MAX_FILES}
 use Rattle.osgi_outside.specs.declared.shelf.Found.{Found}
@@ -50,6 +52,13 @@ KeepsLimits (found.Folder folder) = is_too_large (bytes_of folder) (files_of fol
 KeepsLimits (found.TooLarge bytes files) = is_too_large bytes files ≡ true
 KeepsLimits found.NoFolder = ⊤
 KeepsLimits found.Failed = ⊤
+
+-- the files of a folder that is answered stand by rising bytes of their paths
+abbrev pub IsInOrder : Found → Type 0
+IsInOrder (found.Folder folder) = IsSortedByKey (λ file. file.path) (slice_cmp nat_cmp) folder.files
+IsInOrder found.NoFolder = ⊤
+IsInOrder (found.TooLarge bytes files) = ⊤
+IsInOrder found.Failed = ⊤
 
 -- the count of faults rose where the answer is `Failed`
 abbrev pub RoseWhereFailed : ℕ → ℕ → Found → Type 0

@@ -2,7 +2,10 @@
 //! at which a test can hold a lane. Each is a trait, with forms in memory whose calls fail on demand.
 #![tactic(auto)]
 
+pub mod dir_shelf;
+mod dir_walk;
 pub mod gate;
+mod gathered;
 pub mod memory_shelf;
 pub mod memory_sink;
 pub mod memory_source;

@@ -1,5 +1,5 @@
 -- A clause of Export-Package says what the reader makes of it.
-use Rattle.std.proofs.Common.{◌≡◌, ℕ, List, [], ◌∷◌, ◌++◌, sym, ◌∙◌, refl, subst, arith}
+use Rattle.std.proofs.Common.{◌≡◌, ℕ, List, [], ◌∷◌, ◌++◌, sym, ◌∙◌, refl, subst}
 use Rattle.std.specs.Prelude.{Bool, true, false, cond, All, codes, filter, Option, None, Some, Result, Ok, Err}
 use Rattle.std.specs.List.{AllZip, list_any}
 use Rattle.std.proofs.lemmas.Bool.{false≢true}
@@ -10,8 +10,7 @@ use Rattle.osgi_world.specs.declared.capability.Capability.{Capability}
 use Rattle.osgi_model.specs.declared.value.Attribute.{Attribute}
 use Rattle.osgi_model.specs.laws.VersionTexts.{version_read, version_sound}
 use Rattle.osgi_version.specs.declared.version.Version.{Version}
-use Rattle.osgi_version.specs.Versions.{Fits, IsReadableVersion, Parts, ReadsVersion}
-use Rattle.osgi_version.specs.VersionValues.{parts}
+use Rattle.osgi_version.specs.Versions.{IsReadableVersion}
 use Rattle.osgi_package.specs.computed.Answers.{IsOnly}
 use Rattle.osgi_package.specs.computed.AttributeReader.{attributes_of}
 use Rattle.osgi_package.specs.computed.ExportReader.{IsOfferOf, capabilities_of, named_fault}

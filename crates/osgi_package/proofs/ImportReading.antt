@@ -1,14 +1,12 @@
 -- A clause of Import-Package says what the reader makes of it.
 use Rattle.std.proofs.Common.{◌≡◌, ◌≢◌, ◌<◌, ◌+◌, ℕ, List, [], ◌∷◌, ◌++◌, length, take, drop, get_or, ap, sym, ◌∙◌, refl, subst, inl, inr, arith, append_assoc, append-nil, length-append}
-use Rattle.std.specs.Prelude.{Bool, true, false, cond, not, ◌⊎◌, ◌||◌, All, AllPairs, codes, filter, map, Option, None, Some, Result, Ok, Err, MatchResult}
+use Rattle.std.specs.Prelude.{Bool, true, false, cond, not, ◌⊎◌, ◌||◌, All, AllPairs, codes, filter, map, Option, None, Some, Result, Ok, Err}
 use Rattle.std.specs.Bool.{OnTrue}
 use Rattle.std.specs.BTreeMap.{is_at}
 use Rattle.std.specs.BTreeSet.{BTreeSet, contains}
 use Rattle.std.specs.Cmp.Lexicographic.{slice_cmp}
 use Rattle.std.specs.List.{AllZip, list_any}
-use Rattle.std.specs.Option.{option_map}
 use Rattle.std.specs.Ordering.{nat_cmp}
-use Rattle.std.specs.Result.{IsOkAnd, result_ok}
 use Rattle.std.specs.Str.{bytes_eq}
 use Rattle.std.proofs.Math.ListN.{get_or-append}
 use Rattle.std.proofs.Math.Seq.{get_or-append_seam}
@@ -18,29 +16,22 @@ use Rattle.std.proofs.lemmas.List.Concat.{flat_map-append}
 use Rattle.std.proofs.lemmas.List.Folds.{Any-from_list_any, list_any-append, list_any_at}
 use Rattle.std.proofs.lemmas.List.Quantifiers.{all_pairs_push}
 use Rattle.std.proofs.lemmas.Map.Text.{is_eq-slice_cmp}
-use Rattle.std.proofs.lemmas.Option.{same_Some}
 use Rattle.std.proofs.lemmas.Slice.Eq.{bytes_eq-Decides}
 use Rattle.osgi_base.specs.Verdict.{Where, answers, refuses}
 use Rattle.osgi_header.specs.declared.clause.Clause.{Clause}
 use Rattle.osgi_world.specs.declared.requirement.Requirement.{Requirement}
 use Rattle.osgi_model.specs.declared.value.Attribute.{Attribute}
-use Rattle.osgi_version.specs.Comparing.{same_parts}
-use Rattle.osgi_version.specs.Faults.{IsFault}
-use Rattle.osgi_version.specs.Ranges.{IsReadableRange, IsSpelledRange, RangeParts, ReadsRange}
+use Rattle.osgi_version.specs.Ranges.{IsReadableRange}
 use Rattle.osgi_version.specs.RangeValues.{range_parts}
-use Rattle.osgi_version.specs.VersionValues.{parts}
-use Rattle.osgi_version.specs.declared.fault.VersionFault.{VersionFault}
 use Rattle.osgi_version.specs.declared.range.VersionRange.{VersionRange}
-use Rattle.osgi_version.specs.declared.version.Version.{Version}
 use Rattle.osgi_package.specs.computed.Answers.{IsOnly, IsTheAnswer}
 use Rattle.osgi_package.specs.computed.AttributeReader.{attributes_of}
-use Rattle.osgi_package.specs.computed.ImportReader.{AreNew, AreRanges, AreSeen, IsAdded, IsRangeOf, IsTemplate, requirements_of, template_by, template_of, template_with}
+use Rattle.osgi_package.specs.computed.ImportReader.{AreNew, AreRanges, AreSeen, IsAdded, IsTemplate, requirements_of, template_by, template_of, template_with}
 use Rattle.osgi_package.specs.declared.fault.PackageKind.{PackageKind}
 use Rattle.osgi_package.specs.declared.fault.PackageKind.TheVariants.{BadValue, BadVersion, DoubleType, Duplicate}
 use Rattle.osgi_package.specs.Imports.{AreImportsOf, IsImport, SaysImports}
 use Rattle.osgi_package.specs.Packages.{is_java, packages}
 use Rattle.osgi_package.specs.Parameters.{HasValue, IsAttribute, is_double, is_other, version_text}
-use Rattle.osgi_package.specs.laws.Ranges.{range_read}
 use Rattle.osgi_package.specs.laws.Splits.{split_at, take_next}
 use Rattle.osgi_package.specs.laws.Verdicts.{end_only, first_only, rest_only}
 use Rattle.osgi_package.proofs.Answering.{answer_more}

@@ -68,7 +68,7 @@ pub fn has_double(attributes: &[Typed]) -> bool
 }
 
 /// The attributes other than the version and the exporter's, or what is wrong with the values of all.
-pub fn attributes(
+pub(crate) fn attributes(
     alloc: Global,
     clause: &Clause,
 ) -> Result<Result<Attributes, PackageKind>, AllocError>

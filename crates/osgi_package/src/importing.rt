@@ -12,6 +12,7 @@ ghost use Rattle.osgi_package.specs.computed.Answers.{IsTheAnswer};
 ghost use Rattle.osgi_package.specs.computed.ImportReader.{AreNew, AreRanges, AreSeen, IsAdded, IsRangeOf, IsTemplate, requirements_of, template_of};
 
 use crate::attributes::attributes;
+use crate::distinct::add_texts;
 use crate::fault::{PackageFault, PackageKind};
 use crate::parameters::{attribute_text, is_directed, is_java, version_text};
 use osgi_base::list::List;
@@ -124,23 +125,6 @@ fn add_requirements(
     Ok(())
 }
 
-/// Adds packages to those that were seen; false where one was seen before.
-pub fn add_packages(
-    alloc: Global,
-    seen: &mut BTreeSet<Text>,
-    paths: &[Text],
-) -> Result<bool, AllocError>
-    ensures new { (before : List (List ℕ)) → AreSeen seen.old before → IfOk result (AreNew seen.new (before ++ paths.now)) }
-{
-    for path in paths {
-        let is_new = seen.insert(path.copy(alloc)?)?;
-        if !is_new {
-            return Ok(false);
-        }
-    }
-    Ok(true)
-}
-
 /// Adds the packages of a clause to those that were seen, and their requirements; false where a package was seen before.
 fn add_all(
     alloc: Global,
@@ -152,7 +136,7 @@ fn add_all(
     ensures new { (before : List (List ℕ)) → AreSeen seen.old before → IfOk result (AreNew seen.new (before ++ paths.now)) }
     ensures added { IfOk result (λ new. OnTrue new (requirements.new ≡ requirements.old ++ requirements_of template.now paths.now)) }
 {
-    if !add_packages(alloc, seen, paths)? {
+    if !add_texts(alloc, seen, paths)? {
         return Ok(false);
     }
     add_requirements(alloc, requirements, template, paths)?;

@@ -11,12 +11,12 @@ use Rattle.osgi_session.specs.laws.Parts.{tells_full}
 use Rattle.osgi_session.specs.laws.Sessions.{AreNumberedFrom, Makes-cut, Makes-weaker, none_full, some_full}
 use Rattle.osgi_session.specs.Rendering.{is_full}
 use Rattle.osgi_session.specs.Sessions.{Makes, MayBeCut}
-use Rattle.osgi_ops.specs.Settings.{Setting}
+use Rattle.osgi_ops.specs.Settings.{Bounds}
 use Rattle.osgi_ops.specs.declared.entry.Entry.{Entry}
 use Rattle.osgi_session.specs.declared.line.Line.{Line}
 use Rattle.osgi_console.specs.Console.{AreReadFrom}
 use Rattle.osgi_program.specs.computed.Ended.{IsRun, status_by}
-use Rattle.osgi_program.specs.Outcome.{IsSession, is_handing, IsWrittenStatus, status_of}
+use Rattle.osgi_program.specs.Outcome.{IsSession, is_handing, IsWrittenStatus, Shelved, status_of}
 use Rattle.osgi_program.specs.declared.session.TheConstants.{MAX_INPUT}
 use Rattle.osgi_program.specs.computed.Running.{IsCutAt, never, RunsLines}
 use Rattle.osgi_program.specs.declared.runner.Ran.{Ran}
@@ -51,16 +51,17 @@ numbered_from number [] (line ∷ rest) read = absurd read
 numbered_from number (text ∷ texts) [] read = absurd read
 numbered_from number (text ∷ texts) (line ∷ rest) read = (read.0, numbered_from (number + 1) texts rest read.3)
 
-pub session_from : (setting : Setting) (input : List ℕ) (how : Ran) (session : Session) (status : ℕ) (left : Option (List ℕ)) → IsRun setting input how session → IfSome left (λ all. input ≡ all) → length input ≤ MAX_INPUT →
-    (how ≡ ran.Starved → status ≡ 5) → IsSession setting status left session
-session_from setting input how session status left run all within starved = record {
+pub session_from : (bounds : Bounds) (input : List ℕ) (shelf : Shelved) (how : Ran) (session : Session) (status : ℕ) (left : Option (List ℕ)) → IsRun bounds input shelf how session → IfSome left (λ all. input ≡ all) → length input ≤ MAX_INPUT →
+    (how ≡ ran.Starved → status ≡ 5) → IsSession bounds status left shelf session
+session_from bounds input shelf how session status left run all within starved = record {
   input = input;
   all = all;
   within = within;
   lines = run.lines;
+  depot = run.depot;
   legal = run.legal;
-  whole = runs_whole how setting.bounds.entries status session.lines session.entries starved run.runs;
-  full = tells_full _ session.lines session.entries (runs_whole how setting.bounds.entries status session.lines session.entries starved run.runs) (numbered_from 1 (lines input) session.lines run.lines);
+  whole = runs_whole how bounds.entries status session.lines session.entries starved run.runs;
+  full = tells_full _ session.lines session.entries (runs_whole how bounds.entries status session.lines session.entries starved run.runs) (numbered_from 1 (lines input) session.lines run.lines);
   handings = run.handings ∙ none_handed session.entries;
 }
 
@@ -82,7 +83,7 @@ not_starved how status starved (inl e) is = omega (arith, starved is, e)
 not_starved how status starved (inr (inl e)) is = omega (arith, starved is, e)
 not_starved how status starved (inr (inr e)) is = omega (arith, starved is, e)
 
-pub status_from : (setting : Setting) (input : List ℕ) (how : Ran) (session : Session) (status : ℕ) → IsRun setting input how session → (how ≡ ran.Starved → status ≡ 5) → IsWrittenStatus status →
+pub status_from : (bounds : Bounds) (input : List ℕ) (shelf : Shelved) (how : Ran) (session : Session) (status : ℕ) → IsRun bounds input shelf how session → (how ≡ ran.Starved → status ≡ 5) → IsWrittenStatus status →
     status ≡ status_by how session → status ≡ status_of session
-status_from setting input how session status run starved written is =
-    is ∙ status_by_runs how setting.bounds.entries session (numbered_from 1 (lines input) session.lines run.lines) (not_starved how status starved written) run.runs
+status_from bounds input shelf how session status run starved written is =
+    is ∙ status_by_runs how bounds.entries session (numbered_from 1 (lines input) session.lines run.lines) (not_starved how status starved written) run.runs

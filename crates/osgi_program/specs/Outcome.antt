@@ -6,13 +6,15 @@ use Rattle.osgi_ops.specs.Legal.{Legal}
 use Rattle.osgi_session.specs.Rendering.{is_full, render, IsFullWhereCut}
 use Rattle.osgi_ops.specs.Replies.{is_refusal}
 use Rattle.osgi_session.specs.Sessions.{IsWhole}
-use Rattle.osgi_ops.specs.Settings.{Setting}
+use Rattle.osgi_ops.specs.Settings.{Bounds}
 use Rattle.osgi_ops.specs.declared.entry.Entry.{Entry}
 use Rattle.osgi_session.specs.declared.line.Content.{Content}
 use Rattle.osgi_session.specs.declared.line.Content.TheVariants.{Bad}
 use Rattle.osgi_session.specs.declared.line.Line.{Line}
 use Rattle.osgi_ops.specs.declared.reply.Reply.{Reply}
 use Rattle.osgi_console.specs.Console.{AreLinesOf}
+use Rattle.osgi_depot.specs.Depots.{IsDepotOf}
+use Rattle.osgi_outside.specs.Shelves.{Row}
 use Rattle.osgi_program.specs.declared.session.Session.{Session}
 use Rattle.osgi_program.specs.declared.session.TheConstants.{MAX_INPUT, DONE, TROUBLED, FAULTY_WORDS, READ_FAILED, INPUT_TOO_LONG, HISTORY_FULL}
 
@@ -20,15 +22,23 @@ use Rattle.osgi_program.specs.declared.session.TheConstants.{MAX_INPUT, DONE, TR
 abbrev pub is_handing : Reply → Bool
 is_handing _ = false
 
+-- what a shelf did while a session was made: the folders that it exposes, if it does, and its counts of faults before and after
+pub record Shelved : Type 0 where
+  pub told : Option (List Row)
+  pub before : ℕ
+  pub after : ℕ
+
 -- `input` is what the source had left, if the source exposes it, and within the limit. The session's lines are all lines of the
--- input; its history replays from the empty framework, and is what these lines make under the limits
-pub record IsSession (setting : Setting) (status : ℕ) (left : Option (List ℕ)) (session : Session) : Type 0 where
+-- input; its depot is what these lines name, as the shelf told it; its history replays from the empty framework, and is what these
+-- lines make under the limits
+pub record IsSession (bounds : Bounds) (status : ℕ) (left : Option (List ℕ)) (shelf : Shelved) (session : Session) : Type 0 where
   pub input : List ℕ
   pub all : IfSome left (λ bytes. input ≡ bytes)
   pub within : length input ≤ MAX_INPUT
   pub lines : AreLinesOf input session.lines
-  pub legal : Legal setting session.entries
-  pub whole : IsWhole setting.bounds.entries status session.lines session.entries
+  pub depot : IsDepotOf session.lines shelf.told shelf.before shelf.after session.depot.rows
+  pub legal : Legal (record { bounds = bounds; depot = session.depot.rows }) session.entries
+  pub whole : IsWhole bounds.entries status session.lines session.entries
   pub full : All (IsFullWhereCut session.entries) session.lines
   pub handings : session.handings ≡ count_by (λ e. is_handing e.reply) session.entries
 

@@ -3,7 +3,7 @@
 ghost use Rattle.std.specs.Prelude.{◌≡◌, ◌≤◌, ◌<◌, ◌↔◌, ◌⊎◌, ◌∷◌, [], codes, length, None, Some, IfSome, OnSome, IsSomeAnd, IfOk, IsTrue};
 ghost use Rattle.std.specs.List.{list_any};
 ghost use Rattle.osgi_ops.specs.Replies.{is_refusal};
-ghost use Rattle.osgi_ops.specs.Settings.{setting_of, standard_bounds, standard_setting};
+ghost use Rattle.osgi_ops.specs.Settings.{bounds_of, standard_bounds};
 ghost use Rattle.osgi_outside.specs.Causes.{Rose};
 ghost use Rattle.osgi_program.specs.Outcome.{is_bad, is_troubled, status_of, IsSession, IsWritten, IsPartlyWritten, IsWrittenStatus, IsBareStatus};
 ghost use Rattle.osgi_program.specs.computed.Ended.{IsRun, status_by};
@@ -16,6 +16,7 @@ use crate::session::{
 use osgi_base::text::Text;
 use osgi_console::{parse, render};
 use osgi_core::Core;
+use osgi_depot::read_depot;
 use osgi_ops::entry::Entry;
 use osgi_ops::limits::Limits;
 use osgi_outside::gate::Gate;
@@ -37,18 +38,28 @@ fn is_run(words: &[Text]) -> bool
     }
 }
 
-/// Runs the lines of an input on a new machine.
-fn run_input(alloc: Global, limits: Limits, input: &[u8]) -> Result<(Ran, Session), AllocError>
+/// Reads the folders that the lines of an input name, and runs the lines on a new machine.
+fn run_input<F: Shelf>(
+    alloc: Global,
+    limits: Limits,
+    input: &[u8],
+    shelf: &mut F,
+) -> Result<(Ran, Session), AllocError>
     requires few { length input.now < 4294967295 }
-    ensures run { IfOk result (λ r. IsRun (setting_of limits) input.now r.0 r.1) }
+    ensures told { F.told shelf.new ≡ F.told shelf.old }
+    ensures later { F.faults shelf.old ≤ F.faults shelf.new }
+    ensures run { IfOk result (λ r. IsRun (bounds_of limits) input.now (record { told = F.told shelf.old; before = F.faults shelf.old; after = F.faults shelf.new }) r.0 r.1) }
 {
     let lines = parse(alloc, input)?;
-    let mut core = Core::new(alloc, limits)?;
+    let depot = read_depot(alloc, lines.items(), shelf)?;
+    let mut core = Core::new(alloc, limits, depot)?;
     let ran = run_lines(alloc, &mut core, lines.items());
+    let (depot, entries) = core.into_parts();
     let session = Session {
         lines,
-        entries: core.into_entries(),
+        entries,
         handings: 0,
+        depot,
     };
     Ok((ran, session))
 }
@@ -107,7 +118,8 @@ fn write_session<K: Sink>(alloc: Global, ran: Ran, session: &Session, sink: &mut
 /// The whole of the program: reads the words and the input, runs its lines, and writes what they answer.
 ///
 /// The words are the command line without the program's name; they have to be `run` alone. The status and
-/// the session that are answered are explained at `Finished`. Runtime, shelf and gate are not used yet.
+/// the session that are answered are explained at `Finished`. Before the first line runs, the folder of each location that an
+/// `install` line names is read from the shelf, once. Runtime and gate are not used yet.
 pub fn framework_main<R, S: Source, K: Sink, F: Shelf, G: Gate>(
     rt: &R,
     alloc: Global,
@@ -121,10 +133,13 @@ pub fn framework_main<R, S: Source, K: Sink, F: Shelf, G: Gate>(
     ensures faulty_words { (result.status ≡ FAULTY_WORDS) ↔ ¬ (words.now ≡ codes "run" ∷ []) }
     ensures good_words { (result.status ≡ FAULTY_WORDS) ⊎ (words.now ≡ codes "run" ∷ []) }
     ensures untouched { result.status ≡ FAULTY_WORDS → (source.new ≡ source.old) × (sink.new ≡ sink.old) }
-    ensures shelf { shelf.new ≡ shelf.old }
+    ensures unread { IsBareStatus result.status → shelf.new ≡ shelf.old }
 
     // What was read, run and recorded, whatever came of the writing.
-    ensures session { IfSome result.session (IsSession standard_setting result.status (S.left source.old)) }
+    ensures session { IfSome result.session (IsSession standard_bounds result.status (S.left source.old)
+        (record { told = F.told shelf.old; before = F.faults shelf.old; after = F.faults shelf.new })) }
+    ensures told { F.told shelf.new ≡ F.told shelf.old }
+    ensures shelf_faults { F.faults shelf.old ≤ F.faults shelf.new }
     ensures all_read { OnSome result.session (OnSome (S.left source.old) (S.left source.new ≡ Some [])) }
     ensures no_session { result.session ≡ None → IsBareStatus result.status ⊎ (result.status ≡ NO_MEMORY) }
     ensures bare { IsBareStatus result.status → result.session ≡ None }
@@ -164,7 +179,7 @@ pub fn framework_main<R, S: Source, K: Sink, F: Shelf, G: Gate>(
         Ok(Input::Failed) => return Finished::bare(READ_FAILED),
         Err(_) => return Finished::bare(NO_MEMORY),
     };
-    match run_input(alloc, Limits::standard(), input.bytes()) {
+    match run_input(alloc, Limits::standard(), input.bytes(), shelf) {
         Ok((ran, session)) => {
             let status = write_session(alloc, ran, &session, sink);
             Finished {

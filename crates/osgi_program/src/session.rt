@@ -1,10 +1,11 @@
 //! What the top call answers.
 
 use osgi_base::list::List;
+use osgi_ops::depot::Depot;
 use osgi_ops::entry::Entry;
 use osgi_session::line::Line;
 
-/// The lines of an input and the history that they made.
+/// The lines of an input, the depot that they ran with, and the history that they made.
 #[derive(Debug, Drop, PartialEq, Eq)]
 pub struct Session {
     /// All lines of the input, in order.
@@ -13,6 +14,8 @@ pub struct Session {
     pub entries: List<Entry>,
     /// How many entries handed an event to a listener.
     pub handings: u64,
+    /// The folders that the lines name, as they were read before the first line ran.
+    pub depot: Depot,
 }
 
 /// How many bytes an input may have.

@@ -28,6 +28,8 @@ pub fn put_command(alloc: Global, out: &mut String, command: &Command) -> Result
         Command::FindAll { class, filter } => put_search(alloc, out, "findall", class, filter),
         Command::Get { service } => put_service(out, "get", *service),
         Command::Unget { service } => put_service(out, "unget", *service),
+        Command::Install { location } => put_install(out, location),
+        Command::Bundles => out.push_str("bundles"),
         Command::Services => out.push_str("services"),
         other => write!(out, "{other:?}"),
     }
@@ -66,6 +68,8 @@ pub fn put_op(alloc: Global, out: &mut String, op: &Op) -> Result<(), AllocError
         Op::FindAll { class, filter, .. } => put_search(alloc, out, "findall", class, filter),
         Op::Get { service, .. } => put_service(out, "get", *service),
         Op::Unget { service, .. } => put_service(out, "unget", *service),
+        Op::Install { location } => put_install(out, location),
+        Op::ListBundles => out.push_str("bundles"),
         Op::ListServices => out.push_str("services"),
         other => write!(out, "{other:?}"),
     }
@@ -73,6 +77,11 @@ pub fn put_op(alloc: Global, out: &mut String, op: &Op) -> Result<(), AllocError
 
 fn put_service(out: &mut String, word: &str, service: ServiceId) -> Result<(), AllocError> {
     write!(out, "{word} {}", service.0)
+}
+
+fn put_install(out: &mut String, location: &Text) -> Result<(), AllocError> {
+    out.push_str("install ")?;
+    put_bytes(out, location.bytes())
 }
 
 fn put_register(

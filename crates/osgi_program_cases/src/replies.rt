@@ -1,14 +1,15 @@
 //! Replies as an answer shows them.
 
 use crate::commands::put_classes;
-use crate::escapes::put_quoted;
+use crate::escapes::{put_bytes, put_quoted};
 use osgi_base::ids::ServiceId;
 use osgi_ops::reply::Reply;
+use osgi_ops::rows::BundleRow;
 use osgi_ops::service::ServiceRow;
-use std::alloc::AllocError;
+use std::alloc::{AllocError, Global};
 use std::fmt::Write;
 
-pub fn put_reply(out: &mut String, reply: &Reply) -> Result<(), AllocError> {
+pub fn put_reply(alloc: Global, out: &mut String, reply: &Reply) -> Result<(), AllocError> {
     match reply {
         Reply::Service { service } => write!(out, "service {}", service.0),
         Reply::Done => out.push_str("done"),
@@ -22,6 +23,11 @@ pub fn put_reply(out: &mut String, reply: &Reply) -> Result<(), AllocError> {
             put_quoted(out, text.bytes())
         }
         Reply::Flag { value } => write!(out, "flag {value}"),
+        Reply::Bundle { bundle, known } => {
+            let kind = if *known { "known" } else { "new" };
+            write!(out, "bundle {} {kind}", bundle.0)
+        }
+        Reply::Bundles { rows } => put_bundles(alloc, out, rows.items()),
         Reply::ServiceRows { rows } => put_rows(out, rows.items()),
         Reply::Refused { refusal } => write!(out, "refused {} {refusal:?}", refusal.number()),
         other => write!(out, "{other:?}"),
@@ -32,6 +38,22 @@ fn put_services(out: &mut String, services: &[ServiceId]) -> Result<(), AllocErr
     out.push_str("services")?;
     for service in services {
         write!(out, " {}", service.0)?;
+    }
+    Ok(())
+}
+
+fn put_bundle(alloc: Global, out: &mut String, row: &BundleRow) -> Result<(), AllocError> {
+    write!(out, " ({} {} {} ", row.bundle.0, row.state, row.level)?;
+    put_bytes(out, row.name.bytes())?;
+    out.push(' ')?;
+    put_bytes(out, row.version.print(alloc)?.as_slice())?;
+    out.push(')')
+}
+
+fn put_bundles(alloc: Global, out: &mut String, rows: &[BundleRow]) -> Result<(), AllocError> {
+    out.push_str("bundles")?;
+    for row in rows {
+        put_bundle(alloc, out, row)?;
     }
     Ok(())
 }

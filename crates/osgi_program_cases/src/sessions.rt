@@ -73,5 +73,5 @@ fn put_entry(alloc: Global, out: &mut String, entry: &Entry) -> Result<(), Alloc
     write!(out, "{}.{} ", entry.tag.caller, entry.tag.command)?;
     put_op(alloc, out, &entry.op)?;
     out.push_str(": ")?;
-    put_reply(out, &entry.reply)
+    put_reply(alloc, out, &entry.reply)
 }

@@ -8,6 +8,7 @@ use osgi_base::ids::{BundleId, ServiceId};
 use osgi_base::list::List;
 use osgi_base::text::Text;
 use osgi_model::filter::Filter;
+use osgi_model::value::Attributes;
 use osgi_ops::op::Op;
 use osgi_ops::refusal::Refusal;
 use osgi_ops::reply::Reply;
@@ -69,11 +70,28 @@ fn rows(alloc: Global, registry: &Registry) -> Result<List<ServiceRow>, AllocErr
     Ok(rows)
 }
 
+fn register(
+    alloc: Global,
+    registry: &mut Registry,
+    owner: BundleId,
+    classes: &List<Text>,
+    object: &Text,
+    properties: &Attributes,
+) -> Result<Reply, AllocError>
+    requires { registry.old.issued < 4294967295 }
+    ensures issued { registry.new.issued ≤ registry.old.issued + 1 }
+{
+    let classes = classes.copy(alloc)?;
+    let object = object.copy(alloc)?;
+    let properties = properties.copy(alloc)?;
+    Ok(registered(registry.register(owner, classes, object, properties)?))
+}
+
 /// What the registry answers to an operation.
 pub fn reply_to(
     alloc: Global,
     registry: &mut Registry,
-    op: Op,
+    op: &Op,
     assignable: Assignable<'_>,
 ) -> Result<Reply, AllocError>
     requires { registry.old.issued < 4294967295 }
@@ -85,21 +103,21 @@ pub fn reply_to(
             classes,
             object,
             properties,
-        } => Ok(registered(registry.register(owner, classes, object, properties)?)),
+        } => register(alloc, registry, *owner, classes, object, properties),
         Op::Modify {
             owner,
             service,
             properties,
-        } => Ok(done(registry.modify(owner, service, properties)?)),
-        Op::Unregister { owner, service } => Ok(done(registry.unregister(owner, service))),
+        } => Ok(done(registry.modify(*owner, *service, properties.copy(alloc)?)?)),
+        &Op::Unregister { owner, service } => Ok(done(registry.unregister(owner, service))),
         Op::Find { class, filter, .. } => Ok(Reply::Best {
-            service: find(registry, &class, filter.as_ref(), assignable),
+            service: find(registry, class, filter.as_ref(), assignable),
         }),
         Op::FindAll { class, filter, .. } => Ok(Reply::Services {
-            services: registry.find_all(&class, filter.as_ref())?,
+            services: registry.find_all(class, filter.as_ref())?,
         }),
-        Op::Get { user, service } => Ok(object(get(registry, user, service)?)),
-        Op::Unget { user, service } => Ok(Reply::Flag {
+        &Op::Get { user, service } => Ok(object(get(registry, user, service)?)),
+        &Op::Unget { user, service } => Ok(Reply::Flag {
             value: registry.unget(user, service),
         }),
         Op::ListServices => Ok(Reply::ServiceRows {

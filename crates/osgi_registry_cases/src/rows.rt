@@ -22,7 +22,7 @@ fn ask(
 ) -> Result<(), AllocError> {
     let (bundle, command) = split_bundle(text);
     match asked(alloc, bundle, command)? {
-        Ok(op) => trial.ask(out, op, assignable),
+        Ok(op) => trial.ask(out, &op, assignable),
         Err(why) => out.push_str(why),
     }
 }

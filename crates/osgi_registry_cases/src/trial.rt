@@ -41,7 +41,7 @@ impl Trial {
     pub fn ask(
         &mut self,
         out: &mut String,
-        op: Op,
+        op: &Op,
         assignable: Assignable<'_>,
     ) -> Result<(), AllocError> {
         let Some(left) = self.left.checked_sub(1) else {
@@ -98,18 +98,26 @@ impl Trial {
 fn answered(
     alloc: Global,
     registry: &mut Registry,
-    op: Op,
+    op: &Op,
     assignable: Assignable<'_>,
 ) -> Result<Entry, AllocError>
     requires { registry.old.issued < 4294967295 }
     ensures issued { registry.new.issued ≤ registry.old.issued + 1 }
 {
-    let reply = reply_to(alloc, registry, op.copy(alloc)?, assignable)?;
+    let reply = reply_to(alloc, registry, op, assignable)?;
     Ok(Entry {
         tag: TAG,
-        op,
+        op: op.copy(alloc)?,
         reply,
     })
+}
+
+/// Adds the last entry.
+fn add_last(alloc: Global, out: &mut String, entries: &[Entry]) -> Result<(), AllocError> {
+    match entries {
+        [.., last] => add_checked(alloc, out, last),
+        [] => Ok(()),
+    }
 }
 
 /// Does an operation, keeps its entry, and adds it.
@@ -118,16 +126,14 @@ fn ask(
     out: &mut String,
     registry: &mut Registry,
     entries: &mut Vec<Entry>,
-    op: Op,
+    op: &Op,
     assignable: Assignable<'_>,
 ) -> Result<(), AllocError>
     requires { registry.old.issued < 4294967295 }
     ensures issued { registry.new.issued ≤ registry.old.issued + 1 }
 {
-    let entry = answered(alloc, registry, op, assignable)?;
-    add_checked(alloc, out, &entry)?;
-    entries.push(entry)?;
-    Ok(())
+    entries.push(answered(alloc, registry, op, assignable)?)?;
+    add_last(alloc, out, entries.as_slice())
 }
 
 /// Releases a bundle. Its entries are the ungets and the unregisters that come to the same.

@@ -6,28 +6,19 @@ use Rattle.std.specs.Option.{option_to_list}
 use Rattle.osgi_base.specs.declared.ids.ServiceId.{ServiceId}
 use Rattle.osgi_ops.specs.Along.{along}
 use Rattle.osgi_session.specs.Lines.{entries_of, has_command, is_of}
-use Rattle.osgi_ops.specs.Names.{many_name, refusal_name, refusal_number}
+use Rattle.osgi_session.specs.RefusalTexts.{refusal_text, spaced}
 use Rattle.osgi_session.specs.Sessions.{IsRunOf}
 use Rattle.osgi_ops.specs.declared.op.Op.{Op}
 use Rattle.osgi_ops.specs.declared.op.Op.TheVariants.{Modify, Unregister, Unget}
-use Rattle.osgi_ops.specs.declared.refusal.Refusal.{Refusal}
-use Rattle.osgi_ops.specs.declared.refusal.Refusal.TheVariants.{NotOwner, TooMany}
 use Rattle.osgi_ops.specs.declared.reply.Reply.{Reply}
-use Rattle.osgi_ops.specs.declared.reply.Reply.TheVariants.{Service, Done, Best, Services, Object, Flag, ServiceRows, Refused}
+use Rattle.osgi_ops.specs.declared.reply.Reply.TheVariants.{Service, Done, Best, Services, Object, Flag, Bundle, Bundles, ServiceRows, Refused}
 use Rattle.osgi_ops.specs.declared.entry.Entry.{Entry}
+use Rattle.osgi_ops.specs.declared.rows.BundleRow.{BundleRow}
 use Rattle.osgi_ops.specs.declared.service.ServiceRow.{ServiceRow}
 use Rattle.osgi_session.specs.declared.line.Content.{Content}
 use Rattle.osgi_session.specs.declared.line.Content.TheVariants.{Empty, Join, Bad, Run}
 use Rattle.osgi_session.specs.declared.line.Line.{Line}
-
--- what a refusal says besides its number and name. Refusals that no operation gives yet say nothing more so far
-abbrev pub details : Refusal → List ℕ
-details (NotOwner owner) = codes " " ++ decimal owner.0
-details (TooMany kind) = codes " " ++ many_name kind
-details _ = []
-
-abbrev pub refusal_text : Refusal → List ℕ
-refusal_text refusal = codes "refused " ++ decimal (refusal_number refusal) ++ codes " " ++ refusal_name refusal ++ details refusal
+use Rattle.osgi_version.specs.VersionValues.{parts, text_of}
 
 -- ids, each after a space; `none` where there are none
 abbrev pub ids_text : List ServiceId → List ℕ
@@ -43,23 +34,31 @@ truth true = codes "true"
 truth false = codes "false"
 
 -- what the list of services shows of one
-abbrev pub row_text : ServiceRow → List ℕ
-row_text row =
+abbrev pub service_row_text : ServiceRow → List ℕ
+service_row_text row =
     codes "service " ++ decimal row.service.0 ++ codes " " ++ decimal row.owner.0 ++ codes " " ++ signed_decimal row.ranking ++ codes " "
     ++ join_with_byte 44 row.classes ++ codes " " ++ quoted row.object
 
-abbrev pub rows_lines : List ServiceRow → List (List ℕ)
-rows_lines [] = codes "none" ∷ []
-rows_lines rows = map row_text rows
+-- a line for each service; `none` where there are none
+abbrev pub service_lines : List ServiceRow → List (List ℕ)
+service_lines [] = codes "none" ∷ []
+service_lines rows = map service_row_text rows
 
--- the lines that an operation and its reply write, after the entries before them. Answers that no operation gives yet write
--- nothing so far
+-- what the list of bundles shows of one; the version is as it is printed
+abbrev pub bundle_row_text : BundleRow → List ℕ
+bundle_row_text row =
+    codes "bundle" ++ spaced (decimal row.bundle.0) ++ spaced (decimal row.state) ++ spaced (decimal row.level) ++ spaced row.name
+    ++ spaced (text_of (parts row.version))
+
+-- the lines that an operation and its reply write, after the entries before them. Other answers write nothing so far
 abbrev pub entry_lines : List Entry → Op → Reply → List (List ℕ)
 entry_lines before op (Service service) = (codes "service " ++ decimal service.0) ∷ []
 entry_lines before op (Best service) = (codes "found" ++ ids_text (option_to_list service)) ∷ []
 entry_lines before op (Services services) = (codes "found" ++ ids_text services) ∷ []
 entry_lines before op (Object text) = (codes "object " ++ quoted text) ∷ []
-entry_lines before op (ServiceRows rows) = rows_lines rows
+entry_lines before op (Bundle bundle known) = (codes "bundle " ++ decimal bundle.0) ∷ []
+entry_lines before op (Bundles rows) = map bundle_row_text rows
+entry_lines before op (ServiceRows rows) = service_lines rows
 entry_lines before op (Refused refusal) = refusal_text refusal ∷ []
 entry_lines before (Modify owner service properties) Done = (codes "modified " ++ decimal service.0) ∷ []
 entry_lines before (Unregister owner service) Done = (codes "unregistered " ++ decimal service.0) ∷ []

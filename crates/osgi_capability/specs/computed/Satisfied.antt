@@ -1,5 +1,5 @@
 -- Whether a capability satisfies a requirement, as it is computed.
-use Rattle.std.specs.Prelude.{ℕ, ◌==◌, ◌&&◌, if◌then◌else◌, not, Bool, true, false, List, [], ◌∷◌, length, codes, bytes_eq, is_none, is_some, Option}
+use Rattle.std.specs.Prelude.{ℕ, ◌==◌, ◌&&◌, if◌then◌else◌, not, Bool, true, false, List, [], codes, bytes_eq, is_none, is_some, Option}
 use Rattle.std.specs.List.{list_all, list_any}
 use Rattle.std.specs.Option.{option_map_or}
 use Rattle.osgi_version.specs.RangeValues.{is_within, range_parts}

@@ -1,7 +1,8 @@
 -- What the reader computes of commands and of lines. No public promise speaks of this: it is proved to give the
 -- readings of the grammar.
-use Rattle.std.specs.Prelude.{ℕ, ◌+◌, ◌==◌, if◌then◌else◌, List, [], ◌∷◌, length, codes, Option, None, Some, option_and_then, find}
-use Rattle.std.specs.Option.{option_map}
+use Rattle.std.specs.Prelude.{ℕ, ◌+◌, ◌==◌, ◌&&◌, if◌then◌else◌, Bool, not, List, [], ◌∷◌, length, take, drop, codes, Option, None, Some, option_and_then, find}
+use Rattle.std.specs.List.{position}
+use Rattle.std.specs.Option.{option_map, unwrap_or}
 use Rattle.std.specs.Str.{bytes_eq}
 use Rattle.osgi_base.specs.declared.ids.ServiceId.{ServiceId}
 use Rattle.osgi_filter.specs.computed.Reader.{read_filter}
@@ -30,10 +31,13 @@ name_of verb.Find = codes "find"
 name_of verb.FindAll = codes "findall"
 name_of verb.Get = codes "get"
 name_of verb.Unget = codes "unget"
+name_of verb.Install = codes "install"
+name_of verb.Bundles = codes "bundles"
 name_of verb.Services = codes "services"
 
 abbrev pub verbs : List Verb
-verbs = verb.Register ∷ verb.Modify ∷ verb.Unregister ∷ verb.Find ∷ verb.FindAll ∷ verb.Get ∷ verb.Unget ∷ verb.Services ∷ []
+verbs =
+    verb.Register ∷ verb.Modify ∷ verb.Unregister ∷ verb.Find ∷ verb.FindAll ∷ verb.Get ∷ verb.Unget ∷ verb.Install ∷ verb.Bundles ∷ verb.Services ∷ []
 
 abbrev pub verb_of : List ℕ → Option Verb
 verb_of word = find (λ verb. bytes_eq (name_of verb) word) verbs
@@ -52,9 +56,24 @@ abbrev pub only_id_of : List (List ℕ) → Option ServiceId
 only_id_of (id ∷ []) = id_of id
 only_id_of _ = None
 
-abbrev pub services_command : List (List ℕ) → Option Command
-services_command [] = Some command.Services
-services_command _ = None
+-- a command without arguments
+abbrev pub alone : Command → List (List ℕ) → Option Command
+alone c arguments = if length arguments == 0 then Some c else None
+
+abbrev pub is_space : ℕ → Bool
+is_space b = b == 32
+
+-- where the first space stands, or else the end
+abbrev pub location_end : List ℕ → ℕ
+location_end text = unwrap_or (position is_space text) (length text)
+
+-- the bytes up to that place, if there are some and nothing but spaces follow
+abbrev pub location_to : ℕ → List ℕ → Option (List ℕ)
+location_to end text = if not (end == 0) && (length (after_spaces (drop end text)) == 0) then Some (take end text) else None
+
+-- the one argument, where a quote is a byte as any other
+abbrev pub location_of : List ℕ → Option (List ℕ)
+location_of text = location_to (location_end (after_spaces text)) (after_spaces text)
 
 -- what is wanted of a class, by what follows its name
 abbrev pub search_from : List ℕ → List ℕ → Option Search
@@ -74,7 +93,9 @@ command_by verb.Find text = option_map (λ wanted. command.Find wanted.class wan
 command_by verb.FindAll text = option_map (λ wanted. command.FindAll wanted.class wanted.filter) (search_of text)
 command_by verb.Get text = option_map command.Get (only_id_of (words_of text))
 command_by verb.Unget text = option_map command.Unget (only_id_of (words_of text))
-command_by verb.Services text = services_command (words_of text)
+command_by verb.Install text = option_map command.Install (location_of text)
+command_by verb.Bundles text = alone command.Bundles (words_of text)
+command_by verb.Services text = alone command.Services (words_of text)
 
 abbrev pub command_of : List ℕ → Option Command
 command_of text = option_and_then (λ verb. command_by verb (after_word text)) (verb_of (first_word text))

@@ -1,12 +1,13 @@
 -- What is true of the machine's fields between calls.
 use Rattle.std.specs.Prelude.{List}
-use Rattle.osgi_ops.specs.Legal.{Legal}
+use Rattle.osgi_base.specs.declared.ids.Tag.{Tag}
+use Rattle.osgi_ops.specs.Legal.{IsReplayed}
 use Rattle.osgi_ops.specs.Settings.{Setting}
 use Rattle.osgi_ops.specs.declared.entry.Entry.{Entry}
-use Rattle.osgi_registry.specs.Rows.{RegistryRows}
-use Rattle.osgi_registry.specs.Stands.{StandsFor}
+use Rattle.osgi_core.specs.computed.Replied.{StandsFor}
+use Rattle.osgi_core.specs.declared.tables.Tables.{Tables}
 
--- its registry stands for its history, and that is legal
-pub record IsKept (setting : Setting) (history : List Entry) (registry : RegistryRows) : Type 0 where
-  pub stands : StandsFor history registry
-  pub legal : Legal setting history
+-- its tables stand for its history, whoever asks next, and that replays to the world that it has
+pub record IsKept (setting : Setting) (history : List Entry) (tables : Tables) : Type 0 where
+  pub stands : (tag : Tag) → StandsFor (record { setting = setting; before = history; world = tables.world; tag = tag }) tables
+  pub replayed : IsReplayed setting history tables.world

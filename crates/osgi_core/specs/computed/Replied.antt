@@ -1,16 +1,15 @@
--- What an operation does to the registry, and answers by it. No public promise speaks of this.
-use Rattle.std.specs.Prelude.{◌<◌, Bool, true, false, List}
-use Rattle.osgi_base.specs.declared.ids.BundleId.{BundleId}
-use Rattle.osgi_base.specs.declared.ids.ServiceId.{ServiceId}
-use Rattle.osgi_base.specs.declared.ids.Tag.{Tag}
-use Rattle.osgi_ops.specs.Operations.{IsReply, moment}
-use Rattle.osgi_ops.specs.Settings.{Setting}
-use Rattle.osgi_ops.specs.declared.entry.Entry.{Entry}
+-- What an operation does to the tables, and answers by them. No public promise speaks of this.
+use Rattle.std.specs.Prelude.{◌≡◌, ◌<◌, Bool, true, false}
+use Rattle.osgi_bundle.specs.Stands as table
+use Rattle.osgi_ops.specs.Moments.{later, Moment}
+use Rattle.osgi_ops.specs.Operations.{IsReply}
+use Rattle.osgi_ops.specs.Worlds.{Leaves}
 use Rattle.osgi_ops.specs.declared.op.Op.{Op}
 use Rattle.osgi_ops.specs.declared.op.Op.TheVariants as op
 use Rattle.osgi_ops.specs.declared.reply.Reply.{Reply}
-use Rattle.osgi_registry.specs.Rows.{RegistryRows, use_count}
-use Rattle.osgi_registry.specs.Stands.{StandsAfter, StandsFor}
+use Rattle.osgi_registry.specs.Stands as registry
+use Rattle.osgi_core.specs.computed.Served as served
+use Rattle.osgi_core.specs.declared.tables.Tables.{Tables}
 
 -- the framework has the operation
 abbrev pub is_known : Op → Bool
@@ -21,19 +20,29 @@ is_known (op.Find asker class filter) = true
 is_known (op.FindAll asker class filter) = true
 is_known (op.Get user service) = true
 is_known (op.Unget user service) = true
+is_known (op.Install location) = true
+is_known op.ListBundles = true
 is_known op.ListServices = true
 is_known _ = false
 
--- the reply is due after each history that the registry stood for, and then it stands for that history with the entry
-pub record IsReplied (op : Op) (old new : RegistryRows) (reply : Reply) : Type 0 where
-  pub due : (setting : Setting) (history : List Entry) (tag : Tag) → StandsFor history old → IsReply (moment setting history tag) op reply
-  pub stands : StandsAfter op reply old new
+-- table by table the tables are those of the moment's history
+pub record StandsFor (now : Moment) (tables : Tables) : Type 0 where
+  pub depot : tables.depot.rows ≡ now.setting.depot
+  pub services : registry.StandsFor now.before tables.registry
+  pub bundles : table.StandsFor now.setting.depot now.before tables.bundles
+  pub world : tables.world ≡ now.world
 
--- ids are left to be given, and each user's uses can be counted on
-pub record HasRoom (registry : RegistryRows) : Type 0 where
-  pub ids : registry.issued < 4294967295
-  pub uses : (user : BundleId) (service : ServiceId) → use_count user service registry.rows < 18446744073709551615
+-- at each moment that the tables stood for the reply is due, the world is left as it may be, and then the tables stand for the next
+pub record IsReplied (op : Op) (old new : Tables) (reply : Reply) : Type 0 where
+  pub due : (now : Moment) → StandsFor now old → IsReply now op reply
+  pub left : (now : Moment) → StandsFor now old → Leaves now op reply new.world
+  pub stands : (now : Moment) → StandsFor now old → StandsFor (later now op reply new.world) new
 
--- what the registry stood for it stands for
-abbrev pub StandsStill : RegistryRows → RegistryRows → Type 0
-StandsStill old new = (history : List Entry) → StandsFor history old → StandsFor history new
+-- the registry has room, and ids of bundles are left to be given
+pub record HasRoom (tables : Tables) : Type 0 where
+  pub services : served.HasRoom tables.registry
+  pub bundles : tables.bundles.issued < 4294967295
+
+-- what the tables stood for they stand for
+abbrev pub StandsStill : Tables → Tables → Type 0
+StandsStill old new = (now : Moment) → StandsFor now old → StandsFor now new

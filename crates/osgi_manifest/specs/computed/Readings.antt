@@ -10,7 +10,6 @@ use Rattle.osgi_manifest.specs.computed.Answers.{in_header}
 use Rattle.osgi_manifest.specs.declared.stop.Stop.{Stop}
 use Rattle.osgi_manifest.specs.declared.stop.Stop.TheVariants.{Fault, Memory}
 use Rattle.osgi_manifest.specs.Manifests.{IsRevisionOf, manifest_faults}
-use Rattle.osgi_script.specs.Scripts.{IsScript}
 use Rattle.osgi_world.specs.declared.manifest_fault.ManifestFault.{ManifestFault}
 use Rattle.osgi_world.specs.declared.manifest_fault.ManifestKind.{ManifestKind}
 use Rattle.osgi_world.specs.declared.manifest_fault.ManifestKind.TheVariants as fault
@@ -31,4 +30,4 @@ IsStopAt kind at Memory = ⊤
 pub data SaysText (folder : Folder) (text : List ℕ) : Verdict ManifestFault Revision → Type 0 where
   line : {found : HeaderFault} → IsHeaderFault text found → SaysText folder text (refuses (in_header [] fault.Header found.at))
   said : {headers : List Header} {verdict : Verdict ManifestFault Revision} → AreHeadersOf text headers →
-      Gives (manifest_faults IsScript folder headers) (IsRevisionOf IsScript folder headers) verdict → SaysText folder text verdict
+      Gives (manifest_faults folder headers) (IsRevisionOf folder headers) verdict → SaysText folder text verdict

@@ -14,6 +14,7 @@ use Rattle.osgi_world.specs.declared.requirement.Requirement.{Requirement}
 use Rattle.osgi_package.specs.computed.Answers.{IsOnly}
 use Rattle.osgi_package.specs.Exports.{AreExports}
 use Rattle.osgi_package.specs.Imports.{AreImports}
+use Rattle.osgi_script.specs.Scripts.{IsScript}
 use Rattle.osgi_manifest.specs.computed.Answers.{IsMadeIn}
 use Rattle.osgi_manifest.specs.computed.Lone.{IsHostIn, IsNamedAs, host_conditions, name_conditions}
 use Rattle.osgi_manifest.specs.declared.naming.Naming.{Naming}
@@ -44,14 +45,14 @@ abbrev pub IsActivator : List Header → Option (List ℕ) → Type 0
 IsActivator headers class = class ≡ activator headers
 
 -- the folder has no file for the class, or that file is no script
-abbrev pub IsClassFault : (List ℕ → Type 0) → Folder → List ℕ → Option ManifestKind → Type 0
-IsClassFault IsScript folder class None = IsSomeAnd (file_at (class_file class) folder) (λ file. IsScript file.bytes)
-IsClassFault IsScript folder class (Some kind) =
+abbrev pub IsClassFault : Folder → List ℕ → Option ManifestKind → Type 0
+IsClassFault folder class None = IsSomeAnd (file_at (class_file class) folder) (λ file. IsScript file.bytes)
+IsClassFault folder class (Some kind) =
     (kind ≡ fault.NoScript) × (file_at (class_file class) folder ≡ None)
     ⊎ (kind ≡ fault.BadScript) × IsSomeAnd (file_at (class_file class) folder) (λ file. ¬ IsScript file.bytes)
 
-abbrev pub activator_conditions : (List ℕ → Type 0) → Folder → List Header → List (ManifestFault → Type 0)
-activator_conditions IsScript folder headers =
+abbrev pub activator_conditions : Folder → List Header → List (ManifestFault → Type 0)
+activator_conditions folder headers =
     InHeader (codes "Bundle-Activator") (AtStart fault.NoScript (IsSomeAnd (activator headers) (λ class. file_at (class_file class) folder ≡ None)))
     ∷ InHeader (codes "Bundle-Activator")
     (AtStart fault.BadScript (IsSomeAnd (activator headers) (λ class. IsSomeAnd (file_at (class_file class) folder) (λ file. ¬ IsScript file.bytes))))
@@ -96,25 +97,25 @@ lists_conditions headers = wanted_conditions headers ++ offered_conditions heade
 abbrev pub AreLists : List Header → (List Requirement × List Requirement) × (List Capability × (List Requirement × List Capability)) → Type 0
 AreLists headers lists = AreWanted headers lists.0 × AreOffered headers lists.1
 
-abbrev pub activation_conditions : (List ℕ → Type 0) → Folder → List Header → List (ManifestFault → Type 0)
-activation_conditions IsScript folder headers = activator_conditions IsScript folder headers ++ native_conditions headers
+abbrev pub activation_conditions : Folder → List Header → List (ManifestFault → Type 0)
+activation_conditions folder headers = activator_conditions folder headers ++ native_conditions headers
 
-abbrev pub contents_conditions : (List ℕ → Type 0) → Folder → List Header → List (ManifestFault → Type 0)
-contents_conditions IsScript folder headers = lists_conditions headers ++ activation_conditions IsScript folder headers
+abbrev pub contents_conditions : Folder → List Header → List (ManifestFault → Type 0)
+contents_conditions folder headers = lists_conditions headers ++ activation_conditions folder headers
 
 abbrev pub AreContents : List Header → ((List Requirement × List Requirement) × (List Capability × (List Requirement × List Capability))) × Option (List ℕ) → Type 0
 AreContents headers contents = AreLists headers contents.0 × IsActivator headers contents.1
 
-abbrev pub hosted_conditions : (List ℕ → Type 0) → Folder → List Header → List (ManifestFault → Type 0)
-hosted_conditions IsScript folder headers = host_conditions headers ++ contents_conditions IsScript folder headers
+abbrev pub hosted_conditions : Folder → List Header → List (ManifestFault → Type 0)
+hosted_conditions folder headers = host_conditions headers ++ contents_conditions folder headers
 
 abbrev pub AreHosted : List Header →
     Option Requirement × (((List Requirement × List Requirement) × (List Capability × (List Requirement × List Capability))) × Option (List ℕ)) → Type 0
 AreHosted headers hosted = IsHostIn headers hosted.0 × AreContents headers hosted.1
 
 -- all conditions, in the order of the headers
-abbrev pub said_conditions : (List ℕ → Type 0) → Folder → List Header → List (ManifestFault → Type 0)
-said_conditions IsScript folder headers = identity_conditions headers ++ hosted_conditions IsScript folder headers
+abbrev pub said_conditions : Folder → List Header → List (ManifestFault → Type 0)
+said_conditions folder headers = identity_conditions headers ++ hosted_conditions folder headers
 
 abbrev pub AreSaid : List Header → (Naming × Version)
     × (Option Requirement × (((List Requirement × List Requirement) × (List Capability × (List Requirement × List Capability))) × Option (List ℕ))) → Type 0

@@ -1,22 +1,28 @@
 -- The refusal of a full history is given by no operation's own conditions.
 use Rattle.std.proofs.Common.{◌≡◌, ◌≤◌, ◌<◌, ◌⊎◌, inl, inr, List, [], ◌∷◌, ◌++◌, length, subst, sym, ◌≢◌, arith, append_assoc, append-nil, length-append}
 use Rattle.std.proofs.lemmas.Bool.{cases_lt}
-use Rattle.std.specs.Prelude.{Option, None, Some, IsSomeAnd}
+use Rattle.std.proofs.lemmas.List.{length-map}
+use Rattle.std.specs.Prelude.{ℕ, Option, None, Some, IsSomeAnd}
 use Rattle.osgi_base.specs.declared.ids.BundleId.{BundleId}
-use Rattle.osgi_base.specs.declared.ids.Tag.{Tag}
 use Rattle.osgi_ops.specs.Along.{AllAlong}
-use Rattle.osgi_ops.specs.Legal.{IsAllowed, IsStep, Legal}
-use Rattle.osgi_ops.specs.Operations.{Answers, conditions, IsReply, moment, Moment}
+use Rattle.osgi_ops.specs.Bundles.{Bundle, bundle_from}
+use Rattle.osgi_ops.specs.Depots.{stored_at}
+use Rattle.osgi_ops.specs.Legal.{IsAllowed, IsReplayed, IsStep, Legal}
+use Rattle.osgi_ops.specs.Moments.{entries_in, Moment, Told}
+use Rattle.osgi_ops.specs.Operations.{Answers, conditions, depot_refusal, install_conditions, IsDuplicate, IsReply}
 use Rattle.osgi_ops.specs.Services.{live_at, Registered}
 use Rattle.osgi_ops.specs.Settings.{Setting}
 use Rattle.osgi_base.specs.Verdict.{Gives, refuses}
+use Rattle.osgi_ops.specs.declared.depot.Stored.{Stored}
+use Rattle.osgi_ops.specs.declared.depot.Stored.TheVariants as stored
 use Rattle.osgi_ops.specs.declared.entry.Entry.{Entry}
 use Rattle.osgi_ops.specs.declared.op.Op.{Op}
-use Rattle.osgi_ops.specs.declared.op.Op.TheVariants.{Register, Modify, Unregister, Find, FindAll, Get, Unget, ListServices}
+use Rattle.osgi_ops.specs.declared.op.Op.TheVariants.{Register, Modify, Unregister, Find, FindAll, Get, Unget, Install, ListBundles, ListServices}
 use Rattle.osgi_ops.specs.declared.refusal.Refusal.{Refusal}
 use Rattle.osgi_ops.specs.declared.refusal.Refusal.TheVariants.{HistoryFull, NotOwner}
 use Rattle.osgi_ops.specs.declared.reply.Reply.{Reply}
 use Rattle.osgi_ops.specs.declared.reply.Reply.TheVariants.{Refused}
+use Rattle.osgi_world.specs.declared.world.World.{World}
 
 -- none of the conditions calls for the refusal
 NoneCalls : Refusal → List (Refusal → Type 0) → Type 0
@@ -35,41 +41,68 @@ no_owner : (owner : BundleId) (at : Option Registered) → IsSomeAnd at (λ r. (
 no_owner owner None is = is
 no_owner owner (Some r) is = cc is.1
 
+no_depot : (s : Option Stored) → depot_refusal s ≡ Some HistoryFull → ⊥
+no_depot None is = cc is
+no_depot (Some stored.Skipped) is = cc is
+no_depot (Some (stored.Failed before after)) is = cc is
+no_depot (Some (stored.TooLarge bytes files)) is = cc is
+no_depot (Some stored.NoFolder) is = cc is
+no_depot (Some (stored.Bad fault)) is = cc is
+no_depot (Some (stored.Read revision manifest)) is = cc is
+
+no_duplicate : (now : Moment) (location : List ℕ) → IsDuplicate now location HistoryFull → ⊥
+no_duplicate now location is = cc is.says
+
+none_install : (b : Option Bundle) (now : Moment) (location : List ℕ) → NoneCalls HistoryFull (install_conditions b now location)
+unfolding NoneCalls
+none_install (Some b) now location = tt
+none_install None now location = (no_depot (stored_at now.setting.depot location), (no_duplicate now location, ((λ c. cc c.0), tt)))
+
 none_full : (now : Moment) (op : Op) → NoneCalls HistoryFull (conditions now op)
 unfolding NoneCalls
-none_full now (Register owner classes object properties) = ((λ c. cc c.0), ((λ c. cc c.0), ((λ c. cc c.0), tt)))
-none_full now (Modify owner service properties) = ((λ c. cc c.0), ((λ c. cc c.0), (no_owner owner (live_at service now.before), ((λ c. cc c.0), tt))))
-none_full now (Unregister owner service) = ((λ c. cc c.0), ((λ c. cc c.0), (no_owner owner (live_at service now.before), tt)))
-none_full now (Find asker class filter) = ((λ c. cc c.0), tt)
-none_full now (FindAll asker class filter) = ((λ c. cc c.0), tt)
-none_full now (Get user service) = ((λ c. cc c.0), ((λ c. cc c.0), tt))
-none_full now (Unget user service) = ((λ c. cc c.0), tt)
+none_full now (Register owner classes object properties) = ((λ c. cc c.0), ((λ c. cc c.0), ((λ c. cc c.0), ((λ c. cc c.0), tt))))
+none_full now (Modify owner service properties) = ((λ c. cc c.0), ((λ c. cc c.0), ((λ c. cc c.0), (no_owner owner (live_at service now.before), ((λ c. cc c.0), tt)))))
+none_full now (Unregister owner service) = ((λ c. cc c.0), ((λ c. cc c.0), ((λ c. cc c.0), (no_owner owner (live_at service now.before), tt))))
+none_full now (Find asker class filter) = ((λ c. cc c.0), ((λ c. cc c.0), tt))
+none_full now (FindAll asker class filter) = ((λ c. cc c.0), ((λ c. cc c.0), tt))
+none_full now (Get user service) = ((λ c. cc c.0), ((λ c. cc c.0), ((λ c. cc c.0), tt)))
+none_full now (Unget user service) = ((λ c. cc c.0), ((λ c. cc c.0), tt))
+none_full now (Install location) = none_install (bundle_from now.setting.depot now.before location) now location
+none_full now ListBundles = tt
 none_full now ListServices = tt
 none_full now _ = ((λ c. cc c.0), tt)
 
 not_full : (now : Moment) (op : Op) → IsReply now op (Refused HistoryFull) → ⊥
 not_full now op given = none_gives (conditions now op) (Answers now op) HistoryFull (none_full now op) given
 
-within_from : (setting : Setting) (before history : List Entry) → length before ≤ setting.bounds.entries → AllAlong (IsAllowed setting) before history → length (before ++ history) ≤ setting.bounds.entries
+length_told : (told : List Told) → length (entries_in told) ≡ length told
+length_told told = length-map told (λ (t : Told). t.entry)
+
+within_from : (setting : Setting) (before told : List Told) → length before ≤ setting.bounds.entries → AllAlong (IsAllowed setting) before told → length (before ++ told) ≤ setting.bounds.entries
 within_from setting before [] few each = rw append-nil few
-within_from setting before (e ∷ rest) few each =
-    let more : length (before ++ e ∷ []) ≤ setting.bounds.entries = omega (arith, length-append before (e ∷ []), each.0.room) in
-    let all : length ((before ++ e ∷ []) ++ rest) ≤ setting.bounds.entries = within_from setting (before ++ e ∷ []) rest more each.1 in
-    subst (λ (l : List Entry). length l ≤ setting.bounds.entries) (append_assoc before (e ∷ []) rest) all
+within_from setting before (t ∷ rest) few each =
+    let more : length (before ++ t ∷ []) ≤ setting.bounds.entries = omega (arith, length-append before (t ∷ []), each.0.room, length_told before) in
+    let all : length ((before ++ t ∷ []) ++ rest) ≤ setting.bounds.entries = within_from setting (before ++ t ∷ []) rest more each.1 in
+    subst (λ (l : List Told). length l ≤ setting.bounds.entries) (append_assoc before (t ∷ []) rest) all
 
--- a legal history has at most as many entries as it may have
+-- a history that replays has at most as many entries as it may have
+pub Replayed-within : (setting : Setting) (history : List Entry) (world : World) → IsReplayed setting history world → length history ≤ setting.bounds.entries
+Replayed-within setting history world replayed =
+    let told : length replayed.told ≤ setting.bounds.entries = within_from setting [] replayed.told (omega arith) replayed.allowed in
+    subst (λ (l : List Entry). length l ≤ setting.bounds.entries) replayed.tells (omega (arith, told, length_told replayed.told))
+
 pub Legal-within : (setting : Setting) (history : List Entry) → Legal setting history → length history ≤ setting.bounds.entries
-Legal-within setting history legal = within_from setting [] history (omega arith) legal
+Legal-within setting history legal = Replayed-within setting history legal.0 legal.1
 
-full_by : (setting : Setting) (before after : List Entry) (tag : Tag) (op : Op) → IsStep setting before after tag op (Refused HistoryFull) → Legal setting after →
-    (length before < setting.bounds.entries) ⊎ (setting.bounds.entries ≤ length before) → (after ≡ before) × (length before ≡ setting.bounds.entries)
-full_by setting before after tag op step legal (inl room) = absurd (not_full (moment setting before tag) op (step.room room).0.reply)
-full_by setting before after tag op step legal (inr full) =
-    let same : after ≡ before = (step.full full).1 in
-    let within : length before ≤ setting.bounds.entries = subst (λ (l : List Entry). length l ≤ setting.bounds.entries) same (Legal-within setting after legal) in
+full_by : (now : Moment) (after : List Entry) (world : World) (op : Op) → IsStep now after world op (Refused HistoryFull) → Legal now.setting after →
+    (length now.before < now.setting.bounds.entries) ⊎ (now.setting.bounds.entries ≤ length now.before) → (after ≡ now.before) × (length now.before ≡ now.setting.bounds.entries)
+full_by now after world op step legal (inl room) = absurd (not_full now op (step.room room).0.replied)
+full_by now after world op step legal (inr full) =
+    let same : after ≡ now.before = (step.full full).1 in
+    let within : length now.before ≤ now.setting.bounds.entries = subst (λ (l : List Entry). length l ≤ now.setting.bounds.entries) same (Legal-within now.setting after legal) in
     (same, omega (arith, within, full))
 
 -- a call that answers so found the history full, and left it as it was
-pub full_step : (setting : Setting) (before after : List Entry) (tag : Tag) (op : Op) → IsStep setting before after tag op (Refused HistoryFull) → Legal setting after →
-    (after ≡ before) × (length before ≡ setting.bounds.entries)
-full_step setting before after tag op step legal = full_by setting before after tag op step legal (cases_lt (length before) setting.bounds.entries)
+pub full_step : (now : Moment) (after : List Entry) (world : World) (op : Op) → IsStep now after world op (Refused HistoryFull) → Legal now.setting after →
+    (after ≡ now.before) × (length now.before ≡ now.setting.bounds.entries)
+full_step now after world op step legal = full_by now after world op step legal (cases_lt (length now.before) now.setting.bounds.entries)

@@ -1,9 +1,10 @@
 -- A session as it ran, before its text is written. No public promise speaks of this.
 use Rattle.std.specs.Prelude.{ℕ, ◌≡◌, if◌then◌else◌, List, []}
 use Rattle.osgi_ops.specs.Legal.{Legal}
-use Rattle.osgi_ops.specs.Settings.{Setting}
+use Rattle.osgi_ops.specs.Settings.{Bounds}
 use Rattle.osgi_console.specs.Console.{AreLinesOf}
-use Rattle.osgi_program.specs.Outcome.{is_troubled}
+use Rattle.osgi_depot.specs.Depots.{IsDepotOf}
+use Rattle.osgi_program.specs.Outcome.{is_troubled, Shelved}
 use Rattle.osgi_program.specs.computed.Running.{RunsLines}
 use Rattle.osgi_program.specs.declared.runner.Ran.{Ran}
 use Rattle.osgi_program.specs.declared.runner.Ran.TheVariants.{Full}
@@ -11,10 +12,11 @@ use Rattle.osgi_program.specs.declared.session.Session.{Session}
 use Rattle.osgi_program.specs.declared.session.TheConstants.{DONE, TROUBLED, HISTORY_FULL}
 
 -- the lines of the input ran so far, from the empty history
-pub record IsRun (setting : Setting) (input : List ℕ) (ran : Ran) (session : Session) : Type 0 where
+pub record IsRun (bounds : Bounds) (input : List ℕ) (shelf : Shelved) (ran : Ran) (session : Session) : Type 0 where
   pub lines : AreLinesOf input session.lines
-  pub legal : Legal setting session.entries
-  pub runs : RunsLines ran setting.bounds.entries session.lines [] session.entries
+  pub depot : IsDepotOf session.lines shelf.told shelf.before shelf.after session.depot.rows
+  pub legal : Legal (record { bounds = bounds; depot = session.depot.rows }) session.entries
+  pub runs : RunsLines ran bounds.entries session.lines [] session.entries
   pub handings : session.handings ≡ 0
 
 -- the status by how the lines ran

@@ -1,8 +1,6 @@
 -- Each id adds its text.
-use Rattle.std.proofs.Common.{◌≡◌, ◌∷◌, ◌++◌, get_or, refl, ap, sym, ◌∙◌}
+use Rattle.std.proofs.Common.{◌∷◌, ◌++◌, get_or, refl, ap, sym, ◌∙◌}
 use Rattle.std.specs.Fmt.{decimal}
-use Rattle.std.proofs.lemmas.Grind.{common_steps}
-use Rattle.std.proofs.Common.{arith}
 use Rattle.osgi_base.specs.declared.ids.ServiceId.{ServiceId}
 use Rattle.osgi_console.proofs.Parts.{ids_text-some, parts_end, parts_step}
 use Rattle.osgi_console.proofs.rendering.add_ids.Goals as goal
@@ -10,9 +8,8 @@ use Rattle.osgi_console.proofs.rendering.add_ids.Goals as goal
 pub loop-id-preserved : goal.loop-id-preserved
 loop-id-preserved c =
     let id : ServiceId = get_or c.args.ids.now c.loop-id.id-index (record { 0 = 0 }) in
-    let added : c.add_number.new.out.items ≡ c.loop-id.out.items ++ (32 ∷ decimal id.0) = grind (arith, common_steps) in
-    parts_step (λ (id : ServiceId). 32 ∷ decimal id.0) c.args.ids.now c.loop-id.id-index (record { 0 = 0 }) id _ c.loop-id.out.items _ c.loop-id-test.true refl added
-    c.loop-id.invariant
+    parts_step (λ (id : ServiceId). 32 ∷ decimal id.0) c.args.ids.now c.loop-id.id-index (record { 0 = 0 }) id _ c.loop-id.out.items _ c.loop-id-test.true refl
+    c.in_ok-add_spaced_number.ensures.added c.loop-id.invariant
 
 pub returns : goal.returns
 returns c =

@@ -1,9 +1,10 @@
 -- An operation that the framework does not have yet.
-use Rattle.osgi_core.proofs.Replying.{by_refused, replied_not_yet}
+use Rattle.osgi_core.proofs.Replying.{replied_not_yet}
+use Rattle.osgi_core.proofs.Serving.{by_refused}
 use Rattle.osgi_core.specs.computed.Replied.{IsReplied}
 use Rattle.osgi_ops.specs.declared.refusal.Refusal.TheVariants.{InvalidOperation}
 use Rattle.osgi_core.proofs.replies.not_yet.Goals as goal
 
 pub returns-clause-replied : goal.returns-clause-replied
 returns-clause-replied c =
-    by_refused c.refused.result (IsReplied c.args.op.now c.args.registry.now c.args.registry.now) InvalidOperation c.refused.ensures.refused (replied_not_yet c.args.op.now c.args.registry.now c.requires.unknown)
+    by_refused c.refused.result (IsReplied c.args.op.now c.args.tables.now c.args.tables.now) InvalidOperation c.refused.ensures.refused (replied_not_yet c.args.op.now c.args.tables.now c.requires.unknown)

@@ -4,7 +4,6 @@ use Rattle.osgi_manifest.specs.Manifests.{IsRevisionOf, manifest_faults}
 use Rattle.osgi_manifest.specs.computed.Steps.{AreSaid}
 use Rattle.osgi_manifest.proofs.Folders.{answers_on, stop_answers}
 use Rattle.osgi_manifest.proofs.Revisions.{revision_answers}
-use Rattle.osgi_script.specs.Scripts.{IsScript}
 use Rattle.osgi_manifest.proofs.reading.meant.Goals as goal
 
 pub returns-in_err-identity : goal.returns-in_err-identity
@@ -13,12 +12,12 @@ returns-in_err-identity c =
     let headers = c.args.headers.now in
     let stop = c.in_err-identity.field-0.0 in
     record {
-      only = answers_on (Gives (manifest_faults IsScript folder headers) (IsRevisionOf IsScript folder headers)) c.from_residual.result stop c.from_residual.ensures.1
+      only = answers_on (Gives (manifest_faults folder headers) (IsRevisionOf folder headers)) c.from_residual.result stop c.from_residual.ensures.1
           (stop_answers folder headers (AreSaid headers) stop c.in_err-identity.ensures.step);
     }
 
 pub returns : goal.returns
 returns c = record {
-  only = revision_answers IsScript c.args.folder.now c.args.headers.now c.in_ok-identity.identity c.in_ok-identity.hosted c.in_ok-identity.ensures.step.1 c.in_ok-revision.revision c.in_ok-revision.ensures.made
+  only = revision_answers c.args.folder.now c.args.headers.now c.in_ok-identity.identity c.in_ok-identity.hosted c.in_ok-identity.ensures.step.1 c.in_ok-revision.revision c.in_ok-revision.ensures.made
       c.in_ok-identity.ensures.step.0;
 }

@@ -3,7 +3,6 @@ use Rattle.std.proofs.Common.{subst, sym}
 use Rattle.osgi_manifest.specs.Manifests.{SaysManifest}
 use Rattle.osgi_manifest.specs.computed.Readings.{AnswersOnly, SaysText}
 use Rattle.osgi_manifest.proofs.Folders.{missing_only, stops, text_answers}
-use Rattle.osgi_script.specs.Scripts.{IsScript}
 use Rattle.osgi_world.specs.declared.manifest_fault.ManifestKind.TheVariants as fault
 use Rattle.osgi_manifest.proofs.reading.read_folder.Goals as goal
 
@@ -15,5 +14,5 @@ returns-in-Some c = record {
 
 pub returns-in-None : goal.returns-in-None
 returns-in-None c = record {
-  only = stops (SaysManifest IsScript c.args.folder.now) fault.NoManifest 0 c.stop.result c.stop.ensures.stop (missing_only c.args.folder.now (sym c.in-None.ensures.file));
+  only = stops (SaysManifest c.args.folder.now) fault.NoManifest 0 c.stop.result c.stop.ensures.stop (missing_only c.args.folder.now (sym c.in-None.ensures.file));
 }

@@ -4,29 +4,29 @@ use Rattle.osgi_manifest.proofs.Stages.{handed_on, none_of_both, step_fails, the
 use Rattle.osgi_manifest.proofs.steps.contents.Goals as goal
 
 pub returns-in_err-lists : goal.returns-in_err-lists
-returns-in_err-lists g c =
+returns-in_err-lists c =
     let headers = c.args.headers.now in
     let fault = c.in_err-lists.field-0.0 in
     record {
-      step = handed_on (contents_conditions g.S.Scripts.is_script c.args.folder.now headers) (AreContents headers) c.from_residual.result fault c.from_residual.ensures.1
-          (step_fails (lists_conditions headers) (activation_conditions g.S.Scripts.is_script c.args.folder.now headers) (AreLists headers) (AreContents headers) fault c.in_err-lists.ensures.step);
+      step = handed_on (contents_conditions c.args.folder.now headers) (AreContents headers) c.from_residual.result fault c.from_residual.ensures.1
+          (step_fails (lists_conditions headers) (activation_conditions c.args.folder.now headers) (AreLists headers) (AreContents headers) fault c.in_err-lists.ensures.step);
     }
 
 pub returns-in_err-class : goal.returns-in_err-class
-returns-in_err-class g c =
+returns-in_err-class c =
     let headers = c.args.headers.now in
     let fault = c.in_err-class.field-0.0 in
     record {
-      step = handed_on (contents_conditions g.S.Scripts.is_script c.args.folder.now headers) (AreContents headers) c.from_residual-in_err-class.result fault c.from_residual-in_err-class.ensures.1
-          (then_fails (lists_conditions headers) (activation_conditions g.S.Scripts.is_script c.args.folder.now headers) (AreContents headers) (IsActivator headers) fault c.in_ok-lists.ensures.step.0 c.in_err-class.ensures.step);
+      step = handed_on (contents_conditions c.args.folder.now headers) (AreContents headers) c.from_residual-in_err-class.result fault c.from_residual-in_err-class.ensures.1
+          (then_fails (lists_conditions headers) (activation_conditions c.args.folder.now headers) (AreContents headers) (IsActivator headers) fault c.in_ok-lists.ensures.step.0 c.in_err-class.ensures.step);
     }
 
 pub returns : goal.returns
-returns g c =
+returns c =
     let headers = c.args.headers.now in
     record {
       step = (
-        none_of_both (lists_conditions headers) (activation_conditions g.S.Scripts.is_script c.args.folder.now headers) c.in_ok-lists.ensures.step.0 c.in_ok-class.ensures.step.0,
+        none_of_both (lists_conditions headers) (activation_conditions c.args.folder.now headers) c.in_ok-lists.ensures.step.0 c.in_ok-class.ensures.step.0,
         (c.in_ok-lists.ensures.step.1, c.in_ok-class.ensures.step.1),
       );
     }

@@ -15,6 +15,6 @@ distinct seen texts (Err e) are = tt
 
 pub returns : goal.returns
 returns c = record {
-  distinct = distinct c.add_packages.new.seen c.args.texts.now c.add_packages.result
-      (c.add_packages.ensures.new [] (no_packages c.new-seen.result c.new-seen.ensures.empty));
+  distinct = distinct c.add_texts.new.seen c.args.texts.now c.add_texts.result
+      (c.add_texts.ensures.new [] (no_packages c.new-seen.result c.new-seen.ensures.empty));
 }

@@ -1,0 +1,5 @@
+-- The table of bundles as contracts see it.
+pub mod Rows
+pub mod Stands
+pub mod laws
+pub mod computed

@@ -1,0 +1,98 @@
+-- The table of bundles as contracts see it: the live bundles in rows, and what calls answer and change by them.
+use Rattle.std.specs.Prelude.{ℕ, ◌≡◌, ◌==◌, ◌<◌, ◌≤◌, nat_le, Bool, if◌then◌else◌, List, [], ◌∷◌, Option, None, Some, Result, Ok, Err, All, AllPairs, Contains, find, map, length, slice_get, IsSomeAnd}
+use Rattle.std.specs.List.Sorted.{IsStrictlyIncreasing}
+use Rattle.std.specs.Option.{option_map}
+use Rattle.std.specs.Str.{bytes_eq}
+use Rattle.osgi_base.specs.Verdict.{Verdict, answers, refuses, Where}
+use Rattle.osgi_base.specs.declared.ids.BundleId.{BundleId}
+use Rattle.osgi_bundle.specs.declared.kept.BundleKept.{BundleKept}
+use Rattle.osgi_ops.specs.Bundles.{level_of, system}
+use Rattle.osgi_ops.specs.declared.limits.TheConstants.{MAX_BUNDLES}
+use Rattle.osgi_ops.specs.declared.refusal.Many.TheVariants.{Bundles}
+use Rattle.osgi_ops.specs.declared.refusal.Refusal.{Refusal}
+use Rattle.osgi_ops.specs.declared.refusal.Refusal.TheVariants.{DuplicateBundle, TooMany}
+use Rattle.osgi_ops.specs.declared.rows.BundleRow.{BundleRow}
+use Rattle.osgi_ops.specs.declared.state.TheConstants.{INSTALLED, UNINSTALLED}
+use Rattle.osgi_version.specs.declared.version.Version.{Version}
+
+-- the live bundles by rising id, the system bundle first, and how many ids were given, the system bundle's not counted
+pub record TableRows : Type 0 where
+  pub rows : List BundleKept
+  pub issued : ℕ
+
+abbrev pub id_of : BundleKept → ℕ
+id_of row = row.bundle.0
+
+-- the system bundle, from the empty location, stands first; the ids rise, and all of them were given
+pub record AreInOrder (table : TableRows) : Type 0 where
+  pub first : IsSomeAnd (slice_get table.rows 0) (λ row. (row.bundle ≡ system) × (row.location ≡ []))
+  pub rising : IsStrictlyIncreasing (map id_of table.rows)
+  pub issued : All (λ row. id_of row ≤ table.issued) table.rows
+
+-- no two live bundles have the same name and the same version
+abbrev pub AreApart : List BundleKept → Type 0
+AreApart rows = AllPairs (λ a b. a.name ≡ b.name → ¬ (a.version ≡ b.version)) rows
+
+abbrev pub is_bundle : BundleId → BundleKept → Bool
+is_bundle id row = id_of row == id.0
+
+-- the row of the bundle, if it is live
+abbrev pub row_at : BundleId → List BundleKept → Option BundleKept
+row_at id rows = find (is_bundle id) rows
+
+abbrev pub has_location : List ℕ → BundleKept → Bool
+has_location location row = bytes_eq row.location location
+
+-- the live bundle that was installed from this location, if there is one
+abbrev pub bundle_from : List ℕ → List BundleKept → Option BundleId
+bundle_from location rows = option_map (λ (row : BundleKept). row.bundle) (find (has_location location) rows)
+
+-- the state of a bundle of this row, or where there is none, of one that is live no more; none where the id was never given
+abbrev pub state_by : Option BundleKept → Bool → Option ℕ
+state_by (Some row) given = Some row.state
+state_by None given = if given then Some UNINSTALLED else None
+
+abbrev pub state_at : BundleId → TableRows → Option ℕ
+state_at id table = state_by (row_at id table.rows) (nat_le id.0 table.issued)
+
+-- a bundle as it is installed
+abbrev pub new_row : BundleId → List ℕ → List ℕ → Version → Bool → ℕ → BundleKept
+new_row id location name version fragment row = record {
+  bundle = id;
+  location = location;
+  name = name;
+  version = version;
+  fragment = fragment;
+  row = row;
+  state = INSTALLED;
+  by = None;
+}
+
+-- what a list of bundles shows of one
+abbrev pub row_of : BundleKept → BundleRow
+row_of row = record {
+  bundle = row.bundle;
+  state = row.state;
+  level = level_of row.bundle;
+  name = row.name;
+  version = row.version;
+}
+
+-- ---- refusals
+
+-- a live bundle has this name and this version
+pub record IsTwin (name : List ℕ) (version : Version) (rows : List BundleKept) (refusal : Refusal) : Type 0 where
+  pub other : BundleKept
+  pub live : Contains rows other
+  pub same_name : other.name ≡ name
+  pub same_version : other.version ≡ version
+  pub says : refusal ≡ DuplicateBundle other.bundle
+
+-- why a bundle is not installed: one of its name and version is there, or there are as many bundles as may be, besides the system bundle
+abbrev pub install_refusals : List ℕ → Version → List BundleKept → List (Refusal → Type 0)
+install_refusals name version rows = IsTwin name version rows ∷ Where (TooMany Bundles) (MAX_BUNDLES < length rows) ∷ []
+
+-- an answer as a verdict
+abbrev pub verdict_of : Result BundleId Refusal → Verdict Refusal BundleId
+verdict_of (Ok id) = answers id
+verdict_of (Err refusal) = refuses refusal

@@ -1,0 +1,55 @@
+-- Which histories a table stands for.
+use Rattle.std.specs.Prelude.{ℕ, ◌≡◌, Bool, List, [], ◌∷◌, ◌++◌, None, Some, is_some, length, map, false}
+use Rattle.osgi_base.specs.declared.ids.BundleId.{BundleId}
+use Rattle.osgi_base.specs.declared.ids.Tag.{Tag}
+use Rattle.osgi_bundle.specs.Rows.{TableRows}
+use Rattle.osgi_bundle.specs.declared.kept.BundleKept.{BundleKept}
+use Rattle.osgi_ops.specs.Bundles.{Bundle, bundles, installed, state_of, the_system_bundle}
+use Rattle.osgi_ops.specs.Depots.{revision_at, row_number}
+use Rattle.osgi_ops.specs.declared.depot.DepotRow.{DepotRow}
+use Rattle.osgi_ops.specs.declared.entry.Entry.{Entry}
+use Rattle.osgi_ops.specs.declared.op.Op.TheVariants as op
+use Rattle.osgi_ops.specs.declared.reply.Reply.TheVariants as answer
+use Rattle.osgi_version.specs.declared.version.Version.{Version}
+use Rattle.osgi_world.specs.declared.revision.Revision.{Revision}
+
+-- the row of a bundle; a revision with a host is a fragment's. No start or stop has begun yet
+abbrev pub kept_of : Bundle → BundleKept
+kept_of b = record {
+  bundle = b.bundle;
+  location = b.location;
+  name = b.revision.name;
+  version = b.revision.version;
+  fragment = is_some b.revision.host;
+  row = b.row;
+  state = state_of b.bundle;
+  by = None;
+}
+
+-- row by row the live bundles of the history, and as many ids as it installed bundles
+pub record StandsFor (depot : List DepotRow) (history : List Entry) (table : TableRows) : Type 0 where
+  pub rows : table.rows ≡ map kept_of (bundles depot history)
+  pub issued : table.issued ≡ length (installed depot history)
+
+-- the table of the system bundle alone
+abbrev pub first_table : TableRows
+first_table = record { rows = kept_of the_system_bundle ∷ []; issued = 0 }
+
+-- whatever the depot has, it stands for the history of no entries
+abbrev pub StandsForNone : TableRows → Type 0
+StandsForNone table = (depot : List DepotRow) → StandsFor depot [] table
+
+-- what is kept of a bundle says what the depot has at its location
+pub record IsOfDepot (depot : List DepotRow) (location name : List ℕ) (version : Version) (fragment : Bool) (row : ℕ) : Type 0 where
+  pub revision : Revision
+  pub is : revision_at depot location ≡ Some revision
+  pub has_name : name ≡ revision.name
+  pub has_version : version ≡ revision.version
+  pub has_host : fragment ≡ is_some revision.host
+  pub number : row ≡ row_number depot location
+
+-- if it stood for a history, it stands for that history with one more entry: the Install of this location, with what the depot has there
+abbrev pub StandsAfter : List ℕ → List ℕ → Version → Bool → ℕ → BundleId → TableRows → TableRows → Type 0
+StandsAfter location name version fragment row id old new =
+    (depot : List DepotRow) (history : List Entry) (tag : Tag) → IsOfDepot depot location name version fragment row → StandsFor depot history old →
+    StandsFor depot (history ++ record { tag = tag; op = op.Install location; reply = answer.Bundle id false } ∷ []) new

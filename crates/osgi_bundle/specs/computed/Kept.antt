@@ -1,0 +1,56 @@
+-- What is true of the table's fields between calls.
+use Rattle.std.specs.Prelude.{ℕ, ◌≡◌, cond, List, Option, None, Some, find}
+use Rattle.std.specs.BTreeMap.{BTreeMap, get}
+use Rattle.std.specs.Cmp.Lexicographic.{slice_cmp}
+use Rattle.std.specs.Option.{option_map, option_or}
+use Rattle.std.specs.Ordering.{eq_by_cmp, nat_cmp, on, then_cmp}
+use Rattle.std.specs.declared.cmp.Ordering.{Ordering}
+use Rattle.osgi_base.specs.declared.ids.BundleId.{BundleId}
+use Rattle.osgi_bundle.specs.Rows.{AreApart, AreInOrder, TableRows}
+use Rattle.osgi_bundle.specs.declared.directory.BundleName.{BundleName}
+use Rattle.osgi_bundle.specs.declared.directory.Directory.{Directory}
+use Rattle.osgi_bundle.specs.declared.kept.BundleKept.{BundleKept}
+use Rattle.osgi_version.specs.Comparing.{version_cmp}
+use Rattle.osgi_version.specs.declared.version.Version.{Version}
+
+-- the bundle of the first row that has this key
+abbrev pub bundle_under : {K : Type 0} → (K → K → Ordering) → (BundleKept → K) → K → List BundleKept → Option BundleId
+bundle_under cmp key_of key rows = option_map (λ (row : BundleKept). row.bundle) (find (λ row. eq_by_cmp cmp key (key_of row)) rows)
+
+-- an index has under each key the bundle of the first row with that key, and no others
+abbrev pub IsIndexOf : {K : Type 0} → (K → K → Ordering) → (BundleKept → K) → BTreeMap K BundleId → List BundleKept → Type 0
+IsIndexOf {K} cmp key_of index rows = (key : K) → get cmp index key ≡ bundle_under cmp key_of key rows
+
+abbrev pub text_cmp : List ℕ → List ℕ → Ordering
+text_cmp = slice_cmp nat_cmp
+
+abbrev pub location_of : BundleKept → List ℕ
+location_of row = row.location
+
+abbrev pub named : List ℕ → Version → BundleName
+named name version = record { name = name; version = version }
+
+abbrev pub name_of : BundleKept → BundleName
+name_of row = named row.name row.version
+
+-- by name, then by version
+abbrev pub name_cmp : BundleName → BundleName → Ordering
+name_cmp = then_cmp (on (λ n. n.name) text_cmp) (on (λ n. n.version) version_cmp)
+
+-- the directory is that of these rows
+pub record IsDirectoryOf (directory : Directory) (rows : List BundleKept) : Type 0 where
+  pub locations : IsIndexOf text_cmp location_of directory.locations rows
+  pub names : IsIndexOf name_cmp name_of directory.names rows
+
+-- the bundle is put under the key where none stands there
+abbrev pub AddsFirst : {K : Type 0} → (K → K → Ordering) → BTreeMap K BundleId → BTreeMap K BundleId → K → BundleId → Type 0
+AddsFirst {K} cmp old new key bundle = (k : K) → get cmp new k ≡ option_or (get cmp old k) (cond (eq_by_cmp cmp k key) (Some bundle) None)
+
+abbrev pub HoldsSame : {K : Type 0} → (K → K → Ordering) → BTreeMap K BundleId → BTreeMap K BundleId → Type 0
+HoldsSame {K} cmp old new = (k : K) → get cmp new k ≡ get cmp old k
+
+-- the rows are in order, no two have the same name and version, and the directory is theirs
+pub record IsKept (table : TableRows) (directory : Directory) : Type 0 where
+  pub in_order : AreInOrder table
+  pub apart : AreApart table.rows
+  pub index : IsDirectoryOf directory table.rows

@@ -1,0 +1,91 @@
+//! The live bundles by location, and by name and version.
+
+ghost use Rattle.std.specs.Prelude.{◌≡◌, List, ℕ, None, IfOk, OnOk, OnErr};
+ghost use Rattle.std.specs.BTreeMap.{get};
+ghost use Rattle.std.specs.Option.{option_copied};
+ghost use Rattle.osgi_bundle.specs.computed.Kept.{AddsFirst, HoldsSame, name_cmp, named, text_cmp};
+ghost use Rattle.osgi_bundle.specs.declared.directory.BundleName.{BundleName};
+
+use osgi_base::ids::BundleId;
+use osgi_base::text::Text;
+use osgi_version::version::Version;
+use std::alloc::{AllocError, Global};
+use std::collections::BTreeMap;
+
+/// A symbolic name with a version.
+#[derive(Debug, Drop, PartialEq, Eq, PartialOrd, Ord)]
+pub struct BundleName {
+    pub name: Text,
+    pub version: Version,
+}
+
+impl BundleName {
+    /// Copies of the name and the version.
+    pub fn of(alloc: Global, name: &Text, version: &Version) -> Result<BundleName, AllocError>
+        ensures same { IfOk result (λ made. made ≡ named name.now version.now) }
+    {
+        Ok(BundleName {
+            name: name.copy(alloc)?,
+            version: version.copy(alloc)?,
+        })
+    }
+}
+
+/// Which bundle was installed from a location, the first of several, and which has a name and a version.
+#[derive(Drop)]
+pub struct Directory {
+    alloc: Global,
+    locations: BTreeMap<Text, BundleId>,
+    names: BTreeMap<BundleName, BundleId>,
+}
+
+impl Directory {
+    pub fn new(alloc: Global) -> Directory
+        ensures no_location { (l : List ℕ) → get text_cmp result.locations l ≡ None }
+        ensures no_name { (n : BundleName) → get name_cmp result.names n ≡ None }
+    {
+        Directory {
+            alloc,
+            locations: BTreeMap::new(alloc),
+            names: BTreeMap::new(alloc),
+        }
+    }
+
+    pub fn at_location(&self, location: &Text) -> Option<BundleId>
+        ensures bundle { result ≡ get text_cmp self.now.locations location.now }
+    {
+        self.locations.get(location).copied()
+    }
+
+    pub fn of_name(&self, name: &BundleName) -> Option<BundleId>
+        ensures bundle { result ≡ get name_cmp self.now.names name.now }
+    {
+        self.names.get(name).copied()
+    }
+
+    /// Adds a bundle under its name and version, and under its location unless another stands there. If memory runs out, it stands
+    /// under neither.
+    pub fn add(
+        &mut self,
+        location: &Text,
+        name: BundleName,
+        bundle: BundleId,
+    ) -> Result<(), AllocError>
+        requires fresh { get name_cmp self.old.names name ≡ None }
+        ensures locations { OnOk result (AddsFirst text_cmp self.old.locations self.new.locations location.now bundle) }
+        ensures names { OnOk result (AddsFirst name_cmp self.old.names self.new.names name bundle) }
+        ensures same_locations { OnErr result (HoldsSame text_cmp self.old.locations self.new.locations) }
+        ensures same_names { OnErr result (HoldsSame name_cmp self.old.names self.new.names) }
+    {
+        if self.locations.contains_key(location) {
+            self.names.insert(name, bundle)?;
+            return Ok(());
+        }
+        self.locations.insert(location.copy(self.alloc)?, bundle)?;
+        if let Err(_) = self.names.insert(name, bundle) {
+            self.locations.remove(location);
+            return Err(AllocError);
+        }
+        Ok(())
+    }
+}

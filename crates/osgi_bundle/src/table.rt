@@ -1,0 +1,193 @@
+//! The table of bundles.
+
+ghost use Rattle.std.specs.Prelude.{◌≡◌, ◌+◌, ◌<◌, ◌≤◌, [], ◌∷◌, ◌++◌, length, slice_get, None, Some, IfOk, OnOk, OnErr};
+ghost use Rattle.std.specs.Option.{option_copied};
+ghost use Rattle.osgi_base.specs.Verdict.{Gives};
+ghost use Rattle.osgi_bundle.specs.computed.Kept.{bundle_under, name_cmp, name_of};
+ghost use Rattle.osgi_bundle.specs.Rows.{AreApart, AreInOrder, bundle_from, id_of, install_refusals, new_row, row_at, state_at, verdict_of};
+ghost use Rattle.osgi_bundle.specs.Stands.{first_table, kept_of, StandsAfter, StandsForNone};
+ghost use Rattle.osgi_ops.specs.Bundles.{the_system_bundle};
+ghost use Rattle.osgi_ops.specs.declared.limits.TheConstants.{MAX_BUNDLES};
+
+use crate::directory::{BundleName, Directory};
+use crate::kept::BundleKept;
+use osgi_base::ids::BundleId;
+use osgi_base::text::Text;
+use osgi_ops::limits::MAX_BUNDLES;
+use osgi_ops::refusal::{Many, Refusal};
+use osgi_ops::state::{ACTIVE, INSTALLED, UNINSTALLED};
+use osgi_version::version::Version;
+use osgi_world::system::system_revision;
+use std::alloc::{AllocError, Global};
+use std::marker::Model;
+
+/// The live bundles by rising id, the system bundle first, found by id, by location, and by name and version.
+#[derive(Drop)]
+pub struct Table {
+    alloc: Global,
+    rows: Vec<BundleKept>,
+    directory: Directory,
+    issued: u32,
+}
+
+impl Model for Table {
+    ghost use Rattle.osgi_bundle.specs.computed.Kept.{IsKept};
+    ghost use Rattle.osgi_bundle.specs.Rows.{TableRows};
+
+    ghost Value = { TableRows };
+
+    ghost view = { λ t. record { rows = t.rows.items; issued = t.issued } };
+
+    ghost invariant = { λ t. IsKept (record { rows = t.rows.items; issued = t.issued }) t.directory };
+}
+
+impl Table {
+    /// A table of the system bundle alone.
+    pub fn new(alloc: Global) -> Result<Table, AllocError>
+        ensures first { IfOk result (λ table. table ≡ first_table) }
+        ensures stands { IfOk result StandsForNone }
+    {
+        let system = system_row(alloc)?;
+        let name = BundleName::of(alloc, &system.name, &system.version)?;
+        let mut directory = Directory::new(alloc);
+        directory.add(&system.location, name, system.bundle)?;
+        let mut rows = Vec::with_capacity(alloc, 1)?;
+        rows.push(system)?;
+        Ok(Table {
+            alloc,
+            rows,
+            directory,
+            issued: 0,
+        })
+    }
+
+    /// How many bundles are live, the system bundle among them.
+    pub fn count(&self) -> usize
+        ensures count { result ≡ length self.now.rows }
+        ensures in_order { AreInOrder self.now }
+        ensures apart { AreApart self.now.rows }
+    {
+        self.rows.len()
+    }
+
+    /// The live bundle at this place by rising id, counted from 0.
+    pub fn at(&self, place: usize) -> &BundleKept
+        requires within { place < length self.now.rows }
+        ensures bundle { slice_get self.now.rows place ≡ Some result.now }
+        ensures in_order { AreInOrder self.now }
+    {
+        &self.rows[place]
+    }
+
+    /// The live bundles by rising id.
+    pub fn rows(&self) -> &[BundleKept]
+        ensures rows { result.now ≡ self.now.rows }
+        ensures in_order { AreInOrder self.now }
+        ensures apart { AreApart self.now.rows }
+    {
+        self.rows.as_slice()
+    }
+
+    /// The state of a bundle by OSGi's number; None exactly where its id was never given.
+    pub fn state(&self, bundle: BundleId) -> Option<u8>
+        ensures state { result ≡ state_at bundle self.now }
+    {
+        match self.row(bundle) {
+            Some(row) => Some(row.state),
+            None if bundle.0 <= self.issued => Some(UNINSTALLED),
+            None => None,
+        }
+    }
+
+    /// The row of a live bundle.
+    fn row(&self, bundle: BundleId) -> Option<&BundleKept>
+        ensures row { option_copied result ≡ row_at bundle self.now.rows }
+    {
+        let place = self
+            .rows
+            .binary_search_by_key(&bundle.0, |row| row.bundle.0)
+            .ok()?;
+        self.rows.get(place)
+    }
+
+    /// The live bundle that was installed from a location.
+    pub fn from_location(&self, location: &Text) -> Option<BundleId>
+        ensures bundle { result ≡ bundle_from location.now self.now.rows }
+    {
+        self.directory.at_location(location)
+    }
+
+    /// Installs a bundle under the next id.
+    pub fn install(
+        &mut self,
+        location: Text,
+        name: Text,
+        version: Version,
+        fragment: bool,
+        row: u32,
+    ) -> Result<Result<BundleId, Refusal>, AllocError>
+        requires ids_left { self.old.issued < 4294967295 }
+        ensures answer { IfOk result (λ answer. Gives (install_refusals name version self.old.rows) (λ id. id.0 ≡ self.old.issued + 1) (verdict_of answer)) }
+        ensures rows { IfOk result (λ answer. IfOk answer (λ id. self.new.rows ≡ self.old.rows ++ new_row id location name version fragment row ∷ [])) }
+        ensures issued { IfOk result (λ answer. OnOk answer (self.new.issued ≡ self.old.issued + 1)) }
+        ensures stands { IfOk result (λ answer. IfOk answer (λ id. StandsAfter location name version fragment row id self.old self.new)) }
+        ensures refused { IfOk result (λ answer. OnErr answer (self.new ≡ self.old)) }
+        ensures unchanged { OnErr result (self.new ≡ self.old) }
+    {
+        let key = BundleName::of(self.alloc, &name, &version)?;
+        if let Some(bundle) = self.directory.of_name(&key) {
+            return Ok(Err(Refusal::DuplicateBundle { bundle }));
+        }
+        if self.rows.len() > MAX_BUNDLES {
+            return Ok(Err(Refusal::TooMany {
+                kind: Many::Bundles,
+            }));
+        }
+        let bundle = BundleId(self.issued + 1);
+        let installed = BundleKept {
+            bundle,
+            location,
+            name,
+            version,
+            fragment,
+            row,
+            state: INSTALLED,
+            by: None,
+        };
+        self.add(key, installed)?;
+        Ok(Ok(bundle))
+    }
+
+    /// Adds a bundle under the next id. Memory is taken first.
+    fn add(&mut self, key: BundleName, row: BundleKept) -> Result<(), AllocError>
+        requires next { row.bundle.0 ≡ self.old.issued + 1 }
+        requires named { key ≡ name_of row }
+        requires fresh { bundle_under name_cmp name_of key self.old.rows ≡ None }
+        ensures rows { OnOk result (self.new.rows ≡ self.old.rows ++ row ∷ []) }
+        ensures issued { OnOk result (self.new.issued ≡ self.old.issued + 1) }
+        ensures unchanged { OnErr result (self.new ≡ self.old) }
+    {
+        self.rows.reserve(1)?;
+        self.directory.add(&row.location, key, row.bundle)?;
+        self.issued = row.bundle.0;
+        self.rows.push(row)?;
+        Ok(())
+    }
+}
+
+/// The row of the system bundle.
+fn system_row(alloc: Global) -> Result<BundleKept, AllocError>
+    ensures system { IfOk result (λ row. row ≡ kept_of the_system_bundle) }
+{
+    let revision = system_revision(alloc)?;
+    Ok(BundleKept {
+        bundle: BundleId(0),
+        location: Text::empty(),
+        name: revision.name,
+        version: revision.version,
+        fragment: false,
+        row: 0,
+        state: ACTIVE,
+        by: None,
+    })
+}

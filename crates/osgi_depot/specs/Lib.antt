@@ -1,0 +1,3 @@
+-- The definitions of the depot of a session.
+pub mod Depots
+pub mod computed

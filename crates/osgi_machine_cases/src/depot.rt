@@ -1,0 +1,36 @@
+//! The depots that machines of rows begin with.
+
+use osgi_base::list::List;
+use osgi_base::shared::Shared;
+use osgi_base::text::Text;
+use osgi_ops::depot::{Depot, DepotRow, Stored};
+use osgi_world::revision::Revision;
+use osgi_world::system::system_revision;
+use std::alloc::{AllocError, Global};
+
+/// A revision of this name, in version 1.0.0.
+fn revision_named(alloc: Global, name: &str) -> Result<Revision, AllocError> {
+    let mut revision = system_revision(alloc)?;
+    revision.name = Text::of(alloc, name.as_bytes())?;
+    Ok(revision)
+}
+
+/// The row of a location at which a bundle of the location's name was read.
+fn row_at(alloc: Global, location: &str) -> Result<DepotRow, AllocError> {
+    let revision = Shared::new(alloc, revision_named(alloc, location)?)?;
+    let stored = Stored::Read {
+        revision,
+        manifest: Text::empty(),
+    };
+    let location = Text::of(alloc, location.as_bytes())?;
+    Ok(DepotRow { location, stored })
+}
+
+/// A depot with a bundle at this location, or for no location an empty one.
+pub fn depot_of(alloc: Global, location: &str) -> Result<Depot, AllocError> {
+    let mut rows = List::new(alloc)?;
+    if !location.is_empty() {
+        rows.push(row_at(alloc, location)?)?;
+    }
+    Ok(Depot { rows })
+}
