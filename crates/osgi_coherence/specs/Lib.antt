@@ -1,0 +1,3 @@
+-- The rules that wirings keep.
+pub mod Rules
+pub mod computed

@@ -1,0 +1,139 @@
+//! Wirings, with what they say of a revision found without a scan.
+
+ghost use Rattle.std.specs.Prelude.{◌≡◌, ◌↔◌, IfOk, IsTrue, OnOk};
+ghost use Rattle.osgi_coherence.specs.computed.Growing.{Grows, Has};
+ghost use Rattle.osgi_coherence.specs.computed.Indexed.{AreAttached, AreInForce, AreWired, IsWired};
+ghost use Rattle.osgi_coherence.specs.computed.Keys.{attachment, attachment_cmp, wired_cmp, wired_place};
+ghost use Rattle.osgi_world.specs.Wirings.{Attached, InForce, Owns};
+
+use crate::keys::{Attachment, WiredPlace};
+use osgi_base::ids::RevisionId;
+use osgi_world::wiring::{ReqRef, Wiring};
+use std::alloc::{AllocError, Global};
+use std::collections::BTreeSet;
+use std::marker::Model;
+
+/// Wirings, with the revisions that are in force, the fragments that are attached and the requirements that have wires.
+/// Contracts see the wirings.
+#[derive(Drop)]
+pub struct WiringIndex<'w> {
+    wirings: &'w [Wiring],
+    in_force: BTreeSet<RevisionId>,
+    attached: BTreeSet<Attachment>,
+    wired: BTreeSet<WiredPlace>,
+}
+
+impl<'w> Model for WiringIndex<'w> {
+    ghost use Rattle.std.specs.Prelude.{List};
+    ghost use Rattle.osgi_coherence.specs.computed.Indexed.{AreAttached, AreInForce, AreWired};
+    ghost use Rattle.osgi_world.specs.declared.wiring.Wiring.{Wiring};
+
+    ghost Value = { List Wiring };
+
+    ghost view = { λ i. i.wirings.now };
+
+    ghost invariant = { λ i. AreInForce i.in_force i.wirings.now × AreAttached i.attached i.wirings.now × AreWired i.wired i.wirings.now };
+}
+
+impl<'w> WiringIndex<'w> {
+    pub fn new(alloc: Global, wirings: &'w [Wiring]) -> Result<WiringIndex<'w>, AllocError>
+        ensures wirings { IfOk result (λ made. made ≡ wirings.now) }
+    {
+        let in_force = revisions_in_force(alloc, wirings)?;
+        let attached = attachments(alloc, wirings)?;
+        let wired = wired_places(alloc, wirings)?;
+        Ok(WiringIndex {
+            wirings,
+            in_force,
+            attached,
+            wired,
+        })
+    }
+
+    pub fn all(&self) -> &'w [Wiring]
+        ensures wirings { result.now ≡ self.now }
+    {
+        self.wirings
+    }
+
+    /// Whether the revision has a wiring.
+    pub fn is_in_force(&self, id: RevisionId) -> bool
+        ensures in_force { IsTrue result ↔ InForce self.now id }
+    {
+        self.in_force.contains(&id)
+    }
+
+    /// Whether what the owner has is in the payload of the revision: it is the revision itself, or attached to it.
+    pub fn owns(&self, id: RevisionId, owner: RevisionId) -> bool
+        ensures owns { IsTrue result ↔ Owns self.now id owner }
+    {
+        owner == id || self.is_attached(id, owner)
+    }
+
+    fn is_attached(&self, host: RevisionId, fragment: RevisionId) -> bool
+        ensures attached { IsTrue result ↔ Attached self.now host fragment }
+    {
+        self.attached.contains(&Attachment { host, fragment })
+    }
+
+    /// Whether the revision has a wire for the requirement.
+    pub fn is_wired(&self, id: RevisionId, requirement: ReqRef) -> bool
+        ensures wired { IsTrue result ↔ IsWired self.now id requirement }
+    {
+        self.wired.contains(&WiredPlace::new(id, requirement))
+    }
+}
+
+fn revisions_in_force(alloc: Global, wirings: &[Wiring]) -> Result<BTreeSet<RevisionId>, AllocError>
+    ensures in_force { IfOk result (λ set. AreInForce set wirings.now) }
+{
+    let mut in_force = BTreeSet::new(alloc);
+    for wiring in wirings {
+        in_force.insert(wiring.revision)?;
+    }
+    Ok(in_force)
+}
+
+fn attachments(alloc: Global, wirings: &[Wiring]) -> Result<BTreeSet<Attachment>, AllocError>
+    ensures attached { IfOk result (λ set. AreAttached set wirings.now) }
+{
+    let mut attached = BTreeSet::new(alloc);
+    for wiring in wirings {
+        add_fragments(&mut attached, wiring)?;
+    }
+    Ok(attached)
+}
+
+fn add_fragments(attached: &mut BTreeSet<Attachment>, wiring: &Wiring) -> Result<(), AllocError>
+    ensures added { OnOk result (Grows (Has attachment_cmp attached.old) (Has attachment_cmp attached.new)
+        (λ fragment key. key ≡ attachment wiring.now.revision fragment) wiring.now.fragments) }
+{
+    for fragment in wiring.fragments.items() {
+        attached.insert(Attachment {
+            host: wiring.revision,
+            fragment: *fragment,
+        })?;
+    }
+    Ok(())
+}
+
+fn wired_places(alloc: Global, wirings: &[Wiring]) -> Result<BTreeSet<WiredPlace>, AllocError>
+    ensures wired { IfOk result (λ set. AreWired set wirings.now) }
+{
+    let mut wired = BTreeSet::new(alloc);
+    for wiring in wirings {
+        add_wired(&mut wired, wiring)?;
+    }
+    Ok(wired)
+}
+
+fn add_wired(wired: &mut BTreeSet<WiredPlace>, wiring: &Wiring) -> Result<(), AllocError>
+    ensures added { OnOk result (Grows (Has wired_cmp wired.old) (Has wired_cmp wired.new)
+        (λ wire key. key ≡ wired_place wiring.now.revision wire.requirement) wiring.now.wires) }
+{
+    for wire in wiring.wires.items() {
+        let place = WiredPlace::new(wiring.revision, wire.requirement);
+        wired.insert(place)?;
+    }
+    Ok(())
+}

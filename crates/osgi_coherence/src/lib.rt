@@ -1,0 +1,15 @@
+//! Whether wirings keep the rules of consistency, that on `uses` apart.
+#![tactic(auto)]
+
+mod doubles;
+mod entries;
+mod imports;
+mod indexed;
+mod keys;
+mod names;
+mod payload;
+mod rules;
+mod singletons;
+mod wires;
+
+pub use rules::keeps_wiring_rules;

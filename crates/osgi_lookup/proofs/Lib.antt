@@ -1,0 +1,2 @@
+-- Lemmas on the index of the known revisions.
+pub mod Pushed

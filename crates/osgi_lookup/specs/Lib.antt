@@ -1,0 +1,2 @@
+-- The index of the known revisions.
+pub mod computed

@@ -1,0 +1,10 @@
+mod Bridge
+mod Sets
+mod Members
+mod Adding
+mod Lengths
+mod Rows
+mod Givers
+mod Clashing
+mod Following
+mod Worklist

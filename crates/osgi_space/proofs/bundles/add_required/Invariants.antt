@@ -1,0 +1,13 @@
+use Rattle.std.proofs.Common.{◌≡◌, ℕ, take, IsTrue}
+use Rattle.std.specs.Ordering.{nat_cmp}
+use Rattle.osgi_space.specs.computed.Adds.{Adds}
+use Rattle.osgi_space.specs.computed.Collected.{IsCollected}
+use Rattle.osgi_space.proofs.Adding.{Each}
+use Rattle.osgi_wires.specs.declared.rows.Required.{Required}
+use Rattle.osgi_space.proofs.bundles.add_required.Given as goal
+
+abbrev pub invariant-loop-row : goal.invariant-loop-row
+invariant-loop-row l = record {
+  collected : IsCollected nat_cmp l.found;
+  added : Adds (Each (λ (row : Required) (t : ℕ). t ≡ row.provider) (take l.row-index l.row-items)) l.fn.found.items.items l.found.items.items;
+}

@@ -1,0 +1,11 @@
+use Rattle.std.specs.Ordering.{nat_cmp}
+use Rattle.osgi_space.specs.computed.Collected.{IsCollected}
+use Rattle.osgi_space.proofs.Worklist.{IsWorklist}
+use Rattle.osgi_wires.specs.Rows.{Reexports, Requires}
+use Rattle.osgi_space.proofs.bundles.reached_bundles.Given as goal
+
+abbrev pub invariant-loop-next : goal.invariant-loop-next
+invariant-loop-next l = record {
+  collected : IsCollected nat_cmp l.found;
+  worklist : IsWorklist (Requires l.rows l.revision) (Reexports l.rows) l.found.items.items l.next;
+}

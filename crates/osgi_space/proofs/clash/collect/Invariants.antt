@@ -1,0 +1,13 @@
+use Rattle.std.proofs.Common.{◌≡◌, take}
+use Rattle.osgi_space.specs.computed.Adds.{Adds}
+use Rattle.osgi_space.specs.computed.Collected.{IsCollected}
+use Rattle.osgi_space.specs.computed.Exact.{given_cmp}
+use Rattle.osgi_space.specs.declared.given.Given.{Given}
+use Rattle.osgi_space.proofs.Adding.{Each}
+use Rattle.osgi_space.proofs.clash.collect.Given as goal
+
+abbrev pub invariant-loop-given : goal.invariant-loop-given
+invariant-loop-given l = record {
+  collected : IsCollected given_cmp l.found;
+  added : Adds (Each (λ (h g : Given). g ≡ h) (take l.given-index l.givens)) l.initial.found.items.items l.found.items.items;
+}

@@ -1,0 +1,10 @@
+use Rattle.std.proofs.Common.{◌⊎◌, take}
+use Rattle.osgi_space.specs.computed.Adds.{Adds}
+use Rattle.osgi_space.specs.computed.Givens.{IsGivenByOwner}
+use Rattle.osgi_space.specs.declared.given.Given.{Given}
+use Rattle.osgi_space.proofs.Adding.{Each}
+use Rattle.osgi_wires.specs.declared.rows.Attachment.{Attachment}
+use Rattle.osgi_space.proofs.space.add_bundle.Given as goal
+
+abbrev pub invariant-loop-row : goal.invariant-loop-row
+invariant-loop-row l = Adds (Each (λ (row : Attachment) (g : Given). IsGivenByOwner l.rows l.revision l.bundle row.fragment g) (take l.row-index l.row-items)) l.initial.givens.items l.givens.items

@@ -1,0 +1,10 @@
+use Rattle.std.proofs.Common.{take}
+use Rattle.osgi_space.specs.computed.Adds.{Adds}
+use Rattle.osgi_space.specs.computed.Givens.{IsGivenOf}
+use Rattle.osgi_space.specs.declared.given.Given.{Given}
+use Rattle.osgi_space.proofs.Adding.{Each}
+use Rattle.osgi_wires.specs.declared.rows.Export.{Export}
+use Rattle.osgi_space.proofs.space.add_owner.Given as goal
+
+abbrev pub invariant-loop-row : goal.invariant-loop-row
+invariant-loop-row l = Adds (Each (λ (row : Export) (g : Given). IsGivenOf l.rows l.revision l.bundle row.exported g) (take l.row-index l.row-items)) l.fn.givens.items l.givens.items

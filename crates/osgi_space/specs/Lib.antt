@@ -1,0 +1,3 @@
+-- Class spaces: violated uses clauses; and what the code computes.
+pub mod Violations
+pub mod computed

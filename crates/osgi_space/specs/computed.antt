@@ -1,0 +1,10 @@
+-- What the code computes of class spaces, over rows.
+pub mod Reach
+pub mod RowSources
+pub mod Clashes
+pub mod Amongst
+pub mod Pairs
+pub mod Givens
+pub mod Adds
+pub mod Exact
+pub mod Collected

@@ -1,0 +1,13 @@
+-- Clashes, as the code looks for them.
+use Rattle.std.specs.Prelude.{ℕ, List, Contains}
+use Rattle.osgi_wires.specs.Rows.{RowLists}
+use Rattle.osgi_space.specs.computed.RowSources.{Clash}
+use Rattle.osgi_space.specs.declared.given.Given.{Given}
+
+-- one of the inner ones is not among the outer ones
+abbrev pub Lacks : List Given → List Given → Type 0
+Lacks outer inner = (g : Given) × Contains inner g × ¬ Contains outer g
+
+-- r and the revision that sees the package have different sources of it
+abbrev pub IsClash : RowLists → ℕ → Given → Type 0
+IsClash R r pair = Clash R r pair.source pair.package

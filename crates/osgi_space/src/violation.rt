@@ -1,0 +1,13 @@
+//! Violated uses clauses.
+
+use osgi_base::ids::RevisionId;
+use osgi_base::text::Text;
+
+/// A package, and two revisions with different sources of it: the first has an implied constraint for it, as the second sees
+/// it.
+#[derive(Debug, Drop, PartialEq, Eq)]
+pub struct Violation {
+    pub revision: RevisionId,
+    pub seen_by: RevisionId,
+    pub package: Text,
+}

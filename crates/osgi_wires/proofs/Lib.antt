@@ -1,0 +1,10 @@
+-- Lemmas on names, on rows, and on what rows say of wirings.
+pub mod Places
+pub mod Numbered
+pub mod NameOf
+pub mod Stepped
+pub mod StepRows
+pub mod Payload
+pub mod KnownRows
+pub mod WireRows
+pub mod Growth

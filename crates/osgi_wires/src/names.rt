@@ -1,0 +1,87 @@
+//! Numbers for names.
+
+ghost use Rattle.std.specs.Prelude.{◌≡◌, ℕ, [], ◌∷◌, ◌++◌, length, slice_get, IfOk, OnOk, OnErr, MatchOption};
+ghost use Rattle.std.specs.Option.{option_copied};
+ghost use Rattle.osgi_wires.specs.Names.{AreOnce, HasNumber, Interns};
+
+use osgi_base::text::Text;
+use std::alloc::{AllocError, Global};
+use std::collections::BTreeMap;
+use std::marker::Model;
+
+/// Names, each once, by the order in which they came. Contracts see the list of the names: the number of a name is its place.
+#[derive(Drop)]
+pub struct Names {
+    alloc: Global,
+    texts: Vec<Text>,
+    numbers: BTreeMap<Text, u32>,
+}
+
+impl Model for Names {
+    ghost use Rattle.std.specs.Prelude.{List, ℕ};
+    ghost use Rattle.osgi_wires.specs.computed.Numbers.{AreNumbersOf};
+
+    ghost Value = { List (List ℕ) };
+
+    ghost view = { λ n. n.texts.items };
+
+    ghost invariant = { λ n. AreNumbersOf n.numbers n.texts.items };
+}
+
+impl Names {
+    pub fn new(alloc: Global) -> Names
+        ensures empty { result ≡ [] }
+    {
+        Names {
+            alloc,
+            texts: Vec::new(alloc),
+            numbers: BTreeMap::new(alloc),
+        }
+    }
+
+    /// The number of a name; None exactly where it has none.
+    pub fn number(&self, text: &Text) -> Option<u32>
+        ensures number { MatchOption result ((number : ℕ) → ¬ HasNumber self.now text.now number) (λ number. HasNumber self.now text.now number) }
+        ensures once { AreOnce self.now }
+    {
+        self.numbers.get(text).copied()
+    }
+
+    /// The name with a number; None exactly where no name has it.
+    pub fn name(&self, number: u32) -> Option<&Text>
+        ensures name { option_copied result ≡ slice_get self.now number }
+    {
+        self.texts.get(number as usize)
+    }
+
+    /// The number of a name, the next if it has none yet. More names than numbers are counted as want of memory.
+    pub fn intern(&mut self, text: &Text) -> Result<u32, AllocError>
+        ensures number { IfOk result (λ number. HasNumber self.new text.now number) }
+        ensures names { OnOk result (Interns self.old self.new text.now) }
+        ensures once { OnOk result (AreOnce self.new) }
+        ensures unchanged { OnErr result (self.new ≡ self.old) }
+    {
+        match self.number(text) {
+            Some(number) => Ok(number),
+            None => Ok(self.add(text)?),
+        }
+    }
+
+    /// Adds a name that has no number.
+    fn add(&mut self, text: &Text) -> Result<u32, AllocError>
+        requires new { (number : ℕ) → ¬ HasNumber self.old text.now number }
+        ensures number { IfOk result (λ number. number ≡ length self.old) }
+        ensures added { OnOk result (self.new ≡ self.old ++ text.now ∷ []) }
+        ensures once { OnOk result (AreOnce self.new) }
+        ensures unchanged { OnErr result (self.new ≡ self.old) }
+    {
+        let Ok(next) = u32::try_from(self.texts.len()) else {
+            return Err(AllocError);
+        };
+        let name = text.copy(self.alloc)?;
+        self.texts.reserve(1)?;
+        self.numbers.insert(text.copy(self.alloc)?, next)?;
+        self.texts.push(name)?;
+        Ok(next)
+    }
+}

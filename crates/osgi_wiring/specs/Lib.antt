@@ -1,0 +1,2 @@
+-- The wirings in force as contracts see them.
+pub mod States

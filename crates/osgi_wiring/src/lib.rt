@@ -1,0 +1,7 @@
+//! The wirings in force, which are consistent at all times.
+#![tactic(auto)]
+
+mod room;
+mod wirings;
+
+pub use wirings::Wirings;

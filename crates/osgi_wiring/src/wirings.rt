@@ -1,0 +1,143 @@
+//! The known revisions and the wirings in force.
+
+ghost use Rattle.std.specs.Prelude.{◌≡◌, ◌+◌, ◌<◌, ◌≤◌, IfOk, IsOk, OnOk, OnErr};
+ghost use Rattle.osgi_wiring.specs.States.{BecomesKnown, current_of, first_world, IsKeptWorld, MayExtend, NeedsNothing, with_known, with_wirings};
+
+use crate::room::push_or_move;
+use osgi_base::ids::{BundleId, RevisionId};
+use osgi_base::list::List;
+use osgi_base::shared::Shared;
+use osgi_world::revision::Revision;
+use osgi_world::wiring::Wiring;
+use osgi_world::world::{Known, World};
+use std::alloc::{AllocError, Global};
+use std::marker::Model;
+use std::mem;
+
+/// A world that is consistent at all times: what changes it keeps it so. Revision ids rise and are never given twice.
+///
+/// The room is an empty vector. Where the known revisions grow and there is no memory, they move there.
+#[derive(Drop)]
+pub struct Wirings {
+    alloc: Global,
+    world: World,
+    issued: u32,
+    room: Vec<Known>,
+}
+
+impl Model for Wirings {
+    ghost use Rattle.std.specs.Prelude.{◌≡◌, ◌-◌, [], length, vec_capacity};
+    ghost use Rattle.std.specs.Coded.{codes};
+    ghost use Rattle.osgi_model.specs.contracts.filter.Filter as filter;
+    ghost use Rattle.osgi_model.specs.contracts.value.Value as value;
+    ghost use Rattle.osgi_wiring.specs.States.{IsKeptWorld, WiringState};
+
+    ghost Value = { WiringState };
+
+    ghost coded = { Prim.hlevel (codes, filter.the_row.coded, value.the_row.coded) };
+
+    ghost view = { λ w. record { world = w.world; issued = w.issued; spare = vec_capacity w.room - length w.world.known } };
+
+    ghost invariant = { λ w. IsKeptWorld w.world w.issued × (w.room.items ≡ []) };
+}
+
+impl Wirings {
+    /// The system bundle alone, by its only revision, which is in force.
+    pub fn new(alloc: Global, system: Shared<Revision>) -> Result<Wirings, AllocError>
+        requires needs_nothing { NeedsNothing system }
+        ensures world { IfOk result (λ wirings. wirings.world ≡ first_world system) }
+        ensures issued { IfOk result (λ wirings. wirings.issued ≡ 0) }
+    {
+        let id = RevisionId(0);
+        let mut known = List::with_capacity(alloc, 1)?;
+        known.push(Known {
+            id,
+            bundle: BundleId(0),
+            current: true,
+            revision: system,
+        })?;
+        let mut wirings = List::with_capacity(alloc, 1)?;
+        wirings.push(Wiring {
+            revision: id,
+            wires: List::from(Vec::new(alloc)),
+            fragments: List::from(Vec::new(alloc)),
+        })?;
+        Ok(Wirings {
+            alloc,
+            world: World { known, wirings },
+            issued: 0,
+            room: Vec::new(alloc),
+        })
+    }
+
+    pub fn world(&self) -> &World
+        ensures world { result.now ≡ self.now.world }
+        ensures kept { IsKeptWorld self.now.world self.now.issued }
+    {
+        &self.world
+    }
+
+    /// How many revision ids were given, revision 0 not counted.
+    pub fn issued(&self) -> u32
+        ensures issued { result ≡ self.now.issued }
+    {
+        self.issued
+    }
+
+    /// Makes room for one more known revision.
+    pub fn reserve(&mut self) -> Result<(), AllocError>
+        ensures world { self.new.world ≡ self.old.world }
+        ensures issued { self.new.issued ≡ self.old.issued }
+        ensures room { OnOk result (0 < self.new.spare) }
+        ensures no_less { self.old.spare ≤ self.new.spare }
+        ensures unchanged { OnErr result (self.new ≡ self.old) }
+    {
+        self.room.reserve(self.world.known.items().len() + 1)
+    }
+
+    /// Makes known what an install or an update of a bundle brought, under the next id. It is not in force. How much room
+    /// there is afterwards stays open.
+    pub fn add(
+        &mut self,
+        bundle: BundleId,
+        revision: Shared<Revision>,
+    ) -> Result<RevisionId, AllocError>
+        requires ids_left { self.old.issued < 4294967295 }
+        ensures id { IfOk result (λ id. id.0 ≡ self.old.issued + 1) }
+        ensures issued { OnOk result (self.new.issued ≡ self.old.issued + 1) }
+        ensures world { IfOk result (λ id. self.new.world ≡ with_known self.old.world (current_of id bundle revision)) }
+        ensures known { IfOk result (λ id. BecomesKnown self.old.world self.new.world (current_of id bundle revision)) }
+        ensures unchanged { OnErr result (self.new ≡ self.old) }
+        ensures room { 0 < self.old.spare → IsOk result }
+    {
+        let id = RevisionId(self.issued + 1);
+        let known = Known {
+            id,
+            bundle,
+            current: true,
+            revision,
+        };
+        let empty = List::from(Vec::new(self.alloc));
+        let mut items = mem::replace(&mut self.world.known, empty).into_items();
+        let pushed = push_or_move(&mut items, &mut self.room, known);
+        self.world.known = List::from(items);
+        pushed?;
+        self.issued += 1;
+        Ok(id)
+    }
+
+    /// Puts wirings in force.
+    pub fn extend(&mut self, added: List<Wiring>) -> Result<(), AllocError>
+        requires extends { MayExtend self.old.world added }
+        ensures world { OnOk result (self.new.world ≡ with_wirings self.old.world added) }
+        ensures issued { self.new.issued ≡ self.old.issued }
+        ensures spare { self.new.spare ≡ self.old.spare }
+        ensures unchanged { OnErr result (self.new ≡ self.old) }
+    {
+        let empty = List::from(Vec::new(self.alloc));
+        let mut wirings = mem::replace(&mut self.world.wirings, empty).into_items();
+        let appended = wirings.append(&mut added.into_items());
+        self.world.wirings = List::from(wirings);
+        appended
+    }
+}
