@@ -1,7 +1,7 @@
 -- What a list gains step by step, and over a loop.
-use Rattle.std.proofs.Common.{◌≡◌, ◌↔◌, ◌⊎◌, inl, inr, ℕ, ◌+◌, ◌<◌, ◌≤◌, List, [], ◌∷◌, ◌++◌, length, get_or, take, refl, sym, ◌∙◌, ap, subst, arith, append_assoc, append-nil, Contains, Any}
+use Rattle.std.proofs.Common.{◌≡◌, ◌↔◌, ◌⊎◌, inl, inr, ℕ, ◌+◌, ◌<◌, ◌≤◌, List, [], ◌∷◌, ◌++◌, length, get_or, take, refl, sym, ◌∙◌, ap, subst, arith, append_assoc, append-nil, All, Contains, Any}
 use Rattle.std.proofs.lemmas.List.{take_all, take_more}
-use Rattle.std.proofs.lemmas.List.Elements.{Contains-append_left, Contains-push, Contains-push_cases}
+use Rattle.std.proofs.lemmas.List.Elements.{All-more, All-contains, Contains-append_left, Contains-push, Contains-push_cases}
 use Rattle.osgi_space.specs.computed.Adds.{Adds}
 
 pub any-of : {X : Type 0} (P : X → Type 0) (xs : List X) (x : X) → Contains xs x → P x → Any P xs
@@ -103,3 +103,11 @@ module _ {X : Type 0} (P : X → Type 0) (xs : List X) where
 
   pub any-at : (i : ℕ) (x : X) → i < length xs → x ≡ get_or xs i x → P x → Any P xs
   any-at i x h at p = any-of P xs x (i, h, sym at) p
+
+-- ---- loops after which something holds of each item
+
+pub all-more : {X : Type 0} (P Q : X → Type 0) (xs : List X) (i : ℕ) (x : X) → i < length xs → x ≡ get_or xs i x → ((y : X) → P y → Q y) → All P (take i xs) → Q x → All Q (take (i + 1) xs)
+all-more P Q xs i x h at kept before here = All-more Q xs i x h (λ k d lt. kept _ (before k d lt)) (subst Q at here)
+
+pub all-of : {X : Type 0} (P : X → Type 0) (xs : List X) (i : ℕ) → length xs ≤ i → All P (take i xs) → (x : X) → Contains xs x → P x
+all-of P xs i h before x at = All-contains P xs x (subst (All P) (take_all i xs h) before) at

@@ -5,6 +5,10 @@ mod Adding
 mod Lengths
 mod Rows
 mod Givers
+mod Coherent
+mod Numbering
+mod Ids
+mod Agreeing
 mod Clashing
 mod Following
 mod Worklist

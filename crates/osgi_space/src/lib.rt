@@ -5,8 +5,17 @@ mod among;
 mod bundles;
 mod clash;
 mod constraints;
+mod consistent;
+mod disputed;
 mod found;
-pub mod given;
+mod given;
+mod naming;
+mod questions;
 mod sources;
 mod space;
+mod uses;
 mod violation;
+
+pub use consistent::is_consistent;
+pub use questions::sources_in;
+pub use violation::Violation;

@@ -95,8 +95,8 @@ impl Wirings {
         self.room.reserve(self.world.known.items().len() + 1)
     }
 
-    /// Makes known what an install or an update of a bundle brought, under the next id. It is not in force. How much room
-    /// there is afterwards stays open.
+    /// Makes known what an install or an update of a bundle brought, under the next id. It is not in force, and the bundle's
+    /// earlier revisions stay as they are. How much room there is afterwards stays open.
     pub fn add(
         &mut self,
         bundle: BundleId,

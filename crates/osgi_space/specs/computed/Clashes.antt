@@ -1,7 +1,7 @@
 -- Clashes, as the code looks for them.
 use Rattle.std.specs.Prelude.{ℕ, List, Contains}
 use Rattle.osgi_wires.specs.Rows.{RowLists}
-use Rattle.osgi_space.specs.computed.RowSources.{Clash}
+use Rattle.osgi_space.specs.computed.RowSources.{Clash, Implied}
 use Rattle.osgi_space.specs.declared.given.Given.{Given}
 
 -- one of the inner ones is not among the outer ones
@@ -11,3 +11,7 @@ Lacks outer inner = (g : Given) × Contains inner g × ¬ Contains outer g
 -- r and the revision that sees the package have different sources of it
 abbrev pub IsClash : RowLists → ℕ → Given → Type 0
 IsClash R r pair = Clash R r pair.source pair.package
+
+-- no implied constraint of r is violated
+abbrev pub KeepsUses : RowLists → ℕ → Type 0
+KeepsUses R r = (e u : ℕ) → Implied R (λ x. Unit {0}) r e u → ¬ Clash R r e u

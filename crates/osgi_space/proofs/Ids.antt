@@ -1,0 +1,32 @@
+-- Revisions by their numbers.
+use Rattle.std.proofs.Common.{◌≡◌, ◌↔◌, inl, inr, ℕ, suc, List, [], ◌∷◌, refl, sym, ap, arith, map, Contains}
+use Rattle.osgi_base.specs.declared.ids.RevisionId.{RevisionId}
+use Rattle.osgi_world.specs.Lists.{In}
+use Rattle.osgi_wires.specs.Agree.{id}
+use Rattle.osgi_space.proofs.Members.{cons-cases, here, later}
+
+pub in-contains : {X : Type 0} (xs : List X) (x : X) → In x xs → Contains xs x
+in-contains [] x i = elim i [ ]
+in-contains (y ∷ ys) x (inl e) = here y ys x (sym e)
+in-contains (y ∷ ys) x (inr i) = later y ys x (in-contains ys x i)
+
+pub contains-in : {X : Type 0} (xs : List X) (x : X) → Contains xs x → In x xs
+contains-in [] x at = absurd (omega (arith, at.1))
+contains-in (y ∷ ys) x at = elim (cons-cases y ys x at) [ inl e ↦ inl (sym e) | inr l ↦ inr (contains-in ys x l) ]
+
+pub numbers-of : (xs : List ℕ) → map (λ (r : RevisionId). r.0) (map id xs) ≡ xs
+numbers-of [] = refl
+numbers-of (x ∷ xs) = ap (λ ys. x ∷ ys) (numbers-of xs)
+
+in-ids : (xs : List ℕ) (x : RevisionId) → In x (map id xs) → In x.0 xs
+in-ids [] x i = i
+in-ids (y ∷ ys) x (inl e) = inl (ap (λ (r : RevisionId). r.0) e)
+in-ids (y ∷ ys) x (inr i) = inr (in-ids ys x i)
+
+ids-in : (xs : List ℕ) (x : RevisionId) → In x.0 xs → In x (map id xs)
+ids-in [] x i = i
+ids-in (y ∷ ys) x (inl e) = inl (ap id e)
+ids-in (y ∷ ys) x (inr i) = inr (ids-in ys x i)
+
+pub ids-contain : (xs : List ℕ) (x : RevisionId) → In x (map id xs) ↔ Contains xs x.0
+ids-contain xs x = (λ i. in-contains xs x.0 (in-ids xs x i), λ at. ids-in xs x (contains-in xs x.0 at))

@@ -1,0 +1,10 @@
+use Rattle.std.proofs.Common.{All, take}
+use Rattle.osgi_space.specs.computed.Disputes.{HoldsAll, IsNoted}
+use Rattle.osgi_wires.specs.declared.rows.Import.{Import}
+use Rattle.osgi_space.proofs.disputed.note_imports.Given as goal
+
+abbrev pub invariant-loop-row : goal.invariant-loop-row
+invariant-loop-row l = record {
+  noted : All (λ (row : Import). IsNoted l.possible row.imported row.provider) (take l.row-index l.row-items);
+  kept : HoldsAll l.fn.possible l.possible;
+}

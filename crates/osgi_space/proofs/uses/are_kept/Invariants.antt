@@ -1,0 +1,6 @@
+use Rattle.std.proofs.Common.{Any, take}
+use Rattle.osgi_space.specs.computed.Clashes.{IsClash}
+use Rattle.osgi_space.proofs.uses.are_kept.Given as goal
+
+abbrev pub invariant-loop-pair : goal.invariant-loop-pair
+invariant-loop-pair l = ¬ Any (IsClash l.rows l.revision) (take l.pair-index l.pairs)

@@ -1,0 +1,23 @@
+//! Whether the wirings of a world are consistent.
+
+ghost use Rattle.std.specs.Prelude.{◌↔◌, IfOk, IsTrue};
+ghost use Rattle.osgi_world.specs.Consistency.{IsCoherent};
+
+use crate::uses::all_keep_uses;
+use osgi_coherence::keeps_wiring_rules;
+use osgi_wires::world_rows::WorldRows;
+use osgi_world::world::World;
+use std::alloc::{AllocError, Global};
+
+/// Whether the wirings of the world are consistent, but that it is not asked whether each wire's capability satisfies its
+/// requirement. Nothing is asked of the world: revisions may have several wirings, and wires may go to what is not known.
+pub fn is_consistent(alloc: Global, world: &World) -> Result<bool, AllocError>
+    ensures consistent { IfOk result (λ answer. IsTrue answer ↔ IsCoherent world.now.known world.now.wirings) }
+{
+    let wirings = world.wirings.items();
+    let rows = WorldRows::new(alloc, world.known.items(), wirings)?;
+    if !keeps_wiring_rules(alloc, rows.known(), wirings)? {
+        return Ok(false);
+    }
+    Ok(all_keep_uses(alloc, rows.rows(), wirings)?)
+}
