@@ -27,6 +27,14 @@ any-more P xs i y h at =
     let more : take (i + 1) xs ≡ take i xs ++ y ∷ [] = take_more xs i y h ∙ ap (λ z. take i xs ++ z ∷ []) (sym at) in
     rw more (any-push P (take i xs) y)
 
+pub contains-more : {X : Type 0} (xs : List X) (i : ℕ) (y : X) → i < length xs → y ≡ get_or xs i y → (x : X) → Contains (take (i + 1) xs) x ↔ (Contains (take i xs) x ⊎ (x ≡ y))
+contains-more xs i y h at x =
+    let more : take (i + 1) xs ≡ take i xs ++ y ∷ [] = take_more xs i y h ∙ ap (λ z. take i xs ++ z ∷ []) (sym at) in
+    rw more (
+      λ c. elim (Contains-push_cases (take i xs) y x c) [ inl old ↦ inl old | inr e ↦ inr (sym e) ],
+      λ either. elim either [ inl old ↦ Contains-append_left (take i xs) (y ∷ []) x old | inr e ↦ subst (Contains (take i xs ++ y ∷ [])) (sym e) (Contains-push (take i xs) y) ],
+    )
+
 -- ---- steps
 
 pub adds-nothing : {T : Type 0} (Q : T → Type 0) (xs : List T) → ((t : T) → ¬ Q t) → Adds Q xs xs

@@ -19,7 +19,7 @@ module _ (R : RowLists) (A : ℕ → Type 0) (r : ℕ) where
   pub implied-reach : A r → (g : Given) → Reach (IsFirst R A r) (IsNext R A) g ↔ IsImplied R A r g
   implied-reach a g = (λ reached. implied-by a reached, λ implied. reach-from implied)
 
-  starts-among : {e u : ℕ} → Implied R A r e u → A r
+  pub starts-among : {e u : ℕ} → Implied R A r e u → A r
   starts-among (seen a s b x) = a
   starts-among (follows i s b x) = starts-among i
 

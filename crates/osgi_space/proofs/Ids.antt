@@ -30,3 +30,15 @@ ids-in (y ∷ ys) x (inr i) = inr (ids-in ys x i)
 
 pub ids-contain : (xs : List ℕ) (x : RevisionId) → In x (map id xs) ↔ Contains xs x.0
 ids-contain xs x = (λ i. in-contains xs x.0 (in-ids xs x i), λ at. ids-in xs x (contains-in xs x.0 at))
+
+id-of : (xs : List RevisionId) (n : ℕ) → Contains (map (λ (r : RevisionId). r.0) xs) n → In (id n) xs
+id-of [] n at = absurd (omega (arith, at.1))
+id-of (x ∷ xs) n at = elim (cons-cases x.0 (map (λ (r : RevisionId). r.0) xs) n at) [ inl e ↦ inl (ap id (sym e)) | inr l ↦ inr (id-of xs n l) ]
+
+of-id : (xs : List RevisionId) (n : ℕ) → In (id n) xs → Contains (map (λ (r : RevisionId). r.0) xs) n
+of-id [] n i = elim i [ ]
+of-id (x ∷ xs) n (inl e) = here x.0 (map (λ (r : RevisionId). r.0) xs) n (sym (ap (λ (r : RevisionId). r.0) e))
+of-id (x ∷ xs) n (inr i) = later x.0 (map (λ (r : RevisionId). r.0) xs) n (of-id xs n i)
+
+pub contain-id : (xs : List RevisionId) (n : ℕ) → Contains (map (λ (r : RevisionId). r.0) xs) n ↔ In (id n) xs
+contain-id xs n = (id-of xs n, of-id xs n)

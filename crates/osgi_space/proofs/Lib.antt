@@ -5,6 +5,10 @@ mod Adding
 mod Lengths
 mod Rows
 mod Givers
+mod Firsts
+mod Rising
+mod FirstClash
+mod Before
 mod Coherent
 mod Numbering
 mod Ids

@@ -7,6 +7,7 @@ mod clash;
 mod constraints;
 mod consistent;
 mod disputed;
+mod first;
 mod found;
 mod given;
 mod naming;
@@ -17,5 +18,6 @@ mod uses;
 mod violation;
 
 pub use consistent::is_consistent;
+pub use first::first_violation;
 pub use questions::sources_in;
 pub use violation::Violation;
