@@ -1,3 +1,3 @@
--- The rules that wirings keep.
+-- The rule that is asked for separately, and what is computed of the others.
 pub mod Rules
 pub mod computed

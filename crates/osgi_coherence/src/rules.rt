@@ -1,4 +1,4 @@
-//! Whether wirings keep the rules of consistency, that on `uses` apart.
+//! Whether wirings keep the rules of consistency, if they keep that on `uses`.
 
 ghost use Rattle.std.specs.Prelude.{◌↔◌, IfOk, IsTrue};
 ghost use Rattle.osgi_coherence.specs.Rules.{UsesHold};
@@ -20,7 +20,7 @@ use osgi_world::wiring::Wiring;
 use std::alloc::{AllocError, Global};
 use std::collections::BTreeMap;
 
-/// Whether the wirings keep each rule of consistency but that on `uses`.
+/// Whether the wirings are consistent, where they violate no `uses` clause; elsewhere the answer says nothing.
 ///
 /// Nothing is asked of the wirings: several may be of one revision, and revisions may be unknown. Each wire, each requirement
 /// of a payload and each fragment is looked at once, and what it takes is found by look-ups.

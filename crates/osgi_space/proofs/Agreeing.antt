@@ -1,5 +1,5 @@
 -- Of a package with one possible source no two revisions have different sources.
-use Rattle.std.proofs.Common.{◌≡◌, inl, inr, ℕ, sym, subst, IsTrue}
+use Rattle.std.proofs.Common.{inl, inr, ℕ, sym, subst, IsTrue}
 use Rattle.std.specs.BTreeSet.{BTreeSet, contains}
 use Rattle.std.specs.Ordering.{nat_cmp}
 use Rattle.osgi_wires.specs.Rows.{RowLists}

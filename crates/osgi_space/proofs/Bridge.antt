@@ -1,12 +1,12 @@
 -- What follows by the rows is what follows by the wirings whose rows they are: one lemma a notion.
-use Rattle.std.proofs.Common.{◌≡◌, ◌↔◌, inl, inr, ℕ, List, ap, refl, sym, ◌∙◌, subst}
+use Rattle.std.proofs.Common.{◌≡◌, inl, inr, ℕ, List, ap, sym, ◌∙◌, subst}
 use Rattle.osgi_base.specs.declared.ids.RevisionId.{RevisionId}
 use Rattle.osgi_world.specs.Sources as relation
 use Rattle.osgi_world.specs.Wirings as theory
 use Rattle.osgi_world.specs.declared.wiring.Wiring.{Wiring}
 use Rattle.osgi_world.specs.declared.world.Known.{Known}
 use Rattle.osgi_wires.specs.Agree.{AreRowsOf, id}
-use Rattle.osgi_wires.specs.Rows.{RowLists, Imports, OwnExport, OwnUse}
+use Rattle.osgi_wires.specs.Rows.{RowLists, Imports, OwnExport}
 use Rattle.osgi_space.specs.computed.RowSources.{Owns, HasExport, ExportUses, ImportsElsewhere, Exports, Gives, substituted, itself, reexported, Sources, Implied, seen, follows, Clash}
 
 module _ (K : List Known) (W : List Wiring) (N : ℕ → List ℕ) (R : RowLists) (is : AreRowsOf K W N R) where

@@ -1,5 +1,5 @@
 -- Two revisions clash where each has a source that the other lacks.
-use Rattle.std.proofs.Common.{◌≡◌, ◌↔◌, ℕ, List, refl, Contains}
+use Rattle.std.proofs.Common.{◌↔◌, ℕ, List, refl, Contains}
 use Rattle.osgi_wires.specs.Rows.{RowLists}
 use Rattle.osgi_space.specs.computed.Clashes.{Lacks}
 use Rattle.osgi_space.specs.computed.Givens.{IsSourceOf}

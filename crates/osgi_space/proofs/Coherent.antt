@@ -1,5 +1,5 @@
 -- The uses of all revisions in force are kept by the rows where they are by the wirings.
-use Rattle.std.proofs.Common.{◌≡◌, ◌↔◌, ℕ, List, refl, sym, subst, Any}
+use Rattle.std.proofs.Common.{ℕ, List, refl, sym, subst, Any}
 use Rattle.osgi_base.specs.declared.ids.RevisionId.{RevisionId}
 use Rattle.osgi_coherence.specs.Rules.{UsesHold}
 use Rattle.osgi_world.specs.Sources as relation
@@ -19,12 +19,12 @@ module _ (K : List Known) (W : List Wiring) (N : ℕ → List ℕ) (R : RowLists
       let f = implied-from K W N R is {A = λ x. Unit {0}} (λ x b. b) implied in
       let c = clash-from K W N R is (subst (λ v. relation.Clash K W r e v) (sym f.1) clash) in
       none (any-of (λ (g : Wiring). ¬ KeepsUses R g.revision.0) W in_force.wiring (in-contains W in_force.wiring in_force.stands)
-        (λ keeps. keeps e.0 f.0 (subst (λ (s : RevisionId). Implied R (λ x. Unit {0}) s.0 e.0 f.0) (sym in_force.revision) f.2)
-        (subst (λ (s : RevisionId). Clash R s.0 e.0 f.0) (sym in_force.revision) c)))
+      (λ keeps. keeps e.0 f.0 (subst (λ (s : RevisionId). Implied R (λ x. Unit {0}) s.0 e.0 f.0) (sym in_force.revision) f.2)
+      (subst (λ (s : RevisionId). Clash R s.0 e.0 f.0) (sym in_force.revision) c)))
 
   pub uses-kept : UsesHold K W → ¬ Any (λ (g : Wiring). ¬ KeepsUses R g.revision.0) W
   uses-kept holds any =
       let g = any.1 in
       any.4 (λ e u implied clash.
-        holds g.revision (record { 0 = e }) (N u) (record { wiring = g; stands = contains-in W g (any-in (λ (h : Wiring). ¬ KeepsUses R h.revision.0) W any); revision = refl })
-        (implied-to K W N R is {B = λ x. Unit {0}} (λ x a. a) implied) (clash-to K W N R is clash))
+      holds g.revision (record { 0 = e }) (N u) (record { wiring = g; stands = contains-in W g (any-in (λ (h : Wiring). ¬ KeepsUses R h.revision.0) W any); revision = refl })
+      (implied-to K W N R is {B = λ x. Unit {0}} (λ x a. a) implied) (clash-to K W N R is clash))

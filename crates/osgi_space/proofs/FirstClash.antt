@@ -1,5 +1,5 @@
 -- One pair more, of which the first that clashes is looked for.
-use Rattle.std.proofs.Common.{◌≡◌, ◌↔◌, ◌⊎◌, inl, inr, ℕ, ◌+◌, ◌<◌, List, length, get_or, take, refl, sym, subst, Contains}
+use Rattle.std.proofs.Common.{◌≡◌, inl, inr, ℕ, ◌+◌, ◌<◌, List, length, get_or, take, refl, subst}
 use Rattle.std.specs.Prelude.{MatchOption, Option, None, Some}
 use Rattle.osgi_wires.specs.Rows.{RowLists}
 use Rattle.osgi_space.specs.computed.Clashes.{IsClash}

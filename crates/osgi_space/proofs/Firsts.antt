@@ -1,5 +1,5 @@
 -- The first violation by the rows is the first by the wirings.
-use Rattle.std.proofs.Common.{◌≡◌, ◌↔◌, ◌⊎◌, inl, inr, ℕ, ◌<◌, List, length, refl, sym, ◌∙◌, ap, subst, Contains}
+use Rattle.std.proofs.Common.{◌≡◌, ◌↔◌, inl, inr, ℕ, ◌<◌, List, length, sym, ◌∙◌, ap, subst, Contains}
 use Rattle.std.proofs.lemmas.List.Elements.{All-contains}
 use Rattle.std.specs.Prelude.{Option, None, Some}
 use Rattle.osgi_base.specs.declared.ids.RevisionId.{RevisionId}
@@ -12,9 +12,9 @@ use Rattle.osgi_world.specs.Lists.{In}
 use Rattle.osgi_world.specs.Sources as relation
 use Rattle.osgi_world.specs.declared.wiring.Wiring.{Wiring}
 use Rattle.osgi_world.specs.declared.world.Known.{Known}
-use Rattle.osgi_space.specs.Violations.{IsBelow, IsEarlier, IsFirstViolation, IsViolated}
+use Rattle.osgi_space.specs.Violations.{IsBelow, IsFirstViolation, IsViolated}
 use Rattle.osgi_space.specs.computed.Clashes.{IsClash}
-use Rattle.osgi_space.specs.computed.Firsts.{IsBefore, IsFirstClash, IsFirstImplied}
+use Rattle.osgi_space.specs.computed.Firsts.{IsFirstClash, IsFirstImplied}
 use Rattle.osgi_space.specs.computed.Pairs.{IsImplied}
 use Rattle.osgi_space.specs.computed.RowSources.{Clash, Implied, seen, follows, ExportUses}
 use Rattle.osgi_space.specs.declared.given.Given.{Given}

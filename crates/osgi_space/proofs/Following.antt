@@ -1,5 +1,5 @@
 -- Implied constraints are those that are reached from what a revision sees itself.
-use Rattle.std.proofs.Common.{◌≡◌, ◌↔◌, ℕ, refl, sym, subst}
+use Rattle.std.proofs.Common.{◌↔◌, ℕ, refl, sym, subst}
 use Rattle.osgi_wires.specs.Rows.{RowLists}
 use Rattle.osgi_space.specs.computed.Pairs.{IsFirst, IsImplied, IsNext}
 use Rattle.osgi_space.specs.computed.Reach.{Reach, starts, steps}

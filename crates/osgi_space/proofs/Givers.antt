@@ -1,9 +1,9 @@
 -- What is given is given directly by a bundle that is reached along reexports.
-use Rattle.std.proofs.Common.{◌≡◌, ◌↔◌, inl, inr, ℕ, refl, sym, subst}
-use Rattle.osgi_wires.specs.Rows.{RowLists, Imports, Requires, Reexports}
-use Rattle.osgi_space.specs.computed.Givens.{IsGivenTo, IsImported, IsReached, IsSourceOf}
+use Rattle.std.proofs.Common.{◌↔◌, inl, inr, ℕ, refl, sym, subst}
+use Rattle.osgi_wires.specs.Rows.{RowLists, Imports, Reexports}
+use Rattle.osgi_space.specs.computed.Givens.{IsGivenTo, IsImported, IsSourceOf}
 use Rattle.osgi_space.specs.computed.Reach.{Reach, starts, steps}
-use Rattle.osgi_space.specs.computed.RowSources.{Gives, substituted, itself, reexported, GivesDirectly, NotImported, Sources, Exports}
+use Rattle.osgi_space.specs.computed.RowSources.{Gives, substituted, itself, reexported, GivesDirectly, NotImported}
 use Rattle.osgi_space.specs.declared.given.Given.{Given}
 
 module _ (R : RowLists) (p : ℕ) where

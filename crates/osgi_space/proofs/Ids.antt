@@ -1,5 +1,5 @@
 -- Revisions by their numbers.
-use Rattle.std.proofs.Common.{◌≡◌, ◌↔◌, inl, inr, ℕ, suc, List, [], ◌∷◌, refl, sym, ap, arith, map, Contains}
+use Rattle.std.proofs.Common.{◌≡◌, ◌↔◌, inl, inr, ℕ, List, [], ◌∷◌, refl, sym, ap, arith, map, Contains}
 use Rattle.osgi_base.specs.declared.ids.RevisionId.{RevisionId}
 use Rattle.osgi_world.specs.Lists.{In}
 use Rattle.osgi_wires.specs.Agree.{id}

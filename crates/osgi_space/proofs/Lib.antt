@@ -5,6 +5,7 @@ mod Adding
 mod Lengths
 mod Rows
 mod Givers
+mod ImpliedNames
 mod Firsts
 mod Rising
 mod FirstClash

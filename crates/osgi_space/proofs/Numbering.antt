@@ -6,7 +6,6 @@ use Rattle.osgi_base.specs.declared.ids.RevisionId.{RevisionId}
 use Rattle.osgi_world.specs.Sources as relation
 use Rattle.osgi_world.specs.Wirings as theory
 use Rattle.osgi_world.specs.declared.wiring.Wiring.{Wiring}
-use Rattle.osgi_wires.specs.Agree.{AreRowsOf}
 use Rattle.osgi_wires.specs.Names.{HasNumber, name_of}
 use Rattle.osgi_wires.specs.Worlds.{AreNumbered, AreRowsIn, WorldLists}
 use Rattle.osgi_wires.specs.declared.rows.Export.{Export}

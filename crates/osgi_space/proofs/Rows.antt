@@ -1,5 +1,5 @@
 -- What is looked up in rows.
-use Rattle.std.proofs.Common.{◌≡◌, ◌==◌, ◌&&◌, ◌↔◌, ℕ, ◌<◌, length, get_or, true, false, Bool, List, [], ◌∷◌, refl, sym, ◌∙◌, subst, arith, Contains, Any, IsTrue}
+use Rattle.std.proofs.Common.{◌≡◌, ◌==◌, ◌&&◌, ◌↔◌, ℕ, ◌<◌, length, get_or, true, false, Bool, List, [], ◌∷◌, refl, sym, subst, arith, Contains, Any, IsTrue}
 use Rattle.std.proofs.lemmas.Bool.{eqb-true, eq-eqb}
 use Rattle.osgi_wires.specs.Rows.{RowLists, is_import, imports_for, imports_of, required_by, attached_to, exports_of, exports_for, is_export, uses_of, is_use, Imports, Requires, Reexports, Attaches, OwnExport, OwnUse}
 use Rattle.osgi_wires.specs.declared.rows.Attachment.{Attachment}

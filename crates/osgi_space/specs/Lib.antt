@@ -1,3 +1,4 @@
 -- Class spaces: violated uses clauses; and what the code computes.
 pub mod Violations
+pub mod ImpliedOrder
 pub mod computed

@@ -1,6 +1,7 @@
 -- What the code computes of class spaces, over rows.
 pub mod Reach
 pub mod RowSources
+pub mod Spaces
 pub mod Firsts
 pub mod Disputes
 pub mod Clashes

@@ -38,11 +38,7 @@ fn add_reexported(found: &mut Found<u32>, rows: &Rows, bundle: u32) -> Result<()
 }
 
 /// The bundles that the revision requires, and those that they reexport, and so on.
-pub fn reached_bundles(
-    alloc: Global,
-    rows: &Rows,
-    revision: u32,
-) -> Result<Found<u32>, AllocError>
+pub fn reached_bundles(alloc: Global, rows: &Rows, revision: u32) -> Result<Found<u32>, AllocError>
     ensures collected { IfOk result (λ found. IsCollected nat_cmp found) }
     ensures reached { IfOk result (λ found. (x : ℕ) → Contains found.items.items x
         ↔ Reach (Requires rows.now revision) (Reexports rows.now) x) }

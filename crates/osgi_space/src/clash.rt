@@ -8,7 +8,7 @@ ghost use Rattle.osgi_space.specs.declared.given.Given.{Given};
 
 use crate::found::Found;
 use crate::given::Given;
-use crate::sources::sources_of;
+use crate::package_sources::sources_of;
 use osgi_wires::rows::Rows;
 use std::alloc::{AllocError, Global};
 
@@ -37,12 +37,7 @@ fn lacks(alloc: Global, outer: &[Given], inner: &[Given]) -> Result<bool, AllocE
 }
 
 /// Whether each of the revision, and the one that sees the package, has a source of it that the other lacks.
-pub fn clashes(
-    alloc: Global,
-    rows: &Rows,
-    revision: u32,
-    pair: Given,
-) -> Result<bool, AllocError>
+pub fn clashes(alloc: Global, rows: &Rows, revision: u32, pair: Given) -> Result<bool, AllocError>
     ensures clash { IfOk result (λ answer. IsTrue answer ↔ IsClash rows.now revision pair) }
 {
     let ours = sources_of(alloc, rows, revision, pair.package)?;

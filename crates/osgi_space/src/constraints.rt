@@ -11,7 +11,7 @@ ghost use Rattle.osgi_space.specs.declared.given.Given.{Given};
 use crate::among::Among;
 use crate::found::Found;
 use crate::given::Given;
-use crate::sources::sources_of;
+use crate::package_sources::sources_of;
 use crate::space::space_of;
 use osgi_wires::rows::Rows;
 use std::alloc::{AllocError, Global};

@@ -31,7 +31,7 @@ use std::alloc::{AllocError, Global};
 use std::cmp::Ordering;
 use std::collections::BTreeSet;
 
-fn name_bytes<'n>(names: &'n Names, number: u32) -> &'n [u8]
+pub fn name_bytes<'n>(names: &'n Names, number: u32) -> &'n [u8]
     requires named { number < length names.now }
     ensures name { result.now ≡ name_of names.now number }
 {

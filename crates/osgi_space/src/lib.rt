@@ -4,20 +4,24 @@
 mod among;
 mod bundles;
 mod clash;
-mod constraints;
+mod class_spaces;
 mod consistent;
+mod constraints;
 mod disputed;
 mod first;
 mod found;
 mod given;
+mod implied_constraints;
 mod naming;
+mod package_sources;
 mod questions;
-mod sources;
 mod space;
 mod uses;
 mod violation;
 
+pub use class_spaces::{ClassSpaces, implied, sources};
 pub use consistent::is_consistent;
 pub use first::first_violation;
+pub use implied_constraints::{Implied, implied_in};
 pub use questions::sources_in;
 pub use violation::Violation;

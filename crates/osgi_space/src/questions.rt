@@ -9,7 +9,7 @@ ghost use Rattle.osgi_world.specs.Sources.{Sources};
 ghost use Rattle.osgi_world.specs.declared.wiring.Wiring.{Wiring};
 
 use crate::naming::source_ids;
-use crate::sources::sources_of;
+use crate::package_sources::sources_of;
 use osgi_base::ids::RevisionId;
 use osgi_base::list::List;
 use osgi_base::text::Text;

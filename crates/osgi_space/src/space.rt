@@ -8,7 +8,7 @@ ghost use Rattle.osgi_space.specs.declared.given.Given.{Given};
 
 use crate::bundles::reached_bundles;
 use crate::given::Given;
-use crate::sources::add_exported;
+use crate::package_sources::add_exported;
 use osgi_wires::rows::Rows;
 use std::alloc::{AllocError, Global};
 

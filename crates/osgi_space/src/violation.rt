@@ -3,8 +3,8 @@
 use osgi_base::ids::RevisionId;
 use osgi_base::text::Text;
 
-/// A package, and two revisions with different sources of it: the first has an implied constraint for it, as the second sees
-/// it.
+/// A package, and two revisions that each have a source of it that the other lacks: the first has an implied constraint for it,
+/// as the second sees it.
 #[derive(Debug, Drop, PartialEq, Eq)]
 pub struct Violation {
     pub revision: RevisionId,

@@ -1,4 +1,5 @@
--- The wirings in force as contracts see them: a world that is always consistent, and how many revision ids were given.
+-- The wirings in force as contracts see them: a world that is always consistent, how many revision ids were given, and for how
+-- many revisions more there is room.
 use Rattle.std.specs.Prelude.{ℕ, ◌≡◌, ◌≢◌, ◌≤◌, List, [], ◌∷◌, ◌++◌, All, IsNone, Some, map, true}
 use Rattle.std.specs.List.Sorted.{IsStrictlyIncreasing}
 use Rattle.osgi_base.specs.declared.ids.BundleId.{BundleId}

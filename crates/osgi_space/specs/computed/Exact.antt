@@ -1,5 +1,5 @@
 -- Numbers, and pairs of numbers, tie with themselves alone.
-use Rattle.std.specs.Prelude.{◌≡◌, ℕ, Bool, true, ◌&&◌}
+use Rattle.std.specs.Prelude.{◌≡◌, ℕ, true, ◌&&◌}
 use Rattle.std.specs.Bool.{Decides}
 use Rattle.std.specs.Cmp.{tied_then}
 use Rattle.std.specs.FinMap.{nat_cmp-IsAntisymmetric}

@@ -1,9 +1,12 @@
 -- Implied constraints, as the code collects them: packages, each with the revision that sees it in the place of a source.
 use Rattle.std.specs.Prelude.{◌≡◌, ℕ, List, Any}
+use Rattle.osgi_wires.specs.Agree.{id}
+use Rattle.osgi_wires.specs.Names.{name_of}
 use Rattle.osgi_wires.specs.Rows.{RowLists, OwnUse}
 use Rattle.osgi_space.specs.computed.Givens.{IsSeen, IsSourceOf}
 use Rattle.osgi_space.specs.computed.RowSources.{ExportUses, Implied}
 use Rattle.osgi_space.specs.declared.given.Given.{Given}
+use Rattle.osgi_space.specs.declared.implied_constraints.Implied.{Implied as Named}
 
 -- e sees the package, since an export of p that the owner has uses it
 abbrev pub IsOwnUse : RowLists → ℕ → ℕ → ℕ → Given → Type 0
@@ -27,3 +30,7 @@ IsFirst R A r g = (h : Given) × IsSeen R r h × A h.source × IsUse R h.source 
 -- the constraints that follow from one
 abbrev pub IsNext : RowLists → (ℕ → Type 0) → Given → Given → Type 0
 IsNext R A from g = (h : Given) × IsSourceOf R from.source from.package h × A h.source × IsUse R h.source h.package g
+
+-- a pair by its package's name
+abbrev pub named_pair : List (List ℕ) → Given → Named
+named_pair names g = record { seen_by = id g.source; «package» = name_of names g.package }

@@ -1,5 +1,5 @@
 -- One bundle for each row with reexport.
-use Rattle.std.proofs.Common.{◌≡◌, ℕ, List, false, refl, sym, subst, IsTrue}
+use Rattle.std.proofs.Common.{◌≡◌, ℕ, List, subst, IsTrue}
 use Rattle.std.proofs.lemmas.List.{get_or_default}
 use Rattle.osgi_space.specs.computed.Adds.{Adds}
 use Rattle.osgi_space.proofs.Adding.{Each, adds-more, adds-whole, adds-same, adds-nothing}

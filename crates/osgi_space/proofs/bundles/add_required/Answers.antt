@@ -1,10 +1,9 @@
 -- One bundle for each row.
-use Rattle.std.proofs.Common.{◌≡◌, ℕ, List, refl, sym, subst}
+use Rattle.std.proofs.Common.{◌≡◌, ℕ, List, subst}
 use Rattle.std.proofs.lemmas.List.{get_or_default}
 use Rattle.osgi_space.specs.computed.Adds.{Adds}
 use Rattle.osgi_space.proofs.Adding.{Each, adds-start, adds-more, adds-whole, adds-same}
 use Rattle.osgi_space.proofs.Rows.{requires-each}
-use Rattle.osgi_wires.specs.Rows.{Requires}
 use Rattle.osgi_wires.specs.declared.rows.Required.{Required}
 use Rattle.osgi_space.proofs.bundles.add_required.Goals as goal
 

@@ -1,6 +1,5 @@
 -- What is found is reached, and when nothing is left to look at, all that is reached is found.
-use Rattle.std.proofs.Common.{◌≤◌, length, arith}
-use Rattle.std.proofs.lemmas.List.{get_or_default}
+use Rattle.std.proofs.Common.{arith}
 use Rattle.osgi_space.proofs.Adding.{adds-from}
 use Rattle.osgi_space.proofs.Worklist.{worklist-init, worklist-step, worklist-done}
 use Rattle.osgi_wires.specs.Rows.{Reexports, Requires}

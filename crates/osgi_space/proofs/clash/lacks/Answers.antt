@@ -1,5 +1,5 @@
 -- The answer is true at the first that is not among the outer ones.
-use Rattle.std.proofs.Common.{◌≡◌, ◌↔◌, refl, Any, Contains}
+use Rattle.std.proofs.Common.{refl, Any, Contains}
 use Rattle.std.proofs.lemmas.Bool.{false≢true}
 use Rattle.std.proofs.lemmas.List.{get_or_default}
 use Rattle.osgi_space.specs.declared.given.Given.{Given}
@@ -12,7 +12,7 @@ returns-then-not-has c =
     let inner = c.args.inner.now in
     let at = get_or_default inner c.loop-given.given-index _ _ c.loop-given-test.true in
     let any : Any P inner = any-at P inner c.loop-given.given-index _ c.loop-given-test.true at
-        (λ there. let yes = c.has.ensures.has.1 ((c.in_ok-found.ensures.same _).1 there) in let no = c.if-not-has.true in cc) in
+    (λ there. let yes = c.has.ensures.has.1 ((c.in_ok-found.ensures.same _).1 there) in let no = c.if-not-has.true in cc) in
     record { lacks = (λ t. (any.1, any-in P inner any, any.4), λ l. refl) }
 
 pub loop-given-preserved : goal.loop-given-preserved

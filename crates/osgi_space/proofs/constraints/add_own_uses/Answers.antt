@@ -1,5 +1,5 @@
 -- One constraint for each use.
-use Rattle.std.proofs.Common.{◌≡◌, ◌↔◌, ℕ, List, ap, refl, sym, subst}
+use Rattle.std.proofs.Common.{◌≡◌, ◌↔◌, ℕ, List, ap, sym, subst}
 use Rattle.std.proofs.lemmas.List.{get_or_default}
 use Rattle.osgi_space.specs.computed.Adds.{Adds}
 use Rattle.osgi_space.specs.computed.Pairs.{IsOwnUse}

@@ -1,5 +1,5 @@
 -- The uses of the exporter's own exports, and of its fragments'.
-use Rattle.std.proofs.Common.{◌≡◌, ◌↔◌, ◌⊎◌, inl, inr, ℕ, List, refl, subst}
+use Rattle.std.proofs.Common.{◌↔◌, ◌⊎◌, inl, inr, ℕ, List, refl, subst}
 use Rattle.std.proofs.lemmas.List.{get_or_default}
 use Rattle.osgi_space.specs.computed.Adds.{Adds}
 use Rattle.osgi_space.specs.computed.Pairs.{IsOwnUse, IsUse}

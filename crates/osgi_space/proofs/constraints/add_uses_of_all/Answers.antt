@@ -1,11 +1,10 @@
 -- The uses of each source from which constraints may come.
 use Rattle.std.proofs.Common.{ℕ}
 use Rattle.std.proofs.lemmas.List.{get_or_default}
-use Rattle.osgi_space.specs.computed.Adds.{Adds}
 use Rattle.osgi_space.specs.computed.Amongst.{IsAmong}
 use Rattle.osgi_space.specs.computed.Pairs.{IsUse}
 use Rattle.osgi_space.specs.declared.given.Given.{Given}
-use Rattle.osgi_space.proofs.Adding.{Each, adds-more, adds-whole, adds-same, adds-nothing}
+use Rattle.osgi_space.proofs.Adding.{adds-more, adds-whole, adds-same, adds-nothing}
 use Rattle.osgi_wires.specs.Rows.{RowLists}
 use Rattle.osgi_space.proofs.constraints.add_uses_of_all.Goals as goal
 use Rattle.osgi_space.proofs.constraints.add_uses_of_all.Goals.{then-has+in_ok-add_uses, else-has}

@@ -1,11 +1,9 @@
 -- What is found is implied, and when nothing is left to look at, all that is implied is found.
-use Rattle.std.proofs.Common.{◌≡◌, ◌↔◌, ◌≤◌, ℕ, List, [], inl, inr, length, get_or, arith, refl, sym, ◌∙◌, subst, Contains, Any}
-use Rattle.std.proofs.lemmas.Bool.{false≢true}
-use Rattle.std.proofs.lemmas.List.{get_or_default}
+use Rattle.std.proofs.Common.{◌↔◌, ℕ, List, [], arith, subst, Contains}
 use Rattle.osgi_space.specs.computed.Amongst.{IsAmong}
 use Rattle.osgi_space.specs.computed.Adds.{Adds}
 use Rattle.osgi_space.specs.computed.Givens.{IsSeen, IsSourceOf}
-use Rattle.osgi_space.specs.computed.Pairs.{IsFirst, IsImplied, IsNext, IsUse, IsUseOfSome}
+use Rattle.osgi_space.specs.computed.Pairs.{IsFirst, IsNext, IsUse, IsUseOfSome}
 use Rattle.osgi_space.specs.declared.given.Given.{Given}
 use Rattle.osgi_space.proofs.Adding.{adds-from, adds-same, any-in, any-of}
 use Rattle.osgi_space.proofs.Following.{implied-reach, none-implied}
@@ -32,7 +30,7 @@ loop-next-init c =
     let R = c.args.rows.now in
     let A = IsAmong c.args.among in
     let start : (g : Given) → IsUseOfSome R A c.in_ok-space.space.items g ↔ IsFirst R A c.args.revision g =
-        some-of R A (IsSeen R c.args.revision) c.in_ok-space.space.items c.in_ok-space.ensures.sources in
+    some-of R A (IsSeen R c.args.revision) c.in_ok-space.space.items c.in_ok-space.ensures.sources in
     let P : List Given → Type 0 = λ givens. Adds (IsUseOfSome R A givens) c.new-found.result.items.items c.add_uses_of_all.new.found.items.items in
     record {
       collected = c.in_ok-add_uses_of_all.ensures.collected;
@@ -46,7 +44,7 @@ loop-next-preserved c =
     let A = IsAmong c.args.among in
     let pair = c.index-pair.result.now in
     let next : (g : Given) → IsUseOfSome R A c.in_ok-givens.givens.items g ↔ IsNext R A pair g =
-        some-of R A (IsSourceOf R pair.source pair.package) c.in_ok-givens.givens.items c.in_ok-givens.ensures.sources in
+    some-of R A (IsSourceOf R pair.source pair.package) c.in_ok-givens.givens.items c.in_ok-givens.ensures.sources in
     let P : List Given → Type 0 = λ givens. Adds (IsUseOfSome R A givens) c.loop-next.found.items.items c.add_uses_of_all-in-loop-next.new.found.items.items in
     record {
       collected = c.in_ok-add_uses_of_all-2.ensures.collected;

@@ -1,6 +1,5 @@
 -- Two possible sources of one package are the first of it, or it is disputed.
 use Rattle.std.proofs.Common.{◌≡◌, ◌⊎◌, inl, inr, ℕ, sym, ◌∙◌, subst, IsTrue}
-use Rattle.std.specs.Prelude.{Some}
 use Rattle.std.specs.BTreeSet.{contains}
 use Rattle.std.specs.Ordering.{nat_cmp}
 use Rattle.osgi_space.specs.computed.Disputes.{IsNoted, IsPossible}

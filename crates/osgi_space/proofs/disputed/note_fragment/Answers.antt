@@ -1,5 +1,5 @@
 -- Each row is noted, and what was noted before stays so.
-use Rattle.std.proofs.Common.{◌≡◌, ◌==◌, ℕ, List, Contains, refl, sym, subst}
+use Rattle.std.proofs.Common.{◌==◌, Contains, refl, sym, subst}
 use Rattle.std.proofs.lemmas.List.{get_or_default}
 use Rattle.osgi_space.specs.computed.Disputes.{IsNoted}
 use Rattle.osgi_space.proofs.Adding.{all-more, all-of}

@@ -1,10 +1,9 @@
 -- Each row is noted, and what was noted before stays so.
-use Rattle.std.proofs.Common.{◌≡◌, ◌==◌, ℕ, List, Contains, refl, sym, subst}
+use Rattle.std.proofs.Common.{Contains, sym, subst}
 use Rattle.std.proofs.lemmas.List.{get_or_default}
 use Rattle.osgi_space.specs.computed.Disputes.{IsNoted}
 use Rattle.osgi_space.proofs.Adding.{all-more, all-of}
 use Rattle.osgi_wires.specs.declared.rows.Import.{Import}
-
 use Rattle.osgi_space.proofs.disputed.note_imports.Goals as goal
 
 pub loop-row-preserved : goal.loop-row-preserved

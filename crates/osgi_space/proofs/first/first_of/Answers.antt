@@ -1,5 +1,5 @@
 -- The pairs are the implied constraints, of packages with numbers.
-use Rattle.std.proofs.Common.{◌≡◌, ◌↔◌, ◌<◌, ℕ, List, length, get_or, sym, subst, All, Contains, IsTrue}
+use Rattle.std.proofs.Common.{◌↔◌, ◌<◌, ℕ, List, length, get_or, sym, subst, All, Contains, IsTrue}
 use Rattle.std.proofs.lemmas.List.{get_or_default}
 use Rattle.std.specs.BTreeSet.{contains}
 use Rattle.std.specs.Ordering.{nat_cmp}
@@ -16,9 +16,9 @@ first_clash-requires c =
     let pairs = c.in_ok-found.found.items.items in
     let P : Given → Type 0 = λ g. g.package < length world.names in
     let all : All P pairs = λ k d lt.
-        let g = get_or pairs k d in
-        implied-number world.rows world.names c.rows.ensures.numbered
-        (subst (λ (R : RowLists). IsImplied R (λ r. IsTrue (contains nat_cmp c.args.listed.now r)) c.args.revision g) c.rows.ensures.rows ((c.in_ok-found.ensures.implied g).0 (k, lt, get_or_default pairs k g d lt))) in
+    let g = get_or pairs k d in
+    implied-number world.rows world.names c.rows.ensures.numbered
+    (subst (λ (R : RowLists). IsImplied R (λ r. IsTrue (contains nat_cmp c.args.listed.now r)) c.args.revision g) c.rows.ensures.rows ((c.in_ok-found.ensures.implied g).0 (k, lt, get_or_default pairs k g d lt))) in
     record { named = subst (All P) (sym c.as_slice.ensures.value) all }
 
 pub returns : goal.returns
@@ -27,7 +27,7 @@ returns c =
     let A : ℕ → Type 0 = λ r. IsTrue (contains nat_cmp c.args.listed.now r) in
     let pairs = c.in_ok-found.found.items.items in
     let is : (g : Given) → Contains pairs g ↔ IsImplied world.rows A c.args.revision g =
-        subst (λ (R : RowLists). (g : Given) → Contains pairs g ↔ IsImplied R A c.args.revision g) c.rows.ensures.rows c.in_ok-found.ensures.implied in
+    subst (λ (R : RowLists). (g : Given) → Contains pairs g ↔ IsImplied R A c.args.revision g) c.rows.ensures.rows c.in_ok-found.ensures.implied in
     record {
       first = first-implied world.rows world.names c.rows.ensures.numbered A c.args.revision pairs is c.in_ok-first_clash.field-0
           (subst (λ (xs : List Given). IsFirstClash world.rows world.names c.args.revision xs c.in_ok-first_clash.field-0) c.as_slice.ensures.value c.in_ok-first_clash.ensures.first);

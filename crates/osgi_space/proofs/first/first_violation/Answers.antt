@@ -1,10 +1,10 @@
 -- No revision before has a violated constraint, and of this one the first is taken.
-use Rattle.std.proofs.Common.{◌≡◌, ◌↔◌, ◌<◌, ◌+◌, ℕ, List, get_or, take, refl, sym, ◌∙◌, ap, subst, All, Contains, IsTrue, map}
+use Rattle.std.proofs.Common.{◌≡◌, ◌↔◌, ◌<◌, ℕ, List, get_or, take, sym, ◌∙◌, ap, subst, Contains, IsTrue, map}
 use Rattle.std.specs.Prelude.{Option, None, Some}
 use Rattle.std.specs.BTreeSet.{BTreeSet, contains}
 use Rattle.std.specs.List.Sorted.{IsStrictlyIncreasing}
 use Rattle.std.specs.Ordering.{nat_cmp}
-use Rattle.std.proofs.lemmas.List.{get_or_default, take_all}
+use Rattle.std.proofs.lemmas.List.{get_or_default}
 use Rattle.std.proofs.lemmas.List.Elements.{All-contains}
 use Rattle.osgi_base.specs.declared.ids.RevisionId.{RevisionId}
 use Rattle.osgi_wires.specs.Agree.{id}
@@ -55,7 +55,7 @@ returns c =
     record {
       first = λ W is. none-violated world.known W world.names world.rows is c.args.among.now A same
           (λ m a. all-of P items c.loop-number.number-index c.loop-number-test.false c.loop-number.invariant m
-            (subst (λ (xs : List ℕ). Contains xs m) (c.as_slice.ensures.value ∙ sym c.deref-number-items.ensures.value) ((c.in_ok-listed.ensures.listed m).0 a)));
+          (subst (λ (xs : List ℕ). Contains xs m) (c.as_slice.ensures.value ∙ sym c.deref-number-items.ensures.value) ((c.in_ok-listed.ensures.listed m).0 a)));
     }
 
 pub returns-in-Some : goal.returns-in-Some
@@ -72,8 +72,8 @@ returns-in-Some c =
     let first : IsFirstImplied world.rows world.names A n (Some pair) = subst (λ (o : Option Given). IsFirstImplied world.rows world.names A n o) c.in-Some.is c.in_ok-pair.ensures.first in
     let rising : IsStrictlyIncreasing items = subst (λ (xs : List ℕ). IsStrictlyIncreasing xs) (sym c.deref-number-items.ensures.value) c.rising-numbers.ensures.rising in
     let none : (m : ℕ) → A m → m < n → P m = λ m a below.
-        let at = subst (λ (xs : List ℕ). Contains xs m) (c.as_slice.ensures.value ∙ sym c.deref-number-items.ensures.value) ((c.in_ok-listed.ensures.listed m).0 a) in
-        All-contains P (take i items) m c.loop-number.invariant (stands-before items rising i m h below at) in
+    let at = subst (λ (xs : List ℕ). Contains xs m) (c.as_slice.ensures.value ∙ sym c.deref-number-items.ensures.value) ((c.in_ok-listed.ensures.listed m).0 a) in
+    All-contains P (take i items) m c.loop-number.invariant (stands-before items rising i m h below at) in
     let v : Violation = record { revision = id n; seen_by = id pair.source; «package» = name_of world.names pair.package } in
     let is_v : c.in_ok-violation_of.field-0 ≡ v = c.in_ok-violation_of.ensures.violation ∙ ap (λ (names : List (List ℕ)). record { revision = id n; seen_by = id pair.source; «package» = name_of names pair.package }) c.names.ensures.names in
     record {

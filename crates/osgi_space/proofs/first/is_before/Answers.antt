@@ -1,5 +1,5 @@
 -- Names are compared first, and of one name the revisions that see it.
-use Rattle.std.proofs.Common.{◌≡◌, ◌<◌, ◌⊎◌, ◌↔◌, ℕ, List, sym, ◌∙◌, subst, IsTrue, nat_lt}
+use Rattle.std.proofs.Common.{◌≡◌, ℕ, List, sym, ◌∙◌, subst}
 use Rattle.std.proofs.lemmas.Bool.{false≢true}
 use Rattle.std.specs.Cmp.Lexicographic.{slice_cmp}
 use Rattle.std.specs.Ordering.{nat_cmp}
@@ -17,8 +17,10 @@ pub returns-in-Equal : goal.returns-in-Equal
 returns-in-Equal c =
     let x = name_of c.args.names.now c.args.first.package in
     let y = name_of c.args.names.now c.args.second.package in
-    record { before = equal-before x y c.args.first.source c.args.second.source
-        (of-texts c.name_bytes-one.result.now c.name_bytes-other.result.now x y c.cmp.result Equal c.name_bytes-one.ensures.name c.name_bytes-other.ensures.name c.cmp.ensures c.in-Equal.is) }
+    record {
+      before = equal-before x y c.args.first.source c.args.second.source
+          (of-texts c.name_bytes-one.result.now c.name_bytes-other.result.now x y c.cmp.result Equal c.name_bytes-one.ensures.name c.name_bytes-other.ensures.name c.cmp.ensures c.in-Equal.is);
+    }
 
 pub returns-in-Greater : goal.returns-in-Greater
 returns-in-Greater c =

@@ -1,9 +1,9 @@
 -- What the bundle gives of its own exports and of its fragments'.
-use Rattle.std.proofs.Common.{◌≡◌, ◌↔◌, ◌⊎◌, inl, inr, ℕ, List, refl, sym, subst}
+use Rattle.std.proofs.Common.{◌↔◌, ◌⊎◌, inl, inr, ℕ, List, sym, subst}
 use Rattle.std.proofs.lemmas.List.{get_or_default}
 use Rattle.osgi_space.specs.computed.Adds.{Adds}
 use Rattle.osgi_space.specs.computed.Givens.{IsDirect, IsGivenBy, IsGivenByOwner, IsGivenOf}
-use Rattle.osgi_space.specs.computed.RowSources.{HasExport, NotImported}
+use Rattle.osgi_space.specs.computed.RowSources.{HasExport}
 use Rattle.osgi_space.specs.declared.given.Given.{Given}
 use Rattle.osgi_space.proofs.Adding.{Each, adds-more, adds-whole, adds-same, adds-then}
 use Rattle.osgi_space.proofs.Rows.{attached-at, some-attached}
@@ -55,5 +55,7 @@ returns c =
     let R = c.args.rows.now in
     let rows = c.attached_to-row-items.result.now in
     let P : List Attachment → Type 0 = λ xs. Adds (Each (gives R c.args.revision c.args.bundle) xs) c.add_owner.new.givens.items c.loop-row.givens.items in
-    record { added = adds-same (owners R c.args.revision c.args.bundle)
-        (adds-then c.in_ok-add_owner.ensures.added (subst P c.attached_to-row-items.ensures.rows (adds-whole (gives R c.args.revision c.args.bundle) rows c.loop-row.row-index c.loop-row-test.false c.loop-row.invariant))) }
+    record {
+      added = adds-same (owners R c.args.revision c.args.bundle)
+          (adds-then c.in_ok-add_owner.ensures.added (subst P c.attached_to-row-items.ensures.rows (adds-whole (gives R c.args.revision c.args.bundle) rows c.loop-row.row-index c.loop-row-test.false c.loop-row.invariant)));
+    }

@@ -1,4 +1,4 @@
-use Rattle.std.proofs.Common.{◌⊎◌, take}
+use Rattle.std.proofs.Common.{take}
 use Rattle.osgi_space.specs.computed.Adds.{Adds}
 use Rattle.osgi_space.specs.computed.Givens.{IsGivenByOwner}
 use Rattle.osgi_space.specs.declared.given.Given.{Given}

@@ -1,5 +1,5 @@
 -- One source for each wire.
-use Rattle.std.proofs.Common.{◌≡◌, ◌↔◌, ℕ, List, ap, sym, subst, refl}
+use Rattle.std.proofs.Common.{◌≡◌, ◌↔◌, ℕ, List, sym, subst, refl}
 use Rattle.std.proofs.lemmas.List.{get_or_default}
 use Rattle.osgi_space.specs.computed.Adds.{Adds}
 use Rattle.osgi_space.specs.computed.Givens.{IsWired}
@@ -30,5 +30,7 @@ pub returns : goal.returns
 returns c =
     let rows = c.imports_of-row-items.result.now in
     let P : List Import → Type 0 = λ xs. Adds (Each gives xs) c.args.givens.now.items c.loop-row.givens.items in
-    record { added = adds-same (wired-each c.args.rows.now c.args.revision)
-        (subst P c.imports_of-row-items.ensures.rows (adds-whole gives rows c.loop-row.row-index c.loop-row-test.false c.loop-row.invariant)) }
+    record {
+      added = adds-same (wired-each c.args.rows.now c.args.revision)
+          (subst P c.imports_of-row-items.ensures.rows (adds-whole gives rows c.loop-row.row-index c.loop-row-test.false c.loop-row.invariant));
+    }

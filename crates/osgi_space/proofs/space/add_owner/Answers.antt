@@ -1,11 +1,10 @@
 -- What the bundle gives of each export of the owner.
-use Rattle.std.proofs.Common.{◌↔◌, ℕ, List, subst}
+use Rattle.std.proofs.Common.{ℕ, List, subst}
 use Rattle.std.proofs.lemmas.List.{get_or_default}
 use Rattle.osgi_space.specs.computed.Adds.{Adds}
 use Rattle.osgi_space.specs.computed.Givens.{IsGivenOf}
-use Rattle.osgi_space.specs.computed.RowSources.{HasExport}
 use Rattle.osgi_space.specs.declared.given.Given.{Given}
-use Rattle.osgi_space.proofs.Adding.{Each, any-at, adds-more, adds-whole, adds-same}
+use Rattle.osgi_space.proofs.Adding.{Each, adds-more, adds-whole, adds-same}
 use Rattle.osgi_space.proofs.Rows.{export-at, some-export}
 use Rattle.osgi_wires.specs.Rows.{RowLists}
 use Rattle.osgi_wires.specs.declared.rows.Export.{Export}
@@ -31,5 +30,7 @@ returns c =
     let R = c.args.rows.now in
     let rows = c.exports_of-row-items.result.now in
     let P : List Export → Type 0 = λ xs. Adds (Each (gives R c.args.revision c.args.bundle) xs) c.args.givens.now.items c.loop-row.givens.items in
-    record { added = adds-same (λ g. some-export R (λ p. IsGivenOf R c.args.revision c.args.bundle p g) c.args.owner)
-        (subst P c.exports_of-row-items.ensures.rows (adds-whole (gives R c.args.revision c.args.bundle) rows c.loop-row.row-index c.loop-row-test.false c.loop-row.invariant)) }
+    record {
+      added = adds-same (λ g. some-export R (λ p. IsGivenOf R c.args.revision c.args.bundle p g) c.args.owner)
+          (subst P c.exports_of-row-items.ensures.rows (adds-whole (gives R c.args.revision c.args.bundle) rows c.loop-row.row-index c.loop-row-test.false c.loop-row.invariant));
+    }

@@ -1,5 +1,5 @@
 -- What the revision is wired to, and what it and each bundle that it reaches give of other packages.
-use Rattle.std.proofs.Common.{◌≡◌, ◌↔◌, ◌⊎◌, inl, inr, ℕ, List, refl, subst, Contains}
+use Rattle.std.proofs.Common.{◌↔◌, ◌⊎◌, inl, inr, ℕ, List, refl, subst, Contains}
 use Rattle.std.proofs.lemmas.List.{get_or_default}
 use Rattle.osgi_space.specs.computed.Adds.{Adds}
 use Rattle.osgi_space.specs.computed.Givens.{IsGivenBy, IsReached, IsSeen, IsWired}
@@ -41,5 +41,7 @@ returns c =
     let R = c.args.rows.now in
     let bundles = c.deref-bundle-items.result.now in
     let P : List ℕ → Type 0 = λ xs. Adds (Each (gives R c.args.revision) xs) c.add_imports.new.givens.items c.loop-bundle.givens.items in
-    record { sources = adds-from c.new-givens.ensures.items (adds-same (seen R c.args.revision c.in_ok-reached.reached.items.items c.in_ok-reached.ensures.reached)
-        (adds-then (adds-then c.in_ok-add_imports.ensures.added (subst P c.deref-bundle-items.ensures.value (adds-whole (gives R c.args.revision) bundles c.loop-bundle.bundle-index c.loop-bundle-test.false c.loop-bundle.invariant))) c.in_ok-add_bundle-2.ensures.added)) }
+    record {
+      sources = adds-from c.new-givens.ensures.items (adds-same (seen R c.args.revision c.in_ok-reached.reached.items.items c.in_ok-reached.ensures.reached)
+          (adds-then (adds-then c.in_ok-add_imports.ensures.added (subst P c.deref-bundle-items.ensures.value (adds-whole (gives R c.args.revision) bundles c.loop-bundle.bundle-index c.loop-bundle-test.false c.loop-bundle.invariant))) c.in_ok-add_bundle-2.ensures.added));
+    }

@@ -15,7 +15,7 @@ pub returns-then-not-branch : goal.returns-then-not-branch
 returns-then-not-branch c =
     let P : Wiring → Type 0 = λ g. ¬ KeepsUses c.args.rows.now g.revision.0 in
     let any : Any P c.args.wirings.now = any-at P c.args.wirings.now c.loop-wiring.wiring-index c.wiring-item.result c.loop-wiring-test.true c.wiring-item.is
-        (λ keeps. let yes = c.in_ok-keeps_uses.ensures.kept.1 keeps in let no = c.if-not-branch.true in cc) in
+    (λ keeps. let yes = c.in_ok-keeps_uses.ensures.kept.1 keeps in let no = c.if-not-branch.true in cc) in
     record { kept = (λ t. absurd (false≢true t), λ none. absurd (none any)) }
 
 pub returns : goal.returns

@@ -1,13 +1,11 @@
 -- Where the revision sees no disputed package none of its constraints is violated.
-use Rattle.std.proofs.Common.{◌≡◌, ◌↔◌, ℕ, List, Any, Contains, Bool, refl, sym, subst, IsTrue}
+use Rattle.std.proofs.Common.{◌↔◌, Any, refl, sym, subst, IsTrue}
 use Rattle.std.specs.BTreeSet.{contains}
 use Rattle.std.specs.Ordering.{nat_cmp}
 use Rattle.osgi_space.specs.computed.Clashes.{IsClash, KeepsUses}
-use Rattle.osgi_space.specs.computed.Pairs.{IsImplied}
 use Rattle.osgi_space.specs.declared.given.Given.{Given}
 use Rattle.osgi_space.proofs.Adding.{any-in, any-of}
 use Rattle.osgi_space.proofs.Agreeing.{clash-disputed}
-use Rattle.osgi_wires.specs.Rows.{RowLists}
 use Rattle.osgi_space.proofs.uses.keeps_uses.Goals as goal
 
 pub returns-then-not-has_disputed : goal.returns-then-not-has_disputed
@@ -15,11 +13,11 @@ returns-then-not-has_disputed c =
     let P : Given → Type 0 = λ g. IsTrue (contains nat_cmp c.args.disputed.now g.package) in
     let space = c.in_ok-space.space.items in
     let keeps : KeepsUses c.args.rows.now c.args.revision = λ e u implied clash.
-        let there = clash-disputed c.args.rows.now c.args.disputed.now c.requires.disputed clash in
-        let seen = (c.in_ok-space.ensures.sources (record { «package» = u; source = clash.ours })).1 clash.ours_in in
-        let any : Any P c.as_slice.result.now = subst (λ xs. Any P xs) (sym c.as_slice.ensures.value) (any-of P space (record { «package» = u; source = clash.ours }) seen there) in
-        let yes = c.has_disputed.ensures.disputed.1 any in
-        let no = c.if-not-has_disputed.true in cc in
+    let there = clash-disputed c.args.rows.now c.args.disputed.now c.requires.disputed clash in
+    let seen = (c.in_ok-space.ensures.sources (record { «package» = u; source = clash.ours })).1 clash.ours_in in
+    let any : Any P c.as_slice.result.now = subst (λ xs. Any P xs) (sym c.as_slice.ensures.value) (any-of P space (record { «package» = u; source = clash.ours }) seen there) in
+    let yes = c.has_disputed.ensures.disputed.1 any in
+    let no = c.if-not-has_disputed.true in cc in
     record { kept = (λ t. keeps, λ k. refl) }
 
 pub returns : goal.returns

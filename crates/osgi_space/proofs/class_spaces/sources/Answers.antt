@@ -1,0 +1,11 @@
+-- The spaces are those of the world.
+use Rattle.std.proofs.Common.{◌↔◌, subst}
+use Rattle.osgi_base.specs.declared.ids.RevisionId.{RevisionId}
+use Rattle.osgi_world.specs.Lists.{In}
+use Rattle.osgi_world.specs.Sources.{Sources}
+use Rattle.osgi_world.specs.declared.world.World.{World}
+use Rattle.osgi_space.proofs.class_spaces.sources.Goals as goal
+
+pub returns-clause-sources : goal.returns-clause-sources
+returns-clause-sources c =
+    subst (λ (w : World). (x : RevisionId) → In x c.in_ok-sources.field-0 ↔ Sources w.known w.wirings c.args.revision c.args.package.now x) c.in_ok-spaces.ensures.world c.in_ok-sources.ensures.sources

@@ -1,0 +1,10 @@
+use Rattle.std.proofs.Common.{◌≡◌, ◌↔◌, Any, take, IsTrue}
+use Rattle.std.specs.BTreeSet.{contains}
+use Rattle.osgi_space.specs.ImpliedOrder.{implied_cmp}
+use Rattle.osgi_space.specs.computed.Pairs.{named_pair}
+use Rattle.osgi_space.specs.declared.given.Given.{Given}
+use Rattle.osgi_space.specs.declared.implied_constraints.Implied.{Implied}
+use Rattle.osgi_space.proofs.implied_constraints.named_pairs.Given as goal
+
+abbrev pub invariant-loop-pair : goal.invariant-loop-pair
+invariant-loop-pair l = (v : Implied) → IsTrue (contains implied_cmp l.set v) ↔ Any (λ (g : Given). named_pair l.names g ≡ v) (take l.pair-index l.pairs)

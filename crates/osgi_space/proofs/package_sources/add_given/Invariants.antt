@@ -1,0 +1,9 @@
+use Rattle.std.proofs.Common.{ℕ, take}
+use Rattle.osgi_space.specs.computed.Adds.{Adds}
+use Rattle.osgi_space.specs.computed.Givens.{IsDirect}
+use Rattle.osgi_space.specs.declared.given.Given.{Given}
+use Rattle.osgi_space.proofs.Adding.{Each}
+use Rattle.osgi_space.proofs.package_sources.add_given.Given as goal
+
+abbrev pub invariant-loop-bundle : goal.invariant-loop-bundle
+invariant-loop-bundle l = Adds (Each (λ (b : ℕ) (g : Given). IsDirect l.rows b l.«package» g) (take l.bundle-index l.bundle-items)) l.fn.givens.items l.givens.items

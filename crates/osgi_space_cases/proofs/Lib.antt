@@ -1,0 +1,2 @@
+-- A lemma on steps.
+mod Undoing

@@ -1,0 +1,7 @@
+//! The state of a resolver's search: wirings to which single wires and fragments are added and taken back, and the clashes of
+//! uses among settled revisions.
+#![tactic(auto)]
+
+pub mod clash;
+pub mod spaces;
+mod trail;

@@ -1,0 +1,124 @@
+//! The wirings of a search.
+
+ghost use Rattle.std.specs.Prelude.{◌≡◌, ◌<◌, ◌++◌, ◌∷◌, [], List, IfOk, OnOk, OnErr, length};
+ghost use Rattle.osgi_world.specs.Decisions.{Step, attached, wired};
+ghost use Rattle.osgi_wires.specs.Worlds.{TakesBack};
+ghost use Rattle.osgi_uses.specs.Clashes.{IsClashAmong};
+ghost use Rattle.osgi_uses.specs.States.{SpacesState};
+
+use crate::clash::Clash;
+use crate::trail::{Addition, Taken};
+use osgi_base::ids::RevisionId;
+use osgi_space::{first_violation, sources_in};
+use osgi_wires::world_rows::WorldRows;
+use osgi_world::wiring::Wire;
+use osgi_world::world::World;
+use std::alloc::{AllocError, Global};
+use std::marker::Model;
+
+/// The wirings of a world, to which wires and fragments are added one by one, and taken back, those that were added last first.
+#[derive(Drop)]
+pub struct Spaces<'w> {
+    world: &'w World,
+    rows: WorldRows<'w>,
+    trail: Vec<Taken>,
+}
+
+impl<'w> Model for Spaces<'w> {
+    ghost use Rattle.std.specs.Prelude.{map, reverse};
+    ghost use Rattle.std.specs.Coded.{codes};
+    ghost use Rattle.osgi_model.specs.contracts.filter.Filter as filter;
+    ghost use Rattle.osgi_model.specs.contracts.value.Value as value;
+    ghost use Rattle.osgi_uses.specs.States.{SpacesState};
+    ghost use Rattle.osgi_uses.specs.computed.Trail.{IsTrailOf, step_of};
+
+    ghost Value = { SpacesState };
+
+    ghost coded = { Prim.hlevel (codes, filter.the_row.coded, value.the_row.coded) };
+
+    ghost view = { λ s. record { known = s.world.now.known; wirings = s.world.now.wirings; steps = map step_of (reverse s.trail.items) } };
+
+    ghost invariant = { λ s. IsTrailOf s.world.now s.rows (reverse s.trail.items) };
+}
+
+impl<'w> Spaces<'w> {
+    /// The wirings of the world.
+    pub fn new(alloc: Global, world: &'w World) -> Result<Spaces<'w>, AllocError>
+        ensures world { IfOk result (λ made. made ≡ record { known = world.now.known; wirings = world.now.wirings; steps = [] }) }
+    {
+        let rows = WorldRows::new(alloc, world.known.items(), world.wirings.items())?;
+        Ok(Spaces {
+            world,
+            rows,
+            trail: Vec::new(alloc),
+        })
+    }
+
+    /// Attaches the fragment to the host. If memory runs out, nothing changes.
+    pub fn attach(&mut self, host: RevisionId, fragment: RevisionId) -> Result<(), AllocError>
+        ensures added { OnOk result (self.new ≡ record self.old { steps = attached host fragment ∷ self.old.steps }) }
+        ensures unchanged { OnErr result (self.new ≡ self.old) }
+    {
+        let added = self.rows.attach(host, fragment)?;
+        let taken = Taken {
+            addition: Addition::Attached(host, fragment),
+            added,
+        };
+        keep(&mut self.rows, &mut self.trail, taken)?;
+        Ok(())
+    }
+
+    /// Adds the wire to the revision. If memory runs out, nothing changes.
+    pub fn wire(&mut self, revision: RevisionId, wire: Wire) -> Result<(), AllocError>
+        ensures added { OnOk result (self.new ≡ record self.old { steps = wired revision wire ∷ self.old.steps }) }
+        ensures unchanged { OnErr result (self.new ≡ self.old) }
+    {
+        let added = self.rows.add_wire(revision, &wire)?;
+        let taken = Taken {
+            addition: Addition::Wired(revision, wire),
+            added,
+        };
+        keep(&mut self.rows, &mut self.trail, taken)?;
+        Ok(())
+    }
+
+    /// Takes back what was added last. It takes no memory.
+    pub fn undo(&mut self)
+        requires step { 0 < length self.old.steps }
+        ensures undone { (s : Step) (steps : List Step) → self.old.steps ≡ s ∷ steps → self.new ≡ record self.old { steps = steps } }
+    {
+        let last = self.trail.pop().unwrap();
+        self.rows.take_back(last.added);
+    }
+
+    /// The first violated clause of `uses` among the settled revisions, with the sources that differ.
+    pub fn clash(&self, alloc: Global, settled: &[RevisionId]) -> Result<Option<Clash>, AllocError>
+        ensures first { IfOk result (λ found. IsClashAmong self.now settled.now found) }
+    {
+        let Some(first) = first_violation(alloc, &self.rows, settled)? else {
+            return Ok(None);
+        };
+        let ours = sources_in(alloc, &self.rows, first.revision, &first.package)?;
+        let theirs = sources_in(alloc, &self.rows, first.seen_by, &first.package)?;
+        Ok(Some(Clash {
+            revision: first.revision,
+            package: first.package,
+            ours,
+            theirs,
+        }))
+    }
+}
+
+/// Puts on the trail what was added to the rows, or takes it back from them if memory runs out.
+fn keep(rows: &mut WorldRows, trail: &mut Vec<Taken>, taken: Taken) -> Result<(), AllocError>
+    ensures rows { OnOk result (rows.new ≡ rows.old) }
+    ensures trail { OnOk result (trail.new.items ≡ trail.old.items ++ taken ∷ []) }
+    ensures taken_back { OnErr result (TakesBack rows.old rows.new taken.added) }
+    ensures unchanged { OnErr result (trail.new.items ≡ trail.old.items) }
+{
+    if trail.push(taken).is_err() {
+        rows.take_back(taken.added);
+        return Err(AllocError);
+    }
+    Ok(())
+}
