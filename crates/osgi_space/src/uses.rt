@@ -77,6 +77,9 @@ fn keeps_uses(
     requires disputed { AreDisputed rows.now disputed.now }
     ensures kept { IfOk result (λ answer. IsTrue answer ↔ KeepsUses rows.now revision) }
 {
+    if disputed.is_empty() {
+        return Ok(true);
+    }
     let space = space_of(alloc, rows, revision)?;
     if !has_disputed(space.as_slice(), disputed) {
         return Ok(true);

@@ -1,5 +1,6 @@
 -- Where the revision sees no disputed package none of its constraints is violated.
-use Rattle.std.proofs.Common.{◌↔◌, Any, refl, sym, subst, IsTrue}
+use Rattle.std.proofs.Common.{◌↔◌, ◌≡◌, ℕ, List, [], ◌∷◌, length, Any, BTreeSet, refl, sym, subst, arith, IsTrue}
+use Rattle.std.proofs.lemmas.Bool.{false≢true}
 use Rattle.std.specs.BTreeSet.{contains}
 use Rattle.std.specs.Ordering.{nat_cmp}
 use Rattle.osgi_space.specs.computed.Clashes.{IsClash, KeepsUses}
@@ -7,6 +8,19 @@ use Rattle.osgi_space.specs.declared.given.Given.{Given}
 use Rattle.osgi_space.proofs.Adding.{any-in, any-of}
 use Rattle.osgi_space.proofs.Agreeing.{clash-disputed}
 use Rattle.osgi_space.proofs.uses.keeps_uses.Goals as goal
+
+without : (keys : List ℕ) → length keys ≡ 0 → keys ≡ []
+without [] none = refl
+without (key ∷ keys) none = absurd (omega (arith, none))
+
+none-in : (disputed : BTreeSet ℕ) (u : ℕ) → disputed.keys ≡ [] → ¬ IsTrue (contains nat_cmp disputed u)
+none-in disputed u none there = false≢true (subst (λ keys. IsTrue (contains nat_cmp (record { keys = keys }) u)) none there)
+
+pub returns-then-is_empty : goal.returns-then-is_empty
+returns-then-is_empty c =
+    let keeps : KeepsUses c.args.rows.now c.args.revision = λ e u implied clash.
+    absurd (none-in c.args.disputed.now u (without c.args.disputed.now.keys (c.is_empty.ensures.0 c.if-is_empty.true)) (clash-disputed c.args.rows.now c.args.disputed.now c.requires.disputed clash)) in
+    record { kept = (λ t. keeps, λ k. refl) }
 
 pub returns-then-not-has_disputed : goal.returns-then-not-has_disputed
 returns-then-not-has_disputed c =
