@@ -1,9 +1,7 @@
 -- One step fewer is counted.
-use Rattle.std.proofs.Common.{sym, subst}
 use Rattle.osgi_space_cases.proofs.Undoing.{one-less}
 use Rattle.osgi_space_cases.proofs.steps.Steps.undo.Goals as goal
 
--- src/steps.rt:44:13
 pub invariant_of-self : goal.invariant_of-self
 invariant_of-self c = record {
   counted = one-less c.args.self.now.spaces c.undo.new.self c.args.self.now.count (search) (search) c.undo.ensures.undone;
