@@ -1,3 +1,4 @@
+-- Lemmas on rows and pairs, on what is found by steps, and on what rows say of wirings.
 mod Bridge
 mod Sets
 mod Members

@@ -1,3 +1,4 @@
+-- Of the rows so far, the providers of those with reexport were added.
 use Rattle.std.proofs.Common.{◌≡◌, ℕ, take, IsTrue}
 use Rattle.std.specs.Ordering.{nat_cmp}
 use Rattle.osgi_space.specs.computed.Adds.{Adds}

@@ -1,3 +1,4 @@
+-- The providers of the rows so far were added.
 use Rattle.std.proofs.Common.{◌≡◌, ℕ, take}
 use Rattle.std.specs.Ordering.{nat_cmp}
 use Rattle.osgi_space.specs.computed.Adds.{Adds}

@@ -1,3 +1,4 @@
+-- What was found is reached, and what the first ones of it reexport was found.
 use Rattle.std.specs.Ordering.{nat_cmp}
 use Rattle.osgi_space.specs.computed.Collected.{IsCollected}
 use Rattle.osgi_space.proofs.Worklist.{IsWorklist}

@@ -1,3 +1,4 @@
+-- The pairs so far were added.
 use Rattle.std.proofs.Common.{◌≡◌, take}
 use Rattle.osgi_space.specs.computed.Adds.{Adds}
 use Rattle.osgi_space.specs.computed.Collected.{IsCollected}

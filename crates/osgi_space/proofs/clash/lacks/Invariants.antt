@@ -1,3 +1,4 @@
+-- Each of the inner ones so far is among the outer ones.
 use Rattle.std.proofs.Common.{Any, Contains, take}
 use Rattle.osgi_space.specs.declared.given.Given.{Given}
 use Rattle.osgi_space.proofs.clash.lacks.Given as goal

@@ -1,3 +1,4 @@
+-- What the rows so far use was added, as the exporter sees it.
 use Rattle.std.proofs.Common.{◌≡◌, take}
 use Rattle.osgi_space.specs.computed.Adds.{Adds}
 use Rattle.osgi_space.specs.computed.Collected.{IsCollected}

@@ -1,3 +1,4 @@
+-- What the exports of the fragments so far use was added.
 use Rattle.std.proofs.Common.{take}
 use Rattle.osgi_space.specs.computed.Adds.{Adds}
 use Rattle.osgi_space.specs.computed.Collected.{IsCollected}

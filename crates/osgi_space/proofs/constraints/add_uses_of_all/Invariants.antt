@@ -1,3 +1,4 @@
+-- What the exports by the sources so far use was added, of those from which constraints may come.
 use Rattle.std.proofs.Common.{take}
 use Rattle.osgi_space.specs.computed.Adds.{Adds}
 use Rattle.osgi_space.specs.computed.Amongst.{IsAmong}

@@ -1,3 +1,4 @@
+-- What was found is implied, and what follows from the first ones of it was found.
 use Rattle.osgi_space.specs.computed.Amongst.{IsAmong}
 use Rattle.osgi_space.specs.computed.Collected.{IsCollected}
 use Rattle.osgi_space.specs.computed.Exact.{given_cmp}

@@ -1,3 +1,4 @@
+-- The owners of the exports so far were noted, and what was noted before still is.
 use Rattle.std.proofs.Common.{All, take}
 use Rattle.osgi_space.specs.computed.Disputes.{HoldsAll, IsNoted}
 use Rattle.osgi_wires.specs.declared.rows.Export.{Export}

@@ -1,3 +1,4 @@
+-- The host was noted for the exports so far, and what was noted before still is.
 use Rattle.std.proofs.Common.{All, take}
 use Rattle.osgi_space.specs.computed.Disputes.{HoldsAll, IsNoted}
 use Rattle.osgi_wires.specs.declared.rows.Export.{Export}

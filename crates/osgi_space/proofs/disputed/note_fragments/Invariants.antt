@@ -1,3 +1,4 @@
+-- The hosts were noted for all exports of the fragments so far, and what was noted before still is.
 use Rattle.std.proofs.Common.{ℕ, All, take}
 use Rattle.osgi_space.specs.computed.Disputes.{HoldsAll, IsNoted}
 use Rattle.osgi_wires.specs.Rows.{OwnExport}

@@ -1,3 +1,4 @@
+-- The providers of the wires so far were noted, and what was noted before still is.
 use Rattle.std.proofs.Common.{All, take}
 use Rattle.osgi_space.specs.computed.Disputes.{HoldsAll, IsNoted}
 use Rattle.osgi_wires.specs.declared.rows.Import.{Import}

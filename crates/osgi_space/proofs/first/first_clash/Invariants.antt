@@ -1,3 +1,4 @@
+-- It is the first of the pairs so far that clash, and has a name.
 use Rattle.std.proofs.Common.{◌<◌, length, take}
 use Rattle.std.specs.Option.{ForSome}
 use Rattle.osgi_space.specs.computed.Firsts.{IsFirstClash}

@@ -1,3 +1,4 @@
+-- None of the revisions so far has a violated constraint.
 use Rattle.std.proofs.Common.{ℕ, All, take, IsTrue}
 use Rattle.std.specs.Prelude.{None}
 use Rattle.std.specs.BTreeSet.{contains}

@@ -1,3 +1,4 @@
+-- The set has exactly the numbers so far.
 use Rattle.std.proofs.Common.{◌↔◌, ℕ, Contains, take, IsTrue}
 use Rattle.std.specs.BTreeSet.{contains}
 use Rattle.std.specs.Ordering.{nat_cmp}

@@ -1,3 +1,4 @@
+-- The set has exactly the pairs so far, by the names of their packages.
 use Rattle.std.proofs.Common.{◌≡◌, ◌↔◌, Any, take, IsTrue}
 use Rattle.std.specs.BTreeSet.{contains}
 use Rattle.osgi_space.specs.ImpliedOrder.{implied_cmp}

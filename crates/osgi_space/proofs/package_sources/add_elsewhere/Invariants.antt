@@ -1,3 +1,4 @@
+-- Of the wires so far, the providers that are not the bundle itself were added.
 use Rattle.std.proofs.Common.{◌≡◌, ◌≢◌, take}
 use Rattle.osgi_space.specs.computed.Adds.{Adds}
 use Rattle.osgi_space.specs.declared.given.Given.{Given}

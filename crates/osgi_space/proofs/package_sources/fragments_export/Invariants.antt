@@ -1,3 +1,4 @@
+-- None of the fragments so far exports the package.
 use Rattle.std.proofs.Common.{Any, take}
 use Rattle.osgi_wires.specs.Rows.{OwnExport}
 use Rattle.osgi_wires.specs.declared.rows.Attachment.{Attachment}

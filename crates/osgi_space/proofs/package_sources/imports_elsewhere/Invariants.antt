@@ -1,3 +1,4 @@
+-- Each of the wires so far goes to the revision itself.
 use Rattle.std.proofs.Common.{◌≢◌, Any, take}
 use Rattle.osgi_wires.specs.declared.rows.Import.{Import}
 use Rattle.osgi_space.proofs.package_sources.imports_elsewhere.Given as goal

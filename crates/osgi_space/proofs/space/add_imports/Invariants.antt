@@ -1,3 +1,4 @@
+-- The packages of the wires so far were added with their providers.
 use Rattle.std.proofs.Common.{◌≡◌, take}
 use Rattle.osgi_space.specs.computed.Adds.{Adds}
 use Rattle.osgi_space.specs.declared.given.Given.{Given}

@@ -1,3 +1,4 @@
+-- What the bundle gives of the packages so far was added.
 use Rattle.std.proofs.Common.{take}
 use Rattle.osgi_space.specs.computed.Adds.{Adds}
 use Rattle.osgi_space.specs.computed.Givens.{IsGivenOf}

@@ -1,3 +1,4 @@
+-- What the bundles so far give was added.
 use Rattle.std.proofs.Common.{ℕ, take}
 use Rattle.osgi_space.specs.computed.Adds.{Adds}
 use Rattle.osgi_space.specs.computed.Givens.{IsGivenBy}

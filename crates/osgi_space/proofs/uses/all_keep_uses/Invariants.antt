@@ -1,3 +1,4 @@
+-- No constraint of the wirings so far is violated.
 use Rattle.std.proofs.Common.{Any, take}
 use Rattle.osgi_space.specs.computed.Clashes.{KeepsUses}
 use Rattle.osgi_world.specs.declared.wiring.Wiring.{Wiring}

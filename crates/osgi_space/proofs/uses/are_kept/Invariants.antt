@@ -1,3 +1,4 @@
+-- None of the constraints so far is violated.
 use Rattle.std.proofs.Common.{Any, take}
 use Rattle.osgi_space.specs.computed.Clashes.{IsClash}
 use Rattle.osgi_space.proofs.uses.are_kept.Given as goal

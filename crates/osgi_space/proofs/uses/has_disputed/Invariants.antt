@@ -1,3 +1,4 @@
+-- None of the packages so far is disputed.
 use Rattle.std.proofs.Common.{Any, take, IsTrue}
 use Rattle.std.specs.BTreeSet.{contains}
 use Rattle.std.specs.Ordering.{nat_cmp}
