@@ -1,7 +1,7 @@
 -- The rules of consistency, from what each wiring keeps.
 use Rattle.std.proofs.Common.{inl, inr, List, sym, refl, subst, IsTrue}
 use Rattle.osgi_base.specs.declared.ids.RevisionId.{RevisionId}
-use Rattle.osgi_coherence.specs.Rules.{UsesHold}
+use Rattle.osgi_coherence.specs.Rules.{KeepsRules, UsesHold}
 use Rattle.osgi_coherence.specs.computed.Entries.{OneProvider, SingletonsDiffer}
 use Rattle.osgi_coherence.specs.computed.Growing.{Each}
 use Rattle.osgi_coherence.specs.computed.Holding.{IsMet, place_of, WireHolds, WiringHolds}
@@ -26,8 +26,8 @@ module _ (K : List Known) (W : List Wiring) where
         let met : IsMet K W at.wiring.revision owner = (hold at.wiring at.stands).met.fragments owner at.has in
         subst (λ x. IsMet K W x owner) at.revision met
 
-    pub coherent : OneProvider K W → SingletonsDiffer K W → UsesHold K W → IsCoherent K W
-    coherent one differ uses = record {
+    pub kept : OneProvider K W → SingletonsDiffer K W → KeepsRules K W
+    kept one differ = record {
       asked = λ r w has. (wire_holds r w has).asked;
       single = λ g stands. (hold g stands).single;
       mandatory = λ r q force has needed. is_met r q.owner force has.0 q.index has.1 needed;
@@ -38,8 +38,36 @@ module _ (K : List Known) (W : List Wiring) where
       attached = λ r f at. subst (λ x. IsTrue (is_host_of K f x)) at.revision ((hold at.wiring at.stands).matching f at.has);
       one_version = λ g stands. (hold g stands).one_version;
       singletons = differ;
-      uses = uses;
     }
+
+  pub coherent : KeepsRules K W → UsesHold K W → IsCoherent K W
+  coherent is uses = record {
+    asked = is.asked;
+    single = is.single;
+    mandatory = is.mandatory;
+    provided = is.provided;
+    offered = is.offered;
+    not_owner = is.not_owner;
+    one_provider = is.one_provider;
+    attached = is.attached;
+    one_version = is.one_version;
+    singletons = is.singletons;
+    uses = uses;
+  }
+
+  pub rules : IsCoherent K W → KeepsRules K W
+  rules is = record {
+    asked = is.asked;
+    single = is.single;
+    mandatory = is.mandatory;
+    provided = is.provided;
+    offered = is.offered;
+    not_owner = is.not_owner;
+    one_provider = is.one_provider;
+    attached = is.attached;
+    one_version = is.one_version;
+    singletons = is.singletons;
+  }
 
   force_of : (g : Wiring) → In g W → InForce W g.revision
   force_of g stands = record { wiring = g; stands = stands; revision = refl }
@@ -47,7 +75,7 @@ module _ (K : List Known) (W : List Wiring) where
   attached_of : (g : Wiring) (f : RevisionId) → In g W → In f g.fragments → Attached W g.revision f
   attached_of g f stands has = record { wiring = g; stands = stands; revision = refl; has = has }
 
-  pub each_holds : IsCoherent K W → Each (WiringHolds K W) W
+  pub each_holds : KeepsRules K W → Each (WiringHolds K W) W
   each_holds is g stands = record {
     met = record {
       own = λ n within needed. is.mandatory g.revision (place_of g.revision n) (force_of g stands) (inl refl, within) needed;

@@ -1,3 +1,3 @@
--- The rule that is asked for separately, and what is computed of the others.
+-- The rules that wirings keep, and what is computed of them.
 pub mod Rules
 pub mod computed

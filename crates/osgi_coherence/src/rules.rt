@@ -1,7 +1,7 @@
-//! Whether wirings keep the rules of consistency, if they keep that on `uses`.
+//! Whether wirings keep the rules of consistency, that on `uses` apart.
 
 ghost use Rattle.std.specs.Prelude.{◌↔◌, IfOk, IsTrue};
-ghost use Rattle.osgi_coherence.specs.Rules.{UsesHold};
+ghost use Rattle.osgi_coherence.specs.Rules.{KeepsRules, UsesHold};
 ghost use Rattle.osgi_coherence.specs.computed.Entries.{AreProviders};
 ghost use Rattle.osgi_coherence.specs.computed.Growing.{Each};
 ghost use Rattle.osgi_coherence.specs.computed.Holding.{WireHolds, WiringHolds};
@@ -20,7 +20,7 @@ use osgi_world::wiring::Wiring;
 use std::alloc::{AllocError, Global};
 use std::collections::BTreeMap;
 
-/// Whether the wirings are consistent, where they violate no `uses` clause; elsewhere the answer says nothing.
+/// Whether the wirings keep each rule of consistency but that on `uses`.
 ///
 /// Nothing is asked of the wirings: several may be of one revision, and revisions may be unknown. Each wire, each requirement
 /// of a payload and each fragment is looked at once, and what it takes is found by look-ups.
@@ -29,6 +29,7 @@ pub fn keeps_wiring_rules(
     known: &KnownIndex,
     wirings: &[Wiring],
 ) -> Result<bool, AllocError>
+    ensures rules { IfOk result (λ ok. IsTrue ok ↔ KeepsRules known.now wirings.now) }
     ensures holds { IfOk result (λ ok. IsTrue ok → UsesHold known.now wirings.now → IsCoherent known.now wirings.now) }
     ensures needed { IfOk result (λ ok. IsCoherent known.now wirings.now → IsTrue ok) }
 {
