@@ -27,7 +27,7 @@ use Rattle.osgi_space.proofs.Bridge.{implied-from, implied-to}
 pub implied_total : IsTotalOrder implied_cmp
 implied_total = then_total (on_total (λ (c : Implied). c.seen_by) (on_total (λ (r : RevisionId). r.0) nat_cmp_total)) (on_texts (λ (c : Implied). c.package))
 
-decides_text : (a b : List ℕ) → Decides (eq_by_cmp (slice_cmp nat_cmp) a b) (a ≡ b)
+pub decides_text : (a b : List ℕ) → Decides (eq_by_cmp (slice_cmp nat_cmp) a b) (a ≡ b)
 decides_text a b = (λ same. (bytes_eq-Decides a b).0 (sym (is_eq-slice_cmp a b) ∙ same), λ same. is_eq-slice_cmp a b ∙ (bytes_eq-Decides a b).1 same)
 
 both : (a b : Implied) → Decides (eq_by_cmp nat_cmp a.seen_by.0 b.seen_by.0 && eq_by_cmp (slice_cmp nat_cmp) a.package b.package) (a ≡ b)

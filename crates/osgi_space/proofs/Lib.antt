@@ -18,3 +18,4 @@ mod Agreeing
 mod Clashing
 mod Following
 mod Worklist
+mod SeenPackages

@@ -1,4 +1,5 @@
 -- Class spaces: violated uses clauses; and what the code computes.
 pub mod Violations
 pub mod ImpliedOrder
+pub mod Seen
 pub mod computed

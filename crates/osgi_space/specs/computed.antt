@@ -9,5 +9,6 @@ pub mod Amongst
 pub mod Pairs
 pub mod Givens
 pub mod Adds
+pub mod ByName
 pub mod Exact
 pub mod Collected

@@ -4,6 +4,7 @@ ghost use Rattle.std.specs.Prelude.{◌≡◌, ◌↔◌, IfOk, map};
 ghost use Rattle.std.specs.List.Sorted.{IsStrictlyIncreasing};
 ghost use Rattle.osgi_base.specs.declared.ids.RevisionId.{RevisionId};
 ghost use Rattle.osgi_space.specs.ImpliedOrder.{AreInOrder};
+ghost use Rattle.osgi_space.specs.Seen.{IsClassSpace};
 ghost use Rattle.osgi_space.specs.declared.implied_constraints.Implied.{Implied};
 ghost use Rattle.osgi_world.specs.Lists.{In};
 ghost use Rattle.osgi_world.specs.Sources as relation;
@@ -11,6 +12,7 @@ ghost use Rattle.osgi_world.specs.Sources.{Sources};
 
 use crate::implied_constraints::{Implied, implied_in};
 use crate::questions::sources_in;
+use crate::seen_packages::{PackageSources, space_in};
 use osgi_base::ids::RevisionId;
 use osgi_base::list::List;
 use osgi_base::text::Text;
@@ -61,6 +63,17 @@ impl<'w> ClassSpaces<'w> {
         ensures sources { IfOk result (λ list. (x : RevisionId) → In x list ↔ Sources self.now.known self.now.wirings revision «package».now x) }
     {
         Ok(sources_in(alloc, &self.rows, revision, package)?)
+    }
+
+    /// The packages that have a source for the revision, each once, by their bytes, with their sources, rising.
+    pub fn space(
+        &self,
+        alloc: Global,
+        revision: RevisionId,
+    ) -> Result<List<PackageSources>, AllocError>
+        ensures space { IfOk result (IsClassSpace self.now.known self.now.wirings revision) }
+    {
+        Ok(space_in(alloc, &self.rows, revision)?)
     }
 
     /// The implied constraints of the revision, each once, by rising revision that sees the package, then by the package's bytes.

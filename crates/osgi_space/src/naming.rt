@@ -28,7 +28,8 @@ fn sources(alloc: Global, givens: &[Given]) -> Result<Vec<u32>, AllocError>
     givens.iter().map(|given| given.source).collect(alloc)
 }
 
-fn as_ids(alloc: Global, numbers: &[u32]) -> Result<List<RevisionId>, AllocError>
+/// The numbers as revisions.
+pub fn as_ids(alloc: Global, numbers: &[u32]) -> Result<List<RevisionId>, AllocError>
     ensures ids { IfOk result (λ ids. ids ≡ map id numbers.now) }
 {
     let mut ids = List::with_capacity(alloc, numbers.len())?;
