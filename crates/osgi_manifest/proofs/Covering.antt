@@ -5,7 +5,7 @@ use Rattle.osgi_base.specs.Verdict.{Gives, Verdict}
 use Rattle.osgi_header.specs.declared.header.Header.{Header}
 use Rattle.osgi_world.specs.declared.manifest_fault.ManifestFault.{ManifestFault}
 use Rattle.osgi_world.specs.declared.revision.Revision.{Revision}
-use Rattle.osgi_package.specs.computed.Answers.{IsOnly}
+use Rattle.osgi_package.specs.Only.{IsOnly}
 use Rattle.osgi_manifest.specs.computed.Steps.{said_conditions}
 use Rattle.osgi_manifest.specs.Manifests.{manifest_faults}
 

@@ -8,7 +8,7 @@ use Rattle.osgi_base.specs.Verdict.{Gives, Verdict, answers, refuses}
 use Rattle.osgi_header.specs.declared.fault.HeaderFault.{HeaderFault}
 use Rattle.osgi_header.specs.declared.header.Header.{Header}
 use Rattle.osgi_header.specs.Headers.{AreHeadersOf, IsHeaderFault}
-use Rattle.osgi_package.specs.computed.Answers.{IsOnly}
+use Rattle.osgi_package.specs.Only.{IsOnly}
 use Rattle.osgi_manifest.specs.computed.Answers.{IsStep, in_header}
 use Rattle.osgi_manifest.specs.computed.Readings.{AnswersOnly, IsStopAt, SaysText, line, said}
 use Rattle.osgi_manifest.specs.declared.stop.Stop.{Stop}

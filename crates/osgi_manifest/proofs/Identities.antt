@@ -6,8 +6,9 @@ use Rattle.osgi_header.specs.declared.clause.Clause.{Clause}
 use Rattle.osgi_header.specs.declared.header.Header.{Header}
 use Rattle.osgi_world.specs.declared.requirement.Requirement.{Requirement}
 use Rattle.osgi_world.specs.declared.revision.Revision.{Revision}
-use Rattle.osgi_manifest.specs.computed.Lone.{IsLone, IsNamedAs, SaysHost}
-use Rattle.osgi_manifest.specs.declared.naming.Naming.{Naming}
+use Rattle.osgi_clause.specs.Lone.{IsLone, SaysHost}
+use Rattle.osgi_manifest.specs.computed.Lone.{IsNamedAs}
+use Rattle.osgi_clause.specs.declared.naming.Naming.{Naming}
 use Rattle.osgi_manifest.specs.Manifests.{HasHost, IsNamed}
 use Rattle.osgi_manifest.specs.Values.{AreClausesIn}
 

@@ -14,15 +14,17 @@ use Rattle.osgi_header.specs.laws.AllClauses.{all_only, all_reads}
 use Rattle.osgi_header.specs.ReadClauses.{AreReadFrom}
 use Rattle.osgi_world.specs.declared.manifest_fault.ManifestFault.{ManifestFault}
 use Rattle.osgi_world.specs.declared.manifest_fault.ManifestKind.{ManifestKind}
-use Rattle.osgi_package.specs.computed.Answers.{IsOnly}
+use Rattle.osgi_package.specs.Only.{IsOnly}
 use Rattle.osgi_package.specs.laws.Splits.{no_item}
-use Rattle.osgi_manifest.specs.ClauseFaults.{IsValueFault, clauses_of}
-use Rattle.osgi_manifest.specs.computed.Answers.{AnswersHeader, GoesOn, IsFirstFaulty, IsReadIn, IsStopOf, StopsAt, Walked, in_header, no_clauses}
-use Rattle.osgi_manifest.specs.declared.stop.ClauseFault.{ClauseFault}
+use Rattle.osgi_manifest.specs.ValueFaults.{IsValueFault}
+use Rattle.osgi_clause.specs.ClauseFaults.{clauses_of}
+use Rattle.osgi_manifest.specs.computed.Answers.{AnswersHeader, GoesOn, IsReadIn, IsStopOf, StopsAt, in_header, no_clauses}
+use Rattle.osgi_clause.specs.Walks.{IsFirstFaulty, Walked}
+use Rattle.osgi_clause.specs.declared.fault.ClauseFault.{ClauseFault}
 use Rattle.osgi_manifest.specs.declared.stop.Stop.{Stop}
 use Rattle.osgi_manifest.specs.declared.stop.Stop.TheVariants.{Fault, Memory}
 use Rattle.osgi_manifest.specs.Values.{header_value}
-use Rattle.osgi_manifest.proofs.Walks.{clause_fault, no_fault, text_fault}
+use Rattle.osgi_manifest.proofs.ValueFaults.{clause_fault, no_fault, text_fault}
 
 module _ {A : Type 0} (faults : List Clause → Clause → List (ManifestKind → Type 0)) (outside : ManifestKind) (Makes : List Clause → A → Type 0) (name : List ℕ) where
   -- the same, by the value that the header has

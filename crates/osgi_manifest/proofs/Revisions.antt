@@ -16,14 +16,15 @@ use Rattle.osgi_world.specs.declared.revision.TheConstants.{MAX_MEMBERS}
 use Rattle.osgi_version.specs.declared.version.Version.{Version}
 use Rattle.osgi_version.specs.Versions.{ReadsVersion}
 use Rattle.osgi_version.specs.VersionValues.{parts}
-use Rattle.osgi_package.specs.computed.Answers.{IsOnly}
-use Rattle.osgi_manifest.specs.computed.Answers.{CallNone, IsTheFirst}
-use Rattle.osgi_manifest.specs.computed.Lone.{IsHostIn, IsLone, SaysHost}
+use Rattle.osgi_package.specs.Only.{IsOnly}
+use Rattle.osgi_manifest.specs.computed.Answers.{CallNone}
+use Rattle.osgi_clause.specs.Walks.{IsTheFirst}
+use Rattle.osgi_manifest.specs.computed.Lone.{IsHostIn}
+use Rattle.osgi_clause.specs.Lone.{IsLone, SaysHost}
 use Rattle.osgi_manifest.specs.computed.Revisions.{IsMadeOf, Lists, capabilities_of, own_of, requirements_of}
 use Rattle.osgi_manifest.specs.computed.Steps.{AreLists, AreSaid, said_conditions}
-use Rattle.osgi_manifest.specs.declared.naming.Naming.{Naming}
-use Rattle.osgi_manifest.specs.Manifests.{AreOwn, HasCapabilities, HasHost, HasRequirements, IsRevisionOf, manifest_faults, own_version}
-use Rattle.osgi_manifest.specs.Members.{IsOwn}
+use Rattle.osgi_clause.specs.declared.naming.Naming.{Naming}
+use Rattle.osgi_manifest.specs.Manifests.{AreOwn, HasCapabilities, HasHost, HasRequirements, IsRevisionOf, manifest_faults, own_version, IsOwn}
 use Rattle.osgi_manifest.specs.Values.{header_value}
 use Rattle.osgi_manifest.proofs.Covering.{covered}
 use Rattle.osgi_manifest.proofs.Identities.{hosted_holds, named_holds, named_only}

@@ -17,14 +17,17 @@ use Rattle.osgi_world.specs.declared.manifest_fault.ManifestKind.{ManifestKind}
 use Rattle.osgi_world.specs.declared.manifest_fault.ManifestKind.TheVariants as fault
 use Rattle.osgi_world.specs.declared.requirement.Requirement.{Requirement}
 use Rattle.osgi_script.specs.Scripts.{IsScript}
-use Rattle.osgi_package.specs.computed.Answers.{IsOnly}
-use Rattle.osgi_manifest.specs.computed.Answers.{CallNone, IsMadeIn, IsTheFirst, in_header}
-use Rattle.osgi_manifest.specs.computed.Lone.{IsHostIn, IsLone, IsNamedAs, SaysHost, SaysNaming, host_conditions, name_conditions}
-use Rattle.osgi_manifest.specs.declared.naming.Naming.{Naming}
-use Rattle.osgi_manifest.specs.Manifests.{AtStart, InHeader, InValue, IsEmptyHeader, activator, class_file, file_at, has_host, host_faults, name_faults}
+use Rattle.osgi_package.specs.Only.{IsOnly}
+use Rattle.osgi_manifest.specs.computed.Answers.{CallNone, IsMadeIn, in_header}
+use Rattle.osgi_clause.specs.Walks.{IsTheFirst}
+use Rattle.osgi_manifest.specs.computed.Lone.{IsHostIn, IsNamedAs, host_conditions, name_conditions}
+use Rattle.osgi_clause.specs.Lone.{IsLone, SaysHost, SaysNaming}
+use Rattle.osgi_clause.specs.declared.naming.Naming.{Naming}
+use Rattle.osgi_manifest.specs.Manifests.{AtStart, InHeader, InValue, IsEmptyHeader, activator, class_file, file_at, has_host}
+use Rattle.osgi_clause.specs.Faults.{host_faults, name_faults}
 use Rattle.osgi_manifest.specs.Values.{AreClausesIn, header_value}
 use Rattle.osgi_manifest.specs.computed.Steps.{IsClassFault, activator_conditions}
-use Rattle.osgi_manifest.proofs.Stages.{called_only, uncalled_only}
+use Rattle.osgi_clause.specs.laws.FirstFaults.{called_only, uncalled_only}
 
 -- ---- faults of headers as a whole
 

@@ -1,34 +1,31 @@
 -- What a bundle's folder means, header by header, and its first fault in the order of the headers.
-use Rattle.std.specs.Prelude.{ℕ, ◌≡◌, ◌≢◌, ◌⊎◌, ◌<◌, ◌==◌, ◌||◌, nat_eq, not, true, if◌then◌else◌, Bool, List, [], ◌∷◌, ◌++◌, length, codes, filter, find, map, All, IsSomeAnd, Option, None, Some, is_some, unwrap_or}
-use Rattle.std.specs.List.{AllPass, join_with_byte, list_any, starts_with}
+use Rattle.std.specs.Prelude.{ℕ, ◌≡◌, ◌≢◌, ◌==◌, not, true, if◌then◌else◌, Bool, List, [], ◌∷◌, ◌++◌, codes, filter, find, map, IsSomeAnd, Option, None, Some, is_some, unwrap_or}
 use Rattle.std.specs.Str.{bytes_eq}
 use Rattle.osgi_base.specs.declared.folder.File.{File}
 use Rattle.osgi_base.specs.declared.folder.Folder.{Folder}
-use Rattle.osgi_base.specs.Verdict.{Gives, Verdict, Where, answers, refuses}
+use Rattle.osgi_base.specs.Verdict.{Gives, Verdict, answers, refuses}
 use Rattle.osgi_header.specs.Clauses.{AreClausesOf}
-use Rattle.osgi_header.specs.Headers.{AreHeadersOf, IsHeaderFault, is_header_name_byte}
+use Rattle.osgi_header.specs.Headers.{AreHeadersOf, IsHeaderFault}
 use Rattle.osgi_header.specs.declared.clause.Clause.{Clause}
 use Rattle.osgi_header.specs.declared.fault.HeaderFault.{HeaderFault}
 use Rattle.osgi_header.specs.declared.header.Header as header
-use Rattle.osgi_model.specs.Filters.{IsReadableFilter}
 use Rattle.osgi_world.specs.declared.capability.Capability.{Capability}
 use Rattle.osgi_world.specs.declared.manifest_fault.ManifestFault.{ManifestFault}
 use Rattle.osgi_world.specs.declared.manifest_fault.ManifestKind.{ManifestKind}
 use Rattle.osgi_world.specs.declared.manifest_fault.ManifestKind.TheVariants as fault
 use Rattle.osgi_world.specs.declared.requirement.Requirement.{Requirement}
 use Rattle.osgi_world.specs.declared.revision.Revision.{Revision}
-use Rattle.osgi_version.specs.Ranges.{IsReadableRange}
 use Rattle.osgi_version.specs.Versions.{IsReadableVersion, ReadsVersion}
 use Rattle.osgi_version.specs.VersionValues.{parts}
-use Rattle.osgi_package.specs.declared.fault.PackageKind.{PackageKind}
-use Rattle.osgi_package.specs.declared.fault.PackageKind.TheVariants as package_fault
-use Rattle.osgi_package.specs.Exports.{AreExports, SaysExports}
-use Rattle.osgi_package.specs.Imports.{AreImports, SaysImports}
-use Rattle.osgi_package.specs.Parameters.{HasValue, directive_value, is_directed, is_double, version_text}
+use Rattle.osgi_package.specs.Exports.{AreExports}
+use Rattle.osgi_package.specs.Imports.{AreImports}
+use Rattle.osgi_package.specs.Parameters.{is_directed}
 use Rattle.osgi_script.specs.Scripts.{IsScript}
-use Rattle.osgi_manifest.specs.ClauseFaults.{IsValueFault}
-use Rattle.osgi_manifest.specs.Members.{AreMade, IsHost, IsOwn, IsProvided, IsRequired, IsRequiredBundle}
-use Rattle.osgi_manifest.specs.Values.{AreClausesIn, Repeats, header_value, takes_part}
+use Rattle.osgi_manifest.specs.ValueFaults.{IsValueFault}
+use Rattle.osgi_clause.specs.Members.{AreMade, bundle_namespace, IsHost, IsProvided, IsRequired, IsRequiredBundle}
+use Rattle.osgi_manifest.specs.Values.{AreClausesIn, header_value}
+use Rattle.osgi_clause.specs.Directives.{takes_part}
+use Rattle.osgi_clause.specs.Faults.{bundle_faults, export_clause_faults, host_faults, import_clause_faults, name_faults, provided_faults, required_faults}
 
 -- ---- files
 
@@ -38,68 +35,6 @@ file_at path folder = find (λ (f : File). bytes_eq f.path path) folder.files
 -- the file of an activator's class `a.b.C`
 abbrev pub class_file : List ℕ → List ℕ
 class_file class = map (λ b. if b == 46 then 47 else b) class ++ codes ".osc"
-
--- ---- the faults of a clause, by its header
-
--- a symbolic name: one or more letters, digits, `_` and `-`, and more such after each `.`
-abbrev pub IsSymbolicName : List ℕ → Type 0
-IsSymbolicName name = (texts : List (List ℕ)) × (0 < length texts) × All (λ t. (0 < length t) × AllPass is_header_name_byte t) texts × (name ≡ join_with_byte 46 texts)
-
-abbrev pub IsNaming : Clause → Type 0
-IsNaming clause = (name : List ℕ) × (clause.paths ≡ name ∷ []) × IsSymbolicName name
-
--- in a header of one clause the second is at fault, unless the first has a fault of its own
-abbrev pub name_faults : List Clause → Clause → List (ManifestKind → Type 0)
-name_faults before clause = Where fault.BadName ((before ≢ []) ⊎ (Repeats clause ⊎ (¬ IsNaming clause))) ∷ []
-
-abbrev pub bad_versions : Clause → ManifestKind → Type 0
-bad_versions clause = Where fault.BadRange (¬ IsReadableRange (version_text (codes "bundle-version") clause))
-
-abbrev pub host_faults : List Clause → Clause → List (ManifestKind → Type 0)
-host_faults before clause =
-    Where fault.BadClause ((before ≢ []) ⊎ (Repeats clause ⊎ (¬ ((host : List ℕ) × (clause.paths ≡ host ∷ [])))))
-    ∷ bad_versions clause
-    ∷ Where fault.Extension (directive_value (codes "extension") clause ≢ None)
-    ∷ []
-
-abbrev pub bundle_faults : List Clause → Clause → List (ManifestKind → Type 0)
-bundle_faults before clause = Where fault.BadClause (Repeats clause) ∷ bad_versions clause ∷ []
-
--- what a manifest calls the faults of its package headers; a version or range that is none is called this
-abbrev pub kind_of : ManifestKind → PackageKind → ManifestKind
-kind_of unversioned package_fault.Duplicate = fault.DuplicateImport
-kind_of unversioned package_fault.JavaExport = fault.JavaExport
-kind_of unversioned package_fault.ImplicitAttribute = fault.ImplicitAttribute
-kind_of unversioned package_fault.BadVersion = unversioned
-kind_of unversioned package_fault.BadValue = fault.BadValue
-kind_of unversioned package_fault.DoubleType = fault.DoubleType
-
-abbrev pub import_clause_faults : List Clause → Clause → List (ManifestKind → Type 0)
-import_clause_faults before clause =
-    Where fault.BadClause (Repeats clause) ∷ (λ kind. (p : PackageKind) × SaysImports before clause (refuses p) × (kind ≡ kind_of fault.BadRange p)) ∷ []
-
-abbrev pub export_clause_faults : List Clause → Clause → List (ManifestKind → Type 0)
-export_clause_faults before clause =
-    Where fault.BadClause (Repeats clause) ∷ (λ kind. (p : PackageKind) × SaysExports before clause (refuses p) × (kind ≡ kind_of fault.BadVersion p)) ∷ []
-
--- `osgi.identity`, and every namespace that begins with `osgi.wiring.`
-abbrev pub is_reserved : List ℕ → Bool
-is_reserved namespace = bytes_eq namespace (codes "osgi.identity") || starts_with nat_eq namespace (codes "osgi.wiring.")
-
-abbrev pub required_faults : List Clause → Clause → List (ManifestKind → Type 0)
-required_faults before clause =
-    Where fault.BadClause (Repeats clause)
-    ∷ Where fault.BadFilter (IsSomeAnd (directive_value (codes "filter") clause) (λ text. ¬ IsReadableFilter text))
-    ∷ Where fault.ReservedNamespace (list_any is_reserved clause.paths ≡ true)
-    ∷ []
-
-abbrev pub provided_faults : List Clause → Clause → List (ManifestKind → Type 0)
-provided_faults before clause =
-    Where fault.BadClause (Repeats clause)
-    ∷ Where fault.DoubleType (list_any is_double clause.attributes ≡ true)
-    ∷ Where fault.BadValue (¬ All HasValue clause.attributes)
-    ∷ Where fault.ReservedNamespace (list_any is_reserved clause.paths ≡ true)
-    ∷ []
 
 -- ---- the faults of a manifest, in the order of the headers
 
@@ -170,6 +105,14 @@ pub record IsHosted (value : List ℕ) (host : Option Requirement) : Type 0 wher
 abbrev pub HasHost : Option (List ℕ) → Option Requirement → Type 0
 HasHost None host = host ≡ None
 HasHost (Some value) host = IsHosted value host
+
+-- the bundle itself
+pub record IsOwn (symbolic_name : List ℕ) (capability : Capability) : Type 0 where
+  pub namespace : capability.namespace ≡ bundle_namespace
+  pub name : capability.name ≡ symbolic_name
+  pub no_attributes : capability.attributes ≡ []
+  pub no_uses : capability.uses ≡ []
+  pub no_mandatory : capability.mandatory ≡ []
 
 -- a bundle that is no fragment offers itself
 abbrev pub AreOwn : Option Requirement → List ℕ → List Capability → Type 0

@@ -1,8 +1,6 @@
 -- What private functions and proofs cite. No public promise cites these.
 pub mod Answers
 pub mod Lone
-pub mod Packages
 pub mod Readings
 pub mod Revisions
 pub mod Steps
-pub mod Templates

@@ -1,8 +1,7 @@
 //! The activator of a bundle, and its native code, of which there may be none.
 
-ghost use Rattle.std.specs.Prelude.{◌≡◌, ◌++◌, codes, if◌then◌else◌, map, IfOk, OnOk};
+ghost use Rattle.std.specs.Prelude.{◌≡◌, if◌then◌else◌, IfOk, ◌==◌};
 ghost use Rattle.std.specs.Option.{option_copied};
-ghost use Rattle.std.specs.Prelude.{◌==◌};
 ghost use Rattle.osgi_manifest.specs.Manifests as spec;
 ghost use Rattle.osgi_manifest.specs.computed.Answers.{IsStep};
 ghost use Rattle.osgi_manifest.specs.computed.Steps.{Anything, IsActivator, IsClassFault, activator_conditions, native_conditions};

@@ -1,14 +1,15 @@
 //! The values of headers by their names, and the clauses of these.
 
-ghost use Rattle.std.specs.Prelude.{◌≡◌, [], List, None, IfOk, MatchOption, MatchResult};
+ghost use Rattle.std.specs.Prelude.{◌≡◌, List, None, IfOk};
 ghost use Rattle.std.specs.Option.{option_copied};
 ghost use Rattle.std.specs.Str.{str_eq_ignore_ascii_case};
 ghost use Rattle.osgi_manifest.specs.Values as spec;
 ghost use Rattle.osgi_manifest.specs.computed.Answers.{IsReadIn, IsStopOf};
 
-use crate::stop::{ClauseFault, Stop};
+use crate::stop::Stop;
 use osgi_base::list::List;
 use osgi_base::text::Text;
+use osgi_clause::fault::ClauseFault;
 use osgi_header::clause::ReadClauses;
 use osgi_header::fault::HeaderFault;
 use osgi_header::header::Header;

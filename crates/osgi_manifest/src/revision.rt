@@ -6,11 +6,11 @@ ghost use Rattle.osgi_world.specs.declared.revision.TheConstants.{MAX_MEMBERS};
 ghost use Rattle.osgi_manifest.specs.computed.Revisions.{IsMadeOf, capabilities_of, requirements_of};
 
 use crate::lists::{append, file_paths, offers_itself};
-use crate::naming::Naming;
 use crate::steps::{Contents, Offered, Wanted};
 use osgi_base::folder::Folder;
 use osgi_base::list::List;
 use osgi_base::text::Text;
+use osgi_clause::naming::Naming;
 use osgi_version::version::Version;
 use osgi_world::capability::Capability;
 use osgi_world::requirement::Requirement;

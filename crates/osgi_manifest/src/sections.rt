@@ -4,19 +4,14 @@ ghost use Rattle.std.specs.Prelude.{codes};
 ghost use Rattle.osgi_world.specs.declared.manifest_fault.ManifestKind.TheVariants as fault;
 ghost use Rattle.osgi_package.specs.Exports.{AreExports};
 ghost use Rattle.osgi_package.specs.Imports.{AreImports};
-ghost use Rattle.osgi_manifest.specs.Manifests.{bundle_faults, export_clause_faults, import_clause_faults, provided_faults, required_faults};
-ghost use Rattle.osgi_manifest.specs.Members.{AreMade, IsProvided, IsRequired, IsRequiredBundle};
+ghost use Rattle.osgi_clause.specs.Faults.{bundle_faults, export_clause_faults, import_clause_faults, provided_faults, required_faults};
+ghost use Rattle.osgi_clause.specs.Members.{AreMade, IsRequired, IsRequiredBundle, AreProvided};
 ghost use Rattle.osgi_manifest.specs.computed.Answers.{AnswersHeader};
-ghost use Rattle.osgi_manifest.specs.computed.Steps.{AreProvided};
 
-use crate::bundles::RequiredBundles;
-use crate::capabilities::ProvidedCapabilities;
 use crate::headers::{made_of, read_header};
-use crate::members::members;
-use crate::packages::{exported, imported};
-use crate::requirements::RequiredCapabilities;
 use crate::stop::Stop;
 use osgi_base::list::List;
+use osgi_clause::{exported, imported};
 use osgi_header::header::Header;
 use osgi_world::capability::Capability;
 use osgi_world::manifest_fault::ManifestKind;
@@ -28,7 +23,7 @@ pub fn required_bundles(alloc: Global, headers: &[Header]) -> Result<List<Requir
     ensures answer { AnswersHeader bundle_faults fault.BadClause (AreMade IsRequiredBundle) headers.now (codes "Require-Bundle") result }
 {
     let read = read_header(alloc, b"Require-Bundle", headers)?;
-    let made = members::<RequiredBundles>(alloc, read.clauses.items())?;
+    let made = osgi_clause::required_bundles(alloc, read.clauses.items())?;
     made_of(
         alloc,
         b"Require-Bundle",
@@ -73,7 +68,7 @@ pub fn required_capabilities(alloc: Global, headers: &[Header]) -> Result<List<R
     ensures answer { AnswersHeader required_faults fault.BadClause (AreMade IsRequired) headers.now (codes "Require-Capability") result }
 {
     let read = read_header(alloc, b"Require-Capability", headers)?;
-    let made = members::<RequiredCapabilities>(alloc, read.clauses.items())?;
+    let made = osgi_clause::required_capabilities(alloc, read.clauses.items())?;
     made_of(
         alloc,
         b"Require-Capability",
@@ -88,7 +83,7 @@ pub fn provided_capabilities(alloc: Global, headers: &[Header]) -> Result<List<C
     ensures answer { AnswersHeader provided_faults fault.BadClause AreProvided headers.now (codes "Provide-Capability") result }
 {
     let read = read_header(alloc, b"Provide-Capability", headers)?;
-    let made = members::<ProvidedCapabilities>(alloc, read.clauses.items())?;
+    let made = osgi_clause::provided_capabilities(alloc, read.clauses.items())?;
     made_of(
         alloc,
         b"Provide-Capability",

@@ -6,7 +6,7 @@ ghost use Rattle.osgi_manifest.specs.computed.Steps.{Anything, AreContents, AreG
 
 use crate::activator::{bundle_activator, native_code};
 use crate::host::bundle_host;
-use crate::naming::{Naming, bundle_naming};
+use crate::naming::bundle_naming;
 use crate::sections::{
     exported_packages, imported_packages, provided_capabilities, required_bundles,
     required_capabilities,
@@ -16,6 +16,7 @@ use crate::versions::{bundle_version, manifest_version};
 use osgi_base::folder::Folder;
 use osgi_base::list::List;
 use osgi_base::text::Text;
+use osgi_clause::naming::Naming;
 use osgi_header::header::Header;
 use osgi_version::version::Version;
 use osgi_world::capability::Capability;

@@ -3,15 +3,8 @@
 ghost use Rattle.std.specs.Prelude.{◌≡◌};
 ghost use Rattle.osgi_manifest.specs.declared.stop.Stop.TheVariants.{Memory};
 
-use osgi_world::manifest_fault::{ManifestFault, ManifestKind};
+use osgi_world::manifest_fault::ManifestFault;
 use std::alloc::{AllocError, AllocFailed};
-
-/// What is wrong with a header's value: the kind, and the byte at which the first faulty clause begins.
-#[derive(Clone, Copy, Debug, PartialEq, Eq)]
-pub struct ClauseFault {
-    pub kind: ManifestKind,
-    pub at: u64,
-}
 
 /// The manifest is faulty, or memory ran out.
 #[derive(Debug, Drop)]

@@ -4,7 +4,8 @@ use Rattle.std.specs.Prelude.{Result, Ok, Err, IfOk}
 use Rattle.std.proofs.lemmas.List.{length-take-le, same_from_push}
 use Rattle.osgi_base.specs.Verdict.{Verdict, answers, refuses}
 use Rattle.osgi_header.specs.declared.clause.Clause.{Clause}
-use Rattle.osgi_package.specs.computed.Answers.{IsAnswer, IsOnly, IsTheAnswer}
+use Rattle.osgi_package.specs.computed.Answers.{IsAnswer, IsTheAnswer}
+use Rattle.osgi_package.specs.Only.{IsOnly}
 use Rattle.osgi_package.specs.declared.fault.PackageFault.{PackageFault}
 use Rattle.osgi_package.specs.declared.fault.PackageKind.{PackageKind}
 use Rattle.osgi_package.specs.Faults.{AreGiven, IsFirstFault, more, none}

@@ -11,7 +11,7 @@ use Rattle.osgi_model.specs.declared.value.Attribute.{Attribute}
 use Rattle.osgi_model.specs.laws.VersionTexts.{version_read, version_sound}
 use Rattle.osgi_version.specs.declared.version.Version.{Version}
 use Rattle.osgi_version.specs.Versions.{IsReadableVersion}
-use Rattle.osgi_package.specs.computed.Answers.{IsOnly}
+use Rattle.osgi_package.specs.Only.{IsOnly}
 use Rattle.osgi_package.specs.computed.AttributeReader.{attributes_of}
 use Rattle.osgi_package.specs.computed.ExportReader.{IsOfferOf, capabilities_of, named_fault}
 use Rattle.osgi_package.specs.declared.fault.PackageKind.{PackageKind}

@@ -24,7 +24,8 @@ use Rattle.osgi_model.specs.declared.value.Attribute.{Attribute}
 use Rattle.osgi_version.specs.Ranges.{IsReadableRange}
 use Rattle.osgi_version.specs.RangeValues.{range_parts}
 use Rattle.osgi_version.specs.declared.range.VersionRange.{VersionRange}
-use Rattle.osgi_package.specs.computed.Answers.{IsOnly, IsTheAnswer}
+use Rattle.osgi_package.specs.computed.Answers.{IsTheAnswer}
+use Rattle.osgi_package.specs.Only.{IsOnly}
 use Rattle.osgi_package.specs.computed.AttributeReader.{attributes_of}
 use Rattle.osgi_package.specs.computed.ImportReader.{AreNew, AreRanges, AreSeen, IsAdded, IsTemplate, requirements_of, template_by, template_of, template_with}
 use Rattle.osgi_package.specs.declared.fault.PackageKind.{PackageKind}

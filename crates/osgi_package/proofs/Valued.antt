@@ -7,7 +7,7 @@ use Rattle.std.proofs.lemmas.Bool.{false≢true}
 use Rattle.osgi_base.specs.Verdict.{Gives, Verdict, Where, refuses}
 use Rattle.osgi_header.specs.declared.clause.Clause.{Clause}
 use Rattle.osgi_model.specs.declared.value.Attribute.{Attribute}
-use Rattle.osgi_package.specs.computed.Answers.{IsOnly}
+use Rattle.osgi_package.specs.Only.{IsOnly}
 use Rattle.osgi_package.specs.computed.AttributeReader.{attributes_of, others_of}
 use Rattle.osgi_package.specs.declared.fault.PackageKind.{PackageKind}
 use Rattle.osgi_package.specs.declared.fault.PackageKind.TheVariants.{BadValue, DoubleType}

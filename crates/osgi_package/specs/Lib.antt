@@ -3,6 +3,7 @@ pub mod computed
 pub mod Exports
 pub mod Faults
 pub mod Imports
+pub mod Only
 pub mod Packages
 pub mod laws
 pub mod Parameters

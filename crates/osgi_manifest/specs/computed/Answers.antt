@@ -1,59 +1,25 @@
 -- What the steps of reading a manifest answer: a fault, and only it; or what is read, and only that. No public promise speaks
 -- of this.
-use Rattle.std.specs.Prelude.{ℕ, ◌≡◌, ⊤, List, [], ◌∷◌, ◌++◌, None, Option, Some, Ok, Err, Result, MatchOption}
-use Rattle.osgi_base.specs.Verdict.{Gives, answers, refuses}
+use Rattle.std.specs.Prelude.{ℕ, ◌≡◌, ⊤, List, [], None, Option, Some, Ok, Err, Result, MatchOption}
+use Rattle.osgi_base.specs.Verdict.{Gives, answers}
 use Rattle.osgi_header.specs.declared.clause.Clause.{Clause}
-use Rattle.osgi_header.specs.declared.clause.ClauseAt.{ClauseAt}
 use Rattle.osgi_header.specs.declared.clause.ReadClauses.{ReadClauses}
 use Rattle.osgi_header.specs.declared.fault.HeaderFault.{HeaderFault}
 use Rattle.osgi_header.specs.declared.header.Header.{Header}
 use Rattle.osgi_header.specs.ReadClauses.{AreReadFrom}
 use Rattle.osgi_world.specs.declared.manifest_fault.ManifestFault.{ManifestFault}
 use Rattle.osgi_world.specs.declared.manifest_fault.ManifestKind.{ManifestKind}
-use Rattle.osgi_package.specs.computed.Answers.{IsOnly}
-use Rattle.osgi_manifest.specs.ClauseFaults.{AreFine, HasNone, clauses_of}
+use Rattle.osgi_package.specs.Only.{IsOnly}
 use Rattle.osgi_manifest.specs.Manifests.{InValue}
 use Rattle.osgi_manifest.specs.Values.{AreClausesIn, header_value}
-use Rattle.osgi_manifest.specs.declared.stop.ClauseFault.{ClauseFault}
+use Rattle.osgi_clause.specs.declared.fault.ClauseFault.{ClauseFault}
 use Rattle.osgi_manifest.specs.declared.stop.Stop.{Stop}
 use Rattle.osgi_manifest.specs.declared.stop.Stop.TheVariants.{Fault, Memory}
-
--- ---- conditions
-
--- the conditions call for this refusal first, and for no other
-abbrev pub IsTheFirst : {R : Type 0} → List (R → Type 0) → R → Type 0
-IsTheFirst conditions refusal = IsOnly (Gives conditions (λ (fine : Unit {0}). ⊤)) (refuses refusal)
+use Rattle.osgi_clause.specs.Walks.{IsTheFirst}
 
 -- they call for none
 abbrev pub CallNone : {R : Type 0} → List (R → Type 0) → Type 0
 CallNone conditions = Gives conditions (λ (fine : Unit {0}). ⊤) (answers tt)
-
--- ---- clauses
-
--- what a clause makes of each of its paths, or its first fault
-abbrev pub IsTemplate : {X : Type 0} → List (ManifestKind → Type 0) → (List ℕ → X → Type 0) → (X → List ℕ → X) → Result X ManifestKind → Type 0
-IsTemplate faults Makes named (Ok template) = HasNone faults × ((path : List ℕ) → IsOnly (Makes path) (named template path))
-IsTemplate faults Makes named (Err kind) = IsTheFirst faults kind
-
--- what a clause adds to the items so far, or its first fault
-abbrev pub IsAdded : {X : Type 0} → List (ManifestKind → Type 0) → (List X → Type 0) → List X → List X → Option ManifestKind → Type 0
-IsAdded faults Adds old new (Some kind) = IsTheFirst faults kind
-IsAdded {X} faults Adds old new None = HasNone faults × ((others : List X) × (new ≡ old ++ others) × IsOnly Adds others)
-
--- the first faulty one of clauses, and its first fault
-pub record IsFirstFaulty (faults : List Clause → Clause → List (ManifestKind → Type 0)) (clauses : List ClauseAt) (fault : ClauseFault) : Type 0 where
-  pub before : List ClauseAt
-  pub clause : ClauseAt
-  pub rest : List ClauseAt
-  pub is : clauses ≡ before ++ clause ∷ rest
-  pub fine : AreFine faults (clauses_of before)
-  pub first : IsTheFirst (faults (clauses_of before) clause.clause) fault.kind
-  pub at : fault.at ≡ clause.at
-
--- what clauses make, where none of them has a fault
-abbrev pub Walked : {A : Type 0} → (List Clause → Clause → List (ManifestKind → Type 0)) → (List Clause → A → Type 0) → List ClauseAt → Result A ClauseFault → Type 0
-Walked faults Makes clauses (Ok made) = AreFine faults (clauses_of clauses) × IsOnly (Makes (clauses_of clauses)) made
-Walked faults Makes clauses (Err fault) = IsFirstFaulty faults clauses fault
 
 -- ---- headers
 

@@ -6,8 +6,8 @@ use Rattle.osgi_world.specs.declared.capability.Capability.{Capability}
 use Rattle.osgi_world.specs.declared.requirement.Requirement.{Requirement}
 use Rattle.osgi_world.specs.declared.revision.Revision.{Revision}
 use Rattle.osgi_version.specs.declared.version.Version.{Version}
-use Rattle.osgi_manifest.specs.declared.naming.Naming.{Naming}
-use Rattle.osgi_manifest.specs.Members.{bundle_namespace}
+use Rattle.osgi_clause.specs.declared.naming.Naming.{Naming}
+use Rattle.osgi_clause.specs.Members.{bundle_namespace}
 
 -- the bundle itself
 abbrev pub own_of : List ℕ → Capability

@@ -1,7 +1,6 @@
 -- The conditions and the facts of each step of reading a manifest. No public promise speaks of this.
-use Rattle.std.specs.Prelude.{ℕ, ◌≡◌, ◌≢◌, ◌⊎◌, ◌++◌, ⊤, List, [], ◌∷◌, codes, filter, IsSomeAnd, Option, None, Some}
+use Rattle.std.specs.Prelude.{ℕ, ◌≡◌, ◌≢◌, ◌⊎◌, ◌++◌, ⊤, List, [], ◌∷◌, codes, IsSomeAnd, Option, None, Some}
 use Rattle.osgi_base.specs.declared.folder.Folder.{Folder}
-use Rattle.osgi_header.specs.declared.clause.Clause.{Clause}
 use Rattle.osgi_header.specs.declared.header.Header.{Header}
 use Rattle.osgi_world.specs.declared.capability.Capability.{Capability}
 use Rattle.osgi_world.specs.declared.manifest_fault.ManifestFault.{ManifestFault}
@@ -11,22 +10,20 @@ use Rattle.osgi_version.specs.declared.version.Version.{Version}
 use Rattle.osgi_version.specs.Versions.{IsReadableVersion, ReadsVersion}
 use Rattle.osgi_version.specs.VersionValues.{parts}
 use Rattle.osgi_world.specs.declared.requirement.Requirement.{Requirement}
-use Rattle.osgi_package.specs.computed.Answers.{IsOnly}
+use Rattle.osgi_package.specs.Only.{IsOnly}
 use Rattle.osgi_package.specs.Exports.{AreExports}
 use Rattle.osgi_package.specs.Imports.{AreImports}
 use Rattle.osgi_script.specs.Scripts.{IsScript}
 use Rattle.osgi_manifest.specs.computed.Answers.{IsMadeIn}
 use Rattle.osgi_manifest.specs.computed.Lone.{IsHostIn, IsNamedAs, host_conditions, name_conditions}
-use Rattle.osgi_manifest.specs.declared.naming.Naming.{Naming}
-use Rattle.osgi_manifest.specs.Manifests.{AtStart, InHeader, InValue, activator, bundle_faults, class_file, export_clause_faults, file_at, import_clause_faults, own_version, provided_faults, required_faults}
-use Rattle.osgi_manifest.specs.Members.{AreMade, IsProvided, IsRequired, IsRequiredBundle}
-use Rattle.osgi_manifest.specs.Values.{header_value, takes_part}
+use Rattle.osgi_clause.specs.declared.naming.Naming.{Naming}
+use Rattle.osgi_manifest.specs.Manifests.{AtStart, InHeader, InValue, activator, class_file, file_at, own_version}
+use Rattle.osgi_clause.specs.Faults.{bundle_faults, export_clause_faults, import_clause_faults, provided_faults, required_faults}
+use Rattle.osgi_clause.specs.Members.{AreMade, IsRequired, IsRequiredBundle, AreProvided}
+use Rattle.osgi_manifest.specs.Values.{header_value}
 
 abbrev pub Anything : Unit {0} → Type 0
 Anything read = ⊤
-
-abbrev pub AreProvided : List Clause → List Capability → Type 0
-AreProvided clauses = AreMade IsProvided (filter takes_part clauses)
 
 abbrev pub manifest_version_conditions : List Header → List (ManifestFault → Type 0)
 manifest_version_conditions headers =

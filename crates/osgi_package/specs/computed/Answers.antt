@@ -4,12 +4,8 @@ use Rattle.osgi_base.specs.Verdict.{Verdict}
 use Rattle.osgi_header.specs.declared.clause.Clause.{Clause}
 use Rattle.osgi_package.specs.declared.fault.PackageFault.{PackageFault}
 use Rattle.osgi_package.specs.declared.fault.PackageKind.{PackageKind}
+use Rattle.osgi_package.specs.Only.{IsOnly}
 use Rattle.osgi_package.specs.Faults.{AreGiven, IsFirstFault}
-
--- it holds of this, and of nothing else
-pub record IsOnly {A : Type 0} (P : A → Type 0) (answer : A) : Type 0 where
-  pub holds : P answer
-  pub only : (other : A) → P other → other ≡ answer
 
 -- what clauses give, or the first fault of them
 abbrev pub IsAnswer : {X : Type 0} → (List Clause → Clause → Verdict PackageKind (List X) → Type 0) → List Clause → Result (List X) PackageFault → Type 0

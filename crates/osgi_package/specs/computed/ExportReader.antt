@@ -6,7 +6,7 @@ use Rattle.osgi_base.specs.Verdict.{answers, refuses}
 use Rattle.osgi_header.specs.declared.clause.Clause.{Clause}
 use Rattle.osgi_world.specs.declared.capability.Capability.{Capability}
 use Rattle.osgi_model.specs.declared.value.Attribute.{Attribute}
-use Rattle.osgi_package.specs.computed.Answers.{IsOnly}
+use Rattle.osgi_package.specs.Only.{IsOnly}
 use Rattle.osgi_package.specs.declared.fault.PackageKind.{PackageKind}
 use Rattle.osgi_package.specs.declared.fault.PackageKind.TheVariants.{ImplicitAttribute, JavaExport}
 use Rattle.osgi_package.specs.Exports.{SaysExports}

@@ -13,7 +13,7 @@ use Rattle.osgi_model.specs.declared.value.Attribute.{Attribute}
 use Rattle.osgi_version.specs.declared.range.VersionRange.{VersionRange}
 use Rattle.osgi_version.specs.Ranges.{IsReadableRange, ReadsRange}
 use Rattle.osgi_version.specs.RangeValues.{range_parts}
-use Rattle.osgi_package.specs.computed.Answers.{IsOnly}
+use Rattle.osgi_package.specs.Only.{IsOnly}
 use Rattle.osgi_package.specs.computed.AttributeReader.{attributes_of}
 use Rattle.osgi_package.specs.declared.fault.PackageKind.{PackageKind}
 use Rattle.osgi_package.specs.declared.fault.PackageKind.TheVariants.{BadVersion}

@@ -2,7 +2,7 @@
 use Rattle.std.proofs.Common.{◌≡◌, List, [], ◌∷◌, ap, ◌∙◌, refl, inl, inr}
 use Rattle.osgi_base.specs.laws.Verdicts.{gives_first, gives_rest}
 use Rattle.osgi_base.specs.Verdict.{Gives, Verdict, Where, answers, refuses}
-use Rattle.osgi_package.specs.computed.Answers.{IsOnly}
+use Rattle.osgi_package.specs.Only.{IsOnly}
 
 pub first_only : {R A : Type 0} (refusal : R) (fact : Type 0) (rest : List (R → Type 0)) (answer : A → Type 0) → fact → IsOnly (Gives (Where refusal fact ∷ rest) answer) (refuses refusal)
 first_only {R} {A} refusal fact rest answer holds = record { holds = gives_first refusal fact rest answer holds; only = only }

@@ -2,9 +2,9 @@
 use Rattle.std.proofs.Common.{subst}
 use Rattle.std.specs.Prelude.{codes}
 use Rattle.osgi_world.specs.declared.manifest_fault.ManifestKind.TheVariants.{BadName}
-use Rattle.osgi_manifest.specs.computed.Answers.{Walked}
-use Rattle.osgi_manifest.specs.computed.Lone.{IsLone, SaysNaming}
-use Rattle.osgi_manifest.specs.Manifests.{name_faults}
+use Rattle.osgi_clause.specs.Walks.{Walked}
+use Rattle.osgi_clause.specs.Lone.{IsLone, SaysNaming}
+use Rattle.osgi_clause.specs.Faults.{name_faults}
 use Rattle.osgi_manifest.proofs.InHeaders.{header_answer}
 use Rattle.osgi_manifest.proofs.naming.name_header.Goals as goal
 

@@ -2,8 +2,8 @@
 use Rattle.std.proofs.Common.{subst}
 use Rattle.std.specs.Prelude.{codes}
 use Rattle.osgi_world.specs.declared.manifest_fault.ManifestKind.TheVariants.{BadClause}
-use Rattle.osgi_manifest.specs.computed.Answers.{Walked}
-use Rattle.osgi_manifest.specs.Manifests.{export_clause_faults}
+use Rattle.osgi_clause.specs.Walks.{Walked}
+use Rattle.osgi_clause.specs.Faults.{export_clause_faults}
 use Rattle.osgi_package.specs.Exports.{AreExports}
 use Rattle.osgi_manifest.proofs.InHeaders.{header_answer}
 use Rattle.osgi_manifest.proofs.sections.exported_packages.Goals as goal

@@ -2,15 +2,14 @@
 use Rattle.std.proofs.Common.{subst}
 use Rattle.std.specs.Prelude.{codes}
 use Rattle.osgi_world.specs.declared.manifest_fault.ManifestKind.TheVariants.{BadClause}
-use Rattle.osgi_manifest.specs.computed.Answers.{Walked}
-use Rattle.osgi_manifest.specs.Manifests.{required_faults}
-use Rattle.osgi_manifest.specs.Members.{AreMade, IsRequired}
-use Rattle.osgi_manifest.proofs.Made.{all_taken}
+use Rattle.osgi_clause.specs.Walks.{Walked}
+use Rattle.osgi_clause.specs.Faults.{required_faults}
+use Rattle.osgi_clause.specs.Members.{AreMade, IsRequired}
 use Rattle.osgi_manifest.proofs.InHeaders.{header_answer}
 use Rattle.osgi_manifest.proofs.sections.required_capabilities.Goals as goal
 
 pub returns : goal.returns
 returns c = record {
   answer = header_answer required_faults BadClause (AreMade IsRequired) (codes "Require-Capability") c.args.headers.now c.in_ok-read.read c.in_ok-made.made c.made_of.result c.in_ok-read.ensures.read
-      (subst (λ l. Walked required_faults (AreMade IsRequired) l c.in_ok-made.made) c.items.ensures.items (all_taken required_faults IsRequired c.items.result.now c.in_ok-made.made c.in_ok-made.ensures.walked)) c.made_of.ensures.made;
+      (subst (λ l. Walked required_faults (AreMade IsRequired) l c.in_ok-made.made) c.items.ensures.items c.in_ok-made.ensures.walked) c.made_of.ensures.made;
 }

@@ -1,6 +1,6 @@
 -- The first fault is that of the first header that has one.
 use Rattle.std.proofs.Common.{◌++◌}
-use Rattle.osgi_package.specs.computed.Answers.{IsOnly}
+use Rattle.osgi_package.specs.Only.{IsOnly}
 use Rattle.osgi_manifest.specs.computed.Lone.{IsNamedAs, name_conditions}
 use Rattle.osgi_manifest.specs.computed.Steps.{Anything, IsIdentity, IsVersion, identity_conditions, manifest_version_conditions, version_conditions}
 use Rattle.osgi_manifest.proofs.Stages.{handed_on, step_fails, then_fails}

@@ -3,7 +3,8 @@ use Rattle.std.proofs.Common.{[], ◌∷◌, inr}
 use Rattle.std.specs.Prelude.{codes}
 use Rattle.osgi_world.specs.declared.manifest_fault.ManifestKind.TheVariants.{BadClause}
 use Rattle.osgi_manifest.specs.computed.Steps.{AreGeneric, AreOffered, generic_conditions, offered_conditions}
-use Rattle.osgi_manifest.specs.Manifests.{InValue, export_clause_faults}
+use Rattle.osgi_manifest.specs.Manifests.{InValue}
+use Rattle.osgi_clause.specs.Faults.{export_clause_faults}
 use Rattle.osgi_manifest.proofs.Stages.{handed_on, then_fails}
 use Rattle.osgi_manifest.proofs.steps.offered.Goals as goal
 

@@ -1,7 +1,0 @@
--- The clauses so far go on with those that are left.
-use Rattle.std.proofs.Common.{◌≡◌, ◌++◌, drop}
-use Rattle.osgi_manifest.specs.ClauseFaults.{clauses_of}
-use Rattle.osgi_manifest.proofs.packages.without_places.Given as goal
-
-abbrev pub invariant-loop-item : goal.invariant-loop-item
-invariant-loop-item l = l.all ++ clauses_of (drop l.item-index l.clauses) ≡ clauses_of l.clauses
