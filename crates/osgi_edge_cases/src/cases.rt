@@ -1,17 +1,43 @@
 //! Cases by their first word.
 
-use crate::{copies, module_copies, shelves, sinks, sources};
+use crate::{shelves, sinks, sources};
+use osgi_escapes::answers::{put, put_shown, split_word};
 use std::alloc::{AllocError, Global};
 
-/// The first word of a line, and what stands after the space that follows it.
-pub fn split_word(line: &str) -> (&str, &str) {
-    line.split_once(" ").unwrap_or((line, ""))
+/// The number that a word writes, 0 where it writes none.
+pub fn number(word: &str) -> u64 {
+    word.parse::<u64>().unwrap_or(0)
 }
 
-/// The number that a line begins with, 0 where it is none, and what stands after the space that follows it.
+/// The number that a line begins with, and what stands after the space that follows it.
 pub fn split_number(line: &str) -> (u64, &str) {
     let (word, rest) = split_word(line);
-    (word.parse::<u64>().unwrap_or(0), rest)
+    (number(word), rest)
+}
+
+/// The two numbers that a line begins with, and what stands after them.
+pub fn split_numbers(line: &str) -> (u64, u64, &str) {
+    let (first, rest) = split_number(line);
+    let (second, rest) = split_number(rest);
+    (first, second, rest)
+}
+
+/// A text of bytes that are letters.
+pub fn letters(bytes: &[u8]) -> &str {
+    str::from_utf8(bytes).unwrap_or("?")
+}
+
+/// Adds letters between quotation marks.
+pub fn put_letters(out: &mut String, bytes: &[u8]) -> Result<(), AllocError> {
+    put(out, "\"")?;
+    put(out, letters(bytes))?;
+    put(out, "\"")
+}
+
+/// Adds the number of faults.
+pub fn put_faults(out: &mut String, faults: u64) -> Result<(), AllocError> {
+    put(out, "faults ")?;
+    put_shown(out, &faults)
 }
 
 /// Adds the answer to a line that is a case.
@@ -35,13 +61,7 @@ pub fn add_answer(alloc: Global, out: &mut String, line: &str) -> Result<(), All
         shelves::read_each(alloc, out, rest)
     } else if name == "folder" {
         shelves::read_folder(alloc, out, rest)
-    } else if name == "order" {
-        copies::order(alloc, out, rest)
-    } else if name == "copies" {
-        copies::copies(alloc, out)
-    } else if name == "module-copies" {
-        module_copies::module_copies(alloc, out)
     } else {
-        out.push_str("not a case")
+        put(out, "not a case")
     }
 }

@@ -1,12 +1,12 @@
 //! The shelf over the file system, read at locations below the folder in which the program runs.
 
-use crate::sinks::letters;
+use crate::cases::{letters, put_faults};
+use crate::shelves::put_too_large;
 use osgi_base::folder::File;
-use osgi_base::text::Text;
+use osgi_escapes::answers::{put, put_debug, put_shown, text_of};
 use osgi_outside::dir_shelf::DirShelf;
 use osgi_outside::shelf::{Found, Shelf};
 use std::alloc::{AllocError, Global};
-use std::fmt::Write;
 use std::rt::Files;
 
 /// The most bytes that are shown of a file.
@@ -14,17 +14,22 @@ const SHOWN: usize = 12;
 
 /// Adds a file's path and length, and the bytes of a short one.
 fn add_file(out: &mut String, file: &File) -> Result<(), AllocError> {
-    let (path, bytes) = (letters(file.path.bytes()), file.bytes.bytes());
-    let count = bytes.len();
-    if count > SHOWN {
-        return write!(out, "{path} ({count} bytes), ");
+    let bytes = file.bytes.bytes();
+    put(out, letters(file.path.bytes()))?;
+    put(out, " (")?;
+    put_shown(out, &bytes.len())?;
+    put(out, " bytes")?;
+    if bytes.len() <= SHOWN {
+        put(out, ": ")?;
+        put_debug(out, &letters(bytes))?;
     }
-    write!(out, "{path} ({count} bytes: {:?}), ", letters(bytes))
+    put(out, "), ")
 }
 
 /// Adds the number of files and each of them.
 fn add_files(out: &mut String, files: &[File]) -> Result<(), AllocError> {
-    write!(out, "{} files, ", files.len())?;
+    put_shown(out, &files.len())?;
+    put(out, " files, ")?;
     for file in files {
         add_file(out, file)?;
     }
@@ -35,11 +40,9 @@ fn add_files(out: &mut String, files: &[File]) -> Result<(), AllocError> {
 fn add_found(out: &mut String, found: &Found) -> Result<(), AllocError> {
     match found {
         Found::Folder(folder) => add_files(out, folder.files.items()),
-        Found::NoFolder => out.push_str("no folder, "),
-        Found::TooLarge { bytes, files } => {
-            write!(out, "too large: {files} files, {bytes} bytes, ")
-        }
-        Found::Failed => out.push_str("failed, "),
+        Found::NoFolder => put(out, "no folder, "),
+        Found::TooLarge { bytes, files } => put_too_large(out, *bytes, *files),
+        Found::Failed => put(out, "failed, "),
     }
 }
 
@@ -50,7 +53,7 @@ fn add_read<S: Shelf>(
     shelf: &mut S,
     location: &str,
 ) -> Result<(), AllocError> {
-    let location = Text::of(alloc, location.as_bytes())?;
+    let location = text_of(alloc, location)?;
     add_found(out, &shelf.read(alloc, &location)?)
 }
 
@@ -64,7 +67,7 @@ fn add_reads<S: Shelf>(
     for location in locations.split("|") {
         add_read(alloc, out, shelf, location)?;
     }
-    write!(out, "faults {}", shelf.count())
+    put_faults(out, shelf.count())
 }
 
 /// The reads of one shelf at each of the locations, between which a `|` stands.

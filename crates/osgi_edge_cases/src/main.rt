@@ -1,4 +1,4 @@
-//! Tries the ends of the program, shelves and the shared data on each line of standard input, and prints what came of it.
+//! Tries the ends of the program and shelves on each line of standard input, and prints what came of it.
 //!
 //! A line is a case, and is printed again with its answer: `CASE => ANSWER`. An empty line, or one that begins with `#`, is
 //! printed as it is.
@@ -13,9 +13,6 @@
 //! | `shelf BAD LOCATION..` | reads of a shelf with folders at `e`, `f` and again `f`, of which one read fails |
 //! | `folder BYTES FILES` | a read of a folder of so many files with so many bytes |
 //! | `dir LOCATION\|LOCATION..` | reads of a shelf over the file system: a folder's files with their lengths, and the bytes of short ones |
-//! | `order TEXT TEXT` | how two texts compare |
-//! | `copies` | whether values of each shared type equal their copies |
-//! | `module-copies` | whether values of each type of the module layer equal their copies |
 //! | `gate` | a gate that holds nobody |
 //!
 //! Calls are counted from 1, and 0 is none of them. A step of a sink is `=TEXT`, one write; `+TEXT`, a text written whole; `.`, a
@@ -24,14 +21,11 @@
 #![tactic(auto)]
 
 mod cases;
-mod copies;
 mod folders;
 mod frail;
-mod module_copies;
 mod shelves;
 mod sinks;
 mod sources;
-mod tree;
 
 use osgi_outside::gate::{Gate, OpenGate, Point};
 use std::io;

@@ -1,20 +1,19 @@
 //! A shelf in memory: what it finds, what is too large, and what fails.
 
-use crate::cases::split_number;
+use crate::cases::{put_faults, split_number, split_numbers};
 use osgi_base::folder::{File, Folder};
 use osgi_base::list::List;
 use osgi_base::text::Text;
+use osgi_escapes::answers::{put, put_shown, text_of};
 use osgi_outside::memory_shelf::MemoryShelf;
 use osgi_outside::shelf::{Found, Shelf};
 use std::alloc::{AllocError, Global};
-use std::fmt::Write;
 
 /// A file of so many bytes.
 fn file(alloc: Global, count: u64) -> Result<File, AllocError> {
-    Ok(File {
-        path: Text::of(alloc, b"data")?,
-        bytes: Text::from_vec(alloc, vec![in alloc; b'x'; count as usize]?)?,
-    })
+    let path = text_of(alloc, "data")?;
+    let bytes = Text::from_vec(alloc, vec![in alloc; b'x'; count as usize]?)?;
+    Ok(File { path, bytes })
 }
 
 /// A folder of so many files, of which the first has so many bytes and the others none.
@@ -26,35 +25,65 @@ fn folder(alloc: Global, bytes: u64, files: u64) -> Result<Folder, AllocError> {
     Ok(Folder { files: all })
 }
 
+/// A location, and a folder of so many files with so many bytes.
+fn row(
+    alloc: Global,
+    location: &str,
+    bytes: u64,
+    files: u64,
+) -> Result<(Text, Folder), AllocError> {
+    let location = text_of(alloc, location)?;
+    Ok((location, folder(alloc, bytes, files)?))
+}
+
 /// Folders of one file at `e`, `f` and again `f`, of 1, 2 and 3 bytes.
 fn rows(alloc: Global) -> Result<Vec<(Text, Folder)>, AllocError> {
     let mut rows = Vec::new(alloc);
-    for (location, bytes) in [(b"e", 1), (b"f", 2), (b"f", 3)] {
-        rows.push((Text::of(alloc, location)?, folder(alloc, bytes, 1)?))?;
+    for (location, bytes) in [("e", 1), ("f", 2), ("f", 3)] {
+        rows.push(row(alloc, location, bytes, 1)?)?;
     }
     Ok(rows)
+}
+
+/// Adds the numbers of a folder that is too large.
+pub fn put_too_large(out: &mut String, bytes: u64, files: u32) -> Result<(), AllocError> {
+    put(out, "too large: ")?;
+    put_shown(out, &files)?;
+    put(out, " files, ")?;
+    put_shown(out, &bytes)?;
+    put(out, " bytes, ")
 }
 
 /// Adds what stands at a location: of a folder its files, and the bytes of the first.
 fn add_found(out: &mut String, found: &Found) -> Result<(), AllocError> {
     match found {
         Found::Folder(folder) => add_files(out, folder.files.items()),
-        Found::NoFolder => out.push_str("no folder, "),
-        Found::TooLarge { bytes, files } => {
-            write!(out, "too large: {files} files, {bytes} bytes, ")
-        }
-        Found::Failed => out.push_str("failed, "),
+        Found::NoFolder => put(out, "no folder, "),
+        Found::TooLarge { bytes, files } => put_too_large(out, *bytes, *files),
+        Found::Failed => put(out, "failed, "),
     }
 }
 
 fn add_files(out: &mut String, files: &[File]) -> Result<(), AllocError> {
     match files {
-        [] => out.push_str("no file, "),
+        [] => put(out, "no file, "),
         [first, ..] => {
-            let (count, bytes) = (files.len(), first.bytes.bytes().len());
-            write!(out, "{count} files, {bytes} bytes in the first, ")
+            put_shown(out, &files.len())?;
+            put(out, " files, ")?;
+            put_shown(out, &first.bytes.bytes().len())?;
+            put(out, " bytes in the first, ")
         }
     }
+}
+
+fn add_read(
+    alloc: Global,
+    out: &mut String,
+    shelf: &mut MemoryShelf,
+    location: &str,
+) -> Result<(), AllocError> {
+    let location = text_of(alloc, location)?;
+    add_found(out, &shelf.read(alloc, &location)?)
 }
 
 /// Adds what is found at each location, and the faults.
@@ -65,10 +94,9 @@ fn add_reads(
     locations: &str,
 ) -> Result<(), AllocError> {
     for location in locations.split_whitespace() {
-        let location = Text::of(alloc, location.as_bytes())?;
-        add_found(out, &shelf.read(alloc, &location)?)?;
+        add_read(alloc, out, shelf, location)?;
     }
-    write!(out, "faults {}", shelf.count())
+    put_faults(out, shelf.count())
 }
 
 /// The reads of a shelf of three folders.
@@ -81,9 +109,8 @@ pub fn read_each(alloc: Global, out: &mut String, line: &str) -> Result<(), Allo
 
 /// The read of a folder of a size.
 pub fn read_folder(alloc: Global, out: &mut String, line: &str) -> Result<(), AllocError> {
-    let (bytes, rest) = split_number(line);
-    let (files, _) = split_number(rest);
-    let row = (Text::of(alloc, b"f")?, folder(alloc, bytes, files)?);
+    let (bytes, files, _) = split_numbers(line);
+    let row = row(alloc, "f", bytes, files)?;
     let mut shelf = MemoryShelf::new(vec![in alloc; row]?, Vec::new(alloc));
     add_reads(alloc, out, &mut shelf, "f")
 }

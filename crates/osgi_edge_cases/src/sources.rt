@@ -1,34 +1,45 @@
 //! Sources over std and in memory, tried step by step.
 
-use crate::cases::{split_number, split_word};
+use crate::cases::{number, put_faults, put_letters, split_number, split_numbers};
 use crate::frail::reader;
-use crate::sinks::letters;
+use osgi_escapes::answers::{put, put_shown, split_word};
 use osgi_outside::memory_source::MemorySource;
 use osgi_outside::reading::{Input, read_all};
 use osgi_outside::source::{Failed, Source};
 use osgi_outside::std_ends::StdSource;
 use std::alloc::{AllocError, Global};
-use std::fmt::Write;
 
 /// The bytes that one read can give here.
 const PIECE: usize = 4;
+
+/// Adds how many bytes a read gave, and those into which it read.
+fn add_given(out: &mut String, given: usize, piece: &[u8]) -> Result<(), AllocError> {
+    put_shown(out, &given)?;
+    put(out, " ")?;
+    put_letters(out, piece)?;
+    put(out, ", ")
+}
 
 /// Reads into so many bytes, and adds them all: what the read leaves alone is dots.
 fn add_read<S: Source>(out: &mut String, source: &mut S, count: usize) -> Result<(), AllocError> {
     let mut piece = [b'.'; PIECE];
     let asked = count.min(PIECE);
     match source.read(&mut piece[..asked]) {
-        Ok(given) => write!(out, "{given} \"{}\", ", letters(&piece[..asked])),
-        Err(Failed) => out.push_str("failed, "),
+        Ok(given) => add_given(out, given, &piece[..asked]),
+        Err(Failed) => put(out, "failed, "),
     }
 }
 
 /// Adds what was read to the end.
 fn add_input(out: &mut String, input: &Input) -> Result<(), AllocError> {
     match input {
-        Input::All(text) => write!(out, "all \"{}\", ", letters(text.bytes())),
-        Input::TooMuch => out.push_str("too much, "),
-        Input::Failed => out.push_str("failed, "),
+        Input::All(text) => {
+            put(out, "all ")?;
+            put_letters(out, text.bytes())?;
+            put(out, ", ")
+        }
+        Input::TooMuch => put(out, "too much, "),
+        Input::Failed => put(out, "failed, "),
     }
 }
 
@@ -40,13 +51,10 @@ fn add_step<S: Source>(
     step: &str,
 ) -> Result<(), AllocError> {
     match step.strip_prefix("+") {
-        Some(limit) => {
-            let limit = limit.parse::<usize>().unwrap_or(0);
-            add_input(out, &read_all(alloc, source, limit)?)
-        }
+        Some(limit) => add_input(out, &read_all(alloc, source, number(limit) as usize)?),
         None => {
             let count = step.strip_prefix("=").unwrap_or(step);
-            add_read(out, source, count.parse::<usize>().unwrap_or(0))
+            add_read(out, source, number(count) as usize)
         }
     }
 }
@@ -66,11 +74,10 @@ fn add_steps<S: Source>(
 /// A source over a reader of which reads fail.
 pub fn std_source(alloc: Global, out: &mut String, line: &str) -> Result<(), AllocError> {
     let (last, rest) = split_number(line);
-    let (bad, rest) = split_number(rest);
-    let (other, steps) = split_number(rest);
+    let (bad, other, steps) = split_numbers(rest);
     let mut source = StdSource::new(reader((last % 20) as u8, (bad, other)));
     add_steps(alloc, out, &mut source, steps)?;
-    write!(out, "faults {}", source.faults())
+    put_faults(out, source.faults())
 }
 
 /// A source over a slice.
@@ -78,7 +85,7 @@ pub fn slice_source(alloc: Global, out: &mut String, line: &str) -> Result<(), A
     let (text, steps) = split_word(line);
     let mut source = StdSource::new(text.as_bytes());
     add_steps(alloc, out, &mut source, steps)?;
-    write!(out, "faults {}", source.faults())
+    put_faults(out, source.faults())
 }
 
 /// A source in memory of which one read fails.
@@ -88,7 +95,7 @@ pub fn memory_source(alloc: Global, out: &mut String, line: &str) -> Result<(), 
     let bytes = text.as_bytes().to_vec(alloc)?;
     let mut source = MemorySource::new(bytes, vec![in alloc; bad]?);
     add_steps(alloc, out, &mut source, steps)?;
-    write!(out, "faults {}", source.faults())
+    put_faults(out, source.faults())
 }
 
 /// Many bytes, and a last one that is another.
@@ -110,10 +117,9 @@ fn compared(input: &Input, bytes: &[u8]) -> &'static str {
 
 /// A source of many bytes, read to its end.
 pub fn long_source(alloc: Global, out: &mut String, line: &str) -> Result<(), AllocError> {
-    let (count, rest) = split_number(line);
-    let (limit, _) = split_number(rest);
+    let (count, limit, _) = split_numbers(line);
     let bytes = long_text(alloc, count)?;
     let mut source = StdSource::new(bytes.as_slice());
     let input = read_all(alloc, &mut source, limit as usize)?;
-    out.push_str(compared(&input, bytes.as_slice()))
+    put(out, compared(&input, bytes.as_slice()))
 }

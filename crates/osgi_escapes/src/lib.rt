@@ -1,6 +1,8 @@
 //! Bytes as the rows of the case programs write them: `\n`, `\r`, `\t`, `\\`, and `\xHH` for any other byte that is not
-//! printable ASCII.
+//! printable ASCII; and the parts of their answers.
 #![tactic(auto)]
+
+pub mod answers;
 
 ghost use Rattle.std.specs.Prelude.{◌<◌, IfSome, length};
 

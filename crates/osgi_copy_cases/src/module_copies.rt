@@ -1,9 +1,10 @@
 //! Values of the module layer beside their copies.
 
-use crate::copies::add;
+use crate::copies::{add, one, put_named};
 use osgi_base::ids::RevisionId;
 use osgi_base::list::List;
 use osgi_base::text::Text;
+use osgi_escapes::answers::{put, put_shown, text_of};
 use osgi_version::range::VersionRange;
 use osgi_world::capability::Capability;
 use osgi_world::manifest_fault::{ManifestFault, ManifestKind};
@@ -14,22 +15,17 @@ use osgi_world::system::{known_system, system_revision};
 use osgi_world::wiring::{CapRef, ReqRef, Wire, Wiring};
 use osgi_world::world::World;
 use std::alloc::{AllocError, Global};
-use std::fmt::Write;
-
-fn one<T: Drop>(alloc: Global, item: T) -> Result<List<T>, AllocError> {
-    let mut list = List::with_capacity(alloc, 1)?;
-    list.push(item)?;
-    Ok(list)
-}
 
 fn text(alloc: Global) -> Result<Text, AllocError> {
-    Text::of(alloc, b"org.osgi.service.log")
+    text_of(alloc, "org.osgi.service.log")
 }
 
 fn capability(alloc: Global) -> Result<Capability, AllocError> {
+    let namespace = text(alloc)?;
+    let name = text(alloc)?;
     Ok(Capability {
-        namespace: text(alloc)?,
-        name: text(alloc)?,
+        namespace,
+        name,
         attributes: List::from(Vec::new(alloc)),
         uses: List::from(Vec::new(alloc)),
         mandatory: List::from(Vec::new(alloc)),
@@ -37,9 +33,11 @@ fn capability(alloc: Global) -> Result<Capability, AllocError> {
 }
 
 fn requirement(alloc: Global) -> Result<Requirement, AllocError> {
+    let namespace = text(alloc)?;
+    let name = text(alloc)?;
     Ok(Requirement {
-        namespace: text(alloc)?,
-        name: text(alloc)?,
+        namespace,
+        name,
         range: VersionRange::at_least_zero(),
         from_name: None,
         from_range: VersionRange::at_least_zero(),
@@ -53,9 +51,10 @@ fn requirement(alloc: Global) -> Result<Requirement, AllocError> {
 }
 
 fn policy(alloc: Global) -> Result<Policy, AllocError> {
+    let exclude = one(alloc, text(alloc))?;
     Ok(Policy {
         include: None,
-        exclude: one(alloc, text(alloc)?)?,
+        exclude,
     })
 }
 
@@ -76,38 +75,43 @@ const WIRE: Wire = Wire {
 };
 
 fn wiring(alloc: Global) -> Result<Wiring, AllocError> {
+    let wires = one(alloc, Ok(WIRE))?;
+    let fragments = one(alloc, Ok(RevisionId(7)))?;
     Ok(Wiring {
         revision: RevisionId(6),
-        wires: one(alloc, WIRE)?,
-        fragments: one(alloc, RevisionId(7))?,
+        wires,
+        fragments,
     })
 }
 
 fn world(alloc: Global) -> Result<World, AllocError> {
-    Ok(World {
-        known: one(alloc, known_system(alloc)?)?,
-        wirings: one(alloc, wiring(alloc)?)?,
-    })
+    let known = one(alloc, known_system(alloc))?;
+    let wirings = one(alloc, wiring(alloc))?;
+    Ok(World { known, wirings })
 }
 
 fn choice(alloc: Global) -> Result<Choice, AllocError> {
+    let candidates = one(alloc, Ok(CAPABILITY))?;
     Ok(Choice {
         requirement: REQUIREMENT,
-        candidates: one(alloc, CAPABILITY)?,
+        candidates,
     })
 }
 
 fn problem(alloc: Global) -> Result<Problem, AllocError> {
+    let world = world(alloc)?;
+    let choices = one(alloc, choice(alloc))?;
     Ok(Problem {
-        world: world(alloc)?,
+        world,
         root: RevisionId(8),
-        choices: one(alloc, choice(alloc)?)?,
+        choices,
     })
 }
 
 fn fault(alloc: Global) -> Result<ManifestFault, AllocError> {
+    let header = text(alloc)?;
     Ok(ManifestFault {
-        header: text(alloc)?,
+        header,
         kind: ManifestKind::BadRange,
         at: 9,
     })
@@ -122,10 +126,11 @@ fn is_moved_another(alloc: Global) -> Result<bool, AllocError> {
 
 /// Adds whether the copies of a wire and of what it joins equal them.
 fn add_wire(alloc: Global, out: &mut String) -> Result<(), AllocError> {
-    let requirement = REQUIREMENT.copy(alloc)? == REQUIREMENT;
-    let capability = CAPABILITY.copy(alloc)? == CAPABILITY;
-    let wire = WIRE.copy(alloc)? == WIRE;
-    write!(out, "wire {wire} from {requirement} to {capability}, ")
+    put(out, "wire ")?;
+    put_shown(out, &(WIRE.copy(alloc)? == WIRE))?;
+    put(out, " from ")?;
+    put_shown(out, &(REQUIREMENT.copy(alloc)? == REQUIREMENT))?;
+    put_named(out, " to", CAPABILITY.copy(alloc)? == CAPABILITY)
 }
 
 /// Whether a value of each type equals its copy.
@@ -141,6 +146,6 @@ pub fn module_copies(alloc: Global, out: &mut String) -> Result<(), AllocError> 
     add(alloc, out, "choice", choice(alloc))?;
     add(alloc, out, "problem", problem(alloc))?;
     add(alloc, out, "fault", fault(alloc))?;
-    let moved = is_moved_another(alloc)?;
-    write!(out, "another index differs {moved}")
+    put(out, "another index differs ")?;
+    put_shown(out, &is_moved_another(alloc)?)
 }

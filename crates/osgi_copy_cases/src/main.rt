@@ -1,0 +1,48 @@
+//! Copies values of the shared data and of the module layer, on each line of standard input, and prints what came of it.
+//!
+//! A line is a case, and is printed again with its answer: `CASE => ANSWER`. An empty line, or one that begins with `#`, is
+//! printed as it is.
+//!
+//! | Case | What is tried |
+//! |---|---|
+//! | `order TEXT TEXT` | how two texts compare |
+//! | `copies` | whether values of each shared type equal their copies |
+//! | `module-copies` | whether values of each type of the module layer equal their copies |
+#![tactic(auto)]
+
+mod copies;
+mod module_copies;
+mod tree;
+
+use osgi_escapes::answers::{put, split_word};
+use std::alloc::{AllocError, Global};
+use std::io;
+
+/// Adds the answer to a line that is a case.
+fn add_answer(alloc: Global, out: &mut String, line: &str) -> Result<(), AllocError> {
+    let (name, rest) = split_word(line);
+    if name == "order" {
+        copies::order(alloc, out, rest)
+    } else if name == "copies" {
+        copies::copies(alloc, out)
+    } else if name == "module-copies" {
+        module_copies::module_copies(alloc, out)
+    } else {
+        put(out, "not a case")
+    }
+}
+
+fn main(rt: HostRuntime) -> io::Result<()> {
+    for line in rt.lines(rt.alloc()) {
+        let line = line?;
+        let case = line.as_str();
+        if case.is_empty() || case.starts_with('#') {
+            println!(rt; "{case}")?;
+        } else {
+            let mut answer = String::new(rt.alloc());
+            add_answer(rt.alloc(), &mut answer, case)?;
+            println!(rt; "{case} => {answer}")?;
+        }
+    }
+    Ok(())
+}
