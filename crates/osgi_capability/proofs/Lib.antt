@@ -1,2 +1,2 @@
 -- Lemmas.
-mod Meaning
+pub mod Meaning

@@ -15,7 +15,7 @@ use osgi_world::capability::Capability;
 use osgi_world::requirement::Requirement;
 
 /// The value of the first attribute of this name.
-fn value_named<'a>(attributes: &'a [Attribute], name: &[u8]) -> Option<&'a Value>
+pub fn value_named<'a>(attributes: &'a [Attribute], name: &[u8]) -> Option<&'a Value>
     ensures value { option_copied result ≡ attribute_value bytes_eq name.now attributes.now }
 {
     for attribute in attributes {

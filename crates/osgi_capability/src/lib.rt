@@ -4,4 +4,5 @@
 mod imports;
 mod satisfying;
 
+pub use imports::value_named;
 pub use satisfying::satisfies;

@@ -81,7 +81,7 @@ both-hosts (Some f) (Some h) t = let p = host-go f.host h t in (p.0, λ s. none-
 
 -- ---- versions
 
-order_total : IsTotalOrder order
+pub order_total : IsTotalOrder order
 order_total =
     then_total (on_total (λ (v : Parts). v.major) nat_cmp_total)
     (then_total (on_total (λ (v : Parts). v.minor) nat_cmp_total)
@@ -97,7 +97,7 @@ order-once a b t u = not-both_greater (order a b) t (subst (λ r. IsTrue (is_gt 
 
 -- ---- what is known of an id
 
-option-cases : {X : Type 0} (o : Option X) → ((x : X) × (o ≡ Some x)) ⊎ (o ≡ None)
+pub option-cases : {X : Type 0} (o : Option X) → ((x : X) × (o ≡ Some x)) ⊎ (o ≡ None)
 option-cases None = inr refl
 option-cases (Some x) = inl (x, refl)
 

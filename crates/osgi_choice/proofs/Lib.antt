@@ -24,6 +24,8 @@ pub mod Steps
 pub mod Drop
 pub mod Queue
 pub mod Preferred
+pub mod Once
+pub mod Ordered
 pub mod Depth
 pub mod Closure
 pub mod Decide

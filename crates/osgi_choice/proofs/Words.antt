@@ -48,7 +48,7 @@ answer-go : (P : Problem) (D : Made) (v : ℕ) → State P D → (o : Option Dec
 answer-go P D v s None e h = s
 answer-go P D v s (Some d) e h = step s e h
 
-answer-state : (P : Problem) (D : Made) (v : ℕ) → State P D → v < width P D → State P (decide P D v)
+pub answer-state : (P : Problem) (D : Made) (v : ℕ) → State P D → v < width P D → State P (decide P D v)
 answer-state P D v s h = answer-go P D v s (next_decision P D) refl h
 
 after-state : (P : Problem) (D : Made) (w : List ℕ) → State P D → FitsFrom P D w → State P (made_after P D w)

@@ -1,9 +1,11 @@
 -- What the resolver's proof needs of words.
 use Rattle.std.specs.Prelude.{◌≡◌, ℕ, ◌↔◌, List, ◌++◌}
+use Rattle.osgi_base.specs.declared.ids.BundleId.{BundleId}
 use Rattle.osgi_base.specs.declared.ids.RevisionId.{RevisionId}
 use Rattle.osgi_world.specs.Consistency.{Extends}
 use Rattle.osgi_world.specs.DueDecisions.{members}
-use Rattle.osgi_world.specs.Effort.{IsEffort, IsFirst}
+use Rattle.osgi_world.specs.Candidates.{AreOrdered}
+use Rattle.osgi_world.specs.Effort.{IsEffort, IsEffortAbove, IsEffortWithin, IsFirst, IsResolveOf}
 use Rattle.osgi_world.specs.Hopeless.{IsHopeless, IsSettled}
 use Rattle.osgi_world.specs.Lists.{In}
 use Rattle.osgi_world.specs.Sources.{Sources}
@@ -12,6 +14,7 @@ use Rattle.osgi_world.specs.ChoiceWords.{IsComplete, IsGood, IsWord, made_by, pa
 use Rattle.osgi_world.specs.declared.problem.Problem.{Problem}
 use Rattle.osgi_world.specs.declared.wiring.CapRef.{CapRef}
 use Rattle.osgi_world.specs.declared.wiring.Wiring.{Wiring}
+use Rattle.osgi_world.specs.declared.world.World.{World}
 use Rattle.osgi_choice.specs.Cuts.{IsCut, Joins}
 
 -- what is settled stays settled in every extension of a word, with the same offer and the same sources
@@ -53,3 +56,17 @@ pub data FirstOrNone (P : Problem) : Type 0 where
 -- there is one of the two, and the effort is a number
 abbrev pub HasOutcome : Problem → Type 0
 HasOutcome P = FirstOrNone P × ((n : ℕ) × IsEffort P n)
+
+-- two problems of resolving one bundle of one world come to the same: one effort, one first word, and one list of wirings
+pub record ComeToTheSame (P Q : Problem) : Type 0 where
+  pub within : (n : ℕ) → IsEffortWithin P n → IsEffortWithin Q n
+  pub above : (n : ℕ) → IsEffortAbove P n → IsEffortAbove Q n
+  pub first : (w : List ℕ) → IsFirst P w → IsFirst Q w
+  pub wirings : (u w : List ℕ) → IsFirst P u → IsFirst Q w → partial_of P u ≡ partial_of Q w
+
+abbrev pub ResolvesAgree : World → Type 0
+ResolvesAgree world = (b : BundleId) (P Q : Problem) → IsResolveOf world b P → IsResolveOf world b Q → ComeToTheSame P Q
+
+-- the wirings that a resolve comes to stand in order
+abbrev pub StandsInOrder : World → Type 0
+StandsInOrder world = (b : BundleId) (P : Problem) (w : List ℕ) → IsResolveOf world b P → IsFirst P w → AreOrdered world.known (partial_of P w)

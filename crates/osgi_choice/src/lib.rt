@@ -4,7 +4,8 @@
 
 ghost use Rattle.osgi_world.specs.Candidates.{IsProblem};
 ghost use Rattle.osgi_world.specs.declared.problem.Problem.{Problem};
-ghost use Rattle.osgi_choice.specs.Facts.{SettledStays, HopelessStays, CompleteSettles, CompleteExtends, ExtensionsAreWords, HasOutcome};
+ghost use Rattle.osgi_world.specs.declared.world.World.{World};
+ghost use Rattle.osgi_choice.specs.Facts.{SettledStays, HopelessStays, CompleteSettles, CompleteExtends, ExtensionsAreWords, HasOutcome, ResolvesAgree, StandsInOrder};
 
 /// What is settled stays settled in every extension of a word, and keeps its offer and its sources.
 pub fn settled_stays()
@@ -34,4 +35,14 @@ pub fn extensions_are_words()
 /// There is a first good word or none, and the effort is a number.
 pub fn has_outcome()
     ensures { (P : Problem) → IsProblem P → HasOutcome P }
+{}
+
+/// Whichever problem of resolving a bundle of a world is taken, the effort, the first word and the wirings are the same.
+pub fn resolves_agree()
+    ensures { (world : World) → ResolvesAgree world }
+{}
+
+/// The wirings that a resolve comes to stand in order, as those before it do.
+pub fn stands_in_order()
+    ensures { (world : World) → StandsInOrder world }
 {}

@@ -3,7 +3,7 @@
 
 pub mod added;
 mod exports;
-mod grouped;
+pub mod grouped;
 mod imports;
 mod named;
 pub mod names;

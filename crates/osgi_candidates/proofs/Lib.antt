@@ -1,0 +1,11 @@
+-- Lemmas on candidates.
+pub mod Naming
+pub mod Standing
+pub mod Tested
+pub mod Sets
+pub mod Preferring
+pub mod Collected
+pub mod Proposed
+pub mod Answering
+pub mod Attaching
+pub mod Posed

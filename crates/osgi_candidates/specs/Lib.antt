@@ -1,0 +1,2 @@
+-- What the code computes of candidates.
+pub mod computed

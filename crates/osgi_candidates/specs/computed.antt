@@ -1,0 +1,8 @@
+-- What private functions and proofs cite. No public promise cites these.
+pub mod Names
+pub mod Holding
+pub mod Fitting
+pub mod Ranking
+pub mod Collecting
+pub mod Fragments
+pub mod Choices

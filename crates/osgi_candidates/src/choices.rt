@@ -1,0 +1,96 @@
+//! The problem of resolving a revision in a world.
+
+ghost use Rattle.std.specs.Prelude.{◌≡◌, ◌↔◌, IfOk, IsTrue, OnOk};
+ghost use Rattle.osgi_candidates.specs.computed.Choices.{AddsChoice, AddsChoices, AreChoices};
+ghost use Rattle.osgi_candidates.specs.computed.Fitting.{IsFit};
+ghost use Rattle.osgi_world.specs.Candidates.{AreOrdered, HasCandidates, IsProblem, IsUnresolved};
+ghost use Rattle.osgi_world.specs.Consistency.{Consistent};
+ghost use Rattle.osgi_world.specs.Wirings.{IsWorld};
+
+use crate::offers::Offers;
+use osgi_base::ids::RevisionId;
+use osgi_base::list::List;
+use osgi_lookup::index::KnownIndex;
+use osgi_world::problem::{Choice, Problem};
+use osgi_world::wiring::ReqRef;
+use osgi_world::world::{Known, World};
+use std::alloc::{AllocError, Global};
+
+/// The problem of resolving the root: the candidates of each effective requirement of each current revision are listed.
+pub fn problem(alloc: Global, world: World, root: RevisionId) -> Result<Problem, AllocError>
+    requires is_world { IsWorld world.known world.wirings }
+    requires ordered { AreOrdered world.known world.wirings }
+    requires consistent { Consistent world.known world.wirings }
+    requires unresolved { IsUnresolved world.known world.wirings root }
+    ensures world { IfOk result (λ problem. problem.world ≡ world) }
+    ensures root { IfOk result (λ problem. problem.root ≡ root) }
+    ensures problem { IfOk result IsProblem }
+{
+    let choices = choices_in(alloc, &world)?;
+    Ok(Problem {
+        world,
+        root,
+        choices,
+    })
+}
+
+fn choices_in(alloc: Global, world: &World) -> Result<List<Choice>, AllocError>
+    ensures choices { IfOk result (λ choices. IsFit world.now → AreChoices world.now choices) }
+{
+    let offers = Offers::new(alloc, world)?;
+    let mut choices = List::new(alloc)?;
+    for known in world.known.items() {
+        add_choices(alloc, &offers, &mut choices, known)?;
+    }
+    Ok(choices)
+}
+
+/// Adds the candidates of each effective requirement, if the revision is current.
+fn add_choices(
+    alloc: Global,
+    offers: &Offers,
+    choices: &mut List<Choice>,
+    known: &Known,
+) -> Result<(), AllocError>
+    ensures added { OnOk result (IsFit offers.now → AddsChoices offers.now known.now choices.old choices.new) }
+{
+    if !known.current {
+        return Ok(());
+    }
+    for index in 0..known.revision.get().requirements.items().len() {
+        let at = ReqRef {
+            owner: known.id,
+            index: index as u32,
+        };
+        add_choice(alloc, offers, choices, at)?;
+    }
+    Ok(())
+}
+
+/// Adds the candidates of the requirement, if it can be asked.
+fn add_choice(
+    alloc: Global,
+    offers: &Offers,
+    choices: &mut List<Choice>,
+    at: ReqRef,
+) -> Result<(), AllocError>
+    ensures added { OnOk result (IsFit offers.now → AddsChoice offers.now at choices.old choices.new) }
+{
+    if !has_candidates(offers.known(), at) {
+        return Ok(());
+    }
+    choices.push(Choice {
+        requirement: at,
+        candidates: List::from(offers.listed(alloc, at)?),
+    })?;
+    Ok(())
+}
+
+/// Whether it is an effective requirement of a current revision.
+fn has_candidates(known: &KnownIndex, at: ReqRef) -> bool
+    ensures has { IsTrue result ↔ HasCandidates known.now at }
+{
+    known.is_current(at.owner)
+        && (at.index as usize) < known.requirement_count(at.owner)
+        && known.is_effective(at)
+}

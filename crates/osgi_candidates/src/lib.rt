@@ -1,0 +1,15 @@
+//! Candidates: which capabilities of a world each requirement may be wired to, the preferred first.
+#![tactic(auto)]
+
+mod choices;
+mod collecting;
+mod fitting;
+mod fragments;
+mod held;
+mod names;
+mod offers;
+mod ranked;
+mod ranking;
+
+pub use choices::problem;
+pub use offers::Offers;

@@ -1,0 +1,83 @@
+//! What is known, by names: the capabilities, the revisions, and the current fragments.
+
+ghost use Rattle.std.specs.Prelude.{OnOk};
+ghost use Rattle.osgi_candidates.specs.computed.Names.{AddsKnown, GrowsBy, HasNone, ListsCapabilities, fragment_added};
+
+use osgi_base::ids::RevisionId;
+use osgi_base::text::Text;
+use osgi_wires::grouped::Grouped;
+use osgi_world::world::Known;
+use std::alloc::{AllocError, Global};
+
+/// A place in the capabilities of a revision.
+#[derive(Clone, Copy, Debug, PartialEq, Eq)]
+pub struct Place {
+    pub owner: RevisionId,
+    pub index: u32,
+}
+
+/// The capabilities of the revisions that were added by their names, the revisions by their symbolic names, and the current
+/// fragments among them by the symbolic name of their host.
+#[derive(Drop)]
+pub struct KnownNames {
+    pub capabilities: Grouped<Text, Place>,
+    pub revisions: Grouped<Text, RevisionId>,
+    pub fragments: Grouped<Text, RevisionId>,
+}
+
+impl KnownNames {
+    pub fn new(alloc: Global) -> KnownNames
+        ensures empty { HasNone result }
+    {
+        KnownNames {
+            capabilities: Grouped::new(alloc),
+            revisions: Grouped::new(alloc),
+            fragments: Grouped::new(alloc),
+        }
+    }
+
+    /// Adds a known revision.
+    pub fn add(&mut self, alloc: Global, known: &Known) -> Result<(), AllocError>
+        ensures added { OnOk result (AddsKnown known.now self.old self.new) }
+    {
+        let name = known.revision.get().name.copy(alloc)?;
+        self.revisions.push(name, known.id)?;
+        add_fragment(alloc, &mut self.fragments, known)?;
+        add_capabilities(alloc, &mut self.capabilities, known)?;
+        Ok(())
+    }
+}
+
+fn add_fragment(
+    alloc: Global,
+    fragments: &mut Grouped<Text, RevisionId>,
+    known: &Known,
+) -> Result<(), AllocError>
+    ensures added { OnOk result (GrowsBy fragments.old fragments.new (fragment_added known.now)) }
+{
+    if !known.current {
+        return Ok(());
+    }
+    if let Some(host) = &known.revision.get().host {
+        fragments.push(host.name.copy(alloc)?, known.id)?;
+    }
+    Ok(())
+}
+
+fn add_capabilities(
+    alloc: Global,
+    capabilities: &mut Grouped<Text, Place>,
+    known: &Known,
+) -> Result<(), AllocError>
+    ensures added { OnOk result (ListsCapabilities known.now capabilities.old capabilities.new) }
+{
+    let revision = known.revision.get();
+    for (index, capability) in revision.capabilities.items().iter().enumerate() {
+        let place = Place {
+            owner: known.id,
+            index: index as u32,
+        };
+        capabilities.push(capability.name.copy(alloc)?, place)?;
+    }
+    Ok(())
+}

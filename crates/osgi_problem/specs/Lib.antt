@@ -1,0 +1,2 @@
+-- The problem of a world.
+pub mod WorldProblems

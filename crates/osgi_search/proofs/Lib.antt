@@ -1,0 +1,4 @@
+-- Proofs of the search.
+pub mod Midway
+pub mod Zeros
+pub mod Stands

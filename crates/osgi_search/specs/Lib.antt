@@ -1,0 +1,2 @@
+-- How a search ends.
+pub mod Outcomes

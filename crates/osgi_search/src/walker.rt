@@ -1,0 +1,39 @@
+//! What stands at a word of a problem, and moves from word to word.
+
+ghost use Rattle.std.specs.Prelude.{◌≡◌, ℕ, ◌<◌, List, [], ◌∷◌, ◌++◌, IfOk, OnOk, MatchOption};
+ghost use Rattle.std.specs.Bool.{Decides};
+ghost use Rattle.osgi_world.specs.declared.problem.Problem.{Problem};
+ghost use Rattle.osgi_world.specs.ChoiceWords.{IsComplete, made_by, width};
+ghost use Rattle.osgi_world.specs.Hopeless.{IsHopeless};
+
+use std::alloc::AllocError;
+
+/// A word of a problem, which a search makes longer and shorter.
+pub trait Walker {
+    ghost problem: { Self → Problem };
+
+    ghost word: { Self → List ℕ };
+
+    /// Whether no extension of the word is good.
+    fn is_hopeless(&self) -> Result<bool, AllocError>
+        ensures hopeless { IfOk result (λ hopeless. Decides hopeless (IsHopeless (problem self.now) (word self.now))) };
+
+    /// Whether no decision is left.
+    fn is_complete(&self) -> bool
+        ensures complete { Decides result (IsComplete (problem self.now) (word self.now)) };
+
+    /// How many values the next decision has; none where no decision is left.
+    fn values(&self) -> u64
+        ensures values { result ≡ width (problem self.now) (made_by (problem self.now) (word self.now)) };
+
+    /// Makes the next decision with this value. After want of memory it stands nowhere.
+    fn longer(&mut self, value: u64) -> Result<(), AllocError>
+        requires { value < width (problem self.old) (made_by (problem self.old) (word self.old)) }
+        ensures problem { OnOk result (problem self.new ≡ problem self.old) }
+        ensures word { OnOk result (word self.new ≡ word self.old ++ value ∷ []) };
+
+    /// Takes the last decision back, and gives its value; None where none is made.
+    fn shorter(&mut self) -> Option<u64>
+        ensures problem { problem self.new ≡ problem self.old }
+        ensures word { MatchOption result ((word self.old ≡ []) × (word self.new ≡ [])) (λ value. word self.old ≡ word self.new ++ value ∷ []) };
+}
