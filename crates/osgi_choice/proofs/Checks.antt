@@ -34,7 +34,7 @@ old-no_clash P L D A r e u i pair c =
     let everywhere = implied-same {B = λ x. Unit {0}} (λ x s. tt) (λ x p y s h. h) (λ x p v s h. h) moved.0 in
     L.consistent.coherent.uses r e u i everywhere.1 moved.1
 
-old-new : (P : Problem) → IsProblem P → (D : Made) (r : RevisionId) → InUse (partial P D) r → InUse P.world.wirings r ⊎ IsNew P D r
+pub old-new : (P : Problem) → IsProblem P → (D : Made) (r : RevisionId) → InUse (partial P D) r → InUse P.world.wirings r ⊎ IsNew P D r
 old-new P L D r (inl i) = elim (in_force-cases P D r i) [ inl o ↦ inl (inl o) | inr m ↦ inr (inl m) ]
 old-new P L D r (inr h) = elim (attached-cases P D h.0 r h.1) [ inl o ↦ inl (inr (h.0, o)) | inr m ↦ inr (inr (h.0, m.0, in-fragments P D h.0 r m.1 m.2)) ]
 
@@ -64,7 +64,7 @@ hopeless-member P L D (clashes r e u i c) = elim (implied-starts i).own [
   | inr m ↦ check.clashes r e u m.0 i c
 ]
 
-new-present : (P : Problem) (D : Made) (r : RevisionId) → IsNew P D r → InUse (partial P D) r
+pub new-present : (P : Problem) (D : Made) (r : RevisionId) → IsNew P D r → InUse (partial P D) r
 new-present P D r (inl m) = inl (in_force-member P D r m)
 new-present P D r (inr h) = inr (h.0, attached-member P D h.0 r h.1 h.2)
 

@@ -339,7 +339,7 @@ offers-dec P D = any-dec (λ m. (w : Wire) × HasWire (partial P D) m w × (IsSe
 settled-present : (P : Problem) (D : Made) (x : RevisionId) → IsSettled P D x → In x (presents (partial P D))
 settled-present P D x s = present-in (partial P D) x (inl (in_force-in P D x (elim s.own [ inl o ↦ inl o | inr m ↦ inr m.0 ])))
 
-clashes-dec : (P : Problem) (D : Made) → Decided ((m : RevisionId) × In m (members P D) × ((e : RevisionId) × (u : List ℕ) × Implied P.world.known (partial P D) (IsSettled P D) m e u × Clash P.world.known (partial P D) m e u))
+pub clashes-dec : (P : Problem) (D : Made) → Decided ((m : RevisionId) × In m (members P D) × ((e : RevisionId) × (u : List ℕ) × Implied P.world.known (partial P D) (IsSettled P D) m e u × Clash P.world.known (partial P D) m e u))
 clashes-dec P D = any-dec (λ m. (e : RevisionId) × (u : List ℕ) × Implied P.world.known (partial P D) (IsSettled P D) m e u × Clash P.world.known (partial P D) m e u)
     (some_clash-dec P.world.known (partial P D) (IsSettled P D) (settled-dec P D) (presents (partial P D)) (settled-present P D)) (members P D)
 

@@ -12,4 +12,5 @@ mod rules;
 mod singletons;
 mod wires;
 
+pub use doubles::are_names_single;
 pub use rules::keeps_wiring_rules;

@@ -1,10 +1,10 @@
 -- Lemmas on rows and pairs, on what is found by steps, and on what rows say of wirings.
-mod Bridge
-mod Sets
-mod Members
-mod Adding
-mod Lengths
-mod Rows
+pub mod Bridge
+pub mod Sets
+pub mod Members
+pub mod Adding
+pub mod Lengths
+pub mod Rows
 mod Givers
 mod ImpliedNames
 mod Firsts
@@ -12,10 +12,11 @@ mod Rising
 mod FirstClash
 mod Before
 mod Coherent
-mod Numbering
-mod Ids
+pub mod Numbering
+pub mod Ids
 mod Agreeing
 mod Clashing
 mod Following
 mod Worklist
 mod SeenPackages
+mod Noted

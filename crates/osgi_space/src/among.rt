@@ -5,11 +5,12 @@ ghost use Rattle.osgi_space.specs.computed.Amongst.{IsAmong};
 
 use std::collections::BTreeSet;
 
-/// All revisions, or those that are listed.
+/// All revisions, those that are listed, or all but those that are listed.
 #[derive(Clone, Copy)]
 pub enum Among<'a> {
     All,
     Listed(&'a BTreeSet<u32>),
+    AllBut(&'a BTreeSet<u32>),
 }
 
 impl Among<'_> {
@@ -19,6 +20,7 @@ impl Among<'_> {
         match self {
             Among::All => true,
             Among::Listed(listed) => listed.contains(&revision),
+            Among::AllBut(others) => !others.contains(&revision),
         }
     }
 }

@@ -1,7 +1,7 @@
 //! The packages of which revisions may have different sources.
 
-ghost use Rattle.std.specs.Prelude.{ℕ, IfOk};
-ghost use Rattle.osgi_space.specs.computed.Disputes.{AreDisputed, HoldsAll, IsNoted};
+ghost use Rattle.std.specs.Prelude.{◌≡◌, ℕ, IfOk};
+ghost use Rattle.osgi_space.specs.computed.Disputes.{AreDisputed, AreNoted, HoldsAll, IsNoted};
 ghost use Rattle.osgi_wires.specs.Rows.{Attaches, Imports, OwnExport};
 
 use osgi_wires::rows::Rows;
@@ -23,9 +23,16 @@ impl Possible {
         }
     }
 
-    fn note(&mut self, package: u32, source: u32) -> Result<(), AllocError>
+    /// The packages that have more than one possible source.
+    pub fn disputed(&self) -> &BTreeSet<u32>
+        ensures disputed { result.now ≡ self.now.disputed }
+    {
+        &self.disputed
+    }
+
+    pub fn note(&mut self, package: u32, source: u32) -> Result<(), AllocError>
         ensures noted { IfOk result (λ _. IsNoted self.new «package» source) }
-        ensures kept { IfOk result (λ _. HoldsAll self.old self.new) }
+        ensures kept { HoldsAll self.old self.new }
     {
         match self.first.get(&package).copied() {
             None => {
@@ -64,14 +71,14 @@ fn note_exports(possible: &mut Possible, rows: &Rows) -> Result<(), AllocError>
 }
 
 /// Notes the host as what its fragment's exports come from.
-fn note_fragment(
+pub fn note_fragment(
     possible: &mut Possible,
     rows: &Rows,
     host: u32,
     fragment: u32,
 ) -> Result<(), AllocError>
     ensures noted { IfOk result (λ _. (p : ℕ) → OwnExport rows.now fragment p → IsNoted possible.new p host) }
-    ensures kept { IfOk result (λ _. HoldsAll possible.old possible.new) }
+    ensures kept { HoldsAll possible.old possible.new }
 {
     for row in rows.exports_of(fragment) {
         possible.note(row.exported, host)?;
@@ -89,14 +96,22 @@ fn note_fragments(possible: &mut Possible, rows: &Rows) -> Result<(), AllocError
     Ok(())
 }
 
-/// The packages that have more than one possible source.
-pub fn disputed_packages(alloc: Global, rows: &Rows) -> Result<BTreeSet<u32>, AllocError>
-    ensures disputed { IfOk result (λ disputed. AreDisputed rows.now disputed) }
+/// The possible sources in the rows.
+pub fn possible_sources(alloc: Global, rows: &Rows) -> Result<Possible, AllocError>
+    ensures noted { IfOk result (λ possible. AreNoted rows.now possible) }
 {
     let mut possible = Possible::new(alloc);
     note_imports(&mut possible, rows)?;
     note_exports(&mut possible, rows)?;
     note_fragments(&mut possible, rows)?;
+    Ok(possible)
+}
+
+/// The packages that have more than one possible source.
+pub fn disputed_packages(alloc: Global, rows: &Rows) -> Result<BTreeSet<u32>, AllocError>
+    ensures disputed { IfOk result (λ disputed. AreDisputed rows.now disputed) }
+{
+    let possible = possible_sources(alloc, rows)?;
     let Possible { disputed, .. } = possible;
     Ok(disputed)
 }

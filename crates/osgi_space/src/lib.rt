@@ -1,23 +1,24 @@
 //! The class spaces of a world: where packages come from, what `uses` implies, and whether wirings are consistent.
 #![tactic(auto)]
 
-mod among;
-mod bundles;
+pub mod among;
+pub mod bundles;
 mod clash;
 mod class_spaces;
 mod consistent;
 mod constraints;
-mod disputed;
+pub mod disputed;
+pub mod disputed_rows;
 mod first;
-mod found;
-mod given;
+pub mod found;
+pub mod given;
 mod implied_constraints;
 mod naming;
-mod package_sources;
+pub mod package_sources;
 mod questions;
 mod seen_packages;
 mod space;
-mod uses;
+pub mod uses;
 mod violation;
 
 pub use class_spaces::{ClassSpaces, implied, sources};

@@ -38,7 +38,7 @@ fn has_export(rows: &Rows, revision: u32, package: u32) -> bool
 }
 
 /// Whether the revision has a wire for the package to another revision.
-fn imports_elsewhere(rows: &Rows, revision: u32, package: u32) -> bool
+pub fn imports_elsewhere(rows: &Rows, revision: u32, package: u32) -> bool
     ensures elsewhere { IsTrue result ↔ ImportsElsewhere rows.now revision «package» }
 {
     for row in rows.imports_for(revision, package) {

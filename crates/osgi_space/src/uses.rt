@@ -3,7 +3,8 @@
 ghost use Rattle.std.specs.Prelude.{◌↔◌, Any, All, IfOk, IsTrue};
 ghost use Rattle.std.specs.BTreeSet.{contains};
 ghost use Rattle.std.specs.Ordering.{nat_cmp};
-ghost use Rattle.osgi_space.specs.computed.Clashes.{IsClash, KeepsUses};
+ghost use Rattle.osgi_space.specs.computed.Amongst.{IsAmong};
+ghost use Rattle.osgi_space.specs.computed.Clashes.{IsClash, KeepsUses, KeepsUsesAmong};
 ghost use Rattle.osgi_space.specs.computed.Disputes.{AreDisputed};
 ghost use Rattle.osgi_space.specs.declared.given.Given.{Given};
 ghost use Rattle.osgi_world.specs.declared.wiring.Wiring.{Wiring};
@@ -67,24 +68,28 @@ fn are_kept(
     Ok(true)
 }
 
-/// Whether no constraint of the revision is violated.
-fn keeps_uses(
+/// Whether no constraint of the revision that comes from these revisions alone is violated.
+pub fn keeps_uses(
     alloc: Global,
     rows: &Rows,
     disputed: &BTreeSet<u32>,
+    among: Among,
     revision: u32,
 ) -> Result<bool, AllocError>
     requires disputed { AreDisputed rows.now disputed.now }
-    ensures kept { IfOk result (λ answer. IsTrue answer ↔ KeepsUses rows.now revision) }
+    ensures kept { IfOk result (λ answer. IsTrue answer ↔ KeepsUsesAmong rows.now (IsAmong among.entry) revision) }
 {
     if disputed.is_empty() {
+        return Ok(true);
+    }
+    if !among.has(revision) {
         return Ok(true);
     }
     let space = space_of(alloc, rows, revision)?;
     if !has_disputed(space.as_slice(), disputed) {
         return Ok(true);
     }
-    let found = constraints_of(alloc, rows, Among::All, revision)?;
+    let found = constraints_of(alloc, rows, among, revision)?;
     Ok(are_kept(alloc, rows, disputed, revision, found.items.as_slice())?)
 }
 
@@ -94,7 +99,7 @@ pub fn all_keep_uses(alloc: Global, rows: &Rows, wirings: &[Wiring]) -> Result<b
 {
     let disputed = disputed_packages(alloc, rows)?;
     for wiring in wirings {
-        if !keeps_uses(alloc, rows, &disputed, wiring.revision.0)? {
+        if !keeps_uses(alloc, rows, &disputed, Among::All, wiring.revision.0)? {
             return Ok(false);
         }
     }

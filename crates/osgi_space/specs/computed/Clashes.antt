@@ -12,6 +12,10 @@ Lacks outer inner = (g : Given) × Contains inner g × ¬ Contains outer g
 abbrev pub IsClash : RowLists → ℕ → Given → Type 0
 IsClash R r pair = Clash R r pair.source pair.package
 
+-- no implied constraint of r that comes from revisions of A alone is violated
+abbrev pub KeepsUsesAmong : RowLists → (ℕ → Type 0) → ℕ → Type 0
+KeepsUsesAmong R A r = (e u : ℕ) → Implied R A r e u → ¬ Clash R r e u
+
 -- no implied constraint of r is violated
 abbrev pub KeepsUses : RowLists → ℕ → Type 0
-KeepsUses R r = (e u : ℕ) → Implied R (λ x. Unit {0}) r e u → ¬ Clash R r e u
+KeepsUses R r = KeepsUsesAmong R (λ x. Unit {0}) r

@@ -19,6 +19,10 @@ IsNoted possible p x = (first : ℕ) × (get nat_cmp possible.first p ≡ Some f
 abbrev pub HoldsAll : Possible → Possible → Type 0
 HoldsAll old new = (p x : ℕ) → IsNoted old p x → IsNoted new p x
 
+-- each possible source is noted
+abbrev pub AreNoted : RowLists → Possible → Type 0
+AreNoted R possible = (p x : ℕ) → IsPossible R p x → IsNoted possible p x
+
 -- of a package that is not among these there is at most one possible source
 abbrev pub AreDisputed : RowLists → BTreeSet ℕ → Type 0
 AreDisputed R disputed = (p x y : ℕ) → IsPossible R p x → IsPossible R p y → (x ≡ y) ⊎ IsTrue (contains nat_cmp disputed p)

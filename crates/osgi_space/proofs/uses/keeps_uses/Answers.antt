@@ -3,10 +3,12 @@ use Rattle.std.proofs.Common.{◌↔◌, ◌≡◌, ℕ, List, [], ◌∷◌, le
 use Rattle.std.proofs.lemmas.Bool.{false≢true}
 use Rattle.std.specs.BTreeSet.{contains}
 use Rattle.std.specs.Ordering.{nat_cmp}
-use Rattle.osgi_space.specs.computed.Clashes.{IsClash, KeepsUses}
+use Rattle.osgi_space.specs.computed.Amongst.{IsAmong}
+use Rattle.osgi_space.specs.computed.Clashes.{IsClash, KeepsUsesAmong}
 use Rattle.osgi_space.specs.declared.given.Given.{Given}
 use Rattle.osgi_space.proofs.Adding.{any-in, any-of}
 use Rattle.osgi_space.proofs.Agreeing.{clash-disputed}
+use Rattle.osgi_space.proofs.Following.{none-implied}
 use Rattle.osgi_space.proofs.uses.keeps_uses.Goals as goal
 
 without : (keys : List ℕ) → length keys ≡ 0 → keys ≡ []
@@ -18,15 +20,22 @@ none-in disputed u none there = false≢true (subst (λ keys. IsTrue (contains n
 
 pub returns-then-is_empty : goal.returns-then-is_empty
 returns-then-is_empty c =
-    let keeps : KeepsUses c.args.rows.now c.args.revision = λ e u implied clash.
+    let keeps : KeepsUsesAmong c.args.rows.now (IsAmong c.args.among) c.args.revision = λ e u implied clash.
     absurd (none-in c.args.disputed.now u (without c.args.disputed.now.keys (c.is_empty.ensures.0 c.if-is_empty.true)) (clash-disputed c.args.rows.now c.args.disputed.now c.requires.disputed clash)) in
+    record { kept = (λ t. keeps, λ k. refl) }
+
+pub returns-then-not-has : goal.returns-then-not-has
+returns-then-not-has c =
+    let away : ¬ IsAmong c.args.among c.args.revision = λ there. let yes = c.has.ensures.among.1 there in let no = c.if-not-has.true in cc in
+    let keeps : KeepsUsesAmong c.args.rows.now (IsAmong c.args.among) c.args.revision = λ e u implied clash.
+    none-implied c.args.rows.now (IsAmong c.args.among) c.args.revision away (record { «package» = u; source = e }) implied in
     record { kept = (λ t. keeps, λ k. refl) }
 
 pub returns-then-not-has_disputed : goal.returns-then-not-has_disputed
 returns-then-not-has_disputed c =
     let P : Given → Type 0 = λ g. IsTrue (contains nat_cmp c.args.disputed.now g.package) in
     let space = c.in_ok-space.space.items in
-    let keeps : KeepsUses c.args.rows.now c.args.revision = λ e u implied clash.
+    let keeps : KeepsUsesAmong c.args.rows.now (IsAmong c.args.among) c.args.revision = λ e u implied clash.
     let there = clash-disputed c.args.rows.now c.args.disputed.now c.requires.disputed clash in
     let seen = (c.in_ok-space.ensures.sources (record { «package» = u; source = clash.ours })).1 clash.ours_in in
     let any : Any P c.as_slice.result.now = subst (λ xs. Any P xs) (sym c.as_slice.ensures.value) (any-of P space (record { «package» = u; source = clash.ours }) seen there) in

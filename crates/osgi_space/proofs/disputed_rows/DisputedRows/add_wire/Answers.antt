@@ -1,0 +1,18 @@
+-- What the row adds is noted; where that fails, the row is taken back.
+use Rattle.std.proofs.Common.{◌∙◌, sym, subst}
+use Rattle.osgi_space.specs.computed.Disputes.{AreNoted, IsPossible}
+use Rattle.osgi_wires.specs.Rows.{RowLists}
+use Rattle.osgi_wires.specs.Worlds.{WorldLists}
+use Rattle.osgi_space.proofs.disputed_rows.DisputedRows.add_wire.Goals as goal
+
+pub invariant_of-self : goal.invariant_of-self
+invariant_of-self c = subst (λ (w : WorldLists). AreNoted w.rows c.self.inside.possible) (sym c.in_err-added.ensures.unchanged) c.self.invariant
+
+pub invariant_of-self-in-Err : goal.invariant_of-self-in-Err
+invariant_of-self-in-Err c = λ p x at.
+    let back = c.take_back.ensures.taken.rows c.self.inside.rows.rows c.in_ok-added.ensures.added.rows in
+    c.note.ensures.kept p x (c.self.invariant p x (subst (λ (R : RowLists). IsPossible R p x) back at))
+
+pub invariant_of-self-in_default : goal.invariant_of-self-in_default
+invariant_of-self-in_default c =
+    subst (λ (R : RowLists). AreNoted R c.note.new.possible) c.rows.ensures.rows (c.in_default.ensures.noted c.self.inside.rows.rows (c.rows.ensures.rows ∙ c.in_ok-added.ensures.added.rows) c.self.invariant)

@@ -1,0 +1,15 @@
+-- Each possible source is noted.
+use Rattle.std.proofs.Common.{ℕ, sym, subst, BTreeSet}
+use Rattle.osgi_space.specs.computed.Disputes.{AreDisputed}
+use Rattle.osgi_space.proofs.Noted.{noted-disputed}
+use Rattle.osgi_wires.specs.Worlds.{WorldLists}
+use Rattle.osgi_space.proofs.disputed_rows.DisputedRows.disputed.Goals as goal
+
+pub returns : goal.returns
+returns c =
+    let rows = c.self.inside.rows in
+    let possible = c.self.inside.possible in
+    record {
+      disputed = subst (λ (set : BTreeSet ℕ). AreDisputed c.args.self.now.rows set) (sym c.disputed.ensures.disputed)
+          (subst (λ (w : WorldLists). AreDisputed w.rows possible.disputed) c.self.view_is (noted-disputed rows.rows possible c.self.invariant));
+    }

@@ -1,0 +1,120 @@
+//! The rows of a world, and the packages that may be disputed in them.
+
+ghost use Rattle.std.specs.Prelude.{◌≡◌, IfOk, OnErr};
+ghost use Rattle.osgi_space.specs.computed.Disputes.{AreDisputed, AreNoted, HoldsAll};
+ghost use Rattle.osgi_wires.specs.Rows.{RowLists};
+ghost use Rattle.osgi_wires.specs.Worlds.{AddsStep, AreNumbered, AreRowsIn, TakesBack, with_added};
+ghost use Rattle.osgi_world.specs.Decisions.{attached, wired};
+
+use crate::disputed::{Possible, note_fragment, possible_sources};
+use osgi_base::ids::RevisionId;
+use osgi_wires::added::Added;
+use osgi_wires::rows::Rows;
+use osgi_wires::world_rows::WorldRows;
+use osgi_world::wiring::{Wire, Wiring};
+use osgi_world::world::Known;
+use std::alloc::{AllocError, Global};
+use std::collections::BTreeSet;
+use std::marker::Model;
+
+/// Rows with the packages that may have more than one source in them, which are kept as wires and fragments are added. What is taken
+/// back leaves them as they are: of a package that is not among them there is still at most one possible source.
+#[derive(Drop)]
+pub struct DisputedRows<'w> {
+    rows: WorldRows<'w>,
+    possible: Possible,
+}
+
+impl<'w> Model for DisputedRows<'w> {
+    ghost use Rattle.osgi_space.specs.computed.Disputes.{AreNoted};
+    ghost use Rattle.osgi_wires.specs.Worlds.{WorldLists};
+    ghost use Rattle.std.specs.Coded.{codes};
+    ghost use Rattle.osgi_model.specs.contracts.filter.Filter as filter;
+    ghost use Rattle.osgi_model.specs.contracts.value.Value as value;
+
+    ghost Value = { WorldLists };
+
+    ghost coded = { Prim.hlevel (codes, filter.the_row.coded, value.the_row.coded) };
+
+    ghost view = { λ d. d.rows };
+
+    ghost invariant = { λ d. AreNoted d.rows.rows d.possible };
+}
+
+impl<'w> DisputedRows<'w> {
+    /// The rows of these wirings.
+    pub fn new(
+        alloc: Global,
+        known: &'w [Known],
+        wirings: &[Wiring],
+    ) -> Result<DisputedRows<'w>, AllocError>
+        ensures known { IfOk result (λ made. made.known ≡ known.now) }
+        ensures rows { IfOk result (λ made. AreRowsIn made wirings.now) }
+        ensures numbered { IfOk result (λ made. AreNumbered made.names made.rows) }
+    {
+        let rows = WorldRows::new(alloc, known, wirings)?;
+        let possible = possible_sources(alloc, rows.rows())?;
+        Ok(DisputedRows { rows, possible })
+    }
+
+    pub fn world_rows(&self) -> &WorldRows<'w>
+        ensures rows { result.now ≡ self.now }
+    {
+        &self.rows
+    }
+
+    /// The packages that may have more than one source.
+    pub fn disputed(&self) -> &BTreeSet<u32>
+        ensures disputed { AreDisputed self.now.rows result.now }
+    {
+        self.possible.disputed()
+    }
+
+    /// Adds a wire to the revision, and returns its row. If memory runs out, nothing changes.
+    pub fn add_wire(&mut self, revision: RevisionId, wire: &Wire) -> Result<Added, AllocError>
+        ensures added { IfOk result (λ added. AddsStep self.old self.new (wired revision wire.now) added) }
+        ensures unchanged { OnErr result (self.new ≡ self.old) }
+    {
+        let added = self.rows.add_wire(revision, wire)?;
+        if let Err(error) = note(&mut self.possible, self.rows.rows(), added) {
+            self.rows.take_back(added);
+            return Err(error);
+        }
+        Ok(added)
+    }
+
+    /// Attaches the fragment to the host, and returns the row. If memory runs out, nothing changes.
+    pub fn attach(&mut self, host: RevisionId, fragment: RevisionId) -> Result<Added, AllocError>
+        ensures added { IfOk result (λ added. AddsStep self.old self.new (attached host fragment) added) }
+        ensures unchanged { OnErr result (self.new ≡ self.old) }
+    {
+        let added = self.rows.attach(host, fragment)?;
+        if let Err(error) = note(&mut self.possible, self.rows.rows(), added) {
+            self.rows.take_back(added);
+            return Err(error);
+        }
+        Ok(added)
+    }
+
+    /// Takes back what was added last. It takes no memory.
+    pub fn take_back(&mut self, added: Added)
+        requires last { (R : RowLists) × (self.old.rows ≡ with_added R added) }
+        ensures taken { TakesBack self.old self.new added }
+    {
+        self.rows.take_back(added);
+    }
+}
+
+/// Notes the sources that a row adds.
+fn note(possible: &mut Possible, rows: &Rows, added: Added) -> Result<(), AllocError>
+    ensures noted { IfOk result (λ _. (R : RowLists) → rows.now ≡ with_added R added → AreNoted R possible.old → AreNoted rows.now possible.new) }
+    ensures kept { HoldsAll possible.old possible.new }
+{
+    match added {
+        Added::Import(row) => possible.note(row.imported, row.provider)?,
+        Added::Attachment(row) => note_fragment(possible, rows, row.host, row.fragment)?,
+        Added::Required(_) => {}
+        Added::Nothing => {}
+    }
+    Ok(())
+}
