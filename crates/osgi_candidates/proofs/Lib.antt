@@ -1,6 +1,7 @@
 -- Lemmas on candidates.
 pub mod Naming
 pub mod Standing
+pub mod Using
 pub mod Tested
 pub mod Sets
 pub mod Preferring

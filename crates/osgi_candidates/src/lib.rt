@@ -6,6 +6,7 @@ mod collecting;
 mod fitting;
 mod fragments;
 mod held;
+mod in_use;
 mod names;
 mod offers;
 mod ranked;

@@ -7,10 +7,11 @@ ghost use Rattle.osgi_candidates.specs.computed.Names.{AreNames};
 ghost use Rattle.osgi_world.specs.Candidates.{HasCandidates, IsProblem, candidates, matching};
 ghost use Rattle.osgi_world.specs.Lists.{In};
 ghost use Rattle.osgi_world.specs.Lookups.{IsKnown, symbolic_name};
-ghost use Rattle.osgi_world.specs.Wirings.{InForce};
+ghost use Rattle.osgi_world.specs.Wirings.{InForce, InUse};
 ghost use Rattle.osgi_world.specs.declared.problem.Problem.{Problem};
 
 use crate::held::HeldWirings;
+use crate::in_use::revisions_in_use;
 use crate::names::KnownNames;
 use osgi_base::ids::RevisionId;
 use osgi_base::text::Text;
@@ -18,22 +19,25 @@ use osgi_lookup::index::KnownIndex;
 use osgi_world::wiring::{CapRef, ReqRef, Wiring};
 use osgi_world::world::World;
 use std::alloc::{AllocError, Global};
+use std::collections::BTreeSet;
 use std::marker::Model;
 
-/// The capabilities of the known revisions by name, the revisions by symbolic name, the fragments by the name of their host, and
-/// the wirings in force by revision. Contracts see the world.
+/// The capabilities of the known revisions by name, the revisions by symbolic name, the fragments by the name of their host,
+/// the wirings in force by revision, and the revisions in use. Contracts see the world.
 #[derive(Drop)]
 pub struct Offers<'w> {
     world: &'w World,
     pub(crate) known: KnownIndex<'w>,
     pub(crate) names: KnownNames,
     pub(crate) wirings: HeldWirings,
+    in_use: BTreeSet<u32>,
 }
 
 impl<'w> Model for Offers<'w> {
     ghost use Rattle.std.specs.Prelude.{◌≡◌};
     ghost use Rattle.std.specs.Coded.{codes};
     ghost use Rattle.osgi_candidates.specs.computed.Holding.{AreHeld};
+    ghost use Rattle.osgi_candidates.specs.computed.InUses.{AreInUse};
     ghost use Rattle.osgi_candidates.specs.computed.Names.{AreNames};
     ghost use Rattle.osgi_model.specs.contracts.filter.Filter as filter;
     ghost use Rattle.osgi_model.specs.contracts.value.Value as value;
@@ -45,7 +49,7 @@ impl<'w> Model for Offers<'w> {
 
     ghost view = { λ o. o.world.now };
 
-    ghost invariant = { λ o. (o.known ≡ o.world.now.known) × (AreNames o.world.now.known o.names × AreHeld o.world.now.known o.world.now.wirings o.wirings) };
+    ghost invariant = { λ o. (o.known ≡ o.world.now.known) × (AreNames o.world.now.known o.names × (AreHeld o.world.now.known o.world.now.wirings o.wirings × AreInUse o.world.now.wirings o.in_use)) };
 }
 
 impl<'w> Offers<'w> {
@@ -55,11 +59,13 @@ impl<'w> Offers<'w> {
         let known = KnownIndex::new(alloc, world.known.items())?;
         let names = names_of(alloc, &known)?;
         let wirings = wirings_of(alloc, &known, world.wirings.items())?;
+        let in_use = revisions_in_use(alloc, world.wirings.items())?;
         Ok(Offers {
             world,
             known,
             names,
             wirings,
+            in_use,
         })
     }
 
@@ -74,6 +80,13 @@ impl<'w> Offers<'w> {
         ensures in_force { IsTrue result ↔ InForce self.now.wirings revision }
     {
         self.wirings.has(revision)
+    }
+
+    /// Whether the revision has a wiring, or is attached to one that has.
+    pub fn is_in_use(&self, revision: RevisionId) -> bool
+        ensures in_use { IsTrue result ↔ InUse self.now.wirings revision }
+    {
+        self.in_use.contains(&revision.0)
     }
 
     /// The known revisions with this symbolic name.
