@@ -2,9 +2,9 @@
 
 ghost use Rattle.std.specs.Prelude.{◌≡◌, ◌<◌, ◌++◌, ◌∷◌, [], List, IfOk, OnOk, OnErr, length};
 ghost use Rattle.osgi_world.specs.Decisions.{Step, attached, wired};
-ghost use Rattle.osgi_wires.specs.Worlds.{TakesBack};
+ghost use Rattle.osgi_wires.specs.Worlds.{AreRowsIn, TakesBack};
 ghost use Rattle.osgi_uses.specs.Clashes.{IsClashAmong};
-ghost use Rattle.osgi_uses.specs.States.{SpacesState};
+ghost use Rattle.osgi_uses.specs.States.{SpacesState, wirings_of};
 
 use crate::clash::Clash;
 use crate::trail::{Addition, Taken};
@@ -52,6 +52,14 @@ impl<'w> Spaces<'w> {
             rows,
             trail: Vec::new(alloc),
         })
+    }
+
+    /// The rows of the wirings as they are now.
+    pub fn rows(&self) -> &WorldRows<'w>
+        ensures known { result.now.known ≡ self.now.known }
+        ensures rows { AreRowsIn result.now (wirings_of self.now) }
+    {
+        &self.rows
     }
 
     /// Attaches the fragment to the host. If memory runs out, nothing changes.

@@ -1,0 +1,12 @@
+-- Lemmas on what makes words hopeless.
+pub mod Answering
+pub mod Owners
+pub mod TwoProviders
+pub mod Present
+pub mod SameNames
+pub mod Numbers
+pub mod Gathering
+pub mod Settling
+pub mod Offering
+pub mod Clashes
+pub mod Reasons

@@ -1,0 +1,60 @@
+-- What a provider has on offer, by rows, and wires to what is not on offer.
+use Rattle.std.proofs.Common.{◌↔◌, ℕ, ◌<◌, List}
+use Rattle.std.specs.BTreeSet.{BTreeSet}
+use Rattle.osgi_choice.proofs.Complete.{provider-in_force}
+use Rattle.osgi_hopeless.proofs.Settling.{away-settled, settled-away}
+use Rattle.osgi_hopeless.specs.computed.Clashing.{HasLost, IsLost}
+use Rattle.osgi_hopeless.specs.computed.Open.{AreUnsettled}
+use Rattle.osgi_path.specs.declared.wired.Wired.{Wired}
+use Rattle.osgi_space.proofs.Bridge.{owns-from, owns-to}
+use Rattle.osgi_space.specs.computed.RowSources.{Owns}
+use Rattle.osgi_wires.specs.Agree.{AreRowsOf}
+use Rattle.osgi_wires.specs.Rows.{RowLists}
+use Rattle.osgi_world.specs.Candidates.{IsProblem}
+use Rattle.osgi_world.specs.Decisions.{Made}
+use Rattle.osgi_world.specs.DueDecisions.{members}
+use Rattle.osgi_world.specs.Lists.{In}
+use Rattle.osgi_world.specs.Lookups.{capability_count}
+use Rattle.osgi_world.specs.Partial.{partial}
+use Rattle.osgi_world.specs.Wirings.{HasWire, ImportsElsewhere, IsExport, OnOffer}
+use Rattle.osgi_world.specs.declared.problem.Problem.{Problem}
+use Rattle.osgi_world.specs.declared.wiring.CapRef.{CapRef}
+use Rattle.osgi_world.specs.declared.wiring.Wiring.{Wiring}
+use Rattle.osgi_world.specs.declared.world.Known.{Known}
+
+-- an export of a package that the provider imports from elsewhere
+abbrev pub IsReplaced : List Known → List Wiring → CapRef → Type 0
+IsReplaced K W c = (p : List ℕ) × IsExport K c.owner c.index p × ImportsElsewhere K W c.provider p
+
+module _ (K : List Known) (W : List Wiring) (N : ℕ → List ℕ) (R : RowLists) (is : AreRowsOf K W N R) (c : CapRef) where
+  pub offered : c.index < capability_count K c.owner → Owns R c.provider.0 c.owner.0 → ¬ IsReplaced K W c → OnOffer K W c
+  offered within owns stays = record {
+    has = (owns-to K W N R is c.provider.0 c.owner.0 owns, within);
+    stays = λ p e elsewhere. stays (p, e, elsewhere);
+  }
+
+  pub offer-owns : OnOffer K W c → Owns R c.provider.0 c.owner.0
+  offer-owns o = owns-from K W N R is c.provider.0 c.owner o.has.0
+
+  pub offer-not_replaced : OnOffer K W c → ¬ IsReplaced K W c
+  offer-not_replaced o r = o.stays r.0 r.1 r.2
+
+-- of the wires of members
+module _ (P : Problem) (L : IsProblem P) (D : Made) (set : BTreeSet ℕ) (are : AreUnsettled P D set) (wires : List Wired)
+    (is : (w : Wired) → In w wires ↔ (In w.revision (members P D) × HasWire (partial P D) w.revision w.wire)) where
+  pub lost-of : (w : Wired) → In w wires → IsLost P.world.known (partial P D) set w → HasLost P D
+  lost-of w i lost =
+      let b = (is w).0 i in
+      record {
+        member = w.revision;
+        wire = w.wire;
+        is_member = b.0;
+        has = b.1;
+        settled = away-settled P L D set are w.wire.capability.provider (provider-in_force P L D w.revision w.wire b.1) lost.0;
+        lost = lost.1;
+      }
+
+  pub lost-from : HasLost P D → (w : Wired) × In w wires × IsLost P.world.known (partial P D) set w
+  lost-from h =
+      let w : Wired = record { revision = h.member; wire = h.wire } in
+      (w, (is w).1 (h.is_member, h.has), (settled-away P L D set are h.wire.capability.provider h.settled, h.lost))

@@ -1,0 +1,2 @@
+-- What the test for hopeless words computes.
+pub mod computed

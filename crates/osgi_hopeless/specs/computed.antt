@@ -1,0 +1,6 @@
+-- What private functions and proofs cite. No public promise cites these.
+pub mod Stuck
+pub mod Providers
+pub mod Rivals
+pub mod Open
+pub mod Clashing

@@ -1,0 +1,14 @@
+//! Whether what a search has decided cannot lead to consistent wirings any more.
+#![tactic(auto)]
+
+mod clashing;
+mod hopeless;
+mod offer;
+mod place;
+mod providers;
+mod rivals;
+mod settled;
+mod stuck;
+mod unmet;
+
+pub use hopeless::is_hopeless;

@@ -1,0 +1,99 @@
+//! Whether wires go to what is not on offer any more.
+
+ghost use Rattle.std.specs.Prelude.{◌↔◌, ℕ, List, IfOk, IsTrue};
+ghost use Rattle.osgi_base.specs.declared.ids.RevisionId.{RevisionId};
+ghost use Rattle.osgi_hopeless.specs.computed.Clashing.{HasLost, IsLost};
+ghost use Rattle.osgi_hopeless.specs.computed.Open.{AreUnsettled};
+ghost use Rattle.osgi_path.specs.Standing.{IsProblemOf, made};
+ghost use Rattle.osgi_path.specs.declared.wired.Wired.{Wired};
+ghost use Rattle.osgi_space.specs.computed.RowSources.{Owns};
+ghost use Rattle.osgi_wires.specs.Worlds.{AreRowsIn};
+ghost use Rattle.osgi_world.specs.Lists.{In};
+ghost use Rattle.osgi_world.specs.Wirings.{ImportsElsewhere, IsExport, OnOffer};
+ghost use Rattle.osgi_world.specs.declared.problem.Problem.{Problem};
+ghost use Rattle.osgi_world.specs.declared.wiring.Wiring.{Wiring};
+
+use osgi_path::{Path, Wired};
+use osgi_space::package_sources::imports_elsewhere;
+use osgi_wires::rows::Rows;
+use osgi_wires::world_rows::WorldRows;
+use osgi_world::wiring::CapRef;
+use std::alloc::{AllocError, Global};
+use std::collections::BTreeSet;
+
+/// Whether what the owner has is in the payload of the revision.
+fn owns(rows: &Rows, revision: u32, owner: u32) -> bool
+    ensures owns { IsTrue result ↔ Owns rows.now revision owner }
+{
+    if owner == revision {
+        return true;
+    }
+    for row in rows.attached_to(revision) {
+        if row.fragment == owner {
+            return true;
+        }
+    }
+    false
+}
+
+/// Whether the capability is an export of a package that its provider imports from elsewhere.
+fn is_replaced(rows: &WorldRows, capability: CapRef) -> bool
+    ensures replaced { (W : List Wiring) → AreRowsIn rows.now W
+        → IsTrue result ↔ ((p : List ℕ) × IsExport rows.now.known capability.owner capability.index p × ImportsElsewhere rows.now.known W capability.provider p) }
+{
+    let Some(package) = rows
+        .known()
+        .exported_package(capability.owner, capability.index)
+    else {
+        return false;
+    };
+    match rows.names().number(package) {
+        Some(number) => imports_elsewhere(rows.rows(), capability.provider.0, number),
+        None => false,
+    }
+}
+
+/// Whether the provider has the capability on offer.
+fn is_on_offer(rows: &WorldRows, capability: CapRef) -> bool
+    ensures offer { (W : List Wiring) → AreRowsIn rows.now W → IsTrue result ↔ OnOffer rows.now.known W capability }
+{
+    if capability.index as usize >= rows.known().capability_count(capability.owner) {
+        return false;
+    }
+    if !owns(rows.rows(), capability.provider.0, capability.owner.0) {
+        return false;
+    }
+    !is_replaced(rows, capability)
+}
+
+/// Whether the wire goes to a provider that is not in the set, and does not have the capability on offer.
+fn is_lost(rows: &WorldRows, unsettled: &BTreeSet<u32>, wired: Wired) -> bool
+    ensures lost { (W : List Wiring) → AreRowsIn rows.now W → IsTrue result ↔ IsLost rows.now.known W unsettled.now wired }
+{
+    let capability = wired.wire.capability;
+    if unsettled.contains(&capability.provider.0) {
+        return false;
+    }
+    !is_on_offer(rows, capability)
+}
+
+/// Whether one of the wires goes to a provider that is not in the set, and does not have the capability on offer.
+fn is_one_lost(rows: &WorldRows, unsettled: &BTreeSet<u32>, wires: &[Wired]) -> bool
+    ensures lost { (W : List Wiring) → AreRowsIn rows.now W → IsTrue result ↔ ((w : Wired) × In w wires.now × IsLost rows.now.known W unsettled.now w) }
+{
+    for wired in wires {
+        if is_lost(rows, unsettled, *wired) {
+            return true;
+        }
+    }
+    false
+}
+
+/// Whether the provider of a member's wire is settled, and does not have the capability on offer.
+pub fn has_lost(alloc: Global, path: &Path, unsettled: &BTreeSet<u32>) -> Result<bool, AllocError>
+    requires unsettled { (P : Problem) → IsProblemOf path.now P → AreUnsettled P (made P path.now) unsettled.now }
+    ensures lost { IfOk result (λ answer. (P : Problem) → IsProblemOf path.now P → IsTrue answer ↔ HasLost P (made P path.now)) }
+{
+    let wires = path.wires(alloc)?;
+    Ok(is_one_lost(path.rows(), unsettled, wires.as_slice()))
+}

@@ -1,0 +1,3 @@
+-- How far a search has come, as contracts see it; and what the code computes.
+pub mod Standing
+pub mod computed

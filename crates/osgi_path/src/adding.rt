@@ -1,0 +1,194 @@
+//! The wirings that the decisions of a course add.
+
+ghost use Rattle.std.specs.Prelude.{◌≡◌, ◌++◌, ◌<◌, IfOk, OnOk, All, filter, flat_map, map};
+ghost use Rattle.std.specs.Option.{option_to_list};
+ghost use Rattle.osgi_base.specs.declared.ids.RevisionId.{RevisionId};
+ghost use Rattle.osgi_world.specs.Decisions.{choose, is_yes, pick, value_made};
+ghost use Rattle.osgi_world.specs.DueDecisions.{payload};
+ghost use Rattle.osgi_world.specs.Lists.{In};
+ghost use Rattle.osgi_world.specs.Lookups.{requirement_count};
+ghost use Rattle.osgi_world.specs.Partial as partial;
+ghost use Rattle.osgi_world.specs.Partial.{wires_for, wiring};
+ghost use Rattle.osgi_world.specs.Payloads.{own_requirements, requirements_of};
+ghost use Rattle.osgi_world.specs.declared.problem.Problem.{Problem};
+ghost use Rattle.osgi_path.specs.computed.Known.{AreRight};
+ghost use Rattle.osgi_path.specs.computed.Views.{IsOwner, IsReady, by_value, decided_in, wire_to};
+
+use crate::course::Course;
+use crate::decision::Decision;
+use crate::growing::value_of;
+use crate::lists::Lists;
+use crate::step::candidate_at;
+use crate::views::fragments;
+use osgi_base::ids::RevisionId;
+use osgi_base::list::List;
+use osgi_world::wiring::{CapRef, ReqRef, Wire, Wiring};
+use std::alloc::{AllocError, Global};
+
+/// Whether the requirement, which may have several wires, gets this one.
+fn is_picked(course: &Course, host: RevisionId, requirement: ReqRef, capability: CapRef) -> bool
+    ensures picked { result ≡ is_yes (value_made (decided_in course.now) (pick host requirement capability)) }
+{
+    let decision = Decision::Pick {
+        host,
+        requirement,
+        capability,
+    };
+    match value_of(course.marks.as_slice(), decision) {
+        Some(value) => value == 0,
+        None => false,
+    }
+}
+
+/// Adds a wire to each candidate that is picked.
+fn add_picked(
+    wires: &mut List<Wire>,
+    course: &Course,
+    host: RevisionId,
+    requirement: ReqRef,
+    candidates: &[CapRef],
+) -> Result<(), AllocError>
+    ensures added { OnOk result (wires.new ≡ wires.old ++ map (wire_to requirement) (filter (λ c. is_yes (value_made (decided_in course.now) (pick host requirement c))) candidates.now)) }
+{
+    for capability in candidates {
+        if is_picked(course, host, requirement, *capability) {
+            wires.push(Wire {
+                requirement,
+                capability: *capability,
+            })?;
+        }
+    }
+    Ok(())
+}
+
+/// The candidate that the requirement gets, if it is decided and gets one.
+fn chosen(
+    course: &Course,
+    host: RevisionId,
+    requirement: ReqRef,
+    candidates: &[CapRef],
+) -> Option<CapRef>
+    ensures chosen { option_to_list result ≡ by_value candidates.now (value_made (decided_in course.now) (choose host requirement)) }
+{
+    let decision = Decision::Choose { host, requirement };
+    match value_of(course.marks.as_slice(), decision) {
+        Some(value) => candidate_at(candidates, value),
+        None => None,
+    }
+}
+
+/// Adds the wire to the candidate that is chosen, if there is one.
+fn add_chosen(
+    wires: &mut List<Wire>,
+    course: &Course,
+    host: RevisionId,
+    requirement: ReqRef,
+    candidates: &[CapRef],
+) -> Result<(), AllocError>
+    ensures added { OnOk result (wires.new ≡ wires.old ++ map (wire_to requirement) (by_value candidates.now (value_made (decided_in course.now) (choose host requirement)))) }
+{
+    match chosen(course, host, requirement, candidates) {
+        Some(capability) => {
+            wires.push(Wire {
+                requirement,
+                capability,
+            })?;
+            Ok(())
+        }
+        None => Ok(()),
+    }
+}
+
+/// Adds the wires of a requirement of a member's payload, in the order of its candidates.
+fn add_requirement(
+    wires: &mut List<Wire>,
+    lists: &Lists,
+    course: &Course,
+    host: RevisionId,
+    requirement: ReqRef,
+) -> Result<(), AllocError>
+    requires right { AreRight lists.now }
+    ensures added { OnOk result ((P : Problem) → IsReady P lists.now course.now → In host course.now.ids.items → In requirement (payload P (decided_in course.now) host) → wires.new ≡ wires.old ++ wires_for P (decided_in course.now) host requirement) }
+{
+    if !lists.offers.known().is_effective(requirement) {
+        return Ok(());
+    }
+    let candidates = lists.candidates(requirement);
+    if lists.offers.known().is_multiple(requirement) {
+        add_picked(wires, course, host, requirement, candidates)?;
+    } else {
+        add_chosen(wires, course, host, requirement, candidates)?;
+    }
+    Ok(())
+}
+
+/// Adds those of an owner of the payload.
+fn add_owner(
+    wires: &mut List<Wire>,
+    lists: &Lists,
+    course: &Course,
+    host: RevisionId,
+    owner: RevisionId,
+) -> Result<(), AllocError>
+    requires right { AreRight lists.now }
+    ensures added { OnOk result ((P : Problem) → IsReady P lists.now course.now → In host course.now.ids.items → IsOwner P course.now host owner → wires.new ≡ wires.old ++ flat_map (wires_for P (decided_in course.now) host) (own_requirements P.world.known owner)) }
+{
+    for index in 0..lists.offers.known().requirement_count(owner) {
+        let requirement = ReqRef {
+            owner,
+            index: index as u32,
+        };
+        add_requirement(wires, lists, course, host, requirement)?;
+    }
+    Ok(())
+}
+
+/// Adds those of several owners.
+fn add_owners(
+    wires: &mut List<Wire>,
+    lists: &Lists,
+    course: &Course,
+    host: RevisionId,
+    owners: &[RevisionId],
+) -> Result<(), AllocError>
+    requires right { AreRight lists.now }
+    ensures added { OnOk result ((P : Problem) → IsReady P lists.now course.now → In host course.now.ids.items → ((o : RevisionId) → In o owners.now → IsOwner P course.now host o) → wires.new ≡ wires.old ++ flat_map (wires_for P (decided_in course.now) host) (requirements_of P.world.known owners.now)) }
+{
+    for owner in owners {
+        add_owner(wires, lists, course, host, *owner)?;
+    }
+    Ok(())
+}
+
+/// The wiring of a member, as far as decided.
+fn wiring_of(
+    alloc: Global,
+    lists: &Lists,
+    course: &Course,
+    member: RevisionId,
+) -> Result<Wiring, AllocError>
+    requires right { AreRight lists.now }
+    ensures wiring { IfOk result (λ made. (P : Problem) → IsReady P lists.now course.now → In member course.now.ids.items → made ≡ wiring P (decided_in course.now) member) }
+{
+    let fragments = fragments(alloc, &lists.offers, course, member)?;
+    let mut wires = List::new(alloc)?;
+    add_owner(&mut wires, lists, course, member, member)?;
+    add_owners(&mut wires, lists, course, member, fragments.as_slice())?;
+    Ok(Wiring {
+        revision: member,
+        wires,
+        fragments: List::from(fragments),
+    })
+}
+
+/// The wirings that the decisions add.
+pub fn added(alloc: Global, lists: &Lists, course: &Course) -> Result<List<Wiring>, AllocError>
+    requires right { AreRight lists.now }
+    ensures added { IfOk result (λ list. (P : Problem) → IsReady P lists.now course.now → list ≡ partial.added P (decided_in course.now)) }
+{
+    let mut list = List::new(alloc)?;
+    for member in &course.ids {
+        list.push(wiring_of(alloc, lists, course, *member)?)?;
+    }
+    Ok(list)
+}

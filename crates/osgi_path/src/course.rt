@@ -1,0 +1,37 @@
+//! The decisions that are made and those that are due next.
+
+ghost use Rattle.std.specs.Prelude.{◌≡◌, ◌+◌, ◌<◌, ◌≤◌, length, slice_get};
+
+use crate::decision::Decision;
+use crate::step::Step;
+use osgi_base::ids::RevisionId;
+
+/// A decision with its value, what it added, and how far the course was before it.
+#[derive(Clone, Copy, Debug, PartialEq, Eq)]
+pub struct Mark {
+    pub decision: Decision,
+    pub value: u64,
+    pub step: Option<Step>,
+    pub ids: usize,
+    pub queue: usize,
+    pub last: usize,
+}
+
+/// The members in order, the decisions of the first of them up to the one at place `last`, one member after another, and what
+/// was made of these decisions so far.
+#[derive(Drop)]
+pub struct Course {
+    pub ids: Vec<RevisionId>,
+    pub queue: Vec<Decision>,
+    pub last: usize,
+    pub marks: Vec<Mark>,
+}
+
+impl Course {
+    /// The next decision, if one is left.
+    pub fn next(&self) -> Option<Decision>
+        ensures next { result ≡ slice_get self.now.queue.items (length self.now.marks.items) }
+    {
+        self.queue.get(self.marks.len()).copied()
+    }
+}

@@ -1,0 +1,2 @@
+-- What a resolve answers.
+pub mod Answers

@@ -1,0 +1,28 @@
+//! What a resolve answers.
+
+use osgi_base::list::List;
+use osgi_world::wiring::{ReqRef, Wiring};
+
+/// Why nothing can be chosen.
+#[derive(Clone, Copy, Debug, PartialEq, Eq)]
+pub enum Cause {
+    /// The first mandatory requirement of the root itself that has no candidate.
+    NoCandidate(ReqRef),
+    /// Each mandatory requirement of the root has candidates, and still no choice is consistent.
+    Clash,
+}
+
+#[derive(Debug, Drop, PartialEq, Eq)]
+pub enum Answer {
+    /// The first good word, and the wirings that it adds.
+    Found {
+        word: List<u64>,
+        added: List<Wiring>,
+    },
+    /// No consistent wirings extend the present ones and contain the root.
+    NoWord(Cause),
+    /// The effort is above the budget.
+    Spent {
+        visited: u64,
+    },
+}

@@ -1,0 +1,10 @@
+//! The resolver: which wirings a bundle is to get, or why it can have none.
+#![tactic(auto)]
+
+mod answer;
+mod lacking;
+mod resolving;
+mod walk;
+
+pub use answer::{Answer, Cause};
+pub use resolving::resolve;

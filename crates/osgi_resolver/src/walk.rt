@@ -1,0 +1,60 @@
+//! A walk over the words of the problem of resolving a root in a world.
+
+ghost use Rattle.std.specs.Prelude.{◌≡◌};
+ghost use Rattle.osgi_problem.specs.WorldProblems.{the_problem};
+
+use osgi_hopeless::is_hopeless;
+use osgi_path::Path;
+use osgi_search::Walker;
+use std::alloc::{AllocError, Global};
+use std::marker::Model;
+
+/// A path of the problem that lists all candidates. Contracts see where the path stands.
+#[derive(Drop)]
+pub struct Walk<'w> {
+    pub alloc: Global,
+    pub path: Path<'w>,
+}
+
+impl<'w> Model for Walk<'w> {
+    ghost use Rattle.std.specs.Coded.{codes};
+    ghost use Rattle.osgi_model.specs.contracts.filter.Filter as filter;
+    ghost use Rattle.osgi_model.specs.contracts.value.Value as value;
+    ghost use Rattle.osgi_path.specs.Standing.{Standing};
+    ghost use Rattle.osgi_problem.specs.WorldProblems.{the_problem};
+    ghost use Rattle.osgi_world.specs.Candidates.{IsProblem};
+
+    ghost Value = { Standing };
+
+    ghost coded = { Prim.hlevel (codes, filter.the_row.coded, value.the_row.coded) };
+
+    ghost view = { λ w. w.path };
+
+    ghost invariant = { λ w. IsProblem (the_problem w.path.world w.path.root) };
+}
+
+impl<'w> Walker for Walk<'w> {
+    ghost problem = { λ s. the_problem s.world s.root };
+
+    ghost word = { λ s. s.word };
+
+    fn is_hopeless(&self) -> Result<bool, AllocError> {
+        is_hopeless(self.alloc, &self.path)
+    }
+
+    fn is_complete(&self) -> bool {
+        self.path.is_complete()
+    }
+
+    fn values(&self) -> u64 {
+        self.path.values()
+    }
+
+    fn longer(&mut self, value: u64) -> Result<(), AllocError> {
+        self.path.longer(value)
+    }
+
+    fn shorter(&mut self) -> Option<u64> {
+        self.path.shorter()
+    }
+}
