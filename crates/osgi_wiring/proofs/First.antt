@@ -1,11 +1,14 @@
 -- The world of the system bundle alone is consistent.
 use Rattle.std.proofs.Common.{◌≡◌, ℕ, ◌<◌, ◌≤◌, inl, inr, IsTrue, List, [], ◌∷◌, Option, Some, None, refl, sym, ◌∙◌, ap, subst, arith}
-use Rattle.std.specs.Prelude.{IsNone, length, is_some}
+use Rattle.std.specs.Prelude.{Bool, true, false, cond, ◌==◌, IsNone, length, map, is_some}
+use Rattle.std.specs.List.Sorted.{IsNonDecreasing}
+use Rattle.std.specs.Option.{option_map, option_map_or}
+use Rattle.std.proofs.lemmas.Bool.{eqb-true}
 use Rattle.std.proofs.lemmas.List.Elements.{All-nil, All-push}
 use Rattle.osgi_base.specs.declared.ids.RevisionId.{RevisionId}
 use Rattle.osgi_world.specs.Consistency.{AreDouble, Consistent}
 use Rattle.osgi_world.specs.Lists.{In, Two}
-use Rattle.osgi_world.specs.Lookups.{IsKnown, is_fragment, requirement_count, symbolic_name}
+use Rattle.osgi_world.specs.Lookups.{bundle_of, IsKnown, is_current, is_fragment, requirement_count, symbolic_name}
 use Rattle.osgi_world.specs.Sources.{Clash, Implied, Sources, follows, seen}
 use Rattle.osgi_world.specs.Wirings.{Attached, HasRequirement, HasWire, InForce, InUse, IsWorld}
 use Rattle.osgi_world.specs.declared.requirement.Requirement.{Requirement}
@@ -15,6 +18,7 @@ use Rattle.osgi_world.specs.declared.wiring.Wire.{Wire}
 use Rattle.osgi_world.specs.declared.wiring.Wiring.{Wiring}
 use Rattle.osgi_world.specs.declared.world.Known.{Known}
 use Rattle.osgi_wiring.specs.States.{IsKeptWorld, NeedsNothing, first_known, first_wiring, first_world, id_of}
+use Rattle.osgi_wiring.specs.computed.Kept.{IsIndexed, puts}
 
 -- ---- wirings without wires
 
@@ -100,10 +104,33 @@ first-consistent system needs =
       satisfied = λ r w h. absurd (no-wires r w h);
     }
 
+only-one : (known : Known) (t : Bool) → IsTrue (option_map_or (λ (k : Known). k.current) (cond t (Some known) None) false) → t ≡ true
+only-one known true current = refl
+only-one known false current = absurd (cc current)
+
+first-current : (system : Revision) (r : RevisionId) → IsTrue (is_current (first_known system ∷ []) r) → r ≡ record { 0 = 0 }
+first-current system r current = λ i. record { 0 = sym (eqb-true 0 r.0 (only-one (first_known system) (0 == r.0) current)) i }
+
 pub kept-first : (system : Revision) → NeedsNothing system → IsKeptWorld (first_world system) 0
 kept-first system needs = record {
   is_world = first-is_world system needs;
   consistent = first-consistent system needs;
-  rising = λ k within. absurd (omega (arith, within));
+  ordered = record {
+    by_id = λ k within. absurd (omega (arith, within));
+    fragments_ordered = λ g i. subst (λ (g : Wiring). IsNonDecreasing (map (bundle_of (first_known system ∷ [])) g.fragments)) (sym (alone first_wiring g i)) (λ i j d le lt. absurd (omega (arith, lt)));
+    one_current = λ r s i j same. first-current system r i ∙ sym (first-current system s j);
+  };
   given = All-push (λ k. id_of k ≤ 0) [] (first_known system) (All-nil (λ k. id_of k ≤ 0)) (omega arith);
+}
+
+only-id : (known : Known) (t : Bool) → cond t (Some (id_of known)) None ≡ option_map id_of (cond t (Some known) None)
+only-id known true = refl
+only-id known false = refl
+
+-- its indices
+pub indexed-first : (system : Revision) (ids in_force : List ℕ) (current : ℕ → Option ℕ) → ids ≡ 0 ∷ [] → in_force ≡ 0 ∷ [] → ((b : ℕ) → current b ≡ puts b 0 0 None) → IsIndexed (first_world system) ids current in_force
+indexed-first system ids in_force current known wired put = record {
+  known = known;
+  current_ones = λ b. put b ∙ only-id (first_known system) (0 == b);
+  wired = wired;
 }

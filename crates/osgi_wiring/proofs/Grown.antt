@@ -43,18 +43,18 @@ counted-known K r count i none lt = none-known K r (λ o. i < count o) (λ l. om
 pub in_force-known : {K L : List Known} {W : List Wiring} (g : Grown K L W) {r : RevisionId} → InForce W r → IsKnown K r
 in_force-known {K = K} g i = subst (IsKnown K) i.revision (g.is_world.known i.wiring i.stands)
 
-host-known : (K : List Known) (f h : RevisionId) → IsTrue (is_host_of K f h) → IsKnown K f
+pub host-known : (K : List Known) (f h : RevisionId) → IsTrue (is_host_of K f h) → IsKnown K f
 host-known K f h t =
     none-known K f (λ o. IsTrue (option_map_or (λ fragment. option_map_or (λ host. matches_host fragment host) (revision_at K h) false) (option_map (λ (k : Known). k.revision) o) false)) (λ t. cc) t
 
-attached-known : {K L : List Known} {W : List Wiring} (g : Grown K L W) {r f : RevisionId} → Attached W r f → IsKnown K f
+pub attached-known : {K L : List Known} {W : List Wiring} (g : Grown K L W) {r f : RevisionId} → Attached W r f → IsKnown K f
 attached-known {K = K} g {r = r} {f = f} a = host-known K f r (g.consistent.coherent.attached r f a)
 
 owner-known : {K L : List Known} {W : List Wiring} (g : Grown K L W) (r o : RevisionId) → IsKnown K r → Owns W r o → IsKnown K o
 owner-known {K = K} g r o k (inl e) = subst (IsKnown K) (sym e) k
 owner-known g r o k (inr a) = attached-known g a
 
-use-known : {K L : List Known} {W : List Wiring} (g : Grown K L W) (r : RevisionId) → InUse W r → IsKnown K r
+pub use-known : {K L : List Known} {W : List Wiring} (g : Grown K L W) (r : RevisionId) → InUse W r → IsKnown K r
 use-known g r (inl i) = in_force-known g i
 use-known g r (inr a) = attached-known g a.1
 

@@ -2,3 +2,4 @@
 pub mod Grown
 pub mod Kept
 pub mod First
+pub mod Indexed

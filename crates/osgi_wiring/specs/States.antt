@@ -1,11 +1,13 @@
 -- The wirings in force as contracts see them: a world that is always consistent, how many revision ids were given, and for how
 -- many revisions more there is room.
-use Rattle.std.specs.Prelude.{ℕ, ◌≡◌, ◌≢◌, ◌≤◌, List, [], ◌∷◌, ◌++◌, All, IsNone, Some, map, true}
-use Rattle.std.specs.List.Sorted.{IsStrictlyIncreasing}
+use Rattle.std.specs.Prelude.{ℕ, ◌≡◌, ◌≢◌, ◌≤◌, ◌==◌, ◌&&◌, List, [], ◌∷◌, ◌++◌, All, IsNone, Option, Some, find, map, true}
+use Rattle.std.specs.List.Sorted.{IsNonDecreasing}
 use Rattle.osgi_base.specs.declared.ids.BundleId.{BundleId}
 use Rattle.osgi_base.specs.declared.ids.RevisionId.{RevisionId}
+use Rattle.osgi_world.specs.Candidates.{AreOrdered}
 use Rattle.osgi_world.specs.Consistency.{Consistent, Extends}
-use Rattle.osgi_world.specs.Lookups.{IsKnown, known_at}
+use Rattle.osgi_world.specs.Lists.{In}
+use Rattle.osgi_world.specs.Lookups.{bundle_of, IsKnown, known_at}
 use Rattle.osgi_world.specs.Wirings.{InForce, IsWorld}
 use Rattle.osgi_world.specs.declared.revision.Revision.{Revision}
 use Rattle.osgi_world.specs.declared.wiring.Wiring.{Wiring}
@@ -26,15 +28,26 @@ id_of known = known.id.0
 pub record IsKeptWorld (world : World) (issued : ℕ) : Type 0 where
   pub is_world : IsWorld world.known world.wirings
   pub consistent : Consistent world.known world.wirings
-  -- the known revisions stand by rising id, and each id was given
-  pub rising : IsStrictlyIncreasing (map id_of world.known)
+  -- the known revisions stand by rising id, the fragments of a wiring by bundle id, and a bundle has at most one current revision
+  pub ordered : AreOrdered world.known world.wirings
+  -- each id was given
   pub given : All (λ known. id_of known ≤ issued) world.known
 
--- the current revision of a bundle
-abbrev pub current_of : RevisionId → BundleId → Revision → Known
-current_of id bundle revision = record { id = id; bundle = bundle; current = true; revision = revision }
+-- ---- what is found
+
+-- the current revision of the bundle, if it has one
+abbrev pub current_in : List Known → BundleId → Option Known
+current_in K b = find (λ (k : Known). k.current && (k.bundle.0 == b.0)) K
+
+-- the wiring of the revision, if it is in force
+abbrev pub wiring_at : List Wiring → RevisionId → Option Wiring
+wiring_at W r = find (λ (g : Wiring). g.revision.0 == r.0) W
 
 -- ---- the first world
+
+-- a known revision that is the current one of its bundle
+abbrev pub current_of : RevisionId → BundleId → Revision → Known
+current_of id bundle revision = record { id = id; bundle = bundle; current = true; revision = revision }
 
 -- a revision that is no fragment and asks for nothing, dynamic imports aside
 pub record NeedsNothing (revision : Revision) : Type 0 where
@@ -68,7 +81,9 @@ pub record BecomesKnown (old new : World) (known : Known) : Type 0 where
 abbrev pub with_wirings : World → List Wiring → World
 with_wirings world added = record world { wirings = world.wirings ++ added }
 
--- the world with these wirings more extends the world, for some revision that is in force then
+-- the world with these wirings more extends the world, for some revision that is in force then, and their fragments stand by
+-- bundle id
 pub record MayExtend (world : World) (added : List Wiring) : Type 0 where
   pub root : RevisionId
   pub extends : Extends world.known world.wirings (world.wirings ++ added) root
+  pub fragments_ordered : (g : Wiring) → In g added → IsNonDecreasing (map (bundle_of world.known) g.fragments)
