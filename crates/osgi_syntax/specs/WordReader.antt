@@ -1,7 +1,8 @@
 -- What words that are names or ids are read as.
-use Rattle.std.specs.Prelude.{ℕ, ◌==◌, ◌&&◌, nat_le, if◌then◌else◌, Bool, false, List, [], ◌∷◌, length, Option, None, Some}
+use Rattle.std.specs.Prelude.{ℕ, ◌==◌, ◌&&◌, ◌^◌, nat_le, nat_lt, if◌then◌else◌, Bool, false, List, [], ◌∷◌, length, Option, None, Some}
 use Rattle.std.specs.List.{list_all, slice_split}
 use Rattle.std.specs.Str.Parse.{digits_value}
+use Rattle.osgi_base.specs.declared.ids.BundleId.{BundleId}
 use Rattle.osgi_base.specs.declared.ids.ServiceId.{ServiceId}
 use Rattle.osgi_model.specs.computed.LongReader.{is_numeral}
 use Rattle.osgi_syntax.specs.Words.{begins_name, is_class_byte, is_name_byte, is_token_byte}
@@ -44,3 +45,11 @@ bundle_name_of word = if is_bundle_name word then Some word else None
 
 abbrev pub id_of : List ℕ → Option ServiceId
 id_of word = if nat_le (length word) 10 && is_numeral word then Some (record { 0 = digits_value 10 word }) else None
+
+-- the bundle with the same number, where it is below 2^32
+abbrev pub bundle_by : Option ServiceId → Option BundleId
+bundle_by None = None
+bundle_by (Some number) = if nat_lt number.0 (2 ^ 32) then Some (record { 0 = number.0 }) else None
+
+abbrev pub bundle_id_of : List ℕ → Option BundleId
+bundle_id_of word = bundle_by (id_of word)

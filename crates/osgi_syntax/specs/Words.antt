@@ -1,7 +1,8 @@
 -- The words of a line: how spaces separate them, and what each kind of them stands for.
-use Rattle.std.specs.Prelude.{ℕ, ◌≡◌, ◌<◌, ◌≤◌, ◌==◌, ◌||◌, ◌&&◌, nat_le, Bool, true, List, [], ◌∷◌, ◌++◌, length, All}
+use Rattle.std.specs.Prelude.{ℕ, ◌≡◌, ◌<◌, ◌≤◌, ◌^◌, ◌==◌, ◌||◌, ◌&&◌, nat_le, Bool, true, List, [], ◌∷◌, ◌++◌, length, All}
 use Rattle.std.specs.List.{AllPass, join_with_byte}
 use Rattle.std.specs.Str.Parse.{IsNumeral, digits_value}
+use Rattle.osgi_base.specs.declared.ids.BundleId.{BundleId}
 use Rattle.osgi_base.specs.declared.ids.ServiceId.{ServiceId}
 
 abbrev pub AreSpaces : List ℕ → Type 0
@@ -70,3 +71,10 @@ pub record IsId (word : List ℕ) (service : ServiceId) : Type 0 where
   pub numeral : IsNumeral 10 word
   pub short : length word ≤ 10
   pub number : service.0 ≡ digits_value 10 word
+
+-- the word is one to ten decimal digits of a number below 2^32, and the bundle has their number
+pub record IsBundleId (word : List ℕ) (bundle : BundleId) : Type 0 where
+  pub numeral : IsNumeral 10 word
+  pub short : length word ≤ 10
+  pub fits : digits_value 10 word < 2 ^ 32
+  pub number : bundle.0 ≡ digits_value 10 word
