@@ -3,7 +3,7 @@ use Rattle.std.proofs.Common.{◌≡◌, ◌↔◌, List, sym, subst}
 use Rattle.osgi_candidates.specs.computed.Collecting.{AreCandidates}
 use Rattle.osgi_candidates.specs.computed.Fitting.{IsFit, bare}
 use Rattle.osgi_choice.proofs.Preferred.{candidates-one}
-use Rattle.osgi_world.specs.Candidates.{HasCandidates, IsCandidate, IsProblem, candidates}
+use Rattle.osgi_world.specs.Candidates.{CanBeAsked, IsCandidate, IsProblem, candidates}
 use Rattle.osgi_world.specs.declared.problem.Problem.{Problem}
 use Rattle.osgi_world.specs.declared.wiring.CapRef.{CapRef}
 use Rattle.osgi_world.specs.declared.wiring.ReqRef.{ReqRef}
@@ -19,9 +19,9 @@ same_candidate P q c = (
   λ x. record { satisfies = x.satisfies; current = x.current; no_fragment = x.no_fragment; not_owner = x.not_owner; stands = x.stands },
 )
 
-pub candidates_same : (P : Problem) (w : World) (q : ReqRef) (cs : List CapRef) → IsProblem P → P.world ≡ w → HasCandidates P.world.known q → (IsFit w → HasCandidates w.known q → AreCandidates w q cs) → cs ≡ candidates P q
+pub candidates_same : (P : Problem) (w : World) (q : ReqRef) (cs : List CapRef) → IsProblem P → P.world ≡ w → CanBeAsked P.world.known q → (IsFit w → CanBeAsked w.known q → AreCandidates w q cs) → cs ≡ candidates P q
 candidates_same P w q cs L same has exact =
-    let here : IsFit P.world → HasCandidates P.world.known q → AreCandidates P.world q cs = subst (λ (v : World). IsFit v → HasCandidates v.known q → AreCandidates v q cs) (sym same) exact in
+    let here : IsFit P.world → CanBeAsked P.world.known q → AreCandidates P.world q cs = subst (λ (v : World). IsFit v → CanBeAsked v.known q → AreCandidates v q cs) (sym same) exact in
     let are = here (fit_of P L) has in
     candidates-one P L q has cs
     (λ c. (λ i. (same_candidate P q c).0 ((are.are c).0 i), λ x. (are.are c).1 ((same_candidate P q c).1 x)))

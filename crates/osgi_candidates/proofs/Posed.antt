@@ -9,7 +9,7 @@ use Rattle.osgi_candidates.proofs.Answering.{same_candidate}
 use Rattle.osgi_choice.proofs.Lists.{and-both, in-append_left, in-append_right}
 use Rattle.osgi_choice.proofs.Values.{find-none, find-some, nat-same, place-eq, ref-eq, rev-eq}
 use Rattle.osgi_coherence.proofs.Grow.{in_either, in_more}
-use Rattle.osgi_world.specs.Candidates.{HasCandidates, IsPreferred, IsProblem, IsUnresolved, same_place}
+use Rattle.osgi_world.specs.Candidates.{CanBeAsked, IsPreferred, IsProblem, IsUnresolved, same_place}
 use Rattle.osgi_world.specs.Lists.{In, Two}
 use Rattle.osgi_world.specs.Lookups.{known_at, requirement_count}
 use Rattle.osgi_world.specs.declared.problem.Choice.{Choice}
@@ -21,10 +21,10 @@ use Rattle.osgi_world.specs.declared.world.Known.{Known}
 use Rattle.osgi_world.specs.declared.world.World.{World}
 
 module _ (w : World) where
-  pub asked_none : (list : List Choice) (Asked : ReqRef → Type 0) → ((q : ReqRef) → Asked q → ¬ HasCandidates w.known q) → AddsAsked w Asked list list
+  pub asked_none : (list : List Choice) (Asked : ReqRef → Type 0) → ((q : ReqRef) → Asked q → ¬ CanBeAsked w.known q) → AddsAsked w Asked list list
   asked_none list Asked never = record { good = λ g. g; kept = λ c i. i; added = λ q a has. absurd (never q a has) }
 
-  pub asked_one : (old new : List Choice) (q : ReqRef) (cs : List CapRef) → HasCandidates w.known q → AreCandidates w q cs → new ≡ old ++ record { requirement = q; candidates = cs } ∷ [] → AddsChoice w q old new
+  pub asked_one : (old new : List Choice) (q : ReqRef) (cs : List CapRef) → CanBeAsked w.known q → AreCandidates w q cs → new ≡ old ++ record { requirement = q; candidates = cs } ∷ [] → AddsChoice w q old new
   asked_one old new q cs has are is =
       let one : Choice = record { requirement = q; candidates = cs } in
       record {
@@ -33,7 +33,7 @@ module _ (w : World) where
         added = λ n e h. (one, subst (λ l. In one l) (sym is) (in-append_right old (one ∷ []) one (inl refl)), sym e);
       }
 
-  pub asked_like : (old new : List Choice) (Asked Also : ReqRef → Type 0) → ((q : ReqRef) → Also q → HasCandidates w.known q → Asked q) → AddsAsked w Asked old new → AddsAsked w Also old new
+  pub asked_like : (old new : List Choice) (Asked Also : ReqRef → Type 0) → ((q : ReqRef) → Also q → CanBeAsked w.known q → Asked q) → AddsAsked w Asked old new → AddsAsked w Also old new
   asked_like old new Asked Also from x = record { good = x.good; kept = x.kept; added = λ q a h. x.added q (from q a h) h }
 
   pub asked_two : (a b d : List Choice) (S T : ReqRef → Type 0) → AddsAsked w S a b → AddsAsked w T b d → AddsAsked w (λ q. S q ⊎ T q) a d
@@ -101,7 +101,7 @@ module _ (P : Problem) (are : AreChoices P.world P.choices) where
   abbrev list : Option Choice → List CapRef
   list o = option_map_or (λ (c : Choice). c.candidates) o []
 
-  listed-at : (q : ReqRef) (o : Option Choice) → found q ≡ o → HasCandidates P.world.known q → AreCandidates P.world q (list o)
+  listed-at : (q : ReqRef) (o : Option Choice) → found q ≡ o → CanBeAsked P.world.known q → AreCandidates P.world q (list o)
   listed-at q None e has =
       let h = are.all q has in
       absurd (find-none (λ (c : Choice). same_place c.requirement q) P.choices h.0 e h.1 (subst (λ n. IsTrue (same_place n q)) (sym h.2) (same-self q)))

@@ -19,7 +19,7 @@ use Rattle.std.specs.BTreeSet.{BTreeSet}
 use Rattle.osgi_version.specs.RangeValues.{is_within, range_parts}
 use Rattle.osgi_version.specs.VersionValues.{parts}
 use Rattle.std.specs.Prelude.{is_none}
-use Rattle.osgi_world.specs.Candidates.{HasCandidates, IsCandidate}
+use Rattle.osgi_world.specs.Candidates.{CanBeAsked, IsCandidate}
 use Rattle.osgi_world.specs.Lists.{In}
 use Rattle.osgi_world.specs.Lookups.{IsKnown, SatisfiesAs, dynamic_count, is_dynamic, is_effective, is_host_of, known_at, requirement_at, requirement_count, revision_at, symbolic_name}
 use Rattle.osgi_world.specs.Satisfaction.{is_host_for, matches_host}
@@ -143,11 +143,11 @@ less-not : (a b : ℕ) → a < b → (not (nat_lt a b)) ≡ false
 less-not a b h = grind (arith, h)
 
 -- they are no dynamic imports
-pub has_requirement : (K : List Known) (q : ReqRef) → HasCandidates K q → is_dynamic K q ≡ false
+pub has_requirement : (K : List Known) (q : ReqRef) → CanBeAsked K q → is_dynamic K q ≡ false
 has_requirement K q has = ap (λ b. b && nat_lt q.index (requirement_count K q.owner + dynamic_count K q.owner)) (less-not q.index (requirement_count K q.owner) has.known)
 
 -- and they are there
-pub no_candidates : (K : List Known) (q : ReqRef) → requirement_at K q ≡ None → ¬ HasCandidates K q
+pub no_candidates : (K : List Known) (q : ReqRef) → requirement_at K q ≡ None → ¬ CanBeAsked K q
 no_candidates K q none has =
     let no : is_effective K q ≡ false = ap (λ o. option_map_or (λ (n : Requirement). n.effective) o false) none in
     let yes : is_effective K q ≡ true = has.effective in

@@ -3,7 +3,7 @@
 ghost use Rattle.std.specs.Prelude.{◌≡◌, ◌↔◌, IfOk, IsTrue, OnOk};
 ghost use Rattle.osgi_candidates.specs.computed.Choices.{AddsChoice, AddsChoices, AreChoices};
 ghost use Rattle.osgi_candidates.specs.computed.Fitting.{IsFit};
-ghost use Rattle.osgi_world.specs.Candidates.{AreOrdered, HasCandidates, IsProblem, IsUnresolved};
+ghost use Rattle.osgi_world.specs.Candidates.{AreOrdered, CanBeAsked, IsProblem, IsUnresolved};
 ghost use Rattle.osgi_world.specs.Consistency.{Consistent};
 ghost use Rattle.osgi_world.specs.Wirings.{IsWorld};
 
@@ -88,7 +88,7 @@ fn add_choice(
 
 /// Whether it is an effective requirement of a current revision.
 fn has_candidates(known: &KnownIndex, at: ReqRef) -> bool
-    ensures has { IsTrue result ↔ HasCandidates known.now at }
+    ensures has { IsTrue result ↔ CanBeAsked known.now at }
 {
     known.is_current(at.owner)
         && (at.index as usize) < known.requirement_count(at.owner)

@@ -3,7 +3,7 @@
 ghost use Rattle.std.specs.Prelude.{◌≡◌, IfOk, OnOk};
 ghost use Rattle.osgi_candidates.specs.computed.Collecting.{AreCandidates, Asks, Collects, Extends, IsAt, IsAtOf, IsOf};
 ghost use Rattle.osgi_candidates.specs.computed.Fitting.{IsFit};
-ghost use Rattle.osgi_world.specs.Candidates.{HasCandidates};
+ghost use Rattle.osgi_world.specs.Candidates.{CanBeAsked};
 
 use crate::names::Place;
 use crate::offers::Offers;
@@ -17,7 +17,7 @@ use std::collections::BTreeSet;
 impl Offers<'_> {
     /// The candidates of a requirement, the preferred first. Of a dynamic import nothing is said.
     pub fn listed(&self, alloc: Global, at: ReqRef) -> Result<Vec<CapRef>, AllocError>
-        ensures exact { IfOk result (λ list. IsFit self.now → HasCandidates self.now.known at → AreCandidates self.now at list.items) }
+        ensures exact { IfOk result (λ list. IsFit self.now → CanBeAsked self.now.known at → AreCandidates self.now at list.items) }
     {
         match self.known.requirement(at) {
             Some(requirement) => {

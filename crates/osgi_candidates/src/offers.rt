@@ -4,7 +4,7 @@ ghost use Rattle.std.specs.Prelude.{◌≡◌, ◌↔◌, IfOk, IsTrue};
 ghost use Rattle.osgi_base.specs.declared.ids.RevisionId.{RevisionId};
 ghost use Rattle.osgi_candidates.specs.computed.Holding.{AreHeld};
 ghost use Rattle.osgi_candidates.specs.computed.Names.{AreNames};
-ghost use Rattle.osgi_world.specs.Candidates.{HasCandidates, IsProblem, candidates, matching};
+ghost use Rattle.osgi_world.specs.Candidates.{CanBeAsked, IsProblem, candidates, matching};
 ghost use Rattle.osgi_world.specs.Lists.{In};
 ghost use Rattle.osgi_world.specs.Lookups.{IsKnown, symbolic_name};
 ghost use Rattle.osgi_world.specs.Wirings.{InForce, InUse};
@@ -98,7 +98,7 @@ impl<'w> Offers<'w> {
 
     /// The candidates of a requirement, the preferred first.
     pub fn candidates(&self, alloc: Global, requirement: ReqRef) -> Result<Vec<CapRef>, AllocError>
-        ensures candidates { IfOk result (λ list. (P : Problem) → IsProblem P → P.world ≡ self.now → HasCandidates P.world.known requirement → list.items ≡ candidates P requirement) }
+        ensures candidates { IfOk result (λ list. (P : Problem) → IsProblem P → P.world ≡ self.now → CanBeAsked P.world.known requirement → list.items ≡ candidates P requirement) }
     {
         let list = self.listed(alloc, requirement)?;
         Ok(list)

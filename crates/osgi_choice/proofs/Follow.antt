@@ -1,7 +1,7 @@
 -- Wirings that extend the present ones, cut down to what is reached from the root, are those of a complete word.
 use Rattle.std.proofs.Common.{◌≡◌, ◌≢◌, ℕ, zero, suc, ◌<◌, ◌⊎◌, inl, inr, Bool, true, false, IsTrue, if◌then◌else◌, List, [], ◌∷◌, ◌++◌, length, map, None, Some, refl, sym, ◌∙◌, ap, ap₂, subst, arith}
 use Rattle.osgi_base.specs.declared.ids.RevisionId.{RevisionId}
-use Rattle.osgi_world.specs.Candidates.{HasCandidates, IsCandidate, IsProblem, candidates, matching}
+use Rattle.osgi_world.specs.Candidates.{CanBeAsked, IsCandidate, IsProblem, candidates, matching}
 use Rattle.osgi_world.specs.Consistency.{AreDouble, Consistent, Extends, MayJoin}
 use Rattle.osgi_world.specs.Decisions.{Decision, Made, Step, adds, arity, attaching, attached, choose, host, menu, pick, value_made, wired, wired_to}
 use Rattle.osgi_world.specs.DueDecisions.{fragments_of, is_in_force, members, next_decision, payload, provider_of, pulled}
@@ -114,7 +114,7 @@ abbrev pub Holds : List Wiring → Step → Type 0
 Holds V (attached h f) = Attached V h f
 Holds V (wired r w) = HasWire V r w
 
--- the value_made adds just what V has of all that the decision can add
+-- the value adds just what V has of all that the decision can add
 pub record Agrees (P : Problem) (V : List Wiring) (d : Decision) (v : ℕ) : Type 0 where
   pub within : (s : Step) → In s (adds P d v) → Holds V s
   pub whole : (u : ℕ) (s : Step) → In s (adds P d u) → Holds V s → In s (adds P d v)
@@ -160,7 +160,7 @@ follows-more P V D d v f j a = record {
   ];
 }
 
--- ---- the next_decision value_made
+-- ---- the next value
 
 -- where there is one step to decide on
 yes-agrees : (P : Problem) (V : List Wiring) (d : Decision) (s : Step) → menu P d ≡ ((s ∷ []) ∷ [] ∷ []) → Holds V s → Agrees P V d 0
@@ -222,14 +222,14 @@ place-agrees P L V x h q k w has e v p = record {
     not-multiple t = cc
 
 -- a requirement that V's payload of a revision has which it adds can be asked
-added-asked : (P : Problem) → IsProblem P → (V : List Wiring) → Extends P.world.known P.world.wirings V P.root → (h : RevisionId) (q : ReqRef) → ¬ InForce P.world.wirings h → InForce V h → HasRequirement P.world.known V h q → IsTrue (is_effective P.world.known q) → HasCandidates P.world.known q
+added-asked : (P : Problem) → IsProblem P → (V : List Wiring) → Extends P.world.known P.world.wirings V P.root → (h : RevisionId) (q : ReqRef) → ¬ InForce P.world.wirings h → InForce V h → HasRequirement P.world.known V h q → IsTrue (is_effective P.world.known q) → CanBeAsked P.world.known q
 added-asked P L V x h q new i has eff = record { current = owner has.0; known = has.1; effective = eff }
   where
     owner : Owns V h q.owner → IsTrue ((is_current P.world.known) q.owner)
     owner (inl s) = subst (λ y. IsTrue ((is_current P.world.known) y)) (i.revision ∙ sym s) (added P V x h new i.wiring i.stands i.revision).current
     owner (inr a) = (added P V x h new a.wiring a.stands a.revision).fragments_current q.owner a.has
 
-wire-place : (P : Problem) → IsProblem P → (V : List Wiring) → Extends P.world.known P.world.wirings V P.root → (h : RevisionId) (q : ReqRef) → (is_multiple P.world.known q) ≡ false → ¬ InForce P.world.wirings h → HasCandidates P.world.known q → (w : Wire) → HasWire V h w → w.requirement ≡ q →
+wire-place : (P : Problem) → IsProblem P → (V : List Wiring) → Extends P.world.known P.world.wirings V P.root → (h : RevisionId) (q : ReqRef) → (is_multiple P.world.known q) ≡ false → ¬ InForce P.world.wirings h → CanBeAsked P.world.known q → (w : Wire) → HasWire V h w → w.requirement ≡ q →
     (v : ℕ) × (v < arity P (choose h q)) × Agrees P V (choose h q) v
 wire-place P L V x h q k new asked w has e =
     let c = subst (λ n. IsCandidate P n w.capability) e (added-candidate P L V x h w new has) in
@@ -266,7 +266,7 @@ agree-choose P L V x h q k new i has eff (inr never) (inr m) =
     let w = x.consistent.coherent.mandatory h q i has (record { effective = eff; mandatory = λ t. cc }) in
     absurd (never (record { wire = w.0; has = w.1; is_for = w.2 }))
 
--- some value_made of a due decision agrees with V
+-- some value of a due decision agrees with V
 pub agree-due : (P : Problem) → IsProblem P → (V : List Wiring) → Extends P.world.known P.world.wirings V P.root → (D : Made) → Follows P V D → (d : Decision) → Joins P V (host d) → IsDue P D (host d) d → (v : ℕ) × (v < arity P d) × Agrees P V d v
 agree-due P L V x D f (attaching h g) j i = agree-one P V (attaching h g) (attached h g) refl (attached-dec V h g)
 agree-due P L V x D f (choose h q) j i =
@@ -282,7 +282,7 @@ follows-next P L V x D f d n =
     let a = agree-due P L V x D f d j (subst (λ m. IsDue P D m d) same u.2) in
     (a.0, a.1, follows-more P V D d a.0 f j a.2)
 
--- ---- item_at the end
+-- ---- at the end
 
 zero-entry : (s : Step) (v : ℕ) → In s (entry ((s ∷ []) ∷ [] ∷ []) v) → v ≡ 0
 zero-entry s zero i = refl

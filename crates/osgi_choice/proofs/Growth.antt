@@ -51,7 +51,7 @@ in_force-kept P D d v r h = elim (in_force-cases P D r h) [
 
 -- ---- what is closed
 
--- the next_decision decision is none of a closed revision's that count
+-- the next decision is none of a closed revision's that count
 closed-not_next : (P : Problem) → IsProblem P → (D : Made) (d : Decision) → next_decision P D ≡ Some d → IsDecided P D (host d) → IsSpatial P d → ⊥
 closed-not_next P L D d n (inl o) s =
     let x = next-due P D d n in

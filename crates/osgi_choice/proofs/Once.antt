@@ -4,7 +4,7 @@ use Rattle.std.specs.List.{list_any}
 use Rattle.std.specs.Option.{option_map_or}
 use Rattle.osgi_base.specs.declared.ids.BundleId.{BundleId}
 use Rattle.osgi_base.specs.declared.ids.RevisionId.{RevisionId}
-use Rattle.osgi_world.specs.Candidates.{AreOrdered, HasCandidates, IsCandidate, IsProblem, candidates}
+use Rattle.osgi_world.specs.Candidates.{AreOrdered, CanBeAsked, IsCandidate, IsProblem, candidates}
 use Rattle.osgi_world.specs.ChoiceWords.{FitsFrom, IsGood, IsWord, arity_of, decide, made_after, made_by, make, partial_of, width}
 use Rattle.osgi_world.specs.Consistency.{Extends, ExtendsWorld}
 use Rattle.osgi_world.specs.Decisions.{Decision, Made, attaching, choose, host, is_open, is_yes, menu, pick, value_made, wired_to}
@@ -61,17 +61,17 @@ module _ (P : Problem) (cs : List Choice) (L : IsProblem P) (M : IsProblem (othe
   candidate-from : (q : ReqRef) (c : CapRef) → IsCandidate (other P cs) q c → IsCandidate P q c
   candidate-from q c is = record { satisfies = is.satisfies; current = is.current; no_fragment = is.no_fragment; not_owner = is.not_owner; stands = is.stands }
 
-  candidates-same : (q : ReqRef) → HasCandidates P.world.known q → candidates P q ≡ candidates (other P cs) q
+  candidates-same : (q : ReqRef) → CanBeAsked P.world.known q → candidates P q ≡ candidates (other P cs) q
   candidates-same q a =
       sym (candidates-one P L q a (candidates (other P cs) q)
       (λ c. (λ i. candidate-from q c ((M.candidates_are q c a).0 i), λ i. (M.candidates_are q c a).1 (candidate-to q c i))) (M.candidates_ordered q))
 
   -- ---- decisions
 
-  decisions-same : (h : RevisionId) (q : ReqRef) → HasCandidates P.world.known q → decisions_of P h q ≡ decisions_of (other P cs) h q
+  decisions-same : (h : RevisionId) (q : ReqRef) → CanBeAsked P.world.known q → decisions_of P h q ≡ decisions_of (other P cs) h q
   decisions-same h q a = ap (λ l. if is_multiple P.world.known q then map (pick h q) l else choose h q ∷ []) (candidates-same q a)
 
-  asked : (D : Made) (m : RevisionId) → IsTrue (is_current P.world.known m) → (q : ReqRef) → In q (in_turn P (payload P D m)) → HasCandidates P.world.known q
+  asked : (D : Made) (m : RevisionId) → IsTrue (is_current P.world.known m) → (q : ReqRef) → In q (in_turn P (payload P D m)) → CanBeAsked P.world.known q
   asked D m c q i = let t = in_turn-in P (payload P D m) q i in payload-asked P L D m q c t.0 t.1
 
   due-same : (D : Made) (m : RevisionId) → IsTrue (is_current P.world.known m) → due P D m ≡ due (other P cs) D m

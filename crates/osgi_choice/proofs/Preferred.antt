@@ -1,7 +1,7 @@
 -- The order of candidates: it is strict, so that a requirement has one list of them.
 use Rattle.std.proofs.Common.{◌≡◌, ◌⊎◌, ◌↔◌, inl, inr, List, [], ◌∷◌, refl, sym, ◌∙◌, ap, subst, arith}
 use Rattle.osgi_base.specs.declared.ids.RevisionId.{RevisionId}
-use Rattle.osgi_world.specs.Candidates.{HasCandidates, IsCandidate, IsPreferred, IsProblem, candidates}
+use Rattle.osgi_world.specs.Candidates.{CanBeAsked, IsCandidate, IsPreferred, IsProblem, candidates}
 use Rattle.osgi_world.specs.Lists.{In, Two}
 use Rattle.osgi_world.specs.Lookups.{bundle_of}
 use Rattle.osgi_world.specs.declared.problem.Problem.{Problem}
@@ -60,5 +60,5 @@ ordered-once P L (c ∷ cs) (d ∷ ds) o p same =
     )))
 
 -- so a problem has one list of candidates for what can be asked
-pub candidates-one : (P : Problem) → IsProblem P → (q : ReqRef) → HasCandidates P.world.known q → (cs : List CapRef) → ((c : CapRef) → In c cs ↔ IsCandidate P q c) → IsOrdered P cs → cs ≡ candidates P q
+pub candidates-one : (P : Problem) → IsProblem P → (q : ReqRef) → CanBeAsked P.world.known q → (cs : List CapRef) → ((c : CapRef) → In c cs ↔ IsCandidate P q c) → IsOrdered P cs → cs ≡ candidates P q
 candidates-one P L q a cs is o = ordered-once P L cs (candidates P q) o (L.candidates_ordered q) (λ c. (λ i. (L.candidates_are q c a).1 ((is c).0 i), λ i. (is c).1 ((L.candidates_are q c a).0 i)))

@@ -157,7 +157,7 @@ pub queue-once : (P : Problem) → IsProblem P → (D : Made) → ¬ Two ◌≡�
 queue-once P L D t = members-once P D
     (two-flat_map (due P D) ◌≡◌ (due-once P L D) (λ a b y z i j e. sym (due-host P D a y (due-in P D a y i)) ∙ ap host e ∙ due-host P D b z (due-in P D b z j)) (members P D) t)
 
--- ---- what stands before the next_decision decision stays
+-- ---- what stands before the next decision stays
 
 cons-tail : {X : Type 0} (x y : X) (xs ys : List X) → (x ∷ xs) ≡ (y ∷ ys) → xs ≡ ys
 cons-tail x y xs ys e = cc
@@ -297,6 +297,6 @@ queued P L _ (step {D = D} {d = d} {v = v} s n r) =
     let is : queue P ((d, v) ∷ D) ≡ in_order ((d, v) ∷ D) ++ grown.0 = ap (flat_map (due P ((d, v) ∷ D))) new.1 ∙ grown.1 ∙ sym (append_assoc (in_order D) (d ∷ []) grown.0) in
     record { rest = grown.0; is = is; open_rest = rest-open P L ((d, v) ∷ D) grown.0 is }
 
--- so the next_decision decision is the first after them
+-- so the next decision is the first after them
 pub next-queued : (P : Problem) (D : Made) (q : IsQueued P D) → next_decision P D ≡ find (is_open D) q.rest
 next-queued P D q = ap (find (is_open D)) q.is ∙ find-behind D (in_order D) q.rest (in_order-made D)

@@ -2,7 +2,7 @@
 use Rattle.std.proofs.Common.{◌≡◌, ℕ, ◌<◌, ◌==◌, ◌⊎◌, inl, inr, Bool, true, false, not, ◌||◌, ◌&&◌, IsTrue, if◌then◌else◌, List, [], ◌∷◌, ◌++◌, map, flat_map, None, Some, refl, sym, ap, subst}
 use Rattle.std.specs.List.{list_any}
 use Rattle.osgi_base.specs.declared.ids.RevisionId.{RevisionId}
-use Rattle.osgi_world.specs.Candidates.{HasCandidates, IsProblem, candidates, matching}
+use Rattle.osgi_world.specs.Candidates.{CanBeAsked, IsProblem, candidates, matching}
 use Rattle.osgi_world.specs.Decisions.{Decision, IsMade, Made, Step, adds, arity, attaching, attached, choose, host, is_open, is_yes, menu, pick, same_decision, value_made, wired, wired_to}
 use Rattle.osgi_world.specs.DueDecisions.{attachments, decisions_of, due, fragments_of, in_turn, is_in_force, is_other, members, next_decision, of_kind, payload, provider_of, pull_in, pulled, queue}
 use Rattle.osgi_world.specs.Lists.{In, below}
@@ -263,7 +263,7 @@ due-host P D h d (attaches f i e) = ap host e
 due-host P D h d (chooses q i eff all m e) = ap host e
 due-host P D h d (picks q c i eff all m j e) = ap host e
 
--- the next_decision decision is due at a member, and not made
+-- the next decision is due at a member, and not made
 pub next-due : (P : Problem) (D : Made) (d : Decision) → next_decision P D ≡ Some d → (m : RevisionId) × In m (members P D) × IsDue P D m d × (value_made D d ≡ None)
 next-due P D d e =
     let f = find-some (is_open D) (queue P D) d e in
@@ -350,7 +350,7 @@ pub made-candidate : (P : Problem) (D : Made) → State P D → (d : Decision) (
 made-candidate P D s d v r w e i = due-candidate P D (host d) d v r w (sound P D s d v e).due i
 
 -- a requirement of a current revision's payload can be asked
-pub payload-asked : (P : Problem) → IsProblem P → (D : Made) (m : RevisionId) (q : ReqRef) → IsTrue ((is_current P.world.known) m) → In q (payload P D m) → IsTrue (is_effective P.world.known q) → HasCandidates P.world.known q
+pub payload-asked : (P : Problem) → IsProblem P → (D : Made) (m : RevisionId) (q : ReqRef) → IsTrue ((is_current P.world.known) m) → In q (payload P D m) → IsTrue (is_effective P.world.known q) → CanBeAsked P.world.known q
 payload-asked P L D m q c i e =
     let o = payload-in P D m q i in
     record { current = owner o.0; known = o.1; effective = e }

@@ -82,7 +82,7 @@ due-picked P D h q c (picks n d i eff all m j e) =
       subst (λ x. In c ((candidates P) x)) s (subst (λ x. In x ((candidates P) n)) (sym (pick-capability h q n c d e)) j),
     )
 
--- ---- what a value_made adds
+-- ---- what a value adds
 
 host_part : Step → RevisionId
 host_part (attached h f) = h

@@ -1,7 +1,6 @@
 //! Whether wires go to what is not on offer any more.
 
 ghost use Rattle.std.specs.Prelude.{◌↔◌, ℕ, List, IfOk, IsTrue};
-ghost use Rattle.osgi_base.specs.declared.ids.RevisionId.{RevisionId};
 ghost use Rattle.osgi_hopeless.specs.computed.Clashing.{HasLost, IsLost};
 ghost use Rattle.osgi_hopeless.specs.computed.Open.{AreUnsettled};
 ghost use Rattle.osgi_path.specs.Standing.{IsProblemOf, made};

@@ -5,7 +5,7 @@ use Rattle.std.specs.Option.{option_to_list}
 use Rattle.std.proofs.lemmas.Grind.{flat_map-append}
 use Rattle.std.proofs.lemmas.List.{map-append, take_more}
 use Rattle.osgi_base.specs.declared.ids.RevisionId.{RevisionId}
-use Rattle.osgi_world.specs.Candidates.{HasCandidates, candidates}
+use Rattle.osgi_world.specs.Candidates.{CanBeAsked, candidates}
 use Rattle.osgi_world.specs.Decisions.{Made, choose, is_yes, pick, value_made}
 use Rattle.osgi_world.specs.DueDecisions.{payload}
 use Rattle.osgi_world.specs.Lists.{In, below, item_at}
@@ -68,7 +68,7 @@ chosen-wires P D h q e =
     ∙ ap (map (wire_to q)) (chosen-value P q (value_made D (choose h q)))
 
 -- its candidates can be asked for
-pub ready-has : (P : Problem) (lists : Lists) (course : Course) → IsReady P lists course → (h : RevisionId) (q : ReqRef) → In h course.ids.items → In q (payload P (decided_in course) h) → IsTrue (is_effective P.world.known q) → HasCandidates P.world.known q
+pub ready-has : (P : Problem) (lists : Lists) (course : Course) → IsReady P lists course → (h : RevisionId) (q : ReqRef) → In h course.ids.items → In q (payload P (decided_in course) h) → IsTrue (is_effective P.world.known q) → CanBeAsked P.world.known q
 ready-has P lists course ready h q i j eff =
     let D = decided_in course in
     let s = right-state P _ (lists_of course) ready.at in

@@ -1,6 +1,6 @@
 //! The wirings that the decisions of a course add.
 
-ghost use Rattle.std.specs.Prelude.{◌≡◌, ◌++◌, ◌<◌, IfOk, OnOk, All, filter, flat_map, map};
+ghost use Rattle.std.specs.Prelude.{◌≡◌, ◌++◌, ◌<◌, IfOk, OnOk, filter, flat_map, map};
 ghost use Rattle.std.specs.Option.{option_to_list};
 ghost use Rattle.osgi_base.specs.declared.ids.RevisionId.{RevisionId};
 ghost use Rattle.osgi_world.specs.Decisions.{choose, is_yes, pick, value_made};
@@ -16,7 +16,7 @@ ghost use Rattle.osgi_path.specs.computed.Views.{IsOwner, IsReady, by_value, dec
 
 use crate::course::Course;
 use crate::decision::Decision;
-use crate::growing::value_of;
+use crate::growing::{is_first, value_of};
 use crate::lists::Lists;
 use crate::step::candidate_at;
 use crate::views::fragments;
@@ -34,10 +34,7 @@ fn is_picked(course: &Course, host: RevisionId, requirement: ReqRef, capability:
         requirement,
         capability,
     };
-    match value_of(course.marks.as_slice(), decision) {
-        Some(value) => value == 0,
-        None => false,
-    }
+    is_first(value_of(course.marks.as_slice(), decision))
 }
 
 /// Adds a wire to each candidate that is picked.

@@ -1,8 +1,8 @@
 //! The decisions of the requirements of a host's payload.
 
-ghost use Rattle.std.specs.Prelude.{◌≡◌, ◌∷◌, [], ◌++◌, All, IfOk, IsTrue, List, OnOk, map};
+ghost use Rattle.std.specs.Prelude.{◌≡◌, ◌++◌, All, IfOk, IsTrue, OnOk, map};
 ghost use Rattle.osgi_base.specs.declared.ids.RevisionId.{RevisionId};
-ghost use Rattle.osgi_world.specs.Candidates.{HasCandidates};
+ghost use Rattle.osgi_world.specs.Candidates.{CanBeAsked};
 ghost use Rattle.osgi_world.specs.Decisions.{pick};
 ghost use Rattle.osgi_world.specs.DueDecisions.{decisions_of};
 ghost use Rattle.osgi_world.specs.Lookups.{is_current};
@@ -46,7 +46,7 @@ fn add_requirement(
 ) -> Result<(), AllocError>
     requires right { AreRight lists.now }
     requires known { Knows lists.now requirement.owner }
-    ensures added { OnOk result ((P : Problem) → IsProblemIn lists.now.offers P → HasCandidates P.world.known requirement → decisions_in asks.new.items ≡ decisions_in asks.old.items ++ decisions_of P host requirement) }
+    ensures added { OnOk result ((P : Problem) → IsProblemIn lists.now.offers P → CanBeAsked P.world.known requirement → decisions_in asks.new.items ≡ decisions_in asks.old.items ++ decisions_of P host requirement) }
 {
     if lists.offers.known().is_multiple(requirement) {
         add_picks(asks, host, requirement, lists.candidates(requirement))?;

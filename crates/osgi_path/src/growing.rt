@@ -1,6 +1,6 @@
 //! One decision more: who joins, and which decisions are due then.
 
-ghost use Rattle.std.specs.Prelude.{◌≡◌, ◌==◌, ◌||◌, ◌∷◌, [], ◌++◌, All, IfOk, IsTrue, OnOk, flat_map, map, reverse};
+ghost use Rattle.std.specs.Prelude.{◌≡◌, ◌==◌, ◌||◌, ◌∷◌, ◌++◌, All, IfOk, IsTrue, OnOk, flat_map, map, reverse};
 ghost use Rattle.osgi_world.specs.Lookups.{is_current};
 ghost use Rattle.std.specs.List.{list_any};
 ghost use Rattle.std.specs.Option.{option_to_list};
@@ -96,7 +96,7 @@ fn is_attached(
 }
 
 /// Whether a decision is made with its first value, yes.
-fn is_first(value: Option<u64>) -> bool
+pub fn is_first(value: Option<u64>) -> bool
     ensures first { result ≡ is_yes value }
 {
     match value {

@@ -3,7 +3,7 @@
 ghost use Rattle.std.specs.Prelude.{◌≡◌, IfOk, OnOk, Some, slice_get};
 ghost use Rattle.std.specs.Option.{option_map};
 ghost use Rattle.osgi_base.specs.declared.ids.RevisionId.{RevisionId};
-ghost use Rattle.osgi_world.specs.Candidates.{HasCandidates, candidates};
+ghost use Rattle.osgi_world.specs.Candidates.{CanBeAsked, candidates};
 ghost use Rattle.osgi_world.specs.declared.problem.Problem.{Problem};
 ghost use Rattle.osgi_world.specs.declared.wiring.ReqRef.{ReqRef};
 ghost use Rattle.osgi_path.specs.computed.Known.{AreRight, IsProblemIn, Knows, KnowsAll};
@@ -51,7 +51,7 @@ impl<'w> Lists<'w> {
 
     /// The candidates of a requirement whose owner's are known.
     pub fn candidates(&self, requirement: ReqRef) -> &[CapRef]
-        ensures candidates { (P : Problem) → AreRight self.now → IsProblemIn self.now.offers P → Knows self.now requirement.owner → HasCandidates P.world.known requirement → result.now ≡ candidates P requirement }
+        ensures candidates { (P : Problem) → AreRight self.now → IsProblemIn self.now.offers P → Knows self.now requirement.owner → CanBeAsked P.world.known requirement → result.now ≡ candidates P requirement }
     {
         let Some(lists) = self.by_owner.get(&requirement.owner.0) else {
             return &[];
@@ -65,7 +65,7 @@ impl<'w> Lists<'w> {
 
 /// The candidates of the requirement, if it is effective.
 fn list_of(alloc: Global, offers: &Offers, requirement: ReqRef) -> Result<Vec<CapRef>, AllocError>
-    ensures list { IfOk result (λ list. (P : Problem) → IsProblemIn offers.now P → HasCandidates P.world.known requirement → list.items ≡ candidates P requirement) }
+    ensures list { IfOk result (λ list. (P : Problem) → IsProblemIn offers.now P → CanBeAsked P.world.known requirement → list.items ≡ candidates P requirement) }
 {
     if offers.known().is_effective(requirement) {
         offers.candidates(alloc, requirement)
@@ -80,7 +80,7 @@ fn lists_of(
     offers: &Offers,
     owner: RevisionId,
 ) -> Result<Vec<Vec<CapRef>>, AllocError>
-    ensures lists { IfOk result (λ lists. (P : Problem) (q : ReqRef) → IsProblemIn offers.now P → q.owner ≡ owner → HasCandidates P.world.known q → option_map (λ list. list.items) (slice_get lists.items q.index) ≡ Some (candidates P q)) }
+    ensures lists { IfOk result (λ lists. (P : Problem) (q : ReqRef) → IsProblemIn offers.now P → q.owner ≡ owner → CanBeAsked P.world.known q → option_map (λ list. list.items) (slice_get lists.items q.index) ≡ Some (candidates P q)) }
 {
     let mut lists = Vec::new(alloc);
     for index in 0..offers.known().requirement_count(owner) {

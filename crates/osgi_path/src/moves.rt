@@ -1,4 +1,4 @@
-//! One decision more, and one less.
+//! What one decision more changes: who joins, what becomes due, and what is to be known of it.
 
 ghost use Rattle.std.specs.Prelude.{◌≡◌, ◌+◌, ◌<◌, ◌≤◌, ◌∷◌, [], ◌++◌, All, IfOk, IsTrue, List, OnErr, OnOk, Some, length, reverse, vec_capacity, vec_len};
 ghost use Rattle.std.specs.Option.{option_to_list};

@@ -1,12 +1,10 @@
 //! A path that is one decision longer, or shorter.
 
-ghost use Rattle.std.specs.Prelude.{◌≡◌, ◌<◌, ◌∷◌, [], ◌++◌, IfOk, List, MatchOption, OnErr, OnOk, length, reverse};
+ghost use Rattle.std.specs.Prelude.{◌≡◌, ◌<◌, ◌∷◌, [], ◌++◌, IfOk, MatchOption, OnErr, OnOk, length, reverse};
 ghost use Rattle.osgi_base.specs.declared.ids.RevisionId.{RevisionId};
-ghost use Rattle.osgi_world.specs.Lookups.{is_current};
 ghost use Rattle.osgi_world.specs.declared.problem.Problem.{Problem};
-ghost use Rattle.std.specs.Prelude.{IsTrue};
 ghost use Rattle.osgi_path.specs.computed.Courses.{IsRight, lists_of, steps_of, taken_back};
-ghost use Rattle.osgi_path.specs.computed.Known.{AreRight, IsProblemIn, KnowsAll};
+ghost use Rattle.osgi_path.specs.computed.Known.{AreRight, IsProblemIn};
 ghost use Rattle.osgi_path.specs.computed.Moving.{IsLearnt, IsLonger, IsMarkOf};
 ghost use Rattle.osgi_path.specs.computed.Nexts.{IsSameCourse};
 ghost use Rattle.osgi_path.specs.declared.course.Mark.{Mark};

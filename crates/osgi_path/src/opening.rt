@@ -2,7 +2,7 @@
 
 ghost use Rattle.std.specs.Prelude.{◌≡◌, ◌+◌, ◌<◌, ◌⊎◌, ◌++◌, List, IfOk, length};
 ghost use Rattle.osgi_world.specs.Decisions as decisions;
-ghost use Rattle.osgi_world.specs.Decisions.{Made, attaching};
+ghost use Rattle.osgi_world.specs.Decisions.{Made};
 ghost use Rattle.osgi_world.specs.DueDecisions.{members};
 ghost use Rattle.osgi_world.specs.declared.problem.Problem.{Problem};
 ghost use Rattle.osgi_choice.specs.States.{State};

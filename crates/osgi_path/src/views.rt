@@ -1,11 +1,11 @@
 //! What is seen of a course: fragments, decided members and wires.
 
-ghost use Rattle.std.specs.Prelude.{◌≡◌, ◌↔◌, ◌&&◌, ◌∷◌, ◌<◌, [], All, IfOk, IsTrue, Some, drop, flat_map, length, map, reverse, slice_get};
+ghost use Rattle.std.specs.Prelude.{◌≡◌, ◌↔◌, ◌&&◌, ◌<◌, IfOk, IsTrue, Some, drop, length, reverse, slice_get};
 ghost use Rattle.std.specs.Bool.{Decides};
 ghost use Rattle.std.specs.List.{list_any};
 ghost use Rattle.std.specs.Option.{option_to_list};
 ghost use Rattle.osgi_base.specs.declared.ids.RevisionId.{RevisionId};
-ghost use Rattle.osgi_world.specs.Candidates.{HasCandidates, IsProblem};
+ghost use Rattle.osgi_world.specs.Candidates.{IsProblem};
 ghost use Rattle.osgi_world.specs.Decisions.{attaching, is_yes, value_made};
 ghost use Rattle.osgi_world.specs.DueDecisions.{fragments_of, members};
 ghost use Rattle.osgi_world.specs.Hopeless.{IsDecided};
@@ -17,7 +17,6 @@ ghost use Rattle.osgi_world.specs.Wirings.{HasWire};
 ghost use Rattle.osgi_world.specs.declared.problem.Problem.{Problem};
 ghost use Rattle.osgi_world.specs.declared.wiring.ReqRef.{ReqRef};
 ghost use Rattle.osgi_path.specs.Standing.{decision_of};
-ghost use Rattle.osgi_path.specs.computed.Asks.{decisions_in};
 ghost use Rattle.osgi_path.specs.computed.Courses.{word_of};
 ghost use Rattle.osgi_path.specs.computed.Known.{IsProblemIn};
 ghost use Rattle.osgi_path.specs.computed.Views.{IsAt, asks_space, decided_in, is_free, is_of_space, is_spatial, wired_by};
@@ -25,7 +24,7 @@ ghost use Rattle.osgi_path.specs.declared.wired.Wired.{Wired};
 
 use crate::course::{Course, Mark};
 use crate::decision::Decision;
-use crate::growing::value_of;
+use crate::growing::{is_first, value_of};
 use crate::step::Step;
 use crate::wired::Wired;
 use osgi_base::ids::RevisionId;
@@ -41,10 +40,7 @@ use std::alloc::{AllocError, Global};
 fn has_fragment(course: &Course, host: RevisionId, fragment: RevisionId) -> bool
     ensures has { result ≡ is_yes (value_made (decided_in course.now) (attaching host fragment)) }
 {
-    match value_of(course.marks.as_slice(), Decision::Attach { host, fragment }) {
-        Some(value) => value == 0,
-        None => false,
-    }
+    is_first(value_of(course.marks.as_slice(), Decision::Attach { host, fragment }))
 }
 
 /// The fragments that are attached to a member, by bundle id.

@@ -3,7 +3,7 @@ use Rattle.std.proofs.Common.{◌≡◌, ℕ, ◌<◌, ◌⊎◌, inl, inr, ◌&
 use Rattle.std.specs.Option.{option_map, option_map_or}
 use Rattle.std.proofs.lemmas.Option.{slice_get_within}
 use Rattle.osgi_base.specs.declared.ids.RevisionId.{RevisionId}
-use Rattle.osgi_world.specs.Candidates.{AreOrdered, HasCandidates, IsCandidate, IsPreferred, IsProblem, IsUnresolved, candidates, same_place}
+use Rattle.osgi_world.specs.Candidates.{AreOrdered, CanBeAsked, IsCandidate, IsPreferred, IsProblem, IsUnresolved, candidates, same_place}
 use Rattle.osgi_world.specs.Consistency.{Consistent}
 use Rattle.osgi_world.specs.Lists.{In, Two, below}
 use Rattle.osgi_world.specs.Lookups.{capability_at, capability_count, is_current, is_effective, known_at, requirement_count, revision_at}
@@ -58,13 +58,13 @@ all-in K c provider owner index =
     in-flat_map (λ p. capabilities_of K p (all_revisions K)) (all_revisions K) c.provider c provider
     (in-flat_map (own_capabilities K c.provider) (all_revisions K) c.owner c owner (in-map (λ i. record { provider = c.provider; owner = c.owner; index = i }) (below (capability_count K c.owner)) c.index (in-below (capability_count K c.owner) c.index index)))
 
-asked-in : (K : List Known) (q : ReqRef) → HasCandidates K q → In q (asked_requirements K)
+asked-in : (K : List Known) (q : ReqRef) → CanBeAsked K q → In q (asked_requirements K)
 asked-in K q h =
     in-filter (λ n. is_current K n.owner && is_effective K n) (requirements_of K (all_revisions K)) q
     (in-flat_map (own_requirements K) (all_revisions K) q.owner q (current-listed K q.owner h.current) (in-map (λ i. record { owner = q.owner; index = i }) (below (requirement_count K q.owner)) q.index (in-below (requirement_count K q.owner) q.index h.known)))
     (and-both (is_current K q.owner) (is_effective K q) h.current h.effective)
 
-in-asked : (K : List Known) (q : ReqRef) → In q (asked_requirements K) → HasCandidates K q
+in-asked : (K : List Known) (q : ReqRef) → In q (asked_requirements K) → CanBeAsked K q
 in-asked K q i =
     let f = filter-in (λ n. is_current K n.owner && is_effective K n) (requirements_of K (all_revisions K)) q i in
     let t = and-cases (is_current K q.owner) (is_effective K q) f.1 in

@@ -1,5 +1,5 @@
 -- The problem of resolving a revision in a world: each requirement that can be asked, with all of its candidates in the order
--- of preference. The candidates of a requirement are those places of capabilities that pass a test.
+-- of preference. The candidates of a requirement are the capabilities for which `is_candidate` holds.
 use Rattle.std.specs.Prelude.{ℕ, ◌==◌, ◌&&◌, ◌||◌, not, Bool, false, bytes_eq, nat_lt, List, [], ◌∷◌, map, filter, flat_map}
 use Rattle.std.specs.List.{list_any}
 use Rattle.std.specs.Option.{option_map_or}
@@ -38,7 +38,7 @@ is_attached W host fragment = list_any (λ (g : Wiring). same_revision g.revisio
 abbrev pub is_owner : List Wiring → RevisionId → RevisionId → Bool
 is_owner W r owner = same_revision owner r || is_attached W r owner
 
--- the wire goes to an export of the package p by a revision other than r
+-- the wire goes to an export of the package p from a provider other than r
 abbrev pub is_import_from_elsewhere : List Known → RevisionId → List ℕ → Wire → Bool
 is_import_from_elsewhere K r p w =
     (is_package (capability_namespace K w.capability.owner w.capability.index) && bytes_eq (capability_name K w.capability.owner w.capability.index) p)
@@ -76,7 +76,7 @@ satisfies K q c =
     option_map_or (λ (a : Capability). option_map_or (λ (v : Revision). is_satisfied n a v.name v.version) (revision_at K c.provider) false) (capability_at K c.owner c.index) false)
     (requirement_at K q) false
 
--- the owner of a bundle requirement is to provide for it
+-- it is a bundle capability of the requirement's own owner
 abbrev pub is_own_bundle : List Known → ReqRef → CapRef → Bool
 is_own_bundle K q c = is_bundle (capability_namespace K c.owner c.index) && same_revision c.provider q.owner
 

@@ -1,7 +1,7 @@
 //! The first requirement of a root that nothing can meet.
 
-ghost use Rattle.std.specs.Prelude.{◌≡◌, ◌↔◌, ◌<◌, ℕ, IfOk, IsTrue, MatchOption};
-ghost use Rattle.osgi_world.specs.Candidates.{IsFirstLacking, IsLacking, IsProblem};
+ghost use Rattle.std.specs.Prelude.{◌≡◌, ◌↔◌, ◌<◌, IfOk, IsTrue};
+ghost use Rattle.osgi_world.specs.Candidates.{IsLacking, IsProblem};
 ghost use Rattle.osgi_world.specs.Lookups.{requirement_count};
 ghost use Rattle.osgi_world.specs.declared.problem.Problem.{Problem};
 ghost use Rattle.osgi_world.specs.declared.wiring.ReqRef.{ReqRef};

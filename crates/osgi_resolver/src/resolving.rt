@@ -1,7 +1,7 @@
 //! The resolve of one revision in a world.
 
-ghost use Rattle.std.specs.Prelude.{◌≡◌, ◌-◌, ◌^◌, ◌<◌, IfOk, List, ℕ};
-ghost use Rattle.osgi_world.specs.Candidates.{AreOrdered, IsProblem, IsUnresolved};
+ghost use Rattle.std.specs.Prelude.{◌≡◌, ◌-◌, ◌^◌, ◌<◌, IfOk, ℕ};
+ghost use Rattle.osgi_world.specs.Candidates.{AreOrdered, IsUnresolved};
 ghost use Rattle.osgi_world.specs.Consistency.{Consistent};
 ghost use Rattle.osgi_world.specs.Wirings.{IsWorld};
 ghost use Rattle.osgi_problem.specs.WorldProblems.{the_problem};

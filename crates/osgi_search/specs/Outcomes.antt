@@ -7,7 +7,8 @@ use Rattle.osgi_world.specs.declared.wiring.Wiring.{Wiring}
 use Rattle.osgi_search.specs.declared.depth_first.Outcome.{Outcome}
 use Rattle.osgi_search.specs.declared.depth_first.Outcome.TheVariants.{Found, NoWord, Spent}
 
--- at the word w: it is the first good one; or no wirings extend the present ones; or the effort is above the budget
+-- at the word w: the effort is within the budget, and w is the first good word, or else no wirings extend the present ones; or the
+-- effort is above the budget
 abbrev pub IsOutcome : Problem → ℕ → List ℕ → Outcome → Type 0
 IsOutcome P budget w Found = IsFirst P w × IsEffortWithin P budget
 IsOutcome P budget w NoWord = ((V : List Wiring) → ¬ Extends P.world.known P.world.wirings V P.root) × IsEffortWithin P budget

@@ -26,7 +26,7 @@ pub trait Walker {
     fn values(&self) -> u64
         ensures values { result ≡ width (problem self.now) (made_by (problem self.now) (word self.now)) };
 
-    /// Makes the next decision with this value. After want of memory it stands nowhere.
+    /// Makes the next decision with this value. If memory runs out, nothing is said of where it stands.
     fn longer(&mut self, value: u64) -> Result<(), AllocError>
         requires { value < width (problem self.old) (made_by (problem self.old) (word self.old)) }
         ensures problem { OnOk result (problem self.new ≡ problem self.old) }

@@ -62,8 +62,8 @@ IsPreferred P c d =
     ⊎ (¬ IsTrue (is_higher P.world.known d c)) × ((bundle_of P.world.known c.provider < bundle_of P.world.known d.provider)
     ⊎ (c.provider ≡ d.provider) × ((c.owner.0 < d.owner.0) ⊎ (c.owner ≡ d.owner) × (c.index < d.index))))
 
--- an effective requirement of a current revision
-pub record HasCandidates (K : List Known) (q : ReqRef) : Type 0 where
+-- a search can ask for its candidates: it is an effective requirement of a current revision
+pub record CanBeAsked (K : List Known) (q : ReqRef) : Type 0 where
   pub current : IsTrue (is_current K q.owner)
   pub known : q.index < requirement_count K q.owner
   pub effective : IsTrue (is_effective K q)
@@ -87,7 +87,7 @@ pub record IsProblem (P : Problem) : Type 0 where
   pub ordered : AreOrdered P.world.known P.world.wirings
   pub consistent : Consistent P.world.known P.world.wirings
   pub root_is : IsUnresolved P.world.known P.world.wirings P.root
-  pub candidates_are : (q : ReqRef) (c : CapRef) → HasCandidates P.world.known q → In c (candidates P q) ↔ IsCandidate P q c
+  pub candidates_are : (q : ReqRef) (c : CapRef) → CanBeAsked P.world.known q → In c (candidates P q) ↔ IsCandidate P q c
   pub candidates_ordered : (q : ReqRef) → ¬ Two (λ (c d : CapRef). ¬ IsPreferred P c d) (candidates P q)
 
 -- ---- no candidate

@@ -1,4 +1,4 @@
--- Choice words: the values of the decisions of a resolve, one made_after the other, each in range for its decision. A word is a
+-- Choice words: the values of the decisions of a resolve, one after the other, each in range for its decision. A word is a
 -- path from the root of the resolver's search tree.
 use Rattle.std.specs.Prelude.{◌≡◌, ℕ, ◌<◌, List, [], ◌∷◌, Option, None, Some}
 use Rattle.osgi_world.specs.Consistency.{Extends}
@@ -13,7 +13,7 @@ abbrev pub arity_of : Problem → Option Decision → ℕ
 arity_of P None = 0
 arity_of P (Some d) = arity P d
 
--- how many values the next_decision decision has; 0 where none is left
+-- how many values the next decision has; 0 where none is left
 abbrev pub width : Problem → Made → ℕ
 width P D = arity_of P (next_decision P D)
 
@@ -22,16 +22,16 @@ abbrev pub make : Option Decision → Made → ℕ → Made
 make None D v = D
 make (Some d) D v = (d, v) ∷ D
 
--- the next_decision decision is made with this value
+-- the next decision is made with this value
 abbrev pub decide : Problem → Made → ℕ → Made
 decide P D v = make (next_decision P D) D v
 
--- what is made made_after the values of w
+-- what is made after the values of w
 abbrev pub made_after : Problem → Made → List ℕ → Made
 made_after P D [] = D
 made_after P D (v ∷ w) = made_after P (decide P D v) w
 
--- each number is in range for its decision, made_after what is made
+-- each number is in range for its decision, after what is made
 abbrev pub FitsFrom : Problem → Made → List ℕ → Type 0
 FitsFrom P D [] = Unit {0}
 FitsFrom P D (v ∷ w) = (v < width P D) × FitsFrom P (decide P D v) w

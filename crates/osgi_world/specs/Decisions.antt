@@ -11,8 +11,8 @@ use Rattle.osgi_world.specs.declared.wiring.Wire.{Wire}
 
 -- ---- decisions and their values
 
--- whether a fragment is attached to a host; which capability a requirement of a host's payload chosen_by; whether a requirement
--- of it that may have several wires chosen_by this one
+-- whether a fragment is attached to a host; which capability a requirement of a host's payload gets; whether a requirement of it
+-- that may have several wires gets this one
 pub data Decision : Type 0 where
   attaching : RevisionId → RevisionId → Decision
   choose : RevisionId → ReqRef → Decision
@@ -32,7 +32,7 @@ same_decision (choose h q) (choose k n) = (h.0 == k.0) && same_place q n
 same_decision (pick h q c) (pick k n d) = (h.0 == k.0) && (same_place q n && same_capability c d)
 same_decision _ _ = false
 
--- what a value_made adds: the fragment to the host, or the wire to the revision
+-- what a value adds: the fragment to the host, or the wire to the revision
 pub data Step : Type 0 where
   attached : RevisionId → RevisionId → Step
   wired : RevisionId → Wire → Step
@@ -40,7 +40,7 @@ pub data Step : Type 0 where
 abbrev pub wired_to : RevisionId → ReqRef → CapRef → Step
 wired_to h q c = wired h (record { requirement = q; capability = c })
 
--- what each value_made of a decision adds. An attachment has the values yes (0) and no (1); a requirement has one for each
+-- what each value of a decision adds. An attachment has the values yes (0) and no (1); a requirement has one for each
 -- candidate, and where it is optional one more, for none; one of several wires has yes (0) and no (1)
 abbrev pub menu : Problem → Decision → List (List Step)
 menu P (attaching h f) = (attached h f ∷ []) ∷ [] ∷ []
@@ -60,7 +60,7 @@ adds P d v = entry (menu P d) v
 abbrev pub Made : Type 0
 Made = List (Decision × ℕ)
 
--- the value_made of a decision, once it is made
+-- the value of a decision, once it is made
 abbrev pub value_made : Made → Decision → Option ℕ
 value_made [] d = None
 value_made (t ∷ D) d = if same_decision t.0 d then Some t.1 else value_made D d

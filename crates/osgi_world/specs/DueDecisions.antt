@@ -41,7 +41,7 @@ attachments P h = map (attaching h) (matching P h)
 abbrev pub due : Problem → Made → RevisionId → List Decision
 due P D h = attachments P h ++ (if list_any (is_open D) (attachments P h) then [] else flat_map (decisions_of P h) (in_turn P (payload P D h)))
 
--- the providers that a value_made pulls in
+-- the providers that a value pulls in
 abbrev pub provider_of : Step → List RevisionId
 provider_of (attached h f) = []
 provider_of (wired r w) = w.capability.provider ∷ []

@@ -44,7 +44,7 @@ IsEffortWithin P n = (m : ℕ) × (m ≤ n) × IsEffort P m
 abbrev pub IsEffortAbove : Problem → ℕ → Type 0
 IsEffortAbove P n = (L : List (List ℕ)) × IsFalling L × ((w : List ℕ) → In w L → IsCounted P w) × (length L ≡ n + 1)
 
--- P is the problem of resolving the bundle in the world
+-- P is a problem of resolving the bundle in the world
 pub record IsResolveOf (W : World) (b : BundleId) (P : Problem) : Type 0 where
   pub world : P.world ≡ W
   pub root : IsCurrentOf W.known b P.root

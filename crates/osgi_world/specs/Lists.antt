@@ -1,4 +1,4 @@
--- Words on lists.
+-- Predicates and look-ups on lists.
 use Rattle.std.specs.Prelude.{◌≡◌, ℕ, zero, suc, ◌⊎◌, List, [], ◌∷◌, ◌++◌}
 
 -- x is one of the items
@@ -11,13 +11,13 @@ abbrev pub Two : {X : Type 0} → (X → X → Type 0) → List X → Type 0
 Two R [] = ⊥
 Two {X = X} R (x ∷ xs) = ((y : X) × In y xs × R x y) ⊎ Two R xs
 
--- the item item_at the place, alone; none after the end
+-- the item at the place, alone; none after the end
 abbrev pub item_at : {X : Type 0} → List X → ℕ → List X
 item_at [] n = []
 item_at (x ∷ xs) zero = x ∷ []
 item_at (x ∷ xs) (suc n) = item_at xs n
 
--- the list item_at the place; an empty one after the end
+-- the list at the place; an empty one after the end
 abbrev pub entry : {X : Type 0} → List (List X) → ℕ → List X
 entry [] n = []
 entry (x ∷ xs) zero = x

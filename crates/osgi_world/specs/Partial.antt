@@ -12,7 +12,7 @@ use Rattle.osgi_world.specs.declared.wiring.Wiring.{Wiring}
 use Rattle.osgi_world.specs.Decisions.{Made, value_made, is_yes, choose, pick}
 use Rattle.osgi_world.specs.DueDecisions.{fragments_of, payload, members}
 
--- the capability that a requirement chosen_by by a value_made; none by the value_made for none
+-- the capability that a value gives a requirement; none by the value that means none
 abbrev pub chosen_by : Problem → ReqRef → Option ℕ → List CapRef
 chosen_by P q None = []
 chosen_by P q (Some v) = item_at (candidates P q) v

@@ -2,7 +2,7 @@
 use Rattle.std.specs.Prelude.{◌≡◌, ℕ, ◌<◌, IsTrue, List, length}
 use Rattle.osgi_base.specs.declared.ids.RevisionId.{RevisionId}
 use Rattle.osgi_candidates.specs.computed.Collecting.{AreCandidates}
-use Rattle.osgi_world.specs.Candidates.{HasCandidates}
+use Rattle.osgi_world.specs.Candidates.{CanBeAsked}
 use Rattle.osgi_world.specs.Lists.{In}
 use Rattle.osgi_world.specs.declared.problem.Choice.{Choice}
 use Rattle.osgi_world.specs.declared.wiring.ReqRef.{ReqRef}
@@ -11,7 +11,7 @@ use Rattle.osgi_world.specs.declared.world.World.{World}
 
 -- the choice has the candidates of a requirement that can be asked
 pub record IsChoice (w : World) (c : Choice) : Type 0 where
-  pub asked : HasCandidates w.known c.requirement
+  pub asked : CanBeAsked w.known c.requirement
   pub candidates : AreCandidates w c.requirement c.candidates
 
 abbrev pub HasChoice : List Choice → ReqRef → Type 0
@@ -21,7 +21,7 @@ HasChoice choices q = (c : Choice) × In c choices × (c.requirement ≡ q)
 pub record AddsAsked (w : World) (Asked : ReqRef → Type 0) (old new : List Choice) : Type 0 where
   pub good : ((c : Choice) → In c old → IsChoice w c) → (c : Choice) → In c new → IsChoice w c
   pub kept : (c : Choice) → In c old → In c new
-  pub added : (q : ReqRef) → Asked q → HasCandidates w.known q → HasChoice new q
+  pub added : (q : ReqRef) → Asked q → CanBeAsked w.known q → HasChoice new q
 
 abbrev pub AddsChoice : World → ReqRef → List Choice → List Choice → Type 0
 AddsChoice w at = AddsAsked w (λ q. q ≡ at)
@@ -39,4 +39,4 @@ AddsChoices w k = AddsAsked w (λ q. IsTrue k.current × IsBelow k (length k.rev
 -- each requirement that can be asked has its candidates listed, and nothing else is
 pub record AreChoices (w : World) (choices : List Choice) : Type 0 where
   pub good : (c : Choice) → In c choices → IsChoice w c
-  pub all : (q : ReqRef) → HasCandidates w.known q → HasChoice choices q
+  pub all : (q : ReqRef) → CanBeAsked w.known q → HasChoice choices q

@@ -4,7 +4,7 @@ use Rattle.std.specs.BTreeMap.{get}
 use Rattle.std.specs.Option.{option_map}
 use Rattle.std.specs.Ordering.{nat_cmp}
 use Rattle.osgi_base.specs.declared.ids.RevisionId.{RevisionId}
-use Rattle.osgi_world.specs.Candidates.{HasCandidates, IsProblem, candidates}
+use Rattle.osgi_world.specs.Candidates.{CanBeAsked, IsProblem, candidates}
 use Rattle.osgi_world.specs.declared.problem.Problem.{Problem}
 use Rattle.osgi_world.specs.declared.wiring.CapRef.{CapRef}
 use Rattle.osgi_world.specs.declared.wiring.ReqRef.{ReqRef}
@@ -27,7 +27,7 @@ listed lists q = option_and_then (λ of. option_map (λ list. list.items) (slice
 -- it is the candidates, in any problem of the world
 abbrev pub AreRight : Lists → Type 0
 AreRight lists =
-    (P : Problem) → IsProblemIn lists.offers P → (q : ReqRef) → HasCandidates P.world.known q → Knows lists q.owner → listed lists q ≡ Some (candidates P q)
+    (P : Problem) → IsProblemIn lists.offers P → (q : ReqRef) → CanBeAsked P.world.known q → Knows lists q.owner → listed lists q ≡ Some (candidates P q)
 
 -- what was known still is
 abbrev pub KnowsAll : Lists → Lists → Type 0

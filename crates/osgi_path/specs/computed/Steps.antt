@@ -1,6 +1,6 @@
 -- What the values of decisions add, as the code has it.
 use Rattle.std.specs.Prelude.{ℕ, List, [], ◌∷◌, Option, None, Some}
-use Rattle.osgi_world.specs.Candidates.{HasCandidates}
+use Rattle.osgi_world.specs.Candidates.{CanBeAsked}
 use Rattle.osgi_world.specs.Decisions as steps
 use Rattle.osgi_world.specs.Decisions.{attached, wired}
 use Rattle.osgi_world.specs.declared.problem.Problem.{Problem}
@@ -23,7 +23,7 @@ steps_in (Some step) = step_in step ∷ []
 -- the candidates of what is decided are known
 pub record IsAsked (lists : Lists) (P : Problem) (q : ReqRef) : Type 0 where
   pub knows : Knows lists q.owner
-  pub has : HasCandidates P.world.known q
+  pub has : CanBeAsked P.world.known q
 
 abbrev pub IsListed : Lists → Problem → Decision → Type 0
 IsListed lists P (Attach host fragment) = Unit {0}

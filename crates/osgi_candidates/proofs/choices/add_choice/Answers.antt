@@ -2,7 +2,7 @@
 use Rattle.std.proofs.Common.{◌↔◌, IsTrue, List, subst, sym, ap, ◌++◌, ◌∷◌, [], ◌∙◌}
 use Rattle.osgi_candidates.proofs.Posed.{asked_none, asked_one}
 use Rattle.osgi_candidates.proofs.Tested.{not_by}
-use Rattle.osgi_world.specs.Candidates.{HasCandidates}
+use Rattle.osgi_world.specs.Candidates.{CanBeAsked}
 use Rattle.osgi_world.specs.declared.problem.Choice.{Choice}
 use Rattle.osgi_world.specs.declared.wiring.CapRef.{CapRef}
 use Rattle.osgi_world.specs.declared.wiring.ReqRef.{ReqRef}
@@ -11,16 +11,16 @@ use Rattle.osgi_candidates.proofs.choices.add_choice.Goals as goal
 
 pub returns-then-not-has_candidates : goal.returns-then-not-has_candidates
 returns-then-not-has_candidates c =
-    let test = subst (λ (K : List Known). IsTrue c.has_candidates.result ↔ HasCandidates K c.args.at) c.known.ensures.known c.has_candidates.ensures.has in
+    let test = subst (λ (K : List Known). IsTrue c.has_candidates.result ↔ CanBeAsked K c.args.at) c.known.ensures.known c.has_candidates.ensures.has in
     record {
       added = λ fit.
           asked_none c.args.offers.now c.args.choices.now _
-          (λ q e. subst (λ (n : ReqRef). ¬ HasCandidates c.args.offers.now.known n) (sym e) (not_by c.has_candidates.result _ c.if-not-has_candidates.true test));
+          (λ q e. subst (λ (n : ReqRef). ¬ CanBeAsked c.args.offers.now.known n) (sym e) (not_by c.has_candidates.result _ c.if-not-has_candidates.true test));
     }
 
 pub returns : goal.returns
 returns c =
-    let test = subst (λ (K : List Known). IsTrue c.has_candidates.result ↔ HasCandidates K c.args.at) c.known.ensures.known c.has_candidates.ensures.has in
+    let test = subst (λ (K : List Known). IsTrue c.has_candidates.result ↔ CanBeAsked K c.args.at) c.known.ensures.known c.has_candidates.ensures.has in
     let has = test.0 c.if-not-has_candidates.false in
     let one : List CapRef → Choice = λ cs. record { requirement = c.args.at; candidates = cs } in
     record {
