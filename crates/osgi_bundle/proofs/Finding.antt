@@ -17,7 +17,7 @@ use Rattle.std.proofs.lemmas.List.Kept.{AllPairs-from_increasing}
 use Rattle.std.proofs.lemmas.List.Sums.{position_or_len_is}
 use Rattle.std.proofs.lemmas.Option.{slice_get_past, slice_get_read}
 use Rattle.osgi_base.specs.declared.ids.BundleId.{BundleId}
-use Rattle.osgi_bundle.specs.computed.Kept.{bundle_under, name_cmp, name_of, named}
+use Rattle.osgi_bundle.specs.computed.Kept.{bundle_under, name_cmp, name_of, named, row_in}
 use Rattle.osgi_bundle.specs.Rows.{id_of, is_bundle, IsTwin, row_at}
 use Rattle.osgi_bundle.specs.declared.directory.BundleName.{BundleName}
 use Rattle.osgi_bundle.specs.declared.kept.BundleKept.{BundleKept}
@@ -50,11 +50,6 @@ some_passes p (y ∷ ys) x some = by (p y) refl some (some_passes p ys x)
 
 -- ---- by id
 
--- the row at a place, if there is one
-abbrev pub row_in : List BundleKept → Option ℕ → Option BundleKept
-row_in rows None = None
-row_in rows (Some i) = slice_get rows i
-
 -- the row that is lent of a place
 pub lent : (rows : List BundleKept) (i : ℕ) (r : Option (Bor BundleKept)) → IsItemAt rows i r → option_copied r ≡ slice_get rows i
 lent rows i None got = sym (slice_get_past rows i got.3)
@@ -70,7 +65,7 @@ absent bundle (row ∷ rest) none =
     rw (ne_eqb (id_of row) bundle.0 (none 0 row (omega arith))) (absent bundle rest (λ k d within. none (suc k) d (omega (arith, within))))
 
 module _ (rows : List BundleKept) (rising : IsStrictlyIncreasing (map id_of rows)) where
-  ids_rise : (i j : ℕ) (d : BundleKept) → i < j → j < length rows → id_of (get_or rows i d) < id_of (get_or rows j d)
+  pub ids_rise : (i j : ℕ) (d : BundleKept) → i < j → j < length rows → id_of (get_or rows i d) < id_of (get_or rows j d)
   ids_rise i j d before within =
       let later = AllPairs-from_increasing (map id_of rows) rising i j 0 before (subst (λ n. j < n) (sym (length-map rows id_of)) within) in
       subst (λ n. n < id_of (get_or rows j d)) (get_or-map id_of rows i d 0 (omega (arith, before, within))) (subst (λ n. get_or (map id_of rows) i 0 < n) (get_or-map id_of rows j d 0 within) later)

@@ -4,3 +4,4 @@ pub mod Indices
 pub mod Names
 pub mod Numbers
 pub mod Ordered
+pub mod States

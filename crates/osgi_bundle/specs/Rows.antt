@@ -1,5 +1,5 @@
 -- The table of bundles as contracts see it: the live bundles in rows, and what calls answer and change by them.
-use Rattle.std.specs.Prelude.{ℕ, ◌≡◌, ◌==◌, ◌<◌, ◌≤◌, nat_le, Bool, if◌then◌else◌, List, [], ◌∷◌, Option, None, Some, Result, Ok, Err, All, AllPairs, Contains, find, map, length, slice_get, IsSomeAnd}
+use Rattle.std.specs.Prelude.{ℕ, ◌≡◌, ◌==◌, ◌<◌, ◌≤◌, nat_le, Bool, false, if◌then◌else◌, List, [], ◌∷◌, Option, None, Some, Result, Ok, Err, All, AllPairs, Contains, find, map, length, slice_get, IsSomeAnd}
 use Rattle.std.specs.List.Sorted.{IsStrictlyIncreasing}
 use Rattle.std.specs.Option.{option_map}
 use Rattle.std.specs.Str.{bytes_eq}
@@ -12,7 +12,8 @@ use Rattle.osgi_ops.specs.declared.refusal.Many.TheVariants.{Bundles}
 use Rattle.osgi_ops.specs.declared.refusal.Refusal.{Refusal}
 use Rattle.osgi_ops.specs.declared.refusal.Refusal.TheVariants.{DuplicateBundle, TooMany}
 use Rattle.osgi_ops.specs.declared.rows.BundleRow.{BundleRow}
-use Rattle.osgi_ops.specs.declared.state.TheConstants.{INSTALLED, UNINSTALLED}
+use Rattle.osgi_ops.specs.States.{is_up}
+use Rattle.osgi_ops.specs.declared.state.TheConstants.{INSTALLED, RESOLVED, UNINSTALLED}
 use Rattle.osgi_version.specs.declared.version.Version.{Version}
 
 -- the live bundles by rising id, the system bundle first, and how many ids were given, the system bundle's not counted
@@ -67,6 +68,21 @@ new_row id location name version fragment row = record {
   state = INSTALLED;
   by = None;
 }
+
+-- the row with this state, if it is that of the bundle
+abbrev pub set_in : BundleId → ℕ → BundleKept → BundleKept
+set_in id state row = if is_bundle id row then record row { state = state } else row
+
+-- the rows where the state of the bundle is this
+abbrev pub with_state : BundleId → ℕ → List BundleKept → List BundleKept
+with_state id state rows = map (set_in id state) rows
+
+abbrev pub resolved_state : Bool → ℕ
+resolved_state resolved = if resolved then RESOLVED else INSTALLED
+
+-- the bundle is live and not up
+abbrev pub IsSettable : BundleId → List BundleKept → Type 0
+IsSettable id rows = IsSomeAnd (row_at id rows) (λ (row : BundleKept). is_up row.state ≡ false)
 
 -- what a list of bundles shows of one
 abbrev pub row_of : BundleKept → BundleRow

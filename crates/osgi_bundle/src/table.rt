@@ -3,10 +3,11 @@
 ghost use Rattle.std.specs.Prelude.{◌≡◌, ◌+◌, ◌<◌, ◌≤◌, [], ◌∷◌, ◌++◌, length, slice_get, None, Some, IfOk, OnOk, OnErr};
 ghost use Rattle.std.specs.Option.{option_copied};
 ghost use Rattle.osgi_base.specs.Verdict.{Gives};
-ghost use Rattle.osgi_bundle.specs.computed.Kept.{bundle_under, name_cmp, name_of};
-ghost use Rattle.osgi_bundle.specs.Rows.{AreApart, AreInOrder, bundle_from, id_of, install_refusals, new_row, row_at, state_at, verdict_of};
+ghost use Rattle.osgi_bundle.specs.computed.Kept.{bundle_under, name_cmp, name_of, row_in};
+ghost use Rattle.osgi_bundle.specs.Rows.{AreApart, AreInOrder, bundle_from, id_of, install_refusals, IsSettable, new_row, resolved_state, row_at, state_at, verdict_of, with_state};
 ghost use Rattle.osgi_bundle.specs.Stands.{first_table, kept_of, StandsAfter, StandsForNone};
 ghost use Rattle.osgi_ops.specs.Bundles.{the_system_bundle};
+ghost use Rattle.osgi_ops.specs.Moments.{first_world};
 ghost use Rattle.osgi_ops.specs.declared.limits.TheConstants.{MAX_BUNDLES};
 
 use crate::directory::{BundleName, Directory};
@@ -15,7 +16,7 @@ use osgi_base::ids::BundleId;
 use osgi_base::text::Text;
 use osgi_ops::limits::MAX_BUNDLES;
 use osgi_ops::refusal::{Many, Refusal};
-use osgi_ops::state::{ACTIVE, INSTALLED, UNINSTALLED};
+use osgi_ops::state::{ACTIVE, INSTALLED, RESOLVED, UNINSTALLED};
 use osgi_version::version::Version;
 use osgi_world::system::system_revision;
 use std::alloc::{AllocError, Global};
@@ -99,14 +100,20 @@ impl Table {
         }
     }
 
+    /// The place of a live bundle among the rows.
+    fn place(&self, bundle: BundleId) -> Option<usize>
+        ensures place { row_in self.now.rows result ≡ row_at bundle self.now.rows }
+    {
+        self.rows
+            .binary_search_by_key(&bundle.0, |row| row.bundle.0)
+            .ok()
+    }
+
     /// The row of a live bundle.
     fn row(&self, bundle: BundleId) -> Option<&BundleKept>
         ensures row { option_copied result ≡ row_at bundle self.now.rows }
     {
-        let place = self
-            .rows
-            .binary_search_by_key(&bundle.0, |row| row.bundle.0)
-            .ok()?;
+        let place = self.place(bundle)?;
         self.rows.get(place)
     }
 
@@ -158,6 +165,20 @@ impl Table {
         Ok(Ok(bundle))
     }
 
+    /// Sets whether a bundle is resolved. It has to be live, and not up.
+    pub fn set_resolved(&mut self, bundle: BundleId, resolved: bool)
+        requires settable { IsSettable bundle self.old.rows }
+        ensures rows { self.new.rows ≡ with_state bundle (resolved_state resolved) self.old.rows }
+        ensures issued { self.new.issued ≡ self.old.issued }
+    {
+        let Some(place) = self.place(bundle) else {
+            unreachable!()
+        };
+        let state = resolved_state(resolved);
+        let row = &mut self.rows[place];
+        row.state = state;
+    }
+
     /// Adds a bundle under the next id. Memory is taken first.
     fn add(&mut self, key: BundleName, row: BundleKept) -> Result<(), AllocError>
         requires next { row.bundle.0 ≡ self.old.issued + 1 }
@@ -175,9 +196,16 @@ impl Table {
     }
 }
 
+/// The state of a bundle that is not up.
+fn resolved_state(resolved: bool) -> u8
+    ensures state { result ≡ resolved_state resolved }
+{
+    if resolved { RESOLVED } else { INSTALLED }
+}
+
 /// The row of the system bundle.
 fn system_row(alloc: Global) -> Result<BundleKept, AllocError>
-    ensures system { IfOk result (λ row. row ≡ kept_of the_system_bundle) }
+    ensures system { IfOk result (λ row. row ≡ kept_of first_world the_system_bundle) }
 {
     let revision = system_revision(alloc)?;
     Ok(BundleKept {

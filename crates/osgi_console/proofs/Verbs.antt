@@ -5,6 +5,7 @@ use Rattle.std.specs.Option.{option_map}
 use Rattle.std.specs.Str.{bytes_eq}
 use Rattle.std.proofs.lemmas.Bool.{cond-false, ne_eqb}
 use Rattle.std.proofs.lemmas.Option.{option_and_then_some}
+use Rattle.osgi_base.specs.declared.ids.BundleId.{BundleId}
 use Rattle.osgi_base.specs.declared.ids.ServiceId.{ServiceId}
 use Rattle.osgi_model.specs.declared.filter.Filter.{Filter}
 use Rattle.osgi_session.specs.declared.command.Command.{Command}
@@ -18,22 +19,22 @@ use Rattle.osgi_syntax.specs.laws.Attributes.{properties_read, properties_sound,
 use Rattle.osgi_syntax.specs.laws.Names.{classes_read, classes_sound, whole_classes}
 use Rattle.osgi_console.proofs.Filters.{filter_ends, wanted_read, wanted_sound}
 use Rattle.osgi_console.proofs.Locations.{location_read, location_sound}
-use Rattle.osgi_syntax.specs.laws.Ids.{id_read, id_sound, whole_id}
+use Rattle.osgi_syntax.specs.laws.Ids.{bundle_id_read, bundle_id_sound, id_read, id_sound, whole_bundle_id, whole_id}
 use Rattle.osgi_syntax.specs.laws.Separating.{first_separates, words_separate}
 use Rattle.osgi_base.specs.laws.Quoting.{quoted_read, quoted_sound}
 use Rattle.osgi_syntax.specs.laws.Spaces.{EndsWord}
 use Rattle.osgi_syntax.specs.laws.Splitting.{begins, after_word-ends}
 use Rattle.osgi_syntax.specs.laws.Whole.{ends_all, first_separated, HasFirstWord, separated_words, whole_quoted}
 use Rattle.osgi_console.specs.Console as says
-use Rattle.osgi_console.specs.computed.LineReader.{alone, command_by, command_of, location_of, modify_of, name_of, only_id_of, register_of, verb_of, verbs, search_of}
+use Rattle.osgi_console.specs.computed.LineReader.{alone, command_by, command_of, location_of, modify_of, name_of, only_word_of, register_of, verb_of, verbs, search_of}
 use Rattle.osgi_syntax.specs.PropertyReader.{properties_of}
 use Rattle.osgi_base.specs.Parts.{part_len}
 use Rattle.osgi_syntax.specs.Splitting.{after_spaces, after_word, first_word, words_of}
 use Rattle.osgi_base.specs.QuoteReader.{quoted_of}
-use Rattle.osgi_syntax.specs.WordReader.{classes_of, id_of}
+use Rattle.osgi_syntax.specs.WordReader.{bundle_id_of, classes_of, id_of}
 use Rattle.osgi_syntax.specs.Lines.{IsFilterEnd}
 use Rattle.osgi_syntax.specs.LineWords.{IsLineWord}
-use Rattle.osgi_syntax.specs.Words.{AreSpaces, IsClass, IsId, IsSeparated}
+use Rattle.osgi_syntax.specs.Words.{AreSpaces, IsBundleId, IsClass, IsId, IsSeparated}
 
 -- ---- the first word
 
@@ -49,6 +50,8 @@ whole_name verb.FindAll = record { some = omega arith; scanned = refl }
 whole_name verb.Get = record { some = omega arith; scanned = refl }
 whole_name verb.Unget = record { some = omega arith; scanned = refl }
 whole_name verb.Install = record { some = omega arith; scanned = refl }
+whole_name verb.Resolve = record { some = omega arith; scanned = refl }
+whole_name verb.Wires = record { some = omega arith; scanned = refl }
 whole_name verb.Bundles = record { some = omega arith; scanned = refl }
 whole_name verb.Services = record { some = omega arith; scanned = refl }
 
@@ -66,24 +69,35 @@ named_front IsEnd v words line end separated =
 
 -- ---- the arguments
 
-record IsOnlyId (arguments : List (List ℕ)) (service : ServiceId) : Type 0 where
+-- the one argument is a word that is this id
+record IsOnly {A : Type 0} (Is : List ℕ → A → Type 0) (arguments : List (List ℕ)) (it : A) : Type 0 where
   word : List ℕ
   is : arguments ≡ word ∷ []
-  id : IsId word service
+  id : Is word it
 
-only_id : (arguments : List (List ℕ)) (service : ServiceId) → only_id_of arguments ≡ Some service → IsOnlyId arguments service
-only_id [] service e = absurd (cc e)
-only_id (word ∷ []) service e = record { word = word; is = refl; id = id_sound word service e }
-only_id (word ∷ second ∷ rest) service e = absurd (cc e)
+-- of a kind of ids: what they are read as, the words that they are, and that reading gives only those
+module _ {A : Type 0} (id_of : List ℕ → Option A) (Is : List ℕ → A → Type 0) (sound : (word : List ℕ) (id : A) → id_of word ≡ Some id → Is word id) where
+  only : (arguments : List (List ℕ)) (id : A) → option_and_then id_of (only_word_of arguments) ≡ Some id → IsOnly Is arguments id
+  only [] id e = absurd (cc e)
+  only (word ∷ []) id e = record { word = word; is = refl; id = sound word id e }
+  only (word ∷ second ∷ rest) id e = absurd (cc e)
 
--- a command that is made from an id alone, and one from a class alone
-id_command : (name : List ℕ) (make : ServiceId → Command) (arguments : List (List ℕ)) (c : Command) → option_map make (only_id_of arguments) ≡ Some c →
+  -- a command that is made from an id alone
+  only_command : (name : List ℕ) (make : A → Command) (arguments : List (List ℕ)) (c : Command) → option_map make (option_and_then id_of (only_word_of arguments)) ≡ Some c →
+      ((word : List ℕ) (id : A) → Is word id → says.AreWordsOf (name ∷ word ∷ []) (make id)) → says.AreWordsOf (name ∷ arguments) c
+  only_command name make arguments c e said =
+      let read = mapped make (option_and_then id_of (only_word_of arguments)) c e in
+      let alone = only arguments read.value read.was in
+      subst (λ l. says.AreWordsOf (name ∷ l) c) (sym alone.is)
+      (subst (says.AreWordsOf (name ∷ alone.word ∷ [])) read.is (said alone.word read.value alone.id))
+
+id_command : (name : List ℕ) (make : ServiceId → Command) (arguments : List (List ℕ)) (c : Command) → option_map make (option_and_then id_of (only_word_of arguments)) ≡ Some c →
     ((word : List ℕ) (service : ServiceId) → IsId word service → says.AreWordsOf (name ∷ word ∷ []) (make service)) → says.AreWordsOf (name ∷ arguments) c
-id_command name make arguments c e said =
-    let read = mapped make (only_id_of arguments) c e in
-    let only = only_id arguments read.value read.was in
-    subst (λ l. says.AreWordsOf (name ∷ l) c) (sym only.is)
-    (subst (says.AreWordsOf (name ∷ only.word ∷ [])) read.is (said only.word read.value only.id))
+id_command = only_command id_of IsId id_sound
+
+bundle_command : (name : List ℕ) (make : BundleId → Command) (arguments : List (List ℕ)) (c : Command) → option_map make (option_and_then bundle_id_of (only_word_of arguments)) ≡ Some c →
+    ((word : List ℕ) (bundle : BundleId) → IsBundleId word bundle → says.AreWordsOf (name ∷ word ∷ []) (make bundle)) → says.AreWordsOf (name ∷ arguments) c
+bundle_command = only_command bundle_id_of IsBundleId bundle_id_sound
 
 -- ---- what is read says the command
 
@@ -154,6 +168,11 @@ says_by verb.Get line c named e =
 says_by verb.Unget line c named e =
     said_in_words verb.Unget line c named (id_command (codes "unget") command.Unget (words_of (after_word line)) c e (λ word service id. says.unget id))
 says_by verb.Install line c named e = said_of_location line c named e
+says_by verb.Resolve line c named e =
+    said_in_words verb.Resolve line c named
+    (bundle_command (codes "resolve") command.Resolve (words_of (after_word line)) c e (λ word bundle id. says.resolve id))
+says_by verb.Wires line c named e =
+    said_in_words verb.Wires line c named (bundle_command (codes "wires") command.Wires (words_of (after_word line)) c e (λ word bundle id. says.wires id))
 says_by verb.Bundles line c named e =
     said_in_words verb.Bundles line c named (alone_sound (codes "bundles") command.Bundles c (words_of (after_word line)) e says.bundles)
 says_by verb.Services line c named e =
@@ -175,6 +194,8 @@ verb_read verb.FindAll = refl
 verb_read verb.Get = refl
 verb_read verb.Unget = refl
 verb_read verb.Install = refl
+verb_read verb.Resolve = refl
+verb_read verb.Wires = refl
 verb_read verb.Bundles = refl
 verb_read verb.Services = refl
 
@@ -182,8 +203,18 @@ verb_read verb.Services = refl
 read_by : (v : Verb) (line rest : List ℕ) (c : Command) → HasFirstWord line (name_of v) rest → command_by v rest ≡ Some c → command_of line ≡ Some c
 read_by v line rest c prefix by = rw (prefix.first, prefix.remainder, verb_read v) by
 
-only_id_read : (word : List ℕ) (service : ServiceId) (text : List ℕ) → IsId word service → IsSeparated AreSpaces (word ∷ []) text → only_id_of (words_of text) ≡ Some service
-only_id_read word service text is separated = ap only_id_of (separated_words (word ∷ []) text (whole_id word service is, tt) separated) ∙ id_read word service is
+-- the one argument of a text of one word
+only_word_read : (word text : List ℕ) → IsLineWord word → IsSeparated AreSpaces (word ∷ []) text → only_word_of (words_of text) ≡ Some word
+only_word_read word text whole separated = ap only_word_of (separated_words (word ∷ []) text (whole, tt) separated)
+
+only_id_read : (word : List ℕ) (service : ServiceId) (text : List ℕ) → IsId word service → IsSeparated AreSpaces (word ∷ []) text →
+    option_and_then id_of (only_word_of (words_of text)) ≡ Some service
+only_id_read word service text is separated = ap (option_and_then id_of) (only_word_read word text (whole_id word service is) separated) ∙ id_read word service is
+
+only_bundle_read : (word : List ℕ) (bundle : BundleId) (text : List ℕ) → IsBundleId word bundle → IsSeparated AreSpaces (word ∷ []) text →
+    option_and_then bundle_id_of (only_word_of (words_of text)) ≡ Some bundle
+only_bundle_read word bundle text is separated =
+    ap (option_and_then bundle_id_of) (only_word_read word text (whole_bundle_id word bundle is) separated) ∙ bundle_id_read word bundle is
 
 -- words of a command: the name, and arguments; where these part a text, the command is read from it
 record HasVerb (words : List (List ℕ)) (c : Command) : Type 0 where
@@ -232,6 +263,18 @@ has_verb words c (says.install {location = location} is) = record {
   arguments = location ∷ [];
   is = refl;
   read = λ text separated. ap (option_map command.Install) (location_read location text is separated);
+}
+has_verb words c (says.resolve {id = id} {bundle = bundle} is) = record {
+  verb = verb.Resolve;
+  arguments = id ∷ [];
+  is = refl;
+  read = λ text separated. ap (option_map command.Resolve) (only_bundle_read id bundle text is separated);
+}
+has_verb words c (says.wires {id = id} {bundle = bundle} is) = record {
+  verb = verb.Wires;
+  arguments = id ∷ [];
+  is = refl;
+  read = λ text separated. ap (option_map command.Wires) (only_bundle_read id bundle text is separated);
 }
 has_verb words c says.bundles = record {
   verb = verb.Bundles;

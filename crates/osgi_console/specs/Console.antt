@@ -1,6 +1,7 @@
 -- The text of the console: which lines the input has, and what each of them says.
 use Rattle.std.specs.Prelude.{ℕ, ◌≡◌, ◌+◌, ◌==◌, not, List, [], ◌∷◌, codes, Option}
 use Rattle.std.specs.Str.Lines.{lines}
+use Rattle.osgi_base.specs.declared.ids.BundleId.{BundleId}
 use Rattle.osgi_base.specs.declared.ids.ServiceId.{ServiceId}
 use Rattle.osgi_model.specs.declared.filter.Filter.{Filter}
 use Rattle.osgi_model.specs.declared.value.Attribute.{Attribute}
@@ -12,7 +13,7 @@ use Rattle.osgi_session.specs.declared.line.Line.{Line}
 use Rattle.osgi_syntax.specs.Lines.{IsFilterEnd, SaysNothing}
 use Rattle.osgi_syntax.specs.Properties.{AreProperties}
 use Rattle.osgi_base.specs.Quotes.{IsQuoted}
-use Rattle.osgi_syntax.specs.Words.{AreClasses, AreSpaces, IsClass, IsId, IsSeparated, IsSomeOf}
+use Rattle.osgi_syntax.specs.Words.{AreClasses, AreSpaces, IsBundleId, IsClass, IsId, IsSeparated, IsSomeOf}
 
 -- a location: one or more bytes other than a space
 abbrev pub IsLocation : List ℕ → Type 0
@@ -35,6 +36,10 @@ pub data AreWordsOf : List (List ℕ) → Command → Type 0 where
   unget : {id : List ℕ} {service : ServiceId} → IsId id service → AreWordsOf (codes "unget" ∷ id ∷ []) (command.Unget service)
   -- `install LOCATION`
   install : {location : List ℕ} → IsLocation location → AreWordsOf (codes "install" ∷ location ∷ []) (command.Install location)
+  -- `resolve ID`
+  resolve : {id : List ℕ} {bundle : BundleId} → IsBundleId id bundle → AreWordsOf (codes "resolve" ∷ id ∷ []) (command.Resolve bundle)
+  -- `wires ID`
+  wires : {id : List ℕ} {bundle : BundleId} → IsBundleId id bundle → AreWordsOf (codes "wires" ∷ id ∷ []) (command.Wires bundle)
   -- `bundles`
   bundles : AreWordsOf (codes "bundles" ∷ []) command.Bundles
   -- `services`

@@ -4,16 +4,16 @@ ghost use Rattle.std.specs.Prelude.{◌≡◌, ◌==◌, length, None, Some, IfO
 ghost use Rattle.std.specs.List.{position};
 ghost use Rattle.std.specs.Option.{option_map};
 ghost use Rattle.osgi_filter.specs.computed.Reader.{read_filter};
-ghost use Rattle.osgi_console.specs.computed.LineReader.{command_by, command_of, is_space, location_of, modify_of, name_of, only_id_of, register_of, verb_of, search_of};
+ghost use Rattle.osgi_console.specs.computed.LineReader.{command_by, command_of, is_space, location_of, modify_of, name_of, only_bundle_of, only_id_of, only_word_of, register_of, verb_of, search_of};
 ghost use Rattle.osgi_syntax.specs.Splitting.{words_of};
 
-use osgi_base::ids::ServiceId;
+use osgi_base::ids::{BundleId, ServiceId};
 use osgi_base::quoted::quoted;
 use osgi_base::text::Text;
 use osgi_filter::parse;
 use osgi_model::filter::Filter;
 use osgi_session::command::Command;
-use osgi_syntax::ids::id;
+use osgi_syntax::ids::{bundle_id, id};
 use osgi_syntax::names::{class, classes};
 use osgi_syntax::properties::properties;
 use osgi_syntax::words::{skip_spaces, split_word, split_words};
@@ -30,11 +30,13 @@ enum Verb {
     Get,
     Unget,
     Install,
+    Resolve,
+    Wires,
     Bundles,
     Services,
 }
 
-const VERBS: [Verb; 10] = [
+const VERBS: [Verb; 12] = [
     Verb::Register,
     Verb::Modify,
     Verb::Unregister,
@@ -43,6 +45,8 @@ const VERBS: [Verb; 10] = [
     Verb::Get,
     Verb::Unget,
     Verb::Install,
+    Verb::Resolve,
+    Verb::Wires,
     Verb::Bundles,
     Verb::Services,
 ];
@@ -60,6 +64,8 @@ impl Verb {
             Verb::Get => b"get",
             Verb::Unget => b"unget",
             Verb::Install => b"install",
+            Verb::Resolve => b"resolve",
+            Verb::Wires => b"wires",
             Verb::Bundles => b"bundles",
             Verb::Services => b"services",
         }
@@ -124,15 +130,31 @@ fn modify(alloc: Global, text: &[u8]) -> Result<Option<Command>, AllocError>
     }))
 }
 
+/// The one argument, where there is one and no other.
+fn only_word(text: &[u8]) -> Option<&[u8]>
+    ensures word { MatchOption result (only_word_of (words_of text.now) ≡ None) (λ word. only_word_of (words_of text.now) ≡ Some word.now) }
+{
+    let (word, rest) = split_word(text)?;
+    match split_word(rest) {
+        Some(_) => None,
+        None => Some(word),
+    }
+}
+
 /// The one argument, which is the id of a service.
 fn only_id(text: &[u8]) -> Option<ServiceId>
     ensures id { result ≡ only_id_of (words_of text.now) }
 {
-    let (service, rest) = split_word(text)?;
-    match split_word(rest) {
-        Some(_) => None,
-        None => id(service),
-    }
+    let word = only_word(text)?;
+    id(word)
+}
+
+/// The one argument, which is the id of a bundle.
+fn only_bundle(text: &[u8]) -> Option<BundleId>
+    ensures bundle { result ≡ only_bundle_of (words_of text.now) }
+{
+    let word = only_word(text)?;
+    bundle_id(word)
 }
 
 /// Whether no word is left.
@@ -222,6 +244,8 @@ fn command_by(alloc: Global, verb: Verb, text: &[u8]) -> Result<Option<Command>,
         Verb::Get => Ok(only_id(text).map(|service| Command::Get { service })),
         Verb::Unget => Ok(only_id(text).map(|service| Command::Unget { service })),
         Verb::Install => install(alloc, text),
+        Verb::Resolve => Ok(only_bundle(text).map(|bundle| Command::Resolve { bundle })),
+        Verb::Wires => Ok(only_bundle(text).map(|bundle| Command::Wires { bundle })),
         Verb::Bundles => Ok(has_no_word(text).then(|| Command::Bundles)),
         Verb::Services => Ok(has_no_word(text).then(|| Command::Services)),
     }

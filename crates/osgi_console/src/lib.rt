@@ -5,6 +5,7 @@ mod commands;
 mod reading;
 mod refusals;
 mod rendering;
+mod wires;
 mod writing;
 
 pub use reading::parse;

@@ -3,12 +3,13 @@
 ghost use Rattle.std.specs.Prelude.{◌≡◌, [], ◌++◌, codes, map, IfOk, OnOk};
 ghost use Rattle.std.specs.Fmt.{decimal};
 ghost use Rattle.std.specs.List.{concat, join_with_byte};
-ghost use Rattle.osgi_session.specs.Rendering.{bundle_row_text, ids_text, quoted, service_lines, service_row_text, truth, with_line_end, entry_text, render};
+ghost use Rattle.osgi_session.specs.Rendering.{bundle_row_text, bundles_text, quoted, service_lines, service_row_text, services_text, truth, with_line_end, entry_text, render};
 ghost use Rattle.osgi_console.specs.computed.Texts.{AreTextsOf, line_text_by, text_at};
 
 use crate::refusals::add_refusal;
+use crate::wires::add_wires;
 use crate::writing::{add_quoted, add_ranking, add_spaced, add_spaced_number};
-use osgi_base::ids::ServiceId;
+use osgi_base::ids::{BundleId, ServiceId};
 use osgi_base::text::Text;
 use osgi_ops::entry::Entry;
 use osgi_ops::op::Op;
@@ -19,15 +20,28 @@ use osgi_session::line::{Content, Line};
 use std::alloc::{AllocError, Global};
 use std::collections::BTreeMap;
 
-/// Adds ids, each after a space.
-fn add_ids(out: &mut Vec<u8>, ids: &[ServiceId]) -> Result<(), AllocError>
-    ensures added { OnOk result (out.new.items ≡ out.old.items ++ ids_text ids.now) }
+/// Adds ids of services, each after a space.
+fn add_service_ids(out: &mut Vec<u8>, ids: &[ServiceId]) -> Result<(), AllocError>
+    ensures added { OnOk result (out.new.items ≡ out.old.items ++ services_text ids.now) }
 {
     if ids.is_empty() {
         return out.extend_from_slice(b" none");
     }
     for id in ids {
         add_spaced_number(out, id.0)?;
+    }
+    Ok(())
+}
+
+/// Adds ids of bundles, each after a space.
+fn add_bundle_ids(out: &mut Vec<u8>, ids: &[BundleId]) -> Result<(), AllocError>
+    ensures added { OnOk result (out.new.items ≡ out.old.items ++ bundles_text ids.now) }
+{
+    if ids.is_empty() {
+        return out.extend_from_slice(b" none");
+    }
+    for id in ids {
+        add_spaced_number(out, u64::from(id.0))?;
     }
     Ok(())
 }
@@ -113,10 +127,20 @@ fn add_id_line(out: &mut Vec<u8>, word: &[u8], id: u64) -> Result<(), AllocError
 
 /// Adds the line that says which services were found.
 fn add_found(out: &mut Vec<u8>, ids: &[ServiceId]) -> Result<(), AllocError>
-    ensures added { OnOk result (out.new.items ≡ out.old.items ++ with_line_end (codes "found" ++ ids_text ids.now)) }
+    ensures added { OnOk result (out.new.items ≡ out.old.items ++ with_line_end (codes "found" ++ services_text ids.now)) }
 {
     out.extend_from_slice(b"found")?;
-    add_ids(out, ids)?;
+    add_service_ids(out, ids)?;
+    out.push(b'\n')?;
+    Ok(())
+}
+
+/// Adds the line that says which bundles were resolved.
+fn add_resolved(out: &mut Vec<u8>, ids: &[BundleId]) -> Result<(), AllocError>
+    ensures added { OnOk result (out.new.items ≡ out.old.items ++ with_line_end (codes "resolved" ++ bundles_text ids.now)) }
+{
+    out.extend_from_slice(b"resolved")?;
+    add_bundle_ids(out, ids)?;
     out.push(b'\n')?;
     Ok(())
 }
@@ -152,8 +176,12 @@ fn add_entry(alloc: Global, out: &mut Vec<u8>, entry: &Entry) -> Result<(), Allo
         (_, Reply::Services { services }) => add_found(out, services.items()),
         (_, Reply::Object { text }) => add_object(out, text.bytes()),
         (_, Reply::Bundle { bundle, .. }) => add_id_line(out, b"bundle", u64::from(bundle.0)),
+        (_, Reply::Resolved { added }) => add_resolved(out, added.items()),
         (_, Reply::Bundles { rows }) => add_bundles(alloc, out, rows.items()),
         (_, Reply::ServiceRows { rows }) => add_services(out, rows.items()),
+        (_, Reply::Wires { rows, fragments }) => {
+            add_wires(alloc, out, rows.items(), fragments.items())
+        }
         (_, Reply::Refused { refusal }) => add_refusal(out, refusal),
         (Op::Modify { service, .. }, Reply::Done) => add_id_line(out, b"modified", service.0),
         (Op::Unregister { service, .. }, Reply::Done) => {

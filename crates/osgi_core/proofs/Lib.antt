@@ -4,3 +4,8 @@ pub mod Installing
 pub mod Keeping
 pub mod Replying
 pub mod Serving
+pub mod Rows
+pub mod Searching
+pub mod WiresShown
+pub mod Targets
+pub mod ToldOnce

@@ -1,3 +1,4 @@
 -- The machine as contracts see it, and what is true of its fields.
 pub mod Machine
+pub mod Sound
 pub mod computed

@@ -3,3 +3,4 @@ pub mod Asked
 pub mod Kept
 pub mod Replied
 pub mod Served
+pub mod Searched

@@ -8,12 +8,12 @@ ghost use Rattle.osgi_ops.specs.Bundles.{level_of};
 ghost use Rattle.osgi_ops.specs.declared.op.Op.TheVariants as op;
 ghost use Rattle.osgi_ops.specs.declared.reply.Reply.TheVariants as answer;
 ghost use Rattle.osgi_ops.specs.Operations.{depot_refusal};
-ghost use Rattle.osgi_ops.specs.Worlds.{with_revision};
-ghost use Rattle.osgi_core.specs.computed.Replied.{IsReplied, StandsStill};
+ghost use Rattle.osgi_ops.specs.Resolved.{current_revision};
+ghost use Rattle.osgi_core.specs.computed.Replied.{HasRoom, IsBrought, IsReplied, IsSame, StandsStill};
 
 use crate::tables::Tables;
 use crate::twice::refused;
-use osgi_base::ids::{BundleId, RevisionId};
+use osgi_base::ids::BundleId;
 use osgi_base::list::List;
 use osgi_base::shared::Shared;
 use osgi_base::text::Text;
@@ -22,10 +22,9 @@ use osgi_ops::depot::Stored;
 use osgi_ops::refusal::{Many, Refusal};
 use osgi_ops::reply::Reply;
 use osgi_ops::rows::BundleRow;
+use osgi_wiring::Wirings;
 use osgi_world::revision::Revision;
-use osgi_world::world::{Known, World};
 use std::alloc::{AllocError, Global};
-use std::mem;
 
 /// A bundle, twice.
 fn answered(bundle: BundleId, known: bool) -> (Reply, Reply)
@@ -55,62 +54,36 @@ fn refusal_by(alloc: Global, stored: &Stored) -> Result<Option<Refusal>, AllocEr
 }
 
 /// Adds a bundle to the table, and its revision to those that are known.
-fn add_known(
+fn add(
     alloc: Global,
     bundles: &mut Table,
-    known: &mut Vec<Known>,
+    wirings: &mut Wirings,
     location: &Text,
     row: u32,
     revision: &Shared<Revision>,
 ) -> Result<Result<BundleId, Refusal>, AllocError>
     requires ids { bundles.old.issued < 4294967295 }
+    requires revisions { wirings.old.issued < 4294967295 }
+    requires fresh { (b : BundleId) → b.0 ≡ bundles.old.issued + 1 → current_revision wirings.old.world b ≡ None }
     ensures answer { IfOk result (λ answer. Gives (install_refusals revision.now.name revision.now.version bundles.old.rows) (λ id. id.0 ≡ bundles.old.issued + 1) (verdict_of answer)) }
     ensures stands { IfOk result (λ answer. IfOk answer (λ id. StandsAfter location.now revision.now.name revision.now.version (is_some revision.now.host) row id bundles.old bundles.new)) }
-    ensures known { IfOk result (λ answer. IfOk answer (λ id. known.new.items ≡ known.old.items ++ record { id = record { 0 = id.0 }; bundle = id; current = true; revision = revision.now } ∷ [])) }
-    ensures refused { IfOk result (λ answer. OnErr answer ((bundles.new ≡ bundles.old) × (known.new.items ≡ known.old.items))) }
-    ensures unchanged { OnErr result ((bundles.new ≡ bundles.old) × (known.new.items ≡ known.old.items)) }
+    ensures known { IfOk result (λ answer. IfOk answer (λ id. IsBrought id revision.now wirings.old wirings.new)) }
+    ensures refused { IfOk result (λ answer. OnErr answer ((bundles.new ≡ bundles.old) × IsSame wirings.old wirings.new)) }
+    ensures unchanged { OnErr result ((bundles.new ≡ bundles.old) × IsSame wirings.old wirings.new) }
 {
     // The room is taken first: once the table has changed nothing may fail.
-    known.reserve(1)?;
+    wirings.reserve()?;
     let kept = revision.copy(alloc)?;
     let name = revision.get().name.copy(alloc)?;
     let version = revision.get().version.copy(alloc)?;
     let fragment = revision.get().host.is_some();
     match bundles.install(location.copy(alloc)?, name, version, fragment, row)? {
         Ok(bundle) => {
-            // Each bundle has brought one revision so far, so both are numbered alike.
-            known.push(Known {
-                id: RevisionId(bundle.0),
-                bundle,
-                current: true,
-                revision: kept,
-            })?;
+            wirings.add(bundle, kept)?;
             Ok(Ok(bundle))
         }
         Err(refusal) => Ok(Err(refusal)),
     }
-}
-
-/// Adds a bundle to the table, and its revision to the world.
-fn add(
-    alloc: Global,
-    bundles: &mut Table,
-    world: &mut World,
-    location: &Text,
-    row: u32,
-    revision: &Shared<Revision>,
-) -> Result<Result<BundleId, Refusal>, AllocError>
-    requires ids { bundles.old.issued < 4294967295 }
-    ensures answer { IfOk result (λ answer. Gives (install_refusals revision.now.name revision.now.version bundles.old.rows) (λ id. id.0 ≡ bundles.old.issued + 1) (verdict_of answer)) }
-    ensures stands { IfOk result (λ answer. IfOk answer (λ id. StandsAfter location.now revision.now.name revision.now.version (is_some revision.now.host) row id bundles.old bundles.new)) }
-    ensures world { IfOk result (λ answer. IfOk answer (λ id. world.new ≡ with_revision world.old (record { 0 = id.0 }) id revision.now)) }
-    ensures refused { IfOk result (λ answer. OnErr answer ((bundles.new ≡ bundles.old) × (world.new ≡ world.old))) }
-    ensures unchanged { OnErr result ((bundles.new ≡ bundles.old) × (world.new ≡ world.old)) }
-{
-    let mut known = mem::replace(&mut world.known, List::from(Vec::new(alloc))).into_items();
-    let added = add_known(alloc, bundles, &mut known, location, row, revision);
-    world.known = List::from(known);
-    added
 }
 
 /// Installs the bundle of a location, where none was installed from it.
@@ -119,7 +92,7 @@ pub fn install(
     tables: &mut Tables,
     location: &Text,
 ) -> Result<(Reply, Reply), AllocError>
-    requires ids { tables.old.bundles.issued < 4294967295 }
+    requires room { HasRoom tables.old }
     ensures twice { IfOk result (λ r. r.1 ≡ r.0) }
     ensures replied { IfOk result (λ r. IsReplied (op.Install location.now) tables.old tables.new r.0) }
     ensures unchanged { OnErr result (StandsStill tables.old tables.new) }
@@ -134,7 +107,7 @@ pub fn install(
         let added = add(
             alloc,
             &mut tables.bundles,
-            &mut tables.world,
+            &mut tables.wirings,
             location,
             row,
             revision,

@@ -5,8 +5,12 @@ mod askers;
 mod bundles;
 mod machine;
 mod replies;
+mod resolving;
 mod services;
 mod tables;
+mod telling;
 mod twice;
+mod wires;
 
 pub use machine::Core;
+pub use telling::told_once;

@@ -9,9 +9,11 @@ ghost use Rattle.osgi_core.specs.computed.Replied.{HasRoom, is_known, IsReplied,
 
 use crate::askers::asker_refusal;
 use crate::bundles::{install, list_bundles};
+use crate::resolving::resolve;
 use crate::services;
 use crate::tables::Tables;
 use crate::twice::refused;
+use crate::wires::list_wires;
 use osgi_ops::op::Op;
 use osgi_ops::refusal::Refusal;
 use osgi_ops::reply::Reply;
@@ -74,8 +76,10 @@ fn reply_by(alloc: Global, tables: &mut Tables, op: &Op) -> Result<(Reply, Reply
             *service,
         ),
         Op::Install { location } => install(alloc, tables, location),
+        Op::Resolve { bundle } => resolve(alloc, tables, *bundle),
         Op::ListBundles => list_bundles(alloc, &tables.bundles),
         Op::ListServices => services::list_services(alloc, &tables.registry),
+        Op::ListWires { bundle } => list_wires(alloc, tables, *bundle),
         _ => not_yet(alloc, tables, op),
     }
 }

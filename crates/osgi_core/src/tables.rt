@@ -3,15 +3,17 @@
 use osgi_bundle::{IndexedDepot, Table};
 use osgi_ops::depot::Depot;
 use osgi_registry::Registry;
-use osgi_world::world::World;
+use osgi_wiring::Wirings;
 
-/// The depot, the services that are live, the bundles, and the world.
+/// The depot and the limit on the effort of a resolve, which never change; the services that are live, the bundles, and the
+/// wirings in force.
 #[derive(Drop)]
 pub struct Tables {
     pub depot: IndexedDepot,
+    pub budget: u64,
     pub registry: Registry,
     pub bundles: Table,
-    pub world: World,
+    pub wirings: Wirings,
 }
 
 impl Tables {
@@ -23,9 +25,10 @@ impl Tables {
     {
         let Tables {
             depot,
+            budget: _,
             registry: _,
             bundles: _,
-            world: _,
+            wirings: _,
         } = self;
         depot.into_depot()
     }

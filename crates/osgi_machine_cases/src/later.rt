@@ -20,8 +20,6 @@ pub fn later(name: &str, bundle: BundleId) -> Option<Op> {
         Some(Op::TakeJob)
     } else if name == "EndJob" {
         Some(Op::EndJob)
-    } else if name == "Resolve" {
-        Some(Op::Resolve { bundle })
     } else if name == "BeginStart" {
         Some(Op::BeginStart {
             bundle,
@@ -58,8 +56,6 @@ pub fn later(name: &str, bundle: BundleId) -> Option<Op> {
         Some(Op::EndLevel)
     } else if name == "SetBundleLevel" {
         Some(Op::SetBundleLevel { bundle, level: 1 })
-    } else if name == "ListWires" {
-        Some(Op::ListWires { bundle })
     } else {
         None
     }

@@ -64,8 +64,10 @@ fn kind(op: &Op) -> (&'static str, u32) {
         Op::Get { user, .. } => ("get", user.0),
         Op::Unget { user, .. } => ("unget", user.0),
         Op::Install { .. } => ("install", 0),
+        Op::Resolve { .. } => ("resolve", 0),
         Op::ListBundles => ("bundles", 0),
         Op::ListServices => ("services", 0),
+        Op::ListWires { .. } => ("wires", 0),
         _ => ("later", 0),
     }
 }

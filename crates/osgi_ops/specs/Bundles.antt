@@ -5,6 +5,7 @@ use Rattle.std.specs.Option.{option_map}
 use Rattle.std.specs.Str.{bytes_eq}
 use Rattle.osgi_base.specs.declared.ids.BundleId.{BundleId}
 use Rattle.osgi_ops.specs.Depots.{revision_at, row_number}
+use Rattle.osgi_ops.specs.Resolved.{is_resolved}
 use Rattle.osgi_ops.specs.declared.depot.DepotRow.{DepotRow}
 use Rattle.osgi_ops.specs.declared.entry.Entry.{Entry}
 use Rattle.osgi_ops.specs.declared.op.Op.{Op}
@@ -12,9 +13,10 @@ use Rattle.osgi_ops.specs.declared.op.Op.TheVariants as op
 use Rattle.osgi_ops.specs.declared.reply.Reply.{Reply}
 use Rattle.osgi_ops.specs.declared.reply.Reply.TheVariants as answer
 use Rattle.osgi_ops.specs.declared.rows.BundleRow.{BundleRow}
-use Rattle.osgi_ops.specs.declared.state.TheConstants.{ACTIVE, INSTALLED}
+use Rattle.osgi_ops.specs.declared.state.TheConstants.{ACTIVE, INSTALLED, RESOLVED}
 use Rattle.osgi_world.specs.System.{system_revision}
 use Rattle.osgi_world.specs.declared.revision.Revision.{Revision}
+use Rattle.osgi_world.specs.declared.world.World.{World}
 
 -- the system bundle, which runs the console's commands
 abbrev pub system : BundleId
@@ -63,19 +65,19 @@ bundle_at depot history id = find (is_bundle id) (bundles depot history)
 abbrev pub bundle_from : List DepotRow → List Entry → List ℕ → Option Bundle
 bundle_from depot history location = find (has_location location) (bundles depot history)
 
--- the state of a live bundle. Nothing resolves, starts or stops one yet: the system bundle is active, and the others are installed
-abbrev pub state_of : BundleId → ℕ
-state_of id = if id.0 == 0 then ACTIVE else INSTALLED
+-- the state of a live bundle. The system bundle is active. Nothing starts or stops another one yet: it is resolved, or else installed
+abbrev pub state_of : World → BundleId → ℕ
+state_of world id = if id.0 == 0 then ACTIVE else if is_resolved world id then RESOLVED else INSTALLED
 
 -- its start level. Nothing changes one yet: the system bundle's is 0, and that of the others 1
 abbrev pub level_of : BundleId → ℕ
 level_of id = if id.0 == 0 then 0 else 1
 
 -- what a list of bundles shows of one
-abbrev pub bundle_row : Bundle → BundleRow
-bundle_row b = record {
+abbrev pub bundle_row : World → Bundle → BundleRow
+bundle_row world b = record {
   bundle = b.bundle;
-  state = state_of b.bundle;
+  state = state_of world b.bundle;
   level = level_of b.bundle;
   name = b.revision.name;
   version = b.revision.version;

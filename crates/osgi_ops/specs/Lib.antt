@@ -9,8 +9,12 @@ pub mod Names
 pub mod Operations
 pub mod Properties
 pub mod Replies
+pub mod Resolved
+pub mod Resolving
 pub mod Services
 pub mod Settings
+pub mod Soundness
 pub mod States
+pub mod WireRows
 pub mod Worlds
 pub mod laws

@@ -8,8 +8,11 @@ use Rattle.osgi_ops.specs.Depots.{revision_at, stored_at}
 use Rattle.osgi_ops.specs.Moments.{Moment}
 use Rattle.osgi_ops.specs.Properties.{has_twins, ranking}
 use Rattle.osgi_ops.specs.Replies.{verdict}
+use Rattle.osgi_ops.specs.Resolved.{is_fragment_bundle, is_resolved}
+use Rattle.osgi_ops.specs.Resolving.{AnswersResolve, search_conditions}
 use Rattle.osgi_ops.specs.Services.{live, live_at, registered, services, uses}
 use Rattle.osgi_ops.specs.States.{is_up}
+use Rattle.osgi_ops.specs.WireRows.{AreWireRows}
 use Rattle.osgi_base.specs.Verdict.{Gives, Where}
 use Rattle.osgi_ops.specs.declared.depot.Stored.{Stored}
 use Rattle.osgi_ops.specs.declared.depot.Stored.TheVariants as stored
@@ -21,6 +24,7 @@ use Rattle.osgi_ops.specs.declared.refusal.Refusal.{Refusal}
 use Rattle.osgi_ops.specs.declared.refusal.Refusal.TheVariants.{NoSuchBundle, InvalidOperation, ReadError, NoFolder, ManifestError, DuplicateBundle, NoSuchService, BadProperties, NotOwner, TooMany}
 use Rattle.osgi_ops.specs.declared.reply.Reply.{Reply}
 use Rattle.osgi_ops.specs.declared.reply.Reply.TheVariants as answer
+use Rattle.osgi_ops.specs.declared.rows.WireRow.{WireRow}
 use Rattle.osgi_ops.specs.declared.service.Service.{Service}
 use Rattle.osgi_ops.specs.declared.service.ServiceRow.{ServiceRow}
 use Rattle.osgi_world.specs.declared.revision.Revision.{Revision}
@@ -33,7 +37,7 @@ no_such_bundle now bundle = Where NoSuchBundle (bundle_at now.setting.depot now.
 
 -- the bundle is not up
 abbrev pub not_up : Moment → BundleId → Refusal → Type 0
-not_up now bundle = Where InvalidOperation (is_up (state_of bundle) ≡ false)
+not_up now bundle = Where InvalidOperation (is_up (state_of now.world bundle) ≡ false)
 
 -- the bundle that asks for an operation, where one does: its owner, asker or user. Of the operations that the framework has; the others
 -- are refused whoever asks
@@ -96,7 +100,8 @@ install_conditions None now location =
 abbrev pub not_yet : Refusal → Type 0
 not_yet = Where InvalidOperation ⊤
 
--- the refusals that are an operation's own, in order, each where its condition holds
+-- the refusals that are an operation's own, in order, each where its condition holds. A fragment is not resolved by itself, but only
+-- attached to a host that is being resolved. Nothing refreshes yet, and so nothing is refused for that
 abbrev pub own_conditions : Moment → Op → List (Refusal → Type 0)
 own_conditions now (op.Register owner classes object properties) =
     Where BadProperties (has_twins properties ≡ true) ∷ Where (TooMany Services) (MAX_SERVICES ≤ length (live now.before)) ∷ []
@@ -108,8 +113,12 @@ own_conditions now (op.FindAll asker class filter) = []
 own_conditions now (op.Get user service) = no_such_service now service ∷ []
 own_conditions now (op.Unget user service) = []
 own_conditions now (op.Install location) = install_conditions (bundle_from now.setting.depot now.before location) now location
+own_conditions now (op.Resolve bundle) =
+    no_such_bundle now bundle ∷ Where InvalidOperation (is_fragment_bundle now.world bundle ≡ true)
+    ∷ search_conditions (is_resolved now.world bundle) now bundle
 own_conditions now op.ListBundles = []
 own_conditions now op.ListServices = []
+own_conditions now (op.ListWires bundle) = no_such_bundle now bundle ∷ []
 own_conditions now _ = not_yet ∷ []
 
 -- the refusals of an operation in order: those of who asks, and its own
@@ -145,8 +154,11 @@ Answers now (op.Get user service) reply = IsSomeAnd (live_at service now.before)
 Answers now (op.Unget user service) reply = reply ≡ answer.Flag (nat_lt 0 (uses user service now.before))
 Answers now (op.Install location) reply =
     reply ≡ installs (bundle_from now.setting.depot now.before location) (length (installed now.setting.depot now.before))
-Answers now op.ListBundles reply = reply ≡ answer.Bundles (map bundle_row (bundles now.setting.depot now.before))
+Answers now (op.Resolve bundle) reply = AnswersResolve (is_resolved now.world bundle) now bundle reply
+Answers now op.ListBundles reply = reply ≡ answer.Bundles (map (bundle_row now.world) (bundles now.setting.depot now.before))
 Answers now op.ListServices reply = reply ≡ answer.ServiceRows (map row_of (services now.before))
+Answers now (op.ListWires bundle) reply =
+    (rows : List WireRow) × (fragments : List WireRow) × (reply ≡ answer.Wires rows fragments) × AreWireRows now.world bundle rows fragments
 Answers now _ reply = ⊥
 
 -- the reply is the first refusal whose condition holds now, else the answer

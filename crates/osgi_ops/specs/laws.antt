@@ -2,4 +2,5 @@
 pub mod Bundles
 pub mod Histories
 pub mod Refusals
+pub mod Resolved
 pub mod Services

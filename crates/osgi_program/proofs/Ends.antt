@@ -60,6 +60,7 @@ session_from bounds input shelf how session status left run all within starved =
   lines = run.lines;
   depot = run.depot;
   legal = run.legal;
+  sound = run.sound;
   whole = runs_whole how bounds.entries status session.lines session.entries starved run.runs;
   full = tells_full _ session.lines session.entries (runs_whole how bounds.entries status session.lines session.entries starved run.runs) (numbered_from 1 (lines input) session.lines run.lines);
   handings = run.handings ∙ none_handed session.entries;

@@ -1,4 +1,4 @@
 -- Lemmas on runs of lines and on the top call.
 pub mod Ends
 pub mod Runs
-pub mod Words
+pub mod WordLaws

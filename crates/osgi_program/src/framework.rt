@@ -1,11 +1,12 @@
 //! The top call: words and an input in, a text and a session out.
 
-ghost use Rattle.std.specs.Prelude.{◌≡◌, ◌≤◌, ◌<◌, ◌↔◌, ◌⊎◌, ◌∷◌, [], codes, length, None, Some, IfSome, OnSome, IsSomeAnd, IfOk, IsTrue};
+ghost use Rattle.std.specs.Prelude.{◌≡◌, ◌≤◌, ◌<◌, ◌↔◌, ◌⊎◌, [], ℕ, length, None, Some, IfSome, OnSome, IsSomeAnd, IfOk, IsTrue};
 ghost use Rattle.std.specs.List.{list_any};
 ghost use Rattle.osgi_ops.specs.Replies.{is_refusal};
 ghost use Rattle.osgi_ops.specs.Settings.{bounds_of, standard_bounds};
 ghost use Rattle.osgi_outside.specs.Causes.{Rose};
 ghost use Rattle.osgi_program.specs.Outcome.{is_bad, is_troubled, status_of, IsSession, IsWritten, IsPartlyWritten, IsWrittenStatus, IsBareStatus};
+ghost use Rattle.osgi_program.specs.Words.{AsksRun, run_bounds};
 ghost use Rattle.osgi_program.specs.computed.Ended.{IsRun, status_by};
 
 use crate::runner::{Ran, run_lines};
@@ -13,6 +14,7 @@ use crate::session::{
     DONE, FAULTY_WORDS, Finished, HISTORY_FULL, INPUT_TOO_LONG, MAX_INPUT, NO_MEMORY, READ_FAILED,
     Session, TROUBLED, WRITE_FAILED,
 };
+use crate::words::{run_budget, run_limits};
 use osgi_base::text::Text;
 use osgi_console::{parse, render};
 use osgi_core::Core;
@@ -27,16 +29,6 @@ use osgi_outside::source::Source;
 use osgi_outside::writing::write_all;
 use osgi_session::line::{Content, Line};
 use std::alloc::{AllocError, Global};
-
-/// Whether the words of the command line are the one word `run`.
-fn is_run(words: &[Text]) -> bool
-    ensures run { IsTrue result ↔ (words.now ≡ codes "run" ∷ []) }
-{
-    match words {
-        [word] => word.bytes() == b"run".as_slice(),
-        _ => false,
-    }
-}
 
 /// Reads the folders that the lines of an input name, and runs the lines on a new machine.
 fn run_input<F: Shelf>(
@@ -117,7 +109,8 @@ fn write_session<K: Sink>(alloc: Global, ran: Ran, session: &Session, sink: &mut
 
 /// The whole of the program: reads the words and the input, runs its lines, and writes what they answer.
 ///
-/// The words are the command line without the program's name; they have to be `run` alone. The status and
+/// The words are the command line without the program's name; they have to be `run`, and may give a limit on the effort of each
+/// resolve, by `--budget B` or `--budget=B`. The status and
 /// the session that are answered are explained at `Finished`. Before the first line runs, the folder of each location that an
 /// `install` line names is read from the shelf, once. Runtime and gate are not used yet.
 pub fn framework_main<R, S: Source, K: Sink, F: Shelf, G: Gate>(
@@ -130,13 +123,14 @@ pub fn framework_main<R, S: Source, K: Sink, F: Shelf, G: Gate>(
     gate: &G,
 ) -> Finished
     ensures range { result.status ≤ HISTORY_FULL }
-    ensures faulty_words { (result.status ≡ FAULTY_WORDS) ↔ ¬ (words.now ≡ codes "run" ∷ []) }
-    ensures good_words { (result.status ≡ FAULTY_WORDS) ⊎ (words.now ≡ codes "run" ∷ []) }
+    ensures faulty_words { (result.status ≡ FAULTY_WORDS) ↔ ¬ ((budget : ℕ) × AsksRun words.now budget) }
+    ensures good_words { (result.status ≡ FAULTY_WORDS) ⊎ ((budget : ℕ) × AsksRun words.now budget) }
     ensures untouched { result.status ≡ FAULTY_WORDS → (source.new ≡ source.old) × (sink.new ≡ sink.old) }
     ensures unread { IsBareStatus result.status → shelf.new ≡ shelf.old }
 
     // What was read, run and recorded, whatever came of the writing.
-    ensures session { IfSome result.session (IsSession standard_bounds result.status (S.left source.old)
+    ensures session { (budget : ℕ) → AsksRun words.now budget →
+        IfSome result.session (IsSession (run_bounds budget) result.status (S.left source.old)
         (record { told = F.told shelf.old; before = F.faults shelf.old; after = F.faults shelf.new })) }
     ensures told { F.told shelf.new ≡ F.told shelf.old }
     ensures shelf_faults { F.faults shelf.old ≤ F.faults shelf.new }
@@ -163,23 +157,23 @@ pub fn framework_main<R, S: Source, K: Sink, F: Shelf, G: Gate>(
         IsSomeAnd result.session (λ session. result.status ≡ status_of session) }
     ensures history_full { result.status ≡ HISTORY_FULL →
         IsSomeAnd result.session (λ session. length session.entries ≡ standard_bounds.entries) }
-    ensures complete { words.now ≡ codes "run" ∷ [] →
+    ensures complete { ((budget : ℕ) × AsksRun words.now budget) →
         ¬ Rose (S.faults source.old) (S.faults source.new) →
         ¬ Rose (K.faults sink.old) (K.faults sink.new) →
         IsSomeAnd (S.left source.old) (λ bytes. length bytes ≤ MAX_INPUT) →
         IfSome result.session (λ session. length session.entries < standard_bounds.entries) →
         (result.status ≡ DONE) ⊎ (result.status ≡ TROUBLED) ⊎ (result.status ≡ NO_MEMORY) }
 {
-    if !is_run(words) {
+    let Some(budget) = run_budget(words) else {
         return Finished::bare(FAULTY_WORDS);
-    }
+    };
     let input = match read_all(alloc, source, MAX_INPUT) {
         Ok(Input::All(input)) => input,
         Ok(Input::TooMuch) => return Finished::bare(INPUT_TOO_LONG),
         Ok(Input::Failed) => return Finished::bare(READ_FAILED),
         Err(_) => return Finished::bare(NO_MEMORY),
     };
-    match run_input(alloc, Limits::standard(), input.bytes(), shelf) {
+    match run_input(alloc, run_limits(budget), input.bytes(), shelf) {
         Ok((ran, session)) => {
             let status = write_session(alloc, ran, &session, sink);
             Finished {

@@ -4,6 +4,7 @@
 mod framework;
 mod runner;
 mod session;
+mod words;
 
 pub use framework::framework_main;
 pub use session::{Finished, Session};

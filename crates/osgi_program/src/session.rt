@@ -43,7 +43,7 @@ pub(crate) const DONE: u8 = 0;
 /// How a run of the program ended.
 #[derive(Debug, Drop, PartialEq, Eq)]
 pub struct Finished {
-    /// The first of these that holds. 2: the words are not `run` alone; nothing was read. 3: a read
+    /// The first of these that holds. 2: the words do not ask for a run; nothing was read. 3: a read
     /// failed. 6: the input has more than 1,048,576 bytes. 4: a write or a flush failed. 7: a line with a
     /// command found the history full. 1: a line is outside the grammar, or a reply is a refusal. 0:
     /// otherwise. And 5 in place of any but 2: memory ran out, and nothing was written.

@@ -29,6 +29,8 @@ pub fn put_command(alloc: Global, out: &mut String, command: &Command) -> Result
         Command::Get { service } => put_service(out, "get", *service),
         Command::Unget { service } => put_service(out, "unget", *service),
         Command::Install { location } => put_install(out, location),
+        Command::Resolve { bundle } => put_bundle(out, "resolve", *bundle),
+        Command::Wires { bundle } => put_bundle(out, "wires", *bundle),
         Command::Bundles => out.push_str("bundles"),
         Command::Services => out.push_str("services"),
         other => write!(out, "{other:?}"),
@@ -69,6 +71,8 @@ pub fn put_op(alloc: Global, out: &mut String, op: &Op) -> Result<(), AllocError
         Op::Get { service, .. } => put_service(out, "get", *service),
         Op::Unget { service, .. } => put_service(out, "unget", *service),
         Op::Install { location } => put_install(out, location),
+        Op::Resolve { bundle } => put_bundle(out, "resolve", *bundle),
+        Op::ListWires { bundle } => put_bundle(out, "wires", *bundle),
         Op::ListBundles => out.push_str("bundles"),
         Op::ListServices => out.push_str("services"),
         other => write!(out, "{other:?}"),
@@ -77,6 +81,10 @@ pub fn put_op(alloc: Global, out: &mut String, op: &Op) -> Result<(), AllocError
 
 fn put_service(out: &mut String, word: &str, service: ServiceId) -> Result<(), AllocError> {
     write!(out, "{word} {}", service.0)
+}
+
+fn put_bundle(out: &mut String, word: &str, bundle: BundleId) -> Result<(), AllocError> {
+    write!(out, "{word} {}", bundle.0)
 }
 
 fn put_install(out: &mut String, location: &Text) -> Result<(), AllocError> {

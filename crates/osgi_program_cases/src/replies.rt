@@ -2,7 +2,7 @@
 
 use crate::commands::put_classes;
 use crate::escapes::{put_bytes, put_quoted};
-use osgi_base::ids::ServiceId;
+use osgi_base::ids::{BundleId, ServiceId};
 use osgi_ops::reply::Reply;
 use osgi_ops::rows::BundleRow;
 use osgi_ops::service::ServiceRow;
@@ -27,6 +27,13 @@ pub fn put_reply(alloc: Global, out: &mut String, reply: &Reply) -> Result<(), A
             let kind = if *known { "known" } else { "new" };
             write!(out, "bundle {} {kind}", bundle.0)
         }
+        Reply::Resolved { added } => put_resolved(out, added.items()),
+        Reply::Wires { rows, fragments } => write!(
+            out,
+            "{} wires {} fragments",
+            rows.items().len(),
+            fragments.items().len()
+        ),
         Reply::Bundles { rows } => put_bundles(alloc, out, rows.items()),
         Reply::ServiceRows { rows } => put_rows(out, rows.items()),
         Reply::Refused { refusal } => write!(out, "refused {} {refusal:?}", refusal.number()),
@@ -38,6 +45,14 @@ fn put_services(out: &mut String, services: &[ServiceId]) -> Result<(), AllocErr
     out.push_str("services")?;
     for service in services {
         write!(out, " {}", service.0)?;
+    }
+    Ok(())
+}
+
+fn put_resolved(out: &mut String, bundles: &[BundleId]) -> Result<(), AllocError> {
+    out.push_str("resolved")?;
+    for bundle in bundles {
+        write!(out, " {}", bundle.0)?;
     }
     Ok(())
 }

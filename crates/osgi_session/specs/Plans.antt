@@ -54,8 +54,8 @@ op_of owner (command.Job name) = op.QueueJob owner name
 op_of owner (command.Print text) = op.Print owner text
 op_of owner (command.Fail text) = op.Fail owner text
 
--- the plan of a command: that one operation. Some plans go on after it. The first operation of such a plan is always refused so
--- far, which ends the plan; as soon as it can be accepted, the steps after it belong here, also where they are still refused
+-- the plan of a command: that one operation. Some plans go on after it. No line says a command with such a plan yet; as soon as one
+-- does, the steps after it belong here, also where they are still refused
 abbrev pub plan : BundleId → Command → Plan
 plan owner c = ask (op_of owner c) after_one
 

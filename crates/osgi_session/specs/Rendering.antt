@@ -3,6 +3,7 @@ use Rattle.std.specs.Prelude.{ℕ, ◌≡◌, ◌↔◌, ◌&&◌, ◌||◌, ◌
 use Rattle.std.specs.List.{concat, join_with_byte, list_any}
 use Rattle.std.specs.Fmt.{decimal, signed_decimal}
 use Rattle.std.specs.Option.{option_to_list}
+use Rattle.osgi_base.specs.declared.ids.BundleId.{BundleId}
 use Rattle.osgi_base.specs.declared.ids.ServiceId.{ServiceId}
 use Rattle.osgi_ops.specs.Along.{along}
 use Rattle.osgi_session.specs.Lines.{entries_of, has_command, is_of}
@@ -11,19 +12,26 @@ use Rattle.osgi_session.specs.Sessions.{IsRunOf}
 use Rattle.osgi_ops.specs.declared.op.Op.{Op}
 use Rattle.osgi_ops.specs.declared.op.Op.TheVariants.{Modify, Unregister, Unget}
 use Rattle.osgi_ops.specs.declared.reply.Reply.{Reply}
-use Rattle.osgi_ops.specs.declared.reply.Reply.TheVariants.{Service, Done, Best, Services, Object, Flag, Bundle, Bundles, ServiceRows, Refused}
+use Rattle.osgi_ops.specs.declared.reply.Reply.TheVariants.{Service, Done, Best, Services, Object, Flag, Bundle, Resolved, Bundles, ServiceRows, Wires, Refused}
 use Rattle.osgi_ops.specs.declared.entry.Entry.{Entry}
 use Rattle.osgi_ops.specs.declared.rows.BundleRow.{BundleRow}
+use Rattle.osgi_ops.specs.declared.rows.WireRow.{WireRow}
 use Rattle.osgi_ops.specs.declared.service.ServiceRow.{ServiceRow}
 use Rattle.osgi_session.specs.declared.line.Content.{Content}
 use Rattle.osgi_session.specs.declared.line.Content.TheVariants.{Empty, Join, Bad, Run}
 use Rattle.osgi_session.specs.declared.line.Line.{Line}
 use Rattle.osgi_version.specs.VersionValues.{parts, text_of}
 
--- ids, each after a space; `none` where there are none
-abbrev pub ids_text : List ServiceId → List ℕ
-ids_text [] = codes " none"
-ids_text ids = concat (map (λ id. codes " " ++ decimal id.0) ids)
+-- ids, which have these numbers, each after a space; `none` where there are none
+abbrev pub ids_text : {A : Type 0} → (A → ℕ) → List A → List ℕ
+ids_text number [] = codes " none"
+ids_text number ids = concat (map (λ id. codes " " ++ decimal (number id)) ids)
+
+abbrev pub services_text : List ServiceId → List ℕ
+services_text services = ids_text (λ (id : ServiceId). id.0) services
+
+abbrev pub bundles_text : List BundleId → List ℕ
+bundles_text bundles = ids_text (λ (id : BundleId). id.0) bundles
 
 -- a text between quotes, with a `\` before each `"` and `\`
 abbrev pub quoted : List ℕ → List ℕ
@@ -50,15 +58,32 @@ bundle_row_text row =
     codes "bundle" ++ spaced (decimal row.bundle.0) ++ spaced (decimal row.state) ++ spaced (decimal row.level) ++ spaced row.name
     ++ spaced (text_of (parts row.version))
 
+-- the bundle, the version and the revision of a provider or of a fragment
+abbrev pub revision_text : WireRow → List ℕ
+revision_text row = spaced (decimal row.bundle.0) ++ spaced (text_of (parts row.version)) ++ spaced (codes "r" ++ decimal row.revision.0)
+
+abbrev pub wire_row_text : WireRow → List ℕ
+wire_row_text row = codes "wire" ++ spaced row.namespace ++ spaced row.name ++ revision_text row
+
+abbrev pub fragment_row_text : WireRow → List ℕ
+fragment_row_text row = codes "fragment" ++ revision_text row
+
+-- a line for each wire, then one for each fragment; `none` where there are neither
+abbrev pub wire_lines : List WireRow → List WireRow → List (List ℕ)
+wire_lines [] [] = codes "none" ∷ []
+wire_lines rows fragments = map wire_row_text rows ++ map fragment_row_text fragments
+
 -- the lines that an operation and its reply write, after the entries before them. Other answers write nothing so far
 abbrev pub entry_lines : List Entry → Op → Reply → List (List ℕ)
 entry_lines before op (Service service) = (codes "service " ++ decimal service.0) ∷ []
-entry_lines before op (Best service) = (codes "found" ++ ids_text (option_to_list service)) ∷ []
-entry_lines before op (Services services) = (codes "found" ++ ids_text services) ∷ []
+entry_lines before op (Best service) = (codes "found" ++ services_text (option_to_list service)) ∷ []
+entry_lines before op (Services services) = (codes "found" ++ services_text services) ∷ []
 entry_lines before op (Object text) = (codes "object " ++ quoted text) ∷ []
 entry_lines before op (Bundle bundle known) = (codes "bundle " ++ decimal bundle.0) ∷ []
+entry_lines before op (Resolved added) = (codes "resolved" ++ bundles_text added) ∷ []
 entry_lines before op (Bundles rows) = map bundle_row_text rows
 entry_lines before op (ServiceRows rows) = service_lines rows
+entry_lines before op (Wires rows fragments) = wire_lines rows fragments
 entry_lines before op (Refused refusal) = refusal_text refusal ∷ []
 entry_lines before (Modify owner service properties) Done = (codes "modified " ++ decimal service.0) ∷ []
 entry_lines before (Unregister owner service) Done = (codes "unregistered " ++ decimal service.0) ∷ []

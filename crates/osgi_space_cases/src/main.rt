@@ -5,25 +5,7 @@
 //!
 //!     REVISION; REVISION | WIRING; WIRING | QUESTION; QUESTION
 //!
-//! A REVISION is `ID NAME WORD ..`, or `ID/BUNDLE NAME WORD ..` where its bundle has another number than it. It is current, no
-//! fragment, of version 0 and permits fragments, unless a word says otherwise:
-//!
-//! | Word | What the revision is or has |
-//! |---|---|
-//! | `old`, `single`, `shut` | it is not current; is a singleton; permits no fragments |
-//! | `version=V`, `host=NAME`, `host=NAME:RANGE` | it is of this version; it is a fragment of this host |
-//! | `exports=PACKAGE`, `bundle=NAME`, `provides=NAME` | a capability: an export, a bundle, or of the namespace NAME |
-//! | `exports=PACKAGE(P,Q)` | an export that uses P and Q; the other capabilities too may have names in `(..)` |
-//! | `imports=PACKAGE`, `requires=NAME`, `needs=NAME` | a requirement: an import, a required bundle, or of the namespace NAME |
-//! | `dynamic=PACKAGE` | a dynamic import |
-//! | `imports=PACKAGE/FLAGS` | one that is optional (`o`), multiple (`m`), has reexport (`r`) or is not effective (`i`) |
-//!
-//! Capabilities and requirements stand in the order of their words, and the places of dynamic imports follow those of all
-//! requirements; places are counted from 0.
-//!
-//! A WIRING is `ID +FRAGMENT .. WIRE ..`, and a WIRE `OWNER.PLACE>PROVIDER.PLACE`: the requirement at that place of its owner
-//! has a wire to the capability at that place of its provider, or, as `OWNER.PLACE>PROVIDER.FRAGMENT.PLACE`, of the provider's
-//! fragment.
+//! `osgi_world_rows` says how a REVISION and a WIRING are written.
 //!
 //! | Question | What is answered |
 //! |---|---|
@@ -39,13 +21,9 @@
 //! where the two differ.
 #![tactic(auto)]
 
-mod drafts;
-mod members;
-mod numbers;
 mod questions;
 mod shown;
 mod steps;
-mod worlds;
 
 use std::io;
 

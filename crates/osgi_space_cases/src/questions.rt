@@ -1,15 +1,14 @@
 //! What rows ask of worlds.
 
-use crate::numbers::{cut, revision_id, text_of};
 use crate::shown::{push_ids, push_pairs};
 use crate::steps::{Steps, is_step};
-use crate::worlds::world;
 use osgi_base::ids::RevisionId;
 use osgi_base::list::List;
 use osgi_base::text::Text;
 use osgi_escapes::complain;
 use osgi_space::{ClassSpaces, Implied, implied, is_consistent, sources};
 use osgi_world::world::World;
+use osgi_world_rows::{cut, revision_id, text_of, world};
 use std::alloc::{AllocError, Global};
 use std::fmt::Write;
 

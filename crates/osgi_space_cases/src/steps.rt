@@ -2,11 +2,10 @@
 
 ghost use Rattle.std.specs.Prelude.{◌≤◌, length};
 
-use crate::numbers::{cut, revision_id, revision_ids};
 use crate::shown::push_clash;
-use crate::worlds::wire;
 use osgi_uses::spaces::Spaces;
 use osgi_world::world::World;
+use osgi_world_rows::{cut, revision_id, revision_ids, wire};
 use std::alloc::{AllocError, Global};
 
 /// The wirings that steps change, and how many steps can be taken back.

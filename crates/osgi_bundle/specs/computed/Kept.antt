@@ -1,5 +1,5 @@
 -- What is true of the table's fields between calls.
-use Rattle.std.specs.Prelude.{ℕ, ◌≡◌, cond, List, Option, None, Some, find}
+use Rattle.std.specs.Prelude.{ℕ, ◌≡◌, cond, List, Option, None, Some, find, slice_get}
 use Rattle.std.specs.BTreeMap.{BTreeMap, get}
 use Rattle.std.specs.Cmp.Lexicographic.{slice_cmp}
 use Rattle.std.specs.Option.{option_map, option_or}
@@ -12,6 +12,11 @@ use Rattle.osgi_bundle.specs.declared.directory.Directory.{Directory}
 use Rattle.osgi_bundle.specs.declared.kept.BundleKept.{BundleKept}
 use Rattle.osgi_version.specs.Comparing.{version_cmp}
 use Rattle.osgi_version.specs.declared.version.Version.{Version}
+
+-- the row at a place, if there is one
+abbrev pub row_in : List BundleKept → Option ℕ → Option BundleKept
+row_in rows None = None
+row_in rows (Some i) = slice_get rows i
 
 -- the bundle of the first row that has this key
 abbrev pub bundle_under : {K : Type 0} → (K → K → Ordering) → (BundleKept → K) → K → List BundleKept → Option BundleId

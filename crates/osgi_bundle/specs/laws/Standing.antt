@@ -1,14 +1,16 @@
 -- A table that stands for a history: after one more entry, and what it says of the history's bundles.
-use Rattle.std.proofs.Common.{◌≡◌, ◌+◌, ◌<◌, ℕ, List, [], ◌∷◌, ◌++◌, length, length-append, map, ap, sym, subst, ◌∙◌, refl, arith}
-use Rattle.std.specs.Prelude.{Bool, true, false, cond, nat_le, Option, None, Some, Contains, find, slice_index_or}
+use Rattle.std.proofs.Common.{◌≡◌, ◌+◌, ◌<◌, ◌≤◌, ℕ, suc, List, [], ◌∷◌, ◌++◌, length, length-append, map, ap, sym, subst, ◌∙◌, refl, arith}
+use Rattle.std.specs.Prelude.{◌==◌, Bool, true, false, cond, nat_le, Option, None, Some, All, Contains, find, slice_index_or}
 use Rattle.std.specs.Option.{option_map}
 use Rattle.std.proofs.lemmas.Bool.{eqb-true, ne_eqb}
 use Rattle.std.proofs.lemmas.List.{get_or-map, length-map, map-append}
 use Rattle.std.proofs.lemmas.List.Elements.{All-contains, All-contains_itself, All-map}
 use Rattle.osgi_base.specs.declared.ids.BundleId.{BundleId}
+use Rattle.osgi_base.specs.declared.ids.RevisionId.{RevisionId}
 use Rattle.osgi_base.specs.declared.ids.Tag.{Tag}
-use Rattle.osgi_bundle.specs.Rows.{bundle_from, has_location as has_location_row, is_bundle, IsTwin, new_row, row_at, row_of, state_at, state_by, TableRows}
-use Rattle.osgi_bundle.specs.Stands.{IsOfDepot, kept_of, StandsFor}
+use Rattle.osgi_bundle.specs.Rows.{bundle_from, has_location as has_location_row, id_of, is_bundle, IsTwin, new_row, row_at, row_of, state_at, state_by, TableRows}
+use Rattle.osgi_bundle.specs.Stands.{IsNew, IsOfDepot, kept_of, StandsFor}
+use Rattle.osgi_bundle.specs.laws.Worlds.{resolved_other, unresolved_new}
 use Rattle.osgi_bundle.specs.declared.kept.BundleKept.{BundleKept}
 use Rattle.osgi_ops.specs.Bundles.{Bundle, brought, bundle_at, bundle_from as bundle_of, bundle_row, bundles, installed, installed_by, is_bundle as is_bundle_of, state_of, the_system_bundle}
 use Rattle.osgi_ops.specs.Depots.{revision_at}
@@ -20,19 +22,22 @@ use Rattle.osgi_ops.specs.declared.op.Op.TheVariants as op
 use Rattle.osgi_ops.specs.declared.refusal.Refusal.{Refusal}
 use Rattle.osgi_ops.specs.declared.refusal.Refusal.TheVariants.{DuplicateBundle}
 use Rattle.osgi_ops.specs.declared.reply.Reply.TheVariants as answer
-use Rattle.osgi_ops.specs.declared.state.TheConstants.{INSTALLED, UNINSTALLED}
+use Rattle.osgi_ops.specs.Resolved.{is_resolved}
+use Rattle.osgi_ops.specs.Worlds.{with_revision}
+use Rattle.osgi_ops.specs.declared.state.TheConstants.{ACTIVE, INSTALLED, RESOLVED, UNINSTALLED}
 use Rattle.osgi_ops.specs.laws.Bundles.{installed-push, installed-same}
 use Rattle.osgi_version.specs.declared.version.Version.{Version}
 use Rattle.osgi_world.specs.declared.revision.Revision.{Revision}
+use Rattle.osgi_world.specs.declared.world.World.{World}
 
 -- ---- after one more entry
 
--- an entry that installs nothing
-pub stands_quiet : (depot : List DepotRow) (history : List Entry) (table : TableRows) (e : Entry) → StandsFor depot history table → installed_by depot e.op e.reply ≡ None → StandsFor depot (history ++ e ∷ []) table
-stands_quiet depot history table e stands quiet =
+-- an entry that installs nothing, in the same world
+pub stands_quiet : (depot : List DepotRow) (history : List Entry) (world : World) (table : TableRows) (e : Entry) → StandsFor depot history world table → installed_by depot e.op e.reply ≡ None → StandsFor depot (history ++ e ∷ []) world table
+stands_quiet depot history world table e stands quiet =
     let same = installed-same depot history e quiet in
     record {
-      rows = stands.rows ∙ ap (λ l. map kept_of (the_system_bundle ∷ l)) (sym same);
+      rows = stands.rows ∙ ap (λ l. map (kept_of world) (the_system_bundle ∷ l)) (sym same);
       issued = stands.issued ∙ ap length (sym same);
     }
 
@@ -40,44 +45,59 @@ installs_it : (depot : List DepotRow) (location : List ℕ) (id : BundleId) (rev
     installed_by depot (op.Install location) (answer.Bundle id false) ≡ Some (brought depot id location revision)
 installs_it depot location id revision is = ap (option_map (brought depot id location)) is
 
-new_state : (id : BundleId) (n : ℕ) → id.0 ≡ n + 1 → state_of id ≡ INSTALLED
-new_state id n is = rw (ne_eqb id.0 0 (λ same. omega (arith, is, same))) refl
+new_state : (world : World) (r : RevisionId) (id : BundleId) (revision : Revision) (n : ℕ) → IsNew world r id → id.0 ≡ n + 1 → state_of (with_revision world r id revision) id ≡ INSTALLED
+new_state world r id revision n new is = rw (ne_eqb id.0 0 (λ same. omega (arith, is, same)), unresolved_new world r id revision new) refl
 
 -- what an install adds is what is kept of the bundle that it brings
-kept_brought : (depot : List DepotRow) (location name : List ℕ) (version : Version) (fragment : Bool) (row : ℕ) (id : BundleId) (n : ℕ) (of : IsOfDepot depot location name version fragment row) → id.0 ≡ n + 1 →
-    new_row id location name version fragment row ≡ kept_of (brought depot id location of.revision)
-kept_brought depot location name version fragment row id n of is = λ i. record {
+kept_brought : (depot : List DepotRow) (location name : List ℕ) (version : Version) (fragment : Bool) (row : ℕ) (id : BundleId) (n : ℕ) (world : World) (r : RevisionId) (of : IsOfDepot depot location name version fragment row) → IsNew world r id →
+    id.0 ≡ n + 1 → new_row id location name version fragment row ≡ kept_of (with_revision world r id of.revision) (brought depot id location of.revision)
+kept_brought depot location name version fragment row id n world r of new is = λ i. record {
   bundle = id;
   location = location;
   name = of.has_name i;
   version = of.has_version i;
   fragment = of.has_host i;
   row = of.number i;
-  state = sym (new_state id n is) i;
+  state = sym (new_state world r id of.revision n new is) i;
   by = None;
 }
 
+-- the others are kept as they were
+kept_others : (world : World) (r : RevisionId) (id : BundleId) (revision : Revision) (n : ℕ) (list : List Bundle) → All (λ row. id_of row ≤ n) (map (kept_of world) list) → id.0 ≡ n + 1 →
+    map (kept_of world) list ≡ map (kept_of (with_revision world r id revision)) list
+kept_others world r id revision n [] given is = refl
+kept_others world r id revision n (b ∷ rest) given is =
+    let le : b.bundle.0 ≤ n = given 0 (kept_of world b) (omega arith) in
+    let other : (id.0 == b.bundle.0) ≡ false = ne_eqb id.0 b.bundle.0 (λ same. omega (arith, le, is, same)) in
+    let same : is_resolved world b.bundle ≡ is_resolved (with_revision world r id revision) b.bundle = sym (resolved_other world r id revision b.bundle other) in
+    λ i. record (kept_of world b) { state = cond (b.bundle.0 == 0) ACTIVE (cond (same i) RESOLVED INSTALLED) }
+    ∷ kept_others world r id revision n rest (λ k d within. given (suc k) d (omega arith)) is i
+
 -- an Install that was accepted
-pub stands_installed : (depot : List DepotRow) (history : List Entry) (old new : TableRows) (tag : Tag) (location name : List ℕ) (version : Version) (fragment : Bool) (row : ℕ) (id : BundleId) →
-    IsOfDepot depot location name version fragment row → StandsFor depot history old → id.0 ≡ old.issued + 1 → new.rows ≡ old.rows ++ new_row id location name version fragment row ∷ [] → new.issued ≡ old.issued + 1 →
-    StandsFor depot (history ++ record { tag = tag; op = op.Install location; reply = answer.Bundle id false } ∷ []) new
-stands_installed depot history old new tag location name version fragment row id of stands is rows issued =
+pub stands_installed : (depot : List DepotRow) (history : List Entry) (world : World) (r : RevisionId) (old new : TableRows) (tag : Tag) (location name : List ℕ) (version : Version) (fragment : Bool) (row : ℕ) (id : BundleId)
+    (of : IsOfDepot depot location name version fragment row) → IsNew world r id → All (λ row. id_of row ≤ old.issued) old.rows → StandsFor depot history world old → id.0 ≡ old.issued + 1 →
+    new.rows ≡ old.rows ++ new_row id location name version fragment row ∷ [] → new.issued ≡ old.issued + 1 →
+    StandsFor depot (history ++ record { tag = tag; op = op.Install location; reply = answer.Bundle id false } ∷ []) (with_revision world r id of.revision) new
+stands_installed depot history world r old new tag location name version fragment row id of fresh given stands is rows issued =
     let e : Entry = record { tag = tag; op = op.Install location; reply = answer.Bundle id false } in
     let b : Bundle = brought depot id location of.revision in
+    let after : World = with_revision world r id of.revision in
     let more : installed depot (history ++ e ∷ []) ≡ installed depot history ++ b ∷ [] = installed-push depot history e b (installs_it depot location id of.revision of.is) in
+    let others : map (kept_of world) (bundles depot history) ≡ map (kept_of after) (bundles depot history) = kept_others world r id of.revision old.issued (bundles depot history) (subst (All (λ row. id_of row ≤ old.issued)) stands.rows given) is in
     record {
       rows =
           rows
-          ∙ (λ i. stands.rows i ++ kept_brought depot location name version fragment row id old.issued of is i ∷ [])
-          ∙ sym (map-append kept_of (bundles depot history) (b ∷ []))
-          ∙ ap (λ l. map kept_of (the_system_bundle ∷ l)) (sym more);
+          ∙ (λ i. (stands.rows ∙ others) i ++ kept_brought depot location name version fragment row id old.issued world r of fresh is i ∷ [])
+          ∙ sym (map-append (kept_of after) (bundles depot history) (b ∷ []))
+          ∙ ap (λ l. map (kept_of after) (the_system_bundle ∷ l)) (sym more);
       issued =
           issued ∙ ap (λ n. n + 1) stands.issued ∙ sym (length-append (installed depot history) (b ∷ [])) ∙ ap length (sym more);
     }
 
 -- ---- what the rows say of the bundles
 
-found_map : {X Y : Type 0} (f : X → Y) (p : Y → Bool) (xs : List X) → find p (map f xs) ≡ option_map f (find (λ x. p (f x)) xs)
+-- what is found of what is made of the items is made of what is found of them
+pub found_map : {X Y : Type 0} (f : X → Y) (p : Y → Bool) (xs : List X) → find p (map f xs) ≡ option_map f (find (λ x. p (f x)) xs)
 found_map f p [] = refl
 found_map f p (x ∷ xs) = by (p (f x)) (found_map f p xs)
   where
@@ -86,32 +106,32 @@ found_map f p (x ∷ xs) = by (p (f x)) (found_map f p xs)
     by false more = more
 
 -- the row of a bundle is what is kept of the bundle
-pub row_of_bundle : (depot : List DepotRow) (history : List Entry) (table : TableRows) (id : BundleId) → StandsFor depot history table → row_at id table.rows ≡ option_map kept_of (bundle_at depot history id)
-row_of_bundle depot history table id stands = ap (row_at id) stands.rows ∙ found_map kept_of (is_bundle id) (bundles depot history)
+pub row_of_bundle : (depot : List DepotRow) (history : List Entry) (world : World) (table : TableRows) (id : BundleId) → StandsFor depot history world table → row_at id table.rows ≡ option_map (kept_of world) (bundle_at depot history id)
+row_of_bundle depot history world table id stands = ap (row_at id) stands.rows ∙ found_map (kept_of world) (is_bundle id) (bundles depot history)
 
-bundle_by : (o : Option Bundle) → option_map (λ (row : BundleKept). row.bundle) (option_map kept_of o) ≡ option_map (λ (b : Bundle). b.bundle) o
-bundle_by None = refl
-bundle_by (Some b) = refl
+bundle_by : (world : World) (o : Option Bundle) → option_map (λ (row : BundleKept). row.bundle) (option_map (kept_of world) o) ≡ option_map (λ (b : Bundle). b.bundle) o
+bundle_by world None = refl
+bundle_by world (Some b) = refl
 
 -- the bundle from a location is the history's
-pub from_location : (depot : List DepotRow) (history : List Entry) (table : TableRows) (location : List ℕ) → StandsFor depot history table →
+pub from_location : (depot : List DepotRow) (history : List Entry) (world : World) (table : TableRows) (location : List ℕ) → StandsFor depot history world table →
     bundle_from location table.rows ≡ option_map (λ (b : Bundle). b.bundle) (bundle_of depot history location)
-from_location depot history table location stands =
+from_location depot history world table location stands =
     ap (bundle_from location) stands.rows
-    ∙ ap (option_map (λ (row : BundleKept). row.bundle)) (found_map kept_of (has_location_row location) (bundles depot history))
-    ∙ bundle_by (bundle_of depot history location)
+    ∙ ap (option_map (λ (row : BundleKept). row.bundle)) (found_map (kept_of world) (has_location_row location) (bundles depot history))
+    ∙ bundle_by world (bundle_of depot history location)
 
-shown : (list : List Bundle) → map row_of (map kept_of list) ≡ map bundle_row list
-shown [] = refl
-shown (b ∷ rest) = ap (λ l. bundle_row b ∷ l) (shown rest)
+shown : (world : World) (list : List Bundle) → map row_of (map (kept_of world) list) ≡ map (bundle_row world) list
+shown world [] = refl
+shown world (b ∷ rest) = ap (λ l. bundle_row world b ∷ l) (shown world rest)
 
 -- a list of the rows shows the bundles
-pub rows_shown : (depot : List DepotRow) (history : List Entry) (table : TableRows) → StandsFor depot history table → map row_of table.rows ≡ map bundle_row (bundles depot history)
-rows_shown depot history table stands = ap (map row_of) stands.rows ∙ shown (bundles depot history)
+pub rows_shown : (depot : List DepotRow) (history : List Entry) (world : World) (table : TableRows) → StandsFor depot history world table → map row_of table.rows ≡ map (bundle_row world) (bundles depot history)
+rows_shown depot history world table stands = ap (map row_of) stands.rows ∙ shown world (bundles depot history)
 
 -- as many rows as bundles
-pub rows_count : (depot : List DepotRow) (history : List Entry) (table : TableRows) → StandsFor depot history table → length table.rows ≡ length (bundles depot history)
-rows_count depot history table stands = ap length stands.rows ∙ length-map (bundles depot history) kept_of
+pub rows_count : (depot : List DepotRow) (history : List Entry) (world : World) (table : TableRows) → StandsFor depot history world table → length table.rows ≡ length (bundles depot history)
+rows_count depot history world table stands = ap length stands.rows ∙ length-map (bundles depot history) (kept_of world)
 
 -- ---- bundles of one name and version
 
@@ -125,10 +145,10 @@ contains_of {X} f xs y there =
     (All-map (λ z. (x : X) × Contains xs x × (z ≡ f x)) f xs (λ k d within. (slice_index_or xs k d, All-contains_itself xs k d within, refl))) there
 
 -- a row of the name and version is that of a bundle with them
-pub twin_is_duplicate : (now : Moment) (table : TableRows) (location : List ℕ) (revision : Revision) (refusal : Refusal) → StandsFor now.setting.depot now.before table → revision_at now.setting.depot location ≡ Some revision →
+pub twin_is_duplicate : (now : Moment) (table : TableRows) (location : List ℕ) (revision : Revision) (refusal : Refusal) → StandsFor now.setting.depot now.before now.world table → revision_at now.setting.depot location ≡ Some revision →
     IsTwin revision.name revision.version table.rows refusal → IsDuplicate now location refusal
 twin_is_duplicate now table location revision refusal stands is twin =
-    let found = contains_of kept_of (bundles now.setting.depot now.before) twin.other (subst (λ l. Contains l twin.other) stands.rows twin.live) in
+    let found = contains_of (kept_of now.world) (bundles now.setting.depot now.before) twin.other (subst (λ l. Contains l twin.other) stands.rows twin.live) in
     record {
       revision = revision;
       is = is;
@@ -140,13 +160,13 @@ twin_is_duplicate now table location revision refusal stands is twin =
     }
 
 -- and the other way round
-pub duplicate_is_twin : (now : Moment) (table : TableRows) (location : List ℕ) (revision : Revision) (refusal : Refusal) → StandsFor now.setting.depot now.before table → revision_at now.setting.depot location ≡ Some revision →
+pub duplicate_is_twin : (now : Moment) (table : TableRows) (location : List ℕ) (revision : Revision) (refusal : Refusal) → StandsFor now.setting.depot now.before now.world table → revision_at now.setting.depot location ≡ Some revision →
     IsDuplicate now location refusal → IsTwin revision.name revision.version table.rows refusal
 duplicate_is_twin now table location revision refusal stands is duplicate =
     let same : duplicate.revision ≡ revision = cc (duplicate.is, is) in
     record {
-      other = kept_of duplicate.other;
-      live = subst (λ l. Contains l (kept_of duplicate.other)) (sym stands.rows) (contains_map kept_of (bundles now.setting.depot now.before) duplicate.other duplicate.live);
+      other = kept_of now.world duplicate.other;
+      live = subst (λ l. Contains l (kept_of now.world duplicate.other)) (sym stands.rows) (contains_map (kept_of now.world) (bundles now.setting.depot now.before) duplicate.other duplicate.live);
       same_name = duplicate.name ∙ ap (λ (r : Revision). r.name) same;
       same_version = duplicate.version ∙ ap (λ (r : Revision). r.version) same;
       says = duplicate.says;
@@ -163,18 +183,18 @@ find_passes p (y ∷ ys) x found = by (p y) refl found (find_passes p ys x)
     by false is found more = more found
 
 -- what the state of a bundle says of it: none, or that of one that is uninstalled, where it is not live, and else the history's
-pub data SaysState (at : Option Bundle) (id : BundleId) : Option ℕ → Type 0 where
-  never : at ≡ None → SaysState at id None
-  gone : at ≡ None → SaysState at id (Some UNINSTALLED)
-  live : (b : Bundle) → at ≡ Some b → SaysState at id (Some (state_of id))
+pub data SaysState (world : World) (at : Option Bundle) (id : BundleId) : Option ℕ → Type 0 where
+  never : at ≡ None → SaysState world at id None
+  gone : at ≡ None → SaysState world at id (Some UNINSTALLED)
+  live : (b : Bundle) → at ≡ Some b → SaysState world at id (Some (state_of world id))
 
-says_by : (id : BundleId) (given : Bool) (at : Option Bundle) → ((b : Bundle) → at ≡ Some b → b.bundle.0 ≡ id.0) → SaysState at id (state_by (option_map kept_of at) given)
-says_by id true None same = gone refl
-says_by id false None same = never refl
-says_by id given (Some b) same = subst (λ n. SaysState (Some b) id (Some (state_of (record { 0 = n })))) (sym (same b refl)) (live b refl)
+says_by : (world : World) (id : BundleId) (given : Bool) (at : Option Bundle) → ((b : Bundle) → at ≡ Some b → b.bundle.0 ≡ id.0) → SaysState world at id (state_by (option_map (kept_of world) at) given)
+says_by world id true None same = gone refl
+says_by world id false None same = never refl
+says_by world id given (Some b) same = subst (λ n. SaysState world (Some b) id (Some (state_of world (record { 0 = n })))) (sym (same b refl)) (live b refl)
 
-pub says_state : (depot : List DepotRow) (history : List Entry) (table : TableRows) (id : BundleId) → StandsFor depot history table → SaysState (bundle_at depot history id) id (state_at id table)
-says_state depot history table id stands =
+pub says_state : (depot : List DepotRow) (history : List Entry) (world : World) (table : TableRows) (id : BundleId) → StandsFor depot history world table → SaysState world (bundle_at depot history id) id (state_at id table)
+says_state depot history world table id stands =
     let at = bundle_at depot history id in
-    subst (λ o. SaysState at id (state_by o (nat_le id.0 table.issued))) (sym (row_of_bundle depot history table id stands))
-    (says_by id (nat_le id.0 table.issued) at (λ b is. eqb-true b.bundle.0 id.0 (find_passes (is_bundle_of id) (bundles depot history) b is)))
+    subst (λ o. SaysState world at id (state_by o (nat_le id.0 table.issued))) (sym (row_of_bundle depot history world table id stands))
+    (says_by world id (nat_le id.0 table.issued) at (λ b is. eqb-true b.bundle.0 id.0 (find_passes (is_bundle_of id) (bundles depot history) b is)))

@@ -4,6 +4,7 @@ use Rattle.std.specs.Prelude.{ℕ, ◌+◌, ◌==◌, ◌&&◌, if◌then◌else
 use Rattle.std.specs.List.{position}
 use Rattle.std.specs.Option.{option_map, unwrap_or}
 use Rattle.std.specs.Str.{bytes_eq}
+use Rattle.osgi_base.specs.declared.ids.BundleId.{BundleId}
 use Rattle.osgi_base.specs.declared.ids.ServiceId.{ServiceId}
 use Rattle.osgi_filter.specs.computed.Reader.{read_filter}
 use Rattle.osgi_session.specs.declared.command.Command.{Command}
@@ -17,7 +18,7 @@ use Rattle.osgi_console.specs.declared.commands.Verb.TheVariants as verb
 use Rattle.osgi_syntax.specs.LineReader.{is_silent}
 use Rattle.osgi_syntax.specs.Splitting.{after_spaces, after_word, first_word, words_of}
 use Rattle.osgi_base.specs.QuoteReader.{quoted_of}
-use Rattle.osgi_syntax.specs.WordReader.{class_of, classes_of, id_of}
+use Rattle.osgi_syntax.specs.WordReader.{bundle_id_of, class_of, classes_of, id_of}
 use Rattle.osgi_syntax.specs.PropertyReader.{properties_of}
 
 -- ---- commands
@@ -32,12 +33,15 @@ name_of verb.FindAll = codes "findall"
 name_of verb.Get = codes "get"
 name_of verb.Unget = codes "unget"
 name_of verb.Install = codes "install"
+name_of verb.Resolve = codes "resolve"
+name_of verb.Wires = codes "wires"
 name_of verb.Bundles = codes "bundles"
 name_of verb.Services = codes "services"
 
 abbrev pub verbs : List Verb
 verbs =
-    verb.Register ∷ verb.Modify ∷ verb.Unregister ∷ verb.Find ∷ verb.FindAll ∷ verb.Get ∷ verb.Unget ∷ verb.Install ∷ verb.Bundles ∷ verb.Services ∷ []
+    verb.Register ∷ verb.Modify ∷ verb.Unregister ∷ verb.Find ∷ verb.FindAll ∷ verb.Get ∷ verb.Unget ∷ verb.Install
+    ∷ verb.Resolve ∷ verb.Wires ∷ verb.Bundles ∷ verb.Services ∷ []
 
 abbrev pub verb_of : List ℕ → Option Verb
 verb_of word = find (λ verb. bytes_eq (name_of verb) word) verbs
@@ -51,10 +55,16 @@ abbrev pub modify_of : List (List ℕ) → Option Command
 modify_of [] = None
 modify_of (id ∷ words) = option_and_then (λ service. option_map (λ properties. command.Modify service properties) (properties_of words)) (id_of id)
 
--- the one argument
+-- the one argument, where there is one and no other
+abbrev pub only_word_of : List (List ℕ) → Option (List ℕ)
+only_word_of (word ∷ []) = Some word
+only_word_of _ = None
+
 abbrev pub only_id_of : List (List ℕ) → Option ServiceId
-only_id_of (id ∷ []) = id_of id
-only_id_of _ = None
+only_id_of arguments = option_and_then id_of (only_word_of arguments)
+
+abbrev pub only_bundle_of : List (List ℕ) → Option BundleId
+only_bundle_of arguments = option_and_then bundle_id_of (only_word_of arguments)
 
 -- a command without arguments
 abbrev pub alone : Command → List (List ℕ) → Option Command
@@ -94,6 +104,8 @@ command_by verb.FindAll text = option_map (λ wanted. command.FindAll wanted.cla
 command_by verb.Get text = option_map command.Get (only_id_of (words_of text))
 command_by verb.Unget text = option_map command.Unget (only_id_of (words_of text))
 command_by verb.Install text = option_map command.Install (location_of text)
+command_by verb.Resolve text = option_map command.Resolve (only_bundle_of (words_of text))
+command_by verb.Wires text = option_map command.Wires (only_bundle_of (words_of text))
 command_by verb.Bundles text = alone command.Bundles (words_of text)
 command_by verb.Services text = alone command.Services (words_of text)
 

@@ -2,7 +2,7 @@
 use Rattle.std.proofs.Common.{◌≡◌, ◌≤◌, ◌<◌, ◌⊎◌, inl, inr, List, [], ◌∷◌, ◌++◌, length, subst, sym, ◌≢◌, arith, append_assoc, append-nil, length-append}
 use Rattle.std.proofs.lemmas.Bool.{cases_lt}
 use Rattle.std.proofs.lemmas.List.{length-map}
-use Rattle.std.specs.Prelude.{ℕ, Option, None, Some, IsSomeAnd}
+use Rattle.std.specs.Prelude.{ℕ, Bool, true, false, Option, None, Some, IsSomeAnd}
 use Rattle.osgi_base.specs.declared.ids.BundleId.{BundleId}
 use Rattle.osgi_ops.specs.Along.{AllAlong}
 use Rattle.osgi_ops.specs.Bundles.{Bundle, bundle_from}
@@ -10,6 +10,8 @@ use Rattle.osgi_ops.specs.Depots.{stored_at}
 use Rattle.osgi_ops.specs.Legal.{IsAllowed, IsReplayed, IsStep, Legal}
 use Rattle.osgi_ops.specs.Moments.{entries_in, Moment, Told}
 use Rattle.osgi_ops.specs.Operations.{Answers, conditions, depot_refusal, install_conditions, IsDuplicate, IsReply}
+use Rattle.osgi_ops.specs.Resolved.{is_resolved}
+use Rattle.osgi_ops.specs.Resolving.{IsOverBudget, IsUnresolvable, search_conditions}
 use Rattle.osgi_ops.specs.Services.{live_at, Registered}
 use Rattle.osgi_ops.specs.Settings.{Setting}
 use Rattle.osgi_base.specs.Verdict.{Gives, refuses}
@@ -17,7 +19,7 @@ use Rattle.osgi_ops.specs.declared.depot.Stored.{Stored}
 use Rattle.osgi_ops.specs.declared.depot.Stored.TheVariants as stored
 use Rattle.osgi_ops.specs.declared.entry.Entry.{Entry}
 use Rattle.osgi_ops.specs.declared.op.Op.{Op}
-use Rattle.osgi_ops.specs.declared.op.Op.TheVariants.{Register, Modify, Unregister, Find, FindAll, Get, Unget, Install, ListBundles, ListServices}
+use Rattle.osgi_ops.specs.declared.op.Op.TheVariants.{Register, Modify, Unregister, Find, FindAll, Get, Unget, Install, Resolve, ListBundles, ListServices, ListWires}
 use Rattle.osgi_ops.specs.declared.refusal.Refusal.{Refusal}
 use Rattle.osgi_ops.specs.declared.refusal.Refusal.TheVariants.{HistoryFull, NotOwner}
 use Rattle.osgi_ops.specs.declared.reply.Reply.{Reply}
@@ -53,10 +55,21 @@ no_depot (Some (stored.Read revision manifest)) is = cc is
 no_duplicate : (now : Moment) (location : List ℕ) → IsDuplicate now location HistoryFull → ⊥
 no_duplicate now location is = cc is.says
 
+not_unresolvable : (now : Moment) (bundle : BundleId) → IsUnresolvable now bundle HistoryFull → ⊥
+not_unresolvable now bundle is = cc is.says
+
+not_over_budget : (now : Moment) (bundle : BundleId) → IsOverBudget now bundle HistoryFull → ⊥
+not_over_budget now bundle is = cc is.says
+
 none_install : (b : Option Bundle) (now : Moment) (location : List ℕ) → NoneCalls HistoryFull (install_conditions b now location)
 unfolding NoneCalls
 none_install (Some b) now location = tt
 none_install None now location = (no_depot (stored_at now.setting.depot location), (no_duplicate now location, ((λ c. cc c.0), tt)))
+
+none_search : (resolved : Bool) (now : Moment) (bundle : BundleId) → NoneCalls HistoryFull (search_conditions resolved now bundle)
+unfolding NoneCalls
+none_search true now bundle = tt
+none_search false now bundle = (not_unresolvable now bundle, (not_over_budget now bundle, tt))
 
 none_full : (now : Moment) (op : Op) → NoneCalls HistoryFull (conditions now op)
 unfolding NoneCalls
@@ -68,8 +81,10 @@ none_full now (FindAll asker class filter) = ((λ c. cc c.0), ((λ c. cc c.0), t
 none_full now (Get user service) = ((λ c. cc c.0), ((λ c. cc c.0), ((λ c. cc c.0), tt)))
 none_full now (Unget user service) = ((λ c. cc c.0), ((λ c. cc c.0), tt))
 none_full now (Install location) = none_install (bundle_from now.setting.depot now.before location) now location
+none_full now (Resolve bundle) = ((λ c. cc c.0), ((λ c. cc c.0), none_search (is_resolved now.world bundle) now bundle))
 none_full now ListBundles = tt
 none_full now ListServices = tt
+none_full now (ListWires bundle) = ((λ c. cc c.0), tt)
 none_full now _ = ((λ c. cc c.0), tt)
 
 not_full : (now : Moment) (op : Op) → IsReply now op (Refused HistoryFull) → ⊥

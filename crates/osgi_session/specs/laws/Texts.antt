@@ -10,7 +10,7 @@ use Rattle.osgi_session.specs.Rendering.{entries_text, entry_lines, entry_text, 
 use Rattle.osgi_ops.specs.declared.op.Op.{Op}
 use Rattle.osgi_ops.specs.declared.op.Op.TheVariants.{Modify, Unregister, Unget}
 use Rattle.osgi_ops.specs.declared.reply.Reply.{Reply}
-use Rattle.osgi_ops.specs.declared.reply.Reply.TheVariants.{Service, Done, Best, Services, Object, Flag, Bundle, Bundles, ServiceRows, Refused}
+use Rattle.osgi_ops.specs.declared.reply.Reply.TheVariants.{Service, Done, Best, Services, Object, Flag, Bundle, Resolved, Bundles, ServiceRows, Wires, Refused}
 use Rattle.osgi_ops.specs.declared.entry.Entry.{Entry}
 
 -- no entry's text depends on those before it yet
@@ -20,8 +20,10 @@ lines_alone before op (Best service) = refl
 lines_alone before op (Services services) = refl
 lines_alone before op (Object text) = refl
 lines_alone before op (Bundle bundle known) = refl
+lines_alone before op (Resolved added) = refl
 lines_alone before op (Bundles rows) = refl
 lines_alone before op (ServiceRows rows) = refl
+lines_alone before op (Wires rows fragments) = refl
 lines_alone before op (Refused refusal) = refl
 lines_alone before (Modify owner service properties) Done = refl
 lines_alone before (Unregister owner service) Done = refl

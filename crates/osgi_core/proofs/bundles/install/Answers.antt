@@ -1,7 +1,7 @@
 -- A bundle that is known, what the depot refuses, what the table refuses, and a new bundle.
-use Rattle.std.proofs.Common.{◌≡◌, ap, sym, subst, ◌∙◌, refl}
+use Rattle.std.proofs.Common.{◌≡◌, ap, sym, subst, ◌∙◌}
 use Rattle.std.specs.Prelude.{Some}
-use Rattle.osgi_core.proofs.Installing.{replied_installed, replied_known, replied_uninstalled, replied_unread, unchanged_by}
+use Rattle.osgi_core.proofs.Installing.{replied_installed, replied_known, replied_uninstalled, replied_unread, stays_same}
 use Rattle.osgi_core.proofs.Replying.{nothing_changed}
 use Rattle.osgi_core.proofs.Serving.{by_refused, refused_twice}
 use Rattle.osgi_core.specs.computed.Replied.{IsReplied}
@@ -25,17 +25,23 @@ returns-in_default-find-clause-replied c =
 pub returns-in-Ok-clause-replied : goal.returns-in-Ok-clause-replied
 returns-in-Ok-clause-replied c =
     let read : stored_at c.args.tables.now.depot.rows c.args.location.now ≡ Some (stored.Read c.in-Read.revision c.in-Read.manifest) = c.in-Some-find.ensures.found.0 ∙ ap Some c.in-Read.is in
-    subst (IsReplied (op.Install c.args.location.now) c.args.tables.now (record c.args.tables.now { bundles = c.add.new.bundles; world = c.add.new.world })) (sym c.answered-in-Ok.ensures.twice.0)
-    (replied_installed c.args.tables.now c.add.new.bundles c.add.new.world c.args.location.now c.in-Some-find.row c.in-Read.revision c.in-Read.manifest c.in-Ok.bundle (sym c.in_default.ensures.bundle) read c.in-Some-find.ensures.found.1
-    (rw c.in-Ok.is at c.in_ok-added.ensures.answer) (rw c.in-Ok.is at c.in_ok-added.ensures.stands) (rw c.in-Ok.is at c.in_ok-added.ensures.world))
+    subst (IsReplied (op.Install c.args.location.now) c.args.tables.now (record c.args.tables.now { bundles = c.add.new.bundles; wirings = c.add.new.wirings })) (sym c.answered-in-Ok.ensures.twice.0)
+    (replied_installed c.args.tables.now c.add.new.bundles c.add.new.wirings c.args.location.now c.in-Some-find.row c.in-Read.revision c.in-Read.manifest c.in-Ok.bundle (record {
+      none = sym c.in_default.ensures.bundle;
+      is = read;
+      number = c.in-Some-find.ensures.found.1;
+      given = (rw c.in-Ok.is at c.in_ok-added.ensures.answer);
+      stands = (rw c.in-Ok.is at c.in_ok-added.ensures.stands);
+      brought = (rw c.in-Ok.is at c.in_ok-added.ensures.known);
+    }))
 
 pub returns-in-Err-clause-replied : goal.returns-in-Err-clause-replied
 returns-in-Err-clause-replied c =
     let read : stored_at c.args.tables.now.depot.rows c.args.location.now ≡ Some (stored.Read c.in-Read.revision c.in-Read.manifest) = c.in-Some-find.ensures.found.0 ∙ ap Some c.in-Read.is in
     let same = rw c.in-Err.is at c.in_ok-added.ensures.refused in
-    by_refused c.refused-in-Err.result (IsReplied (op.Install c.args.location.now) c.args.tables.now (record c.args.tables.now { bundles = c.add.new.bundles; world = c.add.new.world })) c.in-Err.refusal c.refused-in-Err.ensures.refused
-    (unchanged_by (op.Install c.args.location.now) c.args.tables.now c.add.new.bundles c.add.new.world _ same.0 same.1
-    (replied_uninstalled c.args.tables.now c.args.location.now c.in-Read.revision c.in-Read.manifest c.in-Err.refusal (sym c.in_default.ensures.bundle) read (rw c.in-Err.is at c.in_ok-added.ensures.answer)))
+    by_refused c.refused-in-Err.result (IsReplied (op.Install c.args.location.now) c.args.tables.now (record c.args.tables.now { bundles = c.add.new.bundles; wirings = c.add.new.wirings })) c.in-Err.refusal c.refused-in-Err.ensures.refused
+    (replied_uninstalled c.args.tables.now (record c.args.tables.now { bundles = c.add.new.bundles; wirings = c.add.new.wirings }) c.args.location.now c.in-Read.revision c.in-Read.manifest c.in-Err.refusal (sym c.in_default.ensures.bundle) read
+    (rw c.in-Err.is at c.in_ok-added.ensures.answer) (stays_same c.args.tables.now c.add.new.bundles c.add.new.wirings same.0 same.1) same.1.world)
 
 pub returns : goal.returns
 returns c = record {

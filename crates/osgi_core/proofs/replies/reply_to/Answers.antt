@@ -1,5 +1,5 @@
 -- Who asks may not.
-use Rattle.std.proofs.Common.{sym, ◌∙◌}
+use Rattle.std.proofs.Common.{sym}
 use Rattle.osgi_core.proofs.Replying.{replied_unasked}
 use Rattle.osgi_core.proofs.Serving.{by_refused}
 use Rattle.osgi_core.specs.computed.Replied.{IsReplied}

@@ -1,11 +1,9 @@
 -- All of a class.
-use Rattle.std.proofs.Common.{◌≡◌, sym, ◌∙◌, refl, subst}
+use Rattle.std.proofs.Common.{◌≡◌, subst}
 use Rattle.std.specs.Option.{option_copied}
 use Rattle.osgi_ops.specs.Classes.{AreRanked, IsOf}
 use Rattle.osgi_registry.specs.Rows.{services_in}
-use Rattle.osgi_core.proofs.Serving.{by_refused, served_found_all}
-use Rattle.osgi_core.specs.computed.Served.{IsServed}
-use Rattle.osgi_ops.specs.declared.op.Op.TheVariants as op
+use Rattle.osgi_core.proofs.Serving.{served_found_all}
 use Rattle.osgi_core.proofs.services.find_all.Goals as goal
 
 pub returns-clause-served : goal.returns-clause-served

@@ -1,5 +1,4 @@
 -- A service registered.
-use Rattle.std.proofs.Common.{sym, ◌∙◌, refl}
 use Rattle.osgi_core.proofs.Serving.{by_refused, served_registered, served_unregistered}
 use Rattle.osgi_core.specs.computed.Served.{IsServed}
 use Rattle.osgi_ops.specs.declared.op.Op.TheVariants as op

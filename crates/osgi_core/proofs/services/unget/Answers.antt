@@ -1,8 +1,5 @@
 -- One use less.
-use Rattle.std.proofs.Common.{sym, ◌∙◌, refl}
-use Rattle.osgi_core.proofs.Serving.{by_refused, served_ungot}
-use Rattle.osgi_core.specs.computed.Served.{IsServed}
-use Rattle.osgi_ops.specs.declared.op.Op.TheVariants as op
+use Rattle.osgi_core.proofs.Serving.{served_ungot}
 use Rattle.osgi_core.proofs.services.unget.Goals as goal
 
 pub returns-clause-served : goal.returns-clause-served

@@ -1,6 +1,7 @@
 -- What an install answers, and the history that the table then stands for.
-use Rattle.std.proofs.Common.{◌≡◌, ◌+◌, ◌<◌, ◌≤◌, ap, sym, ◌∙◌, inl, inr, refl, rules, length, arith}
-use Rattle.std.specs.Prelude.{None, Some}
+use Rattle.std.proofs.Common.{◌≡◌, ◌+◌, ◌<◌, ◌≤◌, ap, sym, subst, ◌∙◌, inl, inr, refl, rules, length, arith}
+use Rattle.std.specs.Prelude.{All, None, Some}
+use Rattle.osgi_bundle.specs.Rows.{id_of, TableRows}
 use Rattle.osgi_bundle.specs.computed.Kept.{bundle_under, name_cmp, name_of, named}
 use Rattle.osgi_bundle.specs.laws.Standing.{stands_installed}
 use Rattle.osgi_ops.specs.declared.refusal.Many.TheVariants.{Bundles}
@@ -41,5 +42,6 @@ returns-clause-answer c =
     (inr ((λ refusal. no_twin c.args.name c.args.version c.self.inside.rows.items refusal found), inr ((λ refusal called. omega (arith, count, called.1)), refl)))
 
 pub returns-clause-stands : goal.returns-clause-stands
-returns-clause-stands c = λ depot history tag of stands.
-    stands_installed depot history c.args.self.now c.add.new.self tag c.args.location c.args.name c.args.version c.args.fragment c.args.row _ of stands (ap (λ t. t.issued + 1) c.self.view_is) c.in_ok-add.ensures.rows c.in_ok-add.ensures.issued
+returns-clause-stands c = λ depot history world revision tag of fresh stands.
+    let given : All (λ row. id_of row ≤ c.args.self.now.issued) c.args.self.now.rows = subst (λ (t : TableRows). All (λ row. id_of row ≤ t.issued) t.rows) c.self.view_is c.self.invariant.in_order.issued in
+    stands_installed depot history world revision c.args.self.now c.add.new.self tag c.args.location c.args.name c.args.version c.args.fragment c.args.row _ of fresh given stands (ap (λ t. t.issued + 1) c.self.view_is) c.in_ok-add.ensures.rows c.in_ok-add.ensures.issued

@@ -1,0 +1,77 @@
+//! The lines of a list of wires.
+
+ghost use Rattle.std.specs.Prelude.{◌≡◌, ◌++◌, map, OnOk};
+ghost use Rattle.std.specs.List.{concat};
+ghost use Rattle.osgi_session.specs.Rendering.{fragment_row_text, revision_text, wire_lines, wire_row_text, with_line_end};
+
+use crate::writing::{add_number, add_spaced, add_spaced_number};
+use osgi_ops::rows::WireRow;
+use std::alloc::{AllocError, Global};
+
+/// Adds the bundle, the version and the revision of a provider or of a fragment.
+fn add_revision(alloc: Global, out: &mut Vec<u8>, row: &WireRow) -> Result<(), AllocError>
+    ensures added { OnOk result (out.new.items ≡ out.old.items ++ revision_text row.now) }
+{
+    add_spaced_number(out, u64::from(row.bundle.0))?;
+    add_spaced(out, row.version.print(alloc)?.as_slice())?;
+    out.extend_from_slice(b" r")?;
+    add_number(out, u64::from(row.revision.0))
+}
+
+/// Adds the line of a wire.
+fn add_wire_row(alloc: Global, out: &mut Vec<u8>, row: &WireRow) -> Result<(), AllocError>
+    ensures added { OnOk result (out.new.items ≡ out.old.items ++ with_line_end (wire_row_text row.now)) }
+{
+    out.extend_from_slice(b"wire")?;
+    add_spaced(out, row.namespace.bytes())?;
+    add_spaced(out, row.name.bytes())?;
+    add_revision(alloc, out, row)?;
+    out.push(b'\n')?;
+    Ok(())
+}
+
+/// Adds the line of a fragment.
+fn add_fragment_row(alloc: Global, out: &mut Vec<u8>, row: &WireRow) -> Result<(), AllocError>
+    ensures added { OnOk result (out.new.items ≡ out.old.items ++ with_line_end (fragment_row_text row.now)) }
+{
+    out.extend_from_slice(b"fragment")?;
+    add_revision(alloc, out, row)?;
+    out.push(b'\n')?;
+    Ok(())
+}
+
+/// Adds the lines of the wires.
+fn add_wire_rows(alloc: Global, out: &mut Vec<u8>, rows: &[WireRow]) -> Result<(), AllocError>
+    ensures added { OnOk result (out.new.items ≡ out.old.items ++ concat (map with_line_end (map wire_row_text rows.now))) }
+{
+    for row in rows {
+        add_wire_row(alloc, out, row)?;
+    }
+    Ok(())
+}
+
+/// Adds the lines of the fragments.
+fn add_fragment_rows(alloc: Global, out: &mut Vec<u8>, rows: &[WireRow]) -> Result<(), AllocError>
+    ensures added { OnOk result (out.new.items ≡ out.old.items ++ concat (map with_line_end (map fragment_row_text rows.now))) }
+{
+    for row in rows {
+        add_fragment_row(alloc, out, row)?;
+    }
+    Ok(())
+}
+
+/// Adds the lines of a list of wires and fragments.
+pub fn add_wires(
+    alloc: Global,
+    out: &mut Vec<u8>,
+    rows: &[WireRow],
+    fragments: &[WireRow],
+) -> Result<(), AllocError>
+    ensures added { OnOk result (out.new.items ≡ out.old.items ++ concat (map with_line_end (wire_lines rows.now fragments.now))) }
+{
+    if rows.is_empty() && fragments.is_empty() {
+        return out.extend_from_slice(b"none\n");
+    }
+    add_wire_rows(alloc, out, rows)?;
+    add_fragment_rows(alloc, out, fragments)
+}

@@ -1,0 +1,6 @@
+-- By the world that each entry leaves.
+use Rattle.osgi_core.proofs.ToldOnce.{told-once}
+use Rattle.osgi_core.proofs.telling.told_once.Goals as goal
+
+pub returns : goal.returns
+returns c = record { once = told-once }

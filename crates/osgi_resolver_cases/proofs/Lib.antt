@@ -1,0 +1,2 @@
+-- Lemmas on what may be resolved.
+mod Resolvable

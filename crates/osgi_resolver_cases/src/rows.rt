@@ -1,0 +1,90 @@
+//! Rows: what is known at first, and steps.
+
+use crate::asked::push_resolved;
+use crate::known::{add, wirings_of};
+use crate::shown::push_wirings;
+use osgi_wiring::Wirings;
+use osgi_world_rows::{cut, known_revision, number, revision_id};
+use std::alloc::{AllocError, Global};
+
+/// The budget where a row gives none.
+const AMPLE: u32 = 1_000_000;
+
+fn budget(text: &str) -> u32 {
+    if text.is_empty() { AMPLE } else { number(text) }
+}
+
+/// Adds `; `, unless an answer is the first.
+fn begin(out: &mut String) -> Result<(), AllocError> {
+    if out.is_empty() {
+        return Ok(());
+    }
+    out.push_str("; ")
+}
+
+/// Makes a revision known, or says that it cannot be.
+fn make_known(
+    alloc: Global,
+    out: &mut String,
+    wirings: &mut Wirings,
+    text: &str,
+) -> Result<(), AllocError> {
+    if add(wirings, known_revision(alloc, text)?)? {
+        return Ok(());
+    }
+    begin(out)?;
+    out.push_str("cannot be known")
+}
+
+/// Adds the answer to a question about a world.
+fn push_answer(
+    alloc: Global,
+    out: &mut String,
+    wirings: &mut Wirings,
+    question: (&str, &str),
+) -> Result<(), AllocError> {
+    let (word, rest) = question;
+    if word == "resolve" {
+        let (root, rest) = cut(rest);
+        push_resolved(alloc, out, wirings, revision_id(root), budget(rest))
+    } else if word == "wires" {
+        push_wirings(out, wirings.world().wirings.items().get(1..).unwrap_or(&[]))
+    } else {
+        out.push_str("no step")
+    }
+}
+
+fn take(
+    alloc: Global,
+    out: &mut String,
+    wirings: &mut Wirings,
+    step: &str,
+) -> Result<(), AllocError> {
+    let (word, rest) = cut(step);
+    if word == "add" {
+        return make_known(alloc, out, wirings, rest);
+    }
+    begin(out)?;
+    push_answer(alloc, out, wirings, (word, rest))
+}
+
+fn take_all(
+    alloc: Global,
+    out: &mut String,
+    wirings: &mut Wirings,
+    steps: &str,
+) -> Result<(), AllocError> {
+    for step in steps.split(';') {
+        take(alloc, out, wirings, step.trim())?;
+    }
+    Ok(())
+}
+
+/// Adds the answers to all steps of a row.
+pub fn push_answers(alloc: Global, out: &mut String, row: &str) -> Result<(), AllocError> {
+    let (known, steps) = row.split_once('|').unwrap_or((row, ""));
+    let Some(mut wirings) = wirings_of(alloc, known)? else {
+        return out.push_str("cannot be known");
+    };
+    take_all(alloc, out, &mut wirings, steps)
+}
