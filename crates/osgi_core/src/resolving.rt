@@ -29,7 +29,7 @@ use std::alloc::{AllocError, Global};
 
 /// What a resolve of a bundle is about.
 #[derive(Clone, Copy, Debug, PartialEq, Eq)]
-pub enum Target {
+pub enum ResolveTarget {
     /// The bundle is not there.
     Missing,
     /// It is a fragment, which is only attached to a host that is being resolved.
@@ -40,19 +40,19 @@ pub enum Target {
     Root(RevisionId),
 }
 
-fn target_of(wirings: &Wirings, bundle: BundleId) -> Target
+fn target_of(wirings: &Wirings, bundle: BundleId) -> ResolveTarget
     ensures target { IsTargetOf wirings.now.world bundle result }
 {
     let Some(known) = wirings.current(bundle) else {
-        return Target::Missing;
+        return ResolveTarget::Missing;
     };
     if known.revision.get().host.is_some() {
-        return Target::Fragment;
+        return ResolveTarget::Fragment;
     }
     if wirings.wiring(known.id).is_some() {
-        return Target::Resolved;
+        return ResolveTarget::Resolved;
     }
-    Target::Root(known.id)
+    ResolveTarget::Root(known.id)
 }
 
 // ---- the bundles that become resolved
@@ -247,9 +247,9 @@ pub fn resolve(
     ensures unchanged { OnErr result (StandsStill tables.old tables.new) }
 {
     match target_of(&tables.wirings, bundle) {
-        Target::Missing => refused(alloc, Refusal::NoSuchBundle),
-        Target::Fragment => refused(alloc, Refusal::InvalidOperation),
-        Target::Resolved => Ok(none_resolved(alloc)),
-        Target::Root(root) => search(alloc, tables, bundle, root),
+        ResolveTarget::Missing => refused(alloc, Refusal::NoSuchBundle),
+        ResolveTarget::Fragment => refused(alloc, Refusal::InvalidOperation),
+        ResolveTarget::Resolved => Ok(none_resolved(alloc)),
+        ResolveTarget::Root(root) => search(alloc, tables, bundle, root),
     }
 }

@@ -12,7 +12,7 @@ use std::rt::Env;
 use std::{env, io};
 
 /// What is said of words that are not of the written form.
-const USAGE: &str = "usage: osgi_program run|check|make";
+const USAGE: &str = "usage: osgi_program run [--budget B] | check | make";
 
 /// The words of the command line, without the program's name.
 fn words(rt: &(impl Env + AllocGlobal)) -> io::Result<Vec<Text>> {

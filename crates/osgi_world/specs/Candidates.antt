@@ -28,7 +28,7 @@ same_place q n = (q.owner.0 == n.owner.0) && (q.index == n.index)
 abbrev pub candidates : Problem → ReqRef → List CapRef
 candidates P q = option_map_or (λ (c : Choice). c.candidates) (find (λ (c : Choice). same_place c.requirement q) P.choices) []
 
--- the current fragments that match the host, by bundle id
+-- the current fragments that match the host, and that it permits, by bundle id
 abbrev pub matching : Problem → RevisionId → List RevisionId
 matching P h = filter (λ f. is_host_of P.world.known f h) (current_fragments P.world.known)
 
@@ -43,6 +43,7 @@ pub record IsCandidate (P : Problem) (q : ReqRef) (c : CapRef) : Type 0 where
       ⊎ (¬ InForce P.world.wirings c.provider) × ((c.owner ≡ c.provider) ⊎ In c.owner (matching P c.provider)) × (c.index < capability_count P.world.known c.owner)
 
 -- the version by which a capability is preferred: a bundle's is its provider's, and any other's is its attribute `version`
+-- if that is a Version, else 0.0.0
 abbrev pub preference_version : List Known → CapRef → Parts
 preference_version K c =
     if is_bundle (capability_namespace K c.owner c.index)
@@ -80,8 +81,8 @@ pub record AreOrdered (K : List Known) (W : List Wiring) : Type 0 where
   pub fragments_ordered : (g : Wiring) → In g W → IsNonDecreasing (map (bundle_of K) g.fragments)
   pub one_current : (r s : RevisionId) → IsTrue (is_current K r) → IsTrue (is_current K s) → bundle_of K r ≡ bundle_of K s → r ≡ s
 
--- the root is unresolved in a consistent world, and the candidates of each requirement that can be asked are listed, each
--- once, the preferred first
+-- the root is unresolved in a consistent world, and the candidates of each requirement that can be asked are listed; every
+-- list has each of its candidates once, the preferred first
 pub record IsProblem (P : Problem) : Type 0 where
   pub world_is : IsWorld P.world.known P.world.wirings
   pub ordered : AreOrdered P.world.known P.world.wirings

@@ -17,8 +17,8 @@ use Rattle.osgi_world.specs.declared.requirement.Requirement.{Requirement}
 use Rattle.osgi_world.specs.declared.wiring.Wiring.{Wiring}
 use Rattle.osgi_world.specs.declared.world.Known.{Known}
 use Rattle.osgi_world.specs.declared.world.World.{World}
-use Rattle.osgi_core.specs.declared.resolving.Target.{Target}
-use Rattle.osgi_core.specs.declared.resolving.Target.TheVariants.{Missing, Fragment, Resolved, Root}
+use Rattle.osgi_core.specs.declared.resolving.ResolveTarget.{ResolveTarget}
+use Rattle.osgi_core.specs.declared.resolving.ResolveTarget.TheVariants.{Missing, Fragment, Resolved, Root}
 
 -- the bundle's current revision is this, no fragment, and not in force
 pub record IsAsked (world : World) (b : BundleId) (root : RevisionId) : Type 0 where
@@ -29,7 +29,7 @@ pub record IsAsked (world : World) (b : BundleId) (root : RevisionId) : Type 0 w
   pub unwired : wiring_at world.wirings root ≡ None
 
 -- what a Resolve of the bundle is about
-abbrev pub IsTargetOf : World → BundleId → Target → Type 0
+abbrev pub IsTargetOf : World → BundleId → ResolveTarget → Type 0
 IsTargetOf world b Missing = current_revision world b ≡ None
 IsTargetOf world b Fragment = is_fragment_bundle world b ≡ true
 IsTargetOf world b Resolved = (is_fragment_bundle world b ≡ false) × (is_resolved world b ≡ true)
