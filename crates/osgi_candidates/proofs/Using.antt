@@ -1,14 +1,14 @@
 -- The revisions in use, one wiring after another.
-use Rattle.std.proofs.Common.{◌≡◌, ◌↔◌, ◌⊎◌, inl, inr, ℕ, List, refl, sym, ap, subst}
+use Rattle.std.proofs.Common.{◌≡◌, ◌↔◌, ◌⊎◌, inl, inr, ℕ, refl, sym, ap, subst}
 use Rattle.std.specs.Prelude.{true}
 use Rattle.std.specs.BTreeSet.{BTreeSet, Updates}
 use Rattle.std.specs.Ordering.{nat_cmp}
 use Rattle.std.proofs.lemmas.Cmp.{nat_cmp_total}
 use Rattle.std.proofs.lemmas.Map.Lookups.{exact_unsigned}
 use Rattle.osgi_base.specs.declared.ids.RevisionId.{RevisionId}
-use Rattle.osgi_candidates.specs.computed.InUses.{AreInUse, HasRevision, IsUsedBy, PutsInUse}
+use Rattle.osgi_candidates.specs.computed.InUses.{HasRevision, PutsInUse}
 use Rattle.osgi_coherence.proofs.Exact.{inserted}
-use Rattle.osgi_coherence.specs.computed.Growing.{Grows, Nothing}
+use Rattle.osgi_coherence.specs.computed.Growing.{Grows}
 use Rattle.osgi_world.specs.Lists.{In}
 use Rattle.osgi_world.specs.declared.wiring.Wiring.{Wiring}
 
@@ -34,21 +34,4 @@ puts_in_use old first new g put grown r = (
     | inl o ↦ inl ((put r).1 (inl o))
     | inr used ↦ elim used [ inl e ↦ inl ((put r).1 (inr e)) | inr i ↦ inr (r, i, refl) ]
   ]),
-)
-
--- ---- all of them
-
-pub are_in_use : (W : List Wiring) (set : BTreeSet ℕ) → Grows Nothing (HasRevision set) IsUsedBy W → AreInUse W set
-are_in_use W set grown r = (
-  λ h. elim ((grown r).0 h) [
-    | inl n ↦ absurd n
-    | inr some ↦ elim some.2 [
-      | inl e ↦ inl (record { wiring = some.0; stands = some.1; revision = sym e })
-      | inr i ↦ inr (some.0.revision, record { wiring = some.0; stands = some.1; revision = refl; has = i })
-    ]
-  ],
-  λ used. (grown r).1 (inr (elim used [
-    | inl f ↦ (f.wiring, f.stands, inl (sym f.revision))
-    | inr a ↦ (a.1.wiring, a.1.stands, inr a.1.has)
-  ])),
 )

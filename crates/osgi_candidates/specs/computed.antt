@@ -7,3 +7,4 @@ pub mod Ranking
 pub mod Collecting
 pub mod Fragments
 pub mod Choices
+pub mod Halfway

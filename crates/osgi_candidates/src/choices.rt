@@ -7,6 +7,7 @@ ghost use Rattle.osgi_world.specs.Candidates.{AreOrdered, CanBeAsked, IsProblem,
 ghost use Rattle.osgi_world.specs.Consistency.{Consistent};
 ghost use Rattle.osgi_world.specs.Wirings.{IsWorld};
 
+use crate::offer_index::OfferIndex;
 use crate::offers::Offers;
 use osgi_base::ids::RevisionId;
 use osgi_base::list::List;
@@ -35,9 +36,13 @@ pub fn problem(alloc: Global, world: World, root: RevisionId) -> Result<Problem,
 }
 
 fn choices_in(alloc: Global, world: &World) -> Result<List<Choice>, AllocError>
+    requires is_world { IsWorld world.now.known world.now.wirings }
+    requires consistent { Consistent world.now.known world.now.wirings }
     ensures choices { IfOk result (λ choices. IsFit world.now → AreChoices world.now choices) }
 {
-    let offers = Offers::new(alloc, world)?;
+    let mut index = OfferIndex::new(alloc);
+    index.follow(alloc, world)?;
+    let offers = Offers::new(alloc, world, &index)?;
     let mut choices = List::new(alloc)?;
     for known in world.known.items() {
         add_choices(alloc, &offers, &mut choices, known)?;

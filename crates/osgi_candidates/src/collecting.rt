@@ -37,7 +37,7 @@ impl Offers<'_> {
         ensures collected { IfOk result (λ found. IsFit self.now → Asks self.now at requirement.now → Collects self.now at found) }
     {
         let mut found = BTreeSet::new(alloc);
-        for place in self.names.capabilities.of(&requirement.name) {
+        for place in self.index.names.capabilities.of(&requirement.name) {
             self.add_place(alloc, &mut found, at, requirement, *place)?;
         }
         Ok(found)
@@ -57,7 +57,7 @@ impl Offers<'_> {
         self.add_candidate(alloc, found, at, requirement, place, place.owner)?;
         if let Some(owner) = self.known.revision(place.owner) {
             if let Some(host) = &owner.host {
-                let hosts = self.names.revisions.of(&host.name);
+                let hosts = self.index.names.revisions.of(&host.name);
                 self.add_hosts(alloc, found, at, requirement, place, hosts)?;
             }
         }

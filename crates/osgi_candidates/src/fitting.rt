@@ -54,7 +54,7 @@ impl Offers<'_> {
     fn stands(&self, capability: CapRef) -> bool
         ensures stands { IsFit self.now → IsTrue result ↔ Stands self.now capability }
     {
-        match self.wirings.of(capability.provider) {
+        match self.index.held.of(capability.provider) {
             Some(held) => self.is_on_offer(held, capability),
             None => self.is_to_come(capability),
         }

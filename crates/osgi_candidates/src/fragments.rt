@@ -24,7 +24,7 @@ impl Offers<'_> {
     {
         match self.known.revision(host) {
             Some(revision) => {
-                let among = self.names.fragments.of(&revision.name);
+                let among = self.index.names.fragments.of(&revision.name);
                 let bundled = self.bundled(alloc, host, among)?;
                 Ok(by_bundle(alloc, &bundled)?)
             }

@@ -50,6 +50,16 @@ impl HeldWirings {
         Ok(())
     }
 
+    /// Adds wirings.
+    pub fn add_all(&mut self, known: &KnownIndex, wirings: &[Wiring]) -> Result<(), AllocError>
+        ensures added { OnOk result ((W : List Wiring) → AreHeld known.now W self.old → AreHeld known.now (W ++ wirings.now) self.new) }
+    {
+        for wiring in wirings {
+            self.add(known, wiring)?;
+        }
+        Ok(())
+    }
+
     /// What is asked of the wiring of the revision, if it has one.
     pub fn of(&self, revision: RevisionId) -> Option<&Held>
         ensures held { option_copied result ≡ get nat_cmp self.now.wirings revision.0 }

@@ -1,21 +1,21 @@
 //! The revisions that are in use.
 
-ghost use Rattle.std.specs.Prelude.{IfOk, OnOk};
+ghost use Rattle.std.specs.Prelude.{◌++◌, List, OnOk};
 ghost use Rattle.osgi_candidates.specs.computed.InUses.{AreInUse, PutsInUse};
+ghost use Rattle.osgi_world.specs.declared.wiring.Wiring.{Wiring};
 
 use osgi_world::wiring::Wiring;
 use std::alloc::{AllocError, Global};
 use std::collections::BTreeSet;
 
-/// The revisions of the wirings, and their fragments.
-pub fn revisions_in_use(alloc: Global, wirings: &[Wiring]) -> Result<BTreeSet<u32>, AllocError>
-    ensures in_use { IfOk result (AreInUse wirings.now) }
+/// Adds the revisions of the wirings, and their fragments.
+pub fn add_all_in_use(in_use: &mut BTreeSet<u32>, wirings: &[Wiring]) -> Result<(), AllocError>
+    ensures added { OnOk result ((W : List Wiring) → AreInUse W in_use.old → AreInUse (W ++ wirings.now) in_use.new) }
 {
-    let mut in_use = BTreeSet::new(alloc);
     for wiring in wirings {
-        add_in_use(&mut in_use, wiring)?;
+        add_in_use(in_use, wiring)?;
     }
-    Ok(in_use)
+    Ok(())
 }
 
 /// Adds the revision of the wiring, and its fragments.

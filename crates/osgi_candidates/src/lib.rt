@@ -8,9 +8,11 @@ mod fragments;
 mod held;
 mod in_use;
 mod names;
+mod offer_index;
 mod offers;
 mod ranked;
 mod ranking;
 
 pub use choices::problem;
+pub use offer_index::OfferIndex;
 pub use offers::Offers;

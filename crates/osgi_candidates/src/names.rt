@@ -1,7 +1,8 @@
 //! What is known, by names: the capabilities, the revisions, and the current fragments.
 
-ghost use Rattle.std.specs.Prelude.{OnOk};
-ghost use Rattle.osgi_candidates.specs.computed.Names.{AddsKnown, GrowsBy, HasNone, ListsCapabilities, fragment_added};
+ghost use Rattle.std.specs.Prelude.{◌++◌, List, OnOk};
+ghost use Rattle.osgi_candidates.specs.computed.Names.{AddsKnown, AreNames, AreOnce, GrowsBy, HasNone, ListsCapabilities, fragment_added};
+ghost use Rattle.osgi_world.specs.declared.world.Known.{Known};
 
 use osgi_base::ids::RevisionId;
 use osgi_base::text::Text;
@@ -44,6 +45,16 @@ impl KnownNames {
         self.revisions.push(name, known.id)?;
         add_fragment(alloc, &mut self.fragments, known)?;
         add_capabilities(alloc, &mut self.capabilities, known)?;
+        Ok(())
+    }
+
+    /// Adds known revisions, each of which is known once, to those that stand before them.
+    pub fn add_all(&mut self, alloc: Global, known: &[Known]) -> Result<(), AllocError>
+        ensures added { OnOk result ((K : List Known) → AreOnce (K ++ known.now) → AreNames K self.old → AreNames (K ++ known.now) self.new) }
+    {
+        for one in known {
+            self.add(alloc, one)?;
+        }
         Ok(())
     }
 }

@@ -22,7 +22,7 @@ use osgi_ops::depot::Stored;
 use osgi_ops::refusal::{Many, Refusal};
 use osgi_ops::reply::Reply;
 use osgi_ops::rows::BundleRow;
-use osgi_wiring::Wirings;
+use osgi_resolver::IndexedWirings;
 use osgi_world::revision::Revision;
 use std::alloc::{AllocError, Global};
 
@@ -57,7 +57,7 @@ fn refusal_by(alloc: Global, stored: &Stored) -> Result<Option<Refusal>, AllocEr
 fn add(
     alloc: Global,
     bundles: &mut Table,
-    wirings: &mut Wirings,
+    wirings: &mut IndexedWirings,
     location: &Text,
     row: u32,
     revision: &Shared<Revision>,

@@ -21,7 +21,7 @@ use osgi_bundle::{BundleKept, Table};
 use osgi_ops::refusal::{Refusal, Unmet};
 use osgi_ops::reply::Reply;
 use osgi_ops::state::INSTALLED;
-use osgi_resolver::{Answer, Cause};
+use osgi_resolver::{Answer, Cause, IndexedWirings};
 use osgi_wiring::Wirings;
 use osgi_world::requirement::Requirement;
 use osgi_world::wiring::{ReqRef, Wiring};
@@ -136,7 +136,7 @@ fn set_resolved(bundles: &mut Table, list: &[BundleId])
 fn accept(
     alloc: Global,
     bundles: &mut Table,
-    wirings: &mut Wirings,
+    wirings: &mut IndexedWirings,
     added: List<Wiring>,
 ) -> Result<(Reply, Reply), AllocError>
     requires extends { MayExtend wirings.old.world added }
@@ -151,7 +151,7 @@ fn accept(
     ensures bundles_unchanged { OnErr result (bundles.new ≡ bundles.old) }
     ensures wirings_unchanged { OnErr result (wirings.new ≡ wirings.old) }
 {
-    let resolved = newly_resolved(alloc, wirings, bundles, added.items())?;
+    let resolved = newly_resolved(alloc, wirings.wirings(), bundles, added.items())?;
     let kept = resolved.copy(alloc)?;
     wirings.extend(added)?;
     set_resolved(bundles, resolved.items());
@@ -204,17 +204,18 @@ fn search(
     root: RevisionId,
 ) -> Result<(Reply, Reply), AllocError>
     requires asked { IsAsked tables.old.wirings.world bundle root }
+    requires kept { IsKeptWorld tables.old.wirings.world tables.old.wirings.issued }
     requires budget { tables.old.budget < 2 ^ 64 - 1 }
     ensures twice { IfOk result (λ r. r.1 ≡ r.0) }
     ensures replied { IfOk result (λ r. IsReplied (op.Resolve bundle) tables.old tables.new r.0) }
     ensures unchanged { OnErr result (StandsStill tables.old tables.new) }
 {
-    match osgi_resolver::resolve(alloc, tables.wirings.world(), root, tables.budget)? {
+    match tables.wirings.resolve(root, tables.budget)? {
         Answer::Found { word: _, added } => {
             accept(alloc, &mut tables.bundles, &mut tables.wirings, added)
         }
         Answer::NoWord(cause) => {
-            let cause = unmet(alloc, &tables.wirings, cause)?;
+            let cause = unmet(alloc, tables.wirings.wirings(), cause)?;
             refused(alloc, Refusal::Unresolvable { cause })
         }
         Answer::Spent { visited } => refused(alloc, Refusal::BudgetSpent { visited }),
@@ -246,7 +247,7 @@ pub fn resolve(
     ensures replied { IfOk result (λ r. IsReplied (op.Resolve bundle) tables.old tables.new r.0) }
     ensures unchanged { OnErr result (StandsStill tables.old tables.new) }
 {
-    match target_of(&tables.wirings, bundle) {
+    match target_of(tables.wirings.wirings(), bundle) {
         ResolveTarget::Missing => refused(alloc, Refusal::NoSuchBundle),
         ResolveTarget::Fragment => refused(alloc, Refusal::InvalidOperation),
         ResolveTarget::Resolved => Ok(none_resolved(alloc)),

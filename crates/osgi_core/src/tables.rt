@@ -3,7 +3,7 @@
 use osgi_bundle::{IndexedDepot, Table};
 use osgi_ops::depot::Depot;
 use osgi_registry::Registry;
-use osgi_wiring::Wirings;
+use osgi_resolver::IndexedWirings;
 
 /// The depot and the limit on the effort of a resolve, which never change; the services that are live, the bundles, and the
 /// wirings in force.
@@ -13,7 +13,7 @@ pub struct Tables {
     pub budget: u64,
     pub registry: Registry,
     pub bundles: Table,
-    pub wirings: Wirings,
+    pub wirings: IndexedWirings,
 }
 
 impl Tables {

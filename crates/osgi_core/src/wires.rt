@@ -130,12 +130,11 @@ pub fn list_wires(
     ensures twice { IfOk result (λ r. r.1 ≡ r.0) }
     ensures replied { IfOk result (λ r. IsReplied (op.ListWires bundle) tables.now tables.now r.0) }
 {
-    let Some(known) = tables.wirings.current(bundle) else {
+    let wirings = tables.wirings.wirings();
+    let Some(known) = wirings.current(bundle) else {
         return refused(alloc, Refusal::NoSuchBundle);
     };
-    // What the wires name is known, since the world is consistent.
-    let _ = tables.wirings.world();
-    let (rows, fragments) = rows(alloc, &tables.wirings, known.id, bundle)?;
+    let (rows, fragments) = rows(alloc, wirings, known.id, bundle)?;
     let kept = rows.copy(alloc)?;
     let kept_fragments = fragments.copy(alloc)?;
     Ok((

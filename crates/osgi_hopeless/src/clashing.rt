@@ -13,7 +13,6 @@ ghost use Rattle.osgi_world.specs.declared.problem.Problem.{Problem};
 use osgi_base::ids::RevisionId;
 use osgi_path::Path;
 use osgi_space::among::Among;
-use osgi_space::disputed::disputed_packages;
 use osgi_space::uses::keeps_uses;
 use osgi_wires::rows::Rows;
 use std::alloc::{AllocError, Global};
@@ -44,7 +43,12 @@ pub fn has_clash(alloc: Global, path: &Path, unsettled: &BTreeSet<u32>) -> Resul
     requires unsettled { (P : Problem) → IsProblemOf path.now P → AreUnsettled P (made P path.now) unsettled.now }
     ensures clash { IfOk result (λ answer. (P : Problem) → IsProblemOf path.now P → IsTrue answer ↔ HasClash P (made P path.now)) }
 {
-    let rows = path.rows().rows();
-    let disputed = disputed_packages(alloc, rows)?;
-    Ok(is_one_broken(alloc, rows, &disputed, unsettled, path.members())?)
+    let rows = path.disputed_rows();
+    Ok(is_one_broken(
+        alloc,
+        rows.world_rows().rows(),
+        rows.disputed(),
+        unsettled,
+        path.members(),
+    )?)
 }

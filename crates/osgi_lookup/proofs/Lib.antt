@@ -1,2 +1,3 @@
 -- Lemmas on the index of the known revisions.
 pub mod Pushed
+pub mod Searched

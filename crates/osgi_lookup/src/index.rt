@@ -1,8 +1,8 @@
 //! The known revisions by their ids.
 
-ghost use Rattle.std.specs.Prelude.{◌≡◌, IfOk};
+ghost use Rattle.std.specs.Prelude.{◌≡◌, ◌↔◌, IfOk, IsTrue};
 ghost use Rattle.std.specs.Option.{option_copied};
-ghost use Rattle.osgi_lookup.specs.computed.Index.{IsIndexOf};
+ghost use Rattle.osgi_lookup.specs.computed.Index.{AreRising, IsIndexOf};
 ghost use Rattle.osgi_world.specs.Lookups.{known_at};
 
 use osgi_base::ids::RevisionId;
@@ -11,16 +11,17 @@ use std::alloc::{AllocError, Global};
 use std::collections::BTreeMap;
 use std::marker::Model;
 
-/// The known revisions with an index by id. Contracts see the known revisions. Of several with one id the first counts.
+/// The known revisions, found by their ids. Contracts see the known revisions. Of several with one id the first counts.
 #[derive(Drop)]
 pub struct KnownIndex<'w> {
     all: &'w [Known],
-    by_id: BTreeMap<u32, &'w Known>,
+    /// The first revision of each id; not needed where the ids rise from one revision to the next.
+    by_id: Option<BTreeMap<u32, &'w Known>>,
 }
 
 impl<'w> Model for KnownIndex<'w> {
-    ghost use Rattle.std.specs.Prelude.{List};
-    ghost use Rattle.osgi_lookup.specs.computed.Index.{IsIndexOf};
+    ghost use Rattle.std.specs.Prelude.{List, MatchOption};
+    ghost use Rattle.osgi_lookup.specs.computed.Index.{AreRising, IsIndexOf};
     ghost use Rattle.osgi_world.specs.declared.world.Known.{Known};
     ghost use Rattle.std.specs.Coded.{codes};
     ghost use Rattle.osgi_model.specs.contracts.filter.Filter as filter;
@@ -32,7 +33,7 @@ impl<'w> Model for KnownIndex<'w> {
 
     ghost view = { λ i. i.all.now };
 
-    ghost invariant = { λ i. IsIndexOf i.by_id i.all.now };
+    ghost invariant = { λ i. MatchOption i.by_id (AreRising i.all.now) (λ by_id. IsIndexOf by_id i.all.now) };
 }
 
 impl<'w> KnownIndex<'w> {
@@ -40,8 +41,14 @@ impl<'w> KnownIndex<'w> {
     pub fn new(alloc: Global, all: &'w [Known]) -> Result<KnownIndex<'w>, AllocError>
         ensures known { IfOk result (λ made. made ≡ all.now) }
     {
+        if do_ids_rise(all) {
+            return Ok(KnownIndex { all, by_id: None });
+        }
         let by_id = first_by_id(alloc, all)?;
-        Ok(KnownIndex { all, by_id })
+        Ok(KnownIndex {
+            all,
+            by_id: Some(by_id),
+        })
     }
 
     /// The known revisions, as they were given.
@@ -55,7 +62,28 @@ impl<'w> KnownIndex<'w> {
     pub fn known(&self, id: RevisionId) -> Option<&'w Known>
         ensures known { option_copied result ≡ known_at self.now id }
     {
-        self.by_id.get(&id.0).copied()
+        match &self.by_id {
+            Some(by_id) => by_id.get(&id.0).copied(),
+            None => found(self.all, id),
+        }
+    }
+}
+
+/// Whether the ids rise from one revision to the next.
+fn do_ids_rise(all: &[Known]) -> bool
+    ensures rise { IsTrue result ↔ AreRising all.now }
+{
+    all.is_sorted_by(|known, next| known.id.0 < next.id.0)
+}
+
+/// The revision with the id, by a binary search.
+fn found<'w>(all: &'w [Known], id: RevisionId) -> Option<&'w Known>
+    requires rising { AreRising all.now }
+    ensures known { option_copied result ≡ known_at all.now id }
+{
+    match all.binary_search_by_key(&id.0, |known| known.id.0) {
+        Ok(place) => all.get(place),
+        Err(_) => None,
     }
 }
 

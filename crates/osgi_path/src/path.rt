@@ -25,6 +25,7 @@ use crate::{adding, growing, moving, step, views};
 use osgi_base::ids::RevisionId;
 use osgi_base::list::List;
 use osgi_candidates::Offers;
+use osgi_space::disputed_rows::DisputedRows;
 use osgi_uses::spaces::Spaces;
 use osgi_wires::world_rows::WorldRows;
 use osgi_world::wiring::{CapRef, ReqRef, Wiring};
@@ -63,13 +64,21 @@ impl<'w> Model for Path<'w> {
 }
 
 impl<'w> Path<'w> {
-    /// At the empty word.
-    pub fn new(alloc: Global, world: &'w World, root: RevisionId) -> Result<Path<'w>, AllocError>
+    /// At the empty word. The offers and the rows are those of the world.
+    pub fn new(
+        alloc: Global,
+        world: &'w World,
+        root: RevisionId,
+        offers: Offers<'w>,
+        rows: DisputedRows<'w>,
+    ) -> Result<Path<'w>, AllocError>
+        requires offers { offers ≡ world.now }
+        requires known { rows.known ≡ world.now.known }
+        requires rows { AreRowsIn rows world.now.wirings }
         ensures empty { IfOk result (λ path. path ≡ record { world = world.now; root = root; word = [] }) }
     {
-        let offers = Offers::new(alloc, world)?;
         let mut lists = Lists::new(alloc, offers);
-        let spaces = Spaces::new(alloc, world)?;
+        let spaces = Spaces::over(alloc, world, rows);
         let course = moving::begin(alloc, &mut lists, root)?;
         Ok(Path {
             alloc,
@@ -79,6 +88,22 @@ impl<'w> Path<'w> {
             spaces,
             course,
         })
+    }
+
+    /// The rows of the world. What was decided is taken back, for which no memory is needed.
+    pub fn into_rows(self) -> DisputedRows<'w>
+        ensures known { result.known ≡ self.entry.world.known }
+        ensures rows { AreRowsIn result self.entry.world.wirings }
+    {
+        let Path {
+            alloc: _,
+            world: _,
+            root: _,
+            lists: _,
+            spaces,
+            course: _,
+        } = self;
+        spaces.into_rows()
     }
 
     /// How many values the next decision has; none where no decision is left.
@@ -141,6 +166,14 @@ impl<'w> Path<'w> {
         ensures rows { (P : Problem) → IsProblemOf self.now P → AreRowsIn result.now (partial.partial P (made P self.now)) }
     {
         self.spaces.rows()
+    }
+
+    /// The same rows, with the packages that may be disputed in them.
+    pub fn disputed_rows(&self) -> &DisputedRows<'w>
+        ensures known { result.now.known ≡ self.now.world.known }
+        ensures rows { (P : Problem) → IsProblemOf self.now P → AreRowsIn result.now (partial.partial P (made P self.now)) }
+    {
+        self.spaces.disputed_rows()
     }
 
     /// The root, and the revisions that were pulled in, in order.

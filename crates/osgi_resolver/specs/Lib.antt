@@ -1,2 +1,3 @@
 -- What a resolve answers.
 pub mod Answers
+pub mod computed

@@ -2,9 +2,12 @@
 #![tactic(auto)]
 
 mod answer;
+mod index;
+mod indexed_wirings;
 mod lacking;
 mod resolving;
 mod walk;
 
 pub use answer::{Answer, Cause};
+pub use indexed_wirings::IndexedWirings;
 pub use resolving::resolve;

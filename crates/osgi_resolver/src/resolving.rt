@@ -6,16 +6,24 @@ ghost use Rattle.osgi_world.specs.Consistency.{Consistent};
 ghost use Rattle.osgi_world.specs.Wirings.{IsWorld};
 ghost use Rattle.osgi_problem.specs.WorldProblems.{the_problem};
 ghost use Rattle.osgi_search.specs.Outcomes.{IsOutcome};
+ghost use Rattle.osgi_candidates.specs.Following.{Covers};
+ghost use Rattle.osgi_space.specs.Kept.{FollowsRows};
+ghost use Rattle.osgi_resolver.specs.computed.Following.{FollowsWorld};
 ghost use Rattle.osgi_resolver.specs.Answers.{IsAnswer, IsAnswerTo};
 
 use crate::answer::Answer;
+use crate::index::Index;
 use crate::lacking::cause_of;
 use crate::walk::Walk;
 use osgi_base::ids::RevisionId;
+use osgi_candidates::{OfferIndex, Offers};
 use osgi_path::Path;
 use osgi_search::{Outcome, search};
+use osgi_space::disputed_rows::DisputedRows;
+use osgi_space::kept_rows::KeptRows;
 use osgi_world::world::World;
 use std::alloc::{AllocError, Global};
+use std::mem;
 
 /// Resolves the root: searches for the first good choice of its wires, of those of the revisions that these pull in, and of the
 /// fragments that are attached. At most so many words of choices are looked at as the budget says.
@@ -32,10 +40,64 @@ pub fn resolve(
     requires budget { budget < 2 ^ 64 - 1 }
     ensures answer { IfOk result (IsAnswerTo world.now root budget) }
 {
-    let path = Path::new(alloc, world, root)?;
+    let mut index = Index::new(alloc);
+    resolve_with(alloc, world, &mut index, root, budget)
+}
+
+/// Resolves the root with what was kept of the world, and keeps what is found out of it. If memory runs out, less may be kept.
+pub fn resolve_with(
+    alloc: Global,
+    world: &World,
+    index: &mut Index,
+    root: RevisionId,
+    budget: u64,
+) -> Result<Answer, AllocError>
+    requires is_world { IsWorld world.now.known world.now.wirings }
+    requires ordered { AreOrdered world.now.known world.now.wirings }
+    requires consistent { Consistent world.now.known world.now.wirings }
+    requires unresolved { IsUnresolved world.now.known world.now.wirings root }
+    requires budget { budget < 2 ^ 64 - 1 }
+    requires follows { FollowsWorld index.old world.now }
+    ensures answer { IfOk result (IsAnswerTo world.now root budget) }
+    ensures follows { FollowsWorld index.new world.now }
+{
+    let Index { offers, rows } = index;
+    offers.follow(alloc, world)?;
+    let kept = mem::replace(rows, KeptRows::new(alloc));
+    let (answer, kept) = answer_over(alloc, world, offers, kept, root, budget)?;
+    *rows = kept;
+    Ok(answer)
+}
+
+/// Searches over the offers and the rows of the world, and gives the rows back.
+fn answer_over(
+    alloc: Global,
+    world: &World,
+    offers: &OfferIndex,
+    kept: KeptRows,
+    root: RevisionId,
+    budget: u64,
+) -> Result<(Answer, KeptRows), AllocError>
+    requires is_world { IsWorld world.now.known world.now.wirings }
+    requires ordered { AreOrdered world.now.known world.now.wirings }
+    requires consistent { Consistent world.now.known world.now.wirings }
+    requires unresolved { IsUnresolved world.now.known world.now.wirings root }
+    requires budget { budget < 2 ^ 64 - 1 }
+    requires covers { Covers offers.now world.now.known world.now.wirings }
+    requires follows { FollowsRows kept world.now.known world.now.wirings }
+    ensures answer { IfOk result (λ both. IsAnswerTo world.now root budget both.0) }
+    ensures follows { IfOk result (λ both. FollowsRows both.1 world.now.known world.now.wirings) }
+{
+    let known = world.known.items();
+    let wirings = world.wirings.items();
+    let rows = DisputedRows::resume(alloc, kept, known, wirings)?;
+    let offers = Offers::new(alloc, world, offers)?;
+    let path = Path::new(alloc, world, root, offers, rows)?;
     let mut walk = Walk { alloc, path };
     let outcome = search(&mut walk, budget)?;
-    answer_of(&walk, outcome)
+    let answer = answer_of(&walk, outcome)?;
+    let Walk { alloc: _, path } = walk;
+    Ok((answer, path.into_rows().keep(wirings)))
 }
 
 /// What is answered where the search has ended.

@@ -7,7 +7,7 @@ ghost use Rattle.osgi_world.specs.Candidates.{IsUnresolved};
 use crate::shown::{push_cause, push_found};
 use osgi_base::ids::RevisionId;
 use osgi_base::list::List;
-use osgi_resolver::{Answer, resolve};
+use osgi_resolver::{Answer, IndexedWirings, resolve};
 use osgi_wiring::Wirings;
 use osgi_world::wiring::Wiring;
 use std::alloc::{AllocError, Global};
@@ -33,7 +33,11 @@ fn obstacle(wirings: &Wirings, root: RevisionId) -> Option<&'static str>
 }
 
 /// Puts wirings in force, and says whether there was memory for that.
-fn extend(out: &mut String, wirings: &mut Wirings, added: List<Wiring>) -> Result<(), AllocError>
+fn extend(
+    out: &mut String,
+    wirings: &mut IndexedWirings,
+    added: List<Wiring>,
+) -> Result<(), AllocError>
     requires extends { MayExtend wirings.old.world added }
 {
     match wirings.extend(added) {
@@ -42,22 +46,29 @@ fn extend(out: &mut String, wirings: &mut Wirings, added: List<Wiring>) -> Resul
     }
 }
 
-/// Adds how a revision that may be resolved is resolved, and puts in force what is found.
+/// Adds how a revision that may be resolved is resolved, and puts in force what is found. Without what was kept of the world the
+/// answer has to be the same.
 fn push_answer(
     alloc: Global,
     out: &mut String,
-    wirings: &mut Wirings,
+    wirings: &mut IndexedWirings,
     root: RevisionId,
     budget: u32,
 ) -> Result<(), AllocError>
     requires unresolved { IsUnresolved wirings.old.world.known wirings.old.world.wirings root }
 {
-    match resolve(alloc, wirings.world(), root, u64::from(budget))? {
+    let budget = u64::from(budget);
+    let anew = resolve(alloc, wirings.wirings().world(), root, budget)?;
+    let answer = wirings.resolve(root, budget)?;
+    if answer != anew {
+        out.push_str("not as it is anew: ")?;
+    }
+    match answer {
         Answer::Found { word, added } => {
             push_found(out, word.items(), added.items())?;
             extend(out, wirings, added)
         }
-        Answer::NoWord(cause) => push_cause(out, wirings, cause),
+        Answer::NoWord(cause) => push_cause(out, wirings.wirings(), cause),
         Answer::Spent { visited } => write!(out, "spent {visited}"),
     }
 }
@@ -66,11 +77,11 @@ fn push_answer(
 pub fn push_resolved(
     alloc: Global,
     out: &mut String,
-    wirings: &mut Wirings,
+    wirings: &mut IndexedWirings,
     root: RevisionId,
     budget: u32,
 ) -> Result<(), AllocError> {
-    match obstacle(wirings, root) {
+    match obstacle(wirings.wirings(), root) {
         Some(reason) => out.push_str(reason),
         None => push_answer(alloc, out, wirings, root, budget),
     }

@@ -3,7 +3,6 @@
 use crate::asked::push_resolved;
 use crate::known::{add, wirings_of};
 use crate::shown::push_wirings;
-use osgi_wiring::Wirings;
 use osgi_world_rows::{cut, known_revision, number, revision_id};
 use std::alloc::{AllocError, Global};
 
@@ -26,7 +25,7 @@ fn begin(out: &mut String) -> Result<(), AllocError> {
 fn make_known(
     alloc: Global,
     out: &mut String,
-    wirings: &mut Wirings,
+    wirings: &mut IndexedWirings,
     text: &str,
 ) -> Result<(), AllocError> {
     if add(wirings, known_revision(alloc, text)?)? {
@@ -40,7 +39,7 @@ fn make_known(
 fn push_answer(
     alloc: Global,
     out: &mut String,
-    wirings: &mut Wirings,
+    wirings: &mut IndexedWirings,
     question: (&str, &str),
 ) -> Result<(), AllocError> {
     let (word, rest) = question;
@@ -48,7 +47,8 @@ fn push_answer(
         let (root, rest) = cut(rest);
         push_resolved(alloc, out, wirings, revision_id(root), budget(rest))
     } else if word == "wires" {
-        push_wirings(out, wirings.world().wirings.items().get(1..).unwrap_or(&[]))
+        let wirings = wirings.wirings().world().wirings.items();
+        push_wirings(out, wirings.get(1..).unwrap_or(&[]))
     } else {
         out.push_str("no step")
     }
@@ -57,7 +57,7 @@ fn push_answer(
 fn take(
     alloc: Global,
     out: &mut String,
-    wirings: &mut Wirings,
+    wirings: &mut IndexedWirings,
     step: &str,
 ) -> Result<(), AllocError> {
     let (word, rest) = cut(step);
@@ -71,7 +71,7 @@ fn take(
 fn take_all(
     alloc: Global,
     out: &mut String,
-    wirings: &mut Wirings,
+    wirings: &mut IndexedWirings,
     steps: &str,
 ) -> Result<(), AllocError> {
     for step in steps.split(';') {

@@ -20,3 +20,5 @@ mod Following
 mod Worklist
 mod SeenPackages
 mod Noted
+mod Resumed
+mod Followed

@@ -2,4 +2,6 @@
 pub mod Violations
 pub mod ImpliedOrder
 pub mod Seen
+pub mod Kept
 pub mod computed
+pub mod laws

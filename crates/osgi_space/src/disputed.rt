@@ -1,10 +1,13 @@
 //! The packages of which revisions may have different sources.
 
-ghost use Rattle.std.specs.Prelude.{◌≡◌, ℕ, IfOk};
+ghost use Rattle.std.specs.Prelude.{◌≡◌, ℕ, Contains, IfOk};
+ghost use Rattle.osgi_world.specs.Lists.{In};
+ghost use Rattle.osgi_world.specs.declared.world.Known.{Known};
 ghost use Rattle.osgi_space.specs.computed.Disputes.{AreDisputed, AreNoted, HoldsAll, IsNoted};
-ghost use Rattle.osgi_wires.specs.Rows.{Attaches, Imports, OwnExport};
+ghost use Rattle.osgi_wires.specs.Rows.{OwnExport};
 
-use osgi_wires::rows::Rows;
+use osgi_wires::rows::{Attachment, Import, Rows};
+use osgi_world::world::Known;
 use std::alloc::{AllocError, Global};
 use std::collections::{BTreeMap, BTreeSet};
 
@@ -16,7 +19,9 @@ pub struct Possible {
 }
 
 impl Possible {
-    fn new(alloc: Global) -> Possible {
+    pub fn new(alloc: Global) -> Possible
+        ensures none { (p x : ℕ) → ¬ IsNoted result p x }
+    {
         Possible {
             first: BTreeMap::new(alloc),
             disputed: BTreeSet::new(alloc),
@@ -49,11 +54,11 @@ impl Possible {
 }
 
 /// Notes the providers of wires for packages.
-fn note_imports(possible: &mut Possible, rows: &Rows) -> Result<(), AllocError>
-    ensures noted { IfOk result (λ _. (r p x : ℕ) → Imports rows.now r p x → IsNoted possible.new p x) }
+pub fn note_imports(possible: &mut Possible, imports: &[Import]) -> Result<(), AllocError>
+    ensures noted { IfOk result (λ _. (r p x : ℕ) → Contains imports.now (record { revision = r; imported = p; provider = x }) → IsNoted possible.new p x) }
     ensures kept { IfOk result (λ _. HoldsAll possible.old possible.new) }
 {
-    for row in rows.imports() {
+    for row in imports {
         possible.note(row.imported, row.provider)?;
     }
     Ok(())
@@ -86,12 +91,28 @@ pub fn note_fragment(
     Ok(())
 }
 
-fn note_fragments(possible: &mut Possible, rows: &Rows) -> Result<(), AllocError>
-    ensures noted { IfOk result (λ _. (h f p : ℕ) → Attaches rows.now h f → OwnExport rows.now f p → IsNoted possible.new p h) }
+/// Notes the hosts of these attachments as what their fragments' exports come from.
+pub fn note_fragments(
+    possible: &mut Possible,
+    rows: &Rows,
+    attached: &[Attachment],
+) -> Result<(), AllocError>
+    ensures noted { IfOk result (λ _. (h f p : ℕ) → Contains attached.now (record { host = h; fragment = f }) → OwnExport rows.now f p → IsNoted possible.new p h) }
     ensures kept { IfOk result (λ _. HoldsAll possible.old possible.new) }
 {
-    for row in rows.attached() {
+    for row in attached {
         note_fragment(possible, rows, row.host, row.fragment)?;
+    }
+    Ok(())
+}
+
+/// Notes these revisions as what their own exports come from.
+pub fn note_known(possible: &mut Possible, rows: &Rows, known: &[Known]) -> Result<(), AllocError>
+    ensures noted { IfOk result (λ _. (k : Known) (p : ℕ) → In k known.now → OwnExport rows.now k.id.0 p → IsNoted possible.new p k.id.0) }
+    ensures kept { IfOk result (λ _. HoldsAll possible.old possible.new) }
+{
+    for each in known {
+        note_fragment(possible, rows, each.id.0, each.id.0)?;
     }
     Ok(())
 }
@@ -101,9 +122,9 @@ pub fn possible_sources(alloc: Global, rows: &Rows) -> Result<Possible, AllocErr
     ensures noted { IfOk result (λ possible. AreNoted rows.now possible) }
 {
     let mut possible = Possible::new(alloc);
-    note_imports(&mut possible, rows)?;
+    note_imports(&mut possible, rows.imports())?;
     note_exports(&mut possible, rows)?;
-    note_fragments(&mut possible, rows)?;
+    note_fragments(&mut possible, rows, rows.attached())?;
     Ok(possible)
 }
 

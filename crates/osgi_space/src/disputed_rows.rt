@@ -1,12 +1,17 @@
 //! The rows of a world, and the packages that may be disputed in them.
 
 ghost use Rattle.std.specs.Prelude.{◌≡◌, IfOk, OnErr};
+ghost use Rattle.osgi_space.specs.Kept.{FollowsRows};
 ghost use Rattle.osgi_space.specs.computed.Disputes.{AreDisputed, AreNoted, HoldsAll};
+ghost use Rattle.osgi_wires.specs.AllKnown.{AreAllKnown};
 ghost use Rattle.osgi_wires.specs.Rows.{RowLists};
 ghost use Rattle.osgi_wires.specs.Worlds.{AddsStep, AreNumbered, AreRowsIn, TakesBack, with_added};
 ghost use Rattle.osgi_world.specs.Decisions.{attached, wired};
 
-use crate::disputed::{Possible, note_fragment, possible_sources};
+use crate::disputed::{
+    Possible, note_fragment, note_fragments, note_imports, note_known, possible_sources,
+};
+use crate::kept_rows::KeptRows;
 use osgi_base::ids::RevisionId;
 use osgi_wires::added::Added;
 use osgi_wires::rows::Rows;
@@ -55,6 +60,55 @@ impl<'w> DisputedRows<'w> {
         let rows = WorldRows::new(alloc, known, wirings)?;
         let possible = possible_sources(alloc, rows.rows())?;
         Ok(DisputedRows { rows, possible })
+    }
+
+    /// The rows of a world that was followed: what is new is added to those that were kept.
+    pub fn resume(
+        alloc: Global,
+        kept: KeptRows,
+        known: &'w [Known],
+        wirings: &[Wiring],
+    ) -> Result<DisputedRows<'w>, AllocError>
+        requires follows { FollowsRows kept known.now wirings.now }
+        ensures known { IfOk result (λ made. made.known ≡ known.now) }
+        ensures rows { IfOk result (λ made. AreRowsIn made wirings.now) }
+        ensures numbered { IfOk result (λ made. AreNumbered made.names made.rows) }
+    {
+        let KeptRows {
+            named,
+            possible,
+            known: first,
+            wirings: followed,
+        } = kept;
+        let mut possible = possible;
+        let before = WorldRows::of_more(alloc, named, known, first)?;
+        note_known(&mut possible, before.rows(), &known[first..])?;
+        let imports = before.rows().imports().len();
+        let attached = before.rows().attached().len();
+        let rows = before.with_wirings(&wirings[followed..])?;
+        note_imports(&mut possible, &rows.rows().imports()[imports..])?;
+        note_fragments(
+            &mut possible,
+            rows.rows(),
+            &rows.rows().attached()[attached..],
+        )?;
+        Ok(DisputedRows { rows, possible })
+    }
+
+    /// The rows, to be kept while the world grows.
+    pub fn keep(self, wirings: &[Wiring]) -> KeptRows
+        requires rows { AreRowsIn self wirings.now }
+        requires all_known { AreAllKnown self.known wirings.now }
+        ensures follows { FollowsRows result self.entry.known wirings.now }
+    {
+        let DisputedRows { rows, possible } = self;
+        let known = rows.known().all().len();
+        KeptRows {
+            named: rows.into_named(),
+            possible,
+            known,
+            wirings: wirings.len(),
+        }
     }
 
     pub fn world_rows(&self) -> &WorldRows<'w>

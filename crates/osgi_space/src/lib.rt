@@ -13,6 +13,7 @@ mod first;
 pub mod found;
 pub mod given;
 mod implied_constraints;
+pub mod kept_rows;
 mod naming;
 pub mod package_sources;
 mod questions;

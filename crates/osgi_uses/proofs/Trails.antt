@@ -1,6 +1,7 @@
--- A trail with one step more.
-use Rattle.std.proofs.Common.{◌≡◌, ℕ, List, [], ◌∷◌, ◌++◌, map, reverse, sym, ◌∙◌, ap, subst}
-use Rattle.std.proofs.lemmas.List.{reverse-append}
+-- A trail with one step more, and the steps of a trail.
+use Rattle.std.proofs.Common.{◌≡◌, ℕ, ◌<◌, ◌≤◌, List, [], ◌∷◌, ◌++◌, length, map, reverse, refl, sym, ◌∙◌, ap, subst, arith}
+use Rattle.std.proofs.lemmas.List.{length-map, length-reverse, reverse-append}
+use Rattle.osgi_world.specs.Decisions.{Step}
 use Rattle.osgi_world.specs.declared.wiring.Wiring.{Wiring}
 use Rattle.osgi_world.specs.declared.world.Known.{Known}
 use Rattle.osgi_world.specs.declared.world.World.{World}
@@ -28,3 +29,16 @@ trail-more world old new trail items t more step is = record {
       let before = subst (λ (rows : WorldLists). AreRowsAlong rows W (reverse trail)) (sym (with_rows_of new old step.known step.names)) is.along in
       subst (AreRowsAlong new W) (sym turned) (now, old.rows, step.rows, before);
 }
+
+-- ---- steps that are left
+
+pub steps-length : (trail : List Taken) → length (map step_of (reverse trail)) ≡ length trail
+steps-length trail = length-map (reverse trail) step_of ∙ length-reverse trail
+
+pub first-step : (steps : List Step) → 0 < length steps → (s : Step) × (rest : List Step) × (steps ≡ s ∷ rest)
+first-step [] some = absurd (omega (arith, some))
+first-step (s ∷ steps) some = (s, steps, refl)
+
+pub no-steps : (steps : List Step) → length steps ≤ 0 → steps ≡ []
+no-steps [] none = refl
+no-steps (s ∷ steps) none = absurd (omega (arith, none))

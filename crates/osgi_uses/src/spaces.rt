@@ -2,13 +2,15 @@
 
 ghost use Rattle.std.specs.Prelude.{◌≡◌, ◌<◌, ◌++◌, ◌∷◌, [], List, IfOk, OnOk, OnErr, length};
 ghost use Rattle.osgi_world.specs.Decisions.{Step, attached, wired};
-ghost use Rattle.osgi_wires.specs.Worlds.{AreRowsIn, TakesBack};
+ghost use Rattle.osgi_wires.specs.Rows.{RowLists};
+ghost use Rattle.osgi_wires.specs.Worlds.{AreRowsIn, TakesBack, with_added};
 ghost use Rattle.osgi_uses.specs.Clashes.{IsClashAmong};
 ghost use Rattle.osgi_uses.specs.States.{SpacesState, wirings_of};
 
 use crate::clash::Clash;
 use crate::trail::{Addition, Taken};
 use osgi_base::ids::RevisionId;
+use osgi_space::disputed_rows::DisputedRows;
 use osgi_space::{first_violation, sources_in};
 use osgi_wires::world_rows::WorldRows;
 use osgi_world::wiring::Wire;
@@ -20,7 +22,7 @@ use std::marker::Model;
 #[derive(Drop)]
 pub struct Spaces<'w> {
     world: &'w World,
-    rows: WorldRows<'w>,
+    rows: DisputedRows<'w>,
     trail: Vec<Taken>,
 }
 
@@ -46,16 +48,46 @@ impl<'w> Spaces<'w> {
     pub fn new(alloc: Global, world: &'w World) -> Result<Spaces<'w>, AllocError>
         ensures world { IfOk result (λ made. made ≡ record { known = world.now.known; wirings = world.now.wirings; steps = [] }) }
     {
-        let rows = WorldRows::new(alloc, world.known.items(), world.wirings.items())?;
-        Ok(Spaces {
+        let rows = DisputedRows::new(alloc, world.known.items(), world.wirings.items())?;
+        Ok(Spaces::over(alloc, world, rows))
+    }
+
+    /// The wirings of the world, whose rows these are.
+    pub fn over(alloc: Global, world: &'w World, rows: DisputedRows<'w>) -> Spaces<'w>
+        requires known { rows.known ≡ world.now.known }
+        requires rows { AreRowsIn rows world.now.wirings }
+        ensures world { result ≡ record { known = world.now.known; wirings = world.now.wirings; steps = [] } }
+    {
+        Spaces {
             world,
             rows,
             trail: Vec::new(alloc),
-        })
+        }
+    }
+
+    /// The rows of the world: all that was added is taken back. It takes no memory.
+    pub fn into_rows(self) -> DisputedRows<'w>
+        ensures known { result.known ≡ self.entry.known }
+        ensures rows { AreRowsIn result self.entry.wirings }
+    {
+        let mut rest = self;
+        for _ in 0..rest.trail.len() {
+            rest.undo();
+        }
+        let Spaces { rows, .. } = rest;
+        rows
     }
 
     /// The rows of the wirings as they are now.
     pub fn rows(&self) -> &WorldRows<'w>
+        ensures known { result.now.known ≡ self.now.known }
+        ensures rows { AreRowsIn result.now (wirings_of self.now) }
+    {
+        self.disputed_rows().world_rows()
+    }
+
+    /// The same rows, with the packages that may have more than one source in them.
+    pub fn disputed_rows(&self) -> &DisputedRows<'w>
         ensures known { result.now.known ≡ self.now.known }
         ensures rows { AreRowsIn result.now (wirings_of self.now) }
     {
@@ -103,11 +135,12 @@ impl<'w> Spaces<'w> {
     pub fn clash(&self, alloc: Global, settled: &[RevisionId]) -> Result<Option<Clash>, AllocError>
         ensures first { IfOk result (λ found. IsClashAmong self.now settled.now found) }
     {
-        let Some(first) = first_violation(alloc, &self.rows, settled)? else {
+        let rows = self.rows();
+        let Some(first) = first_violation(alloc, rows, settled)? else {
             return Ok(None);
         };
-        let ours = sources_in(alloc, &self.rows, first.revision, &first.package)?;
-        let theirs = sources_in(alloc, &self.rows, first.seen_by, &first.package)?;
+        let ours = sources_in(alloc, rows, first.revision, &first.package)?;
+        let theirs = sources_in(alloc, rows, first.seen_by, &first.package)?;
         Ok(Some(Clash {
             revision: first.revision,
             package: first.package,
@@ -118,7 +151,8 @@ impl<'w> Spaces<'w> {
 }
 
 /// Puts on the trail what was added to the rows, or takes it back from them if memory runs out.
-fn keep(rows: &mut WorldRows, trail: &mut Vec<Taken>, taken: Taken) -> Result<(), AllocError>
+fn keep(rows: &mut DisputedRows, trail: &mut Vec<Taken>, taken: Taken) -> Result<(), AllocError>
+    requires last { (R : RowLists) × (rows.old.rows ≡ with_added R taken.added) }
     ensures rows { OnOk result (rows.new ≡ rows.old) }
     ensures trail { OnOk result (trail.new.items ≡ trail.old.items ++ taken ∷ []) }
     ensures taken_back { OnErr result (TakesBack rows.old rows.new taken.added) }

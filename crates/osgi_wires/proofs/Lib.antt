@@ -6,5 +6,6 @@ pub mod Stepped
 pub mod StepRows
 pub mod Payload
 pub mod KnownRows
+pub mod MoreKnown
 pub mod WireRows
 pub mod Growth

@@ -6,8 +6,8 @@ use Rattle.std.proofs.lemmas.List.Elements.{All-contains, All-push, All-weaker, 
 use Rattle.osgi_world.specs.Lists.{In}
 use Rattle.osgi_wires.specs.Names.{AreOnce, HasNumber, Interns}
 use Rattle.osgi_wires.specs.Rows.{RowLists, with_export, with_use}
-use Rattle.osgi_wires.specs.Worlds.{AreNumbered}
-use Rattle.osgi_wires.specs.computed.Payloads.{Adds, Exported, Fact, HasFact, IsNamed, OneSays, Used, exporting, using}
+use Rattle.osgi_wires.specs.Worlds.{AreNumbered, IsNamed}
+use Rattle.osgi_wires.specs.computed.Payloads.{Adds, Exported, Fact, HasFact, OneSays, Used, exporting, using}
 use Rattle.osgi_wires.specs.declared.named.Named.{Named}
 use Rattle.osgi_wires.specs.declared.rows.Export.{Export}
 use Rattle.osgi_wires.specs.declared.rows.Import.{Import}

@@ -1,14 +1,17 @@
 -- Rows with the names of their packages, and the known revisions that they are of.
 use Rattle.std.specs.Prelude.{◌≡◌, ℕ, ◌<◌, List, [], ◌∷◌, ◌++◌, length, All}
 use Rattle.osgi_world.specs.Decisions.{Step}
+use Rattle.osgi_world.specs.Lookups.{IsKnown}
 use Rattle.osgi_world.specs.declared.wiring.Wiring.{Wiring}
 use Rattle.osgi_world.specs.declared.world.Known.{Known}
-use Rattle.osgi_wires.specs.Agree.{AreRowsOf}
-use Rattle.osgi_wires.specs.Names.{name_of}
-use Rattle.osgi_wires.specs.Rows.{RowLists, with_attachment, with_import, with_required}
+use Rattle.osgi_wires.specs.Agree.{AreRowsOf, id}
+use Rattle.osgi_wires.specs.Names.{AreOnce, name_of}
+use Rattle.osgi_wires.specs.Rows.{OwnExport, RowLists, with_attachment, with_import, with_required}
 use Rattle.osgi_wires.specs.Steps.{step_wiring}
 use Rattle.osgi_wires.specs.declared.added.Added.{Added}
 use Rattle.osgi_wires.specs.declared.added.Added.TheVariants.{Attachment as OfAttachment, Import as OfImport, Nothing, Required as OfRequired}
+use Rattle.osgi_wires.specs.declared.named.Named.{Named}
+use Rattle.osgi_wires.specs.declared.rows.Attachment.{Attachment}
 use Rattle.osgi_wires.specs.declared.rows.Export.{Export}
 use Rattle.osgi_wires.specs.declared.rows.Import.{Import}
 use Rattle.osgi_wires.specs.declared.rows.Use.{Use}
@@ -23,6 +26,11 @@ pub record AreNumbered (names : List (List ℕ)) (R : RowLists) : Type 0 where
   pub imports : All (λ (row : Import). row.imported < length names) R.imports
   pub exports : All (λ (row : Export). row.exported < length names) R.exports
   pub uses : All (λ (row : Use). (row.exported < length names) × (row.used < length names)) R.uses
+
+-- packages in the rows are numbers of names, and no name has two
+pub record IsNamed (n : Named) : Type 0 where
+  pub numbered : AreNumbered n.names n.rows
+  pub once : AreOnce n.names
 
 -- the rows are those of the wirings of what is known
 abbrev pub AreRowsIn : WorldLists → List Wiring → Type 0
@@ -49,3 +57,24 @@ pub record TakesBack (old new : WorldLists) (added : Added) : Type 0 where
   pub names : new.names ≡ old.names
   pub rows : (R : RowLists) → old.rows ≡ with_added R added → new.rows ≡ R
   pub numbered : AreNumbered new.names new.rows
+
+-- wires and attachments are added after those that are there, and the exports stay
+pub record AddsWires (old new : RowLists) : Type 0 where
+  pub imports : (more : List Import) × (new.imports ≡ old.imports ++ more)
+  pub attached : (more : List Attachment) × (new.attached ≡ old.attached ++ more)
+  pub exports : new.exports ≡ old.exports
+
+-- rows of any wirings are those of the wirings with these after them
+pub record AddsWirings (old new : WorldLists) (V : List Wiring) : Type 0 where
+  pub known : new.known ≡ old.known
+  pub names : new.names ≡ old.names
+  pub grown : AddsWires old.rows new.rows
+  pub agree : (W : List Wiring) → AreRowsIn old W → AreRowsIn new (W ++ V)
+  pub numbered : AreNumbered old.names old.rows → AreNumbered new.names new.rows
+
+-- rows of the wirings over the revisions K are those over more revisions: the wires and attachments stay, and those of K get no exports
+pub record AddsKnown (K : List Known) (W : List Wiring) (old : Named) (new : WorldLists) : Type 0 where
+  pub rows : AreRowsIn new W
+  pub imports : new.rows.imports ≡ old.rows.imports
+  pub attached : new.rows.attached ≡ old.rows.attached
+  pub exports : (o p : ℕ) → IsKnown K (id o) → OwnExport new.rows o p → OwnExport old.rows o p

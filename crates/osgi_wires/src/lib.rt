@@ -5,7 +5,7 @@ pub mod added;
 mod exports;
 pub mod grouped;
 mod imports;
-mod named;
+pub mod named;
 pub mod names;
 pub mod rows;
 mod spot;

@@ -3,7 +3,8 @@
 ghost use Rattle.std.specs.Prelude.{◌≡◌, ℕ, List, [], ◌∷◌, IfOk, OnOk};
 ghost use Rattle.osgi_wires.specs.Names.{HasNumber};
 ghost use Rattle.osgi_wires.specs.Rows.{no_rows};
-ghost use Rattle.osgi_wires.specs.computed.Payloads.{Adds, Exported, IsNamed, KnownSays, OneSays, Says, Used};
+ghost use Rattle.osgi_wires.specs.Worlds.{IsNamed};
+ghost use Rattle.osgi_wires.specs.computed.Payloads.{Adds, Exported, KnownSays, OneSays, Says, Used};
 
 use crate::names::Names;
 use crate::rows::{Export, Rows, Use};
@@ -11,8 +12,10 @@ use osgi_base::text::Text;
 use osgi_lookup::index::KnownIndex;
 use osgi_lookup::namespaces::is_package;
 use osgi_world::capability::Capability;
+use osgi_world::world::Known;
 use std::alloc::{AllocError, Global};
 
+/// The names of packages, and rows that number packages by them.
 #[derive(Drop)]
 pub struct Named {
     pub names: Names,
@@ -30,12 +33,12 @@ impl Named {
         }
     }
 
-    /// Adds what the known revisions export and use.
-    pub fn add_known(&mut self, known: &KnownIndex) -> Result<(), AllocError>
+    /// Adds what these of the known revisions export and use.
+    pub fn add_known(&mut self, known: &KnownIndex, more: &[Known]) -> Result<(), AllocError>
         requires named { IsNamed self.old }
-        ensures adds { OnOk result (Adds self.old self.new (OneSays (KnownSays known.now) known.now)) }
+        ensures adds { OnOk result (Adds self.old self.new (OneSays (KnownSays known.now) more.now)) }
     {
-        for each in known.all() {
+        for each in more {
             if let Some(revision) = known.revision(each.id) {
                 self.add_capabilities(each.id.0, revision.capabilities.items())?;
             }

@@ -1,13 +1,14 @@
 //! The rows of a world, and what is known of its revisions.
 
-ghost use Rattle.std.specs.Prelude.{◌≡◌, ◌++◌, ◌∷◌, [], List, IfOk, OnOk, OnErr};
+ghost use Rattle.std.specs.Prelude.{◌≡◌, ◌≤◌, ◌++◌, ◌∷◌, [], List, IfOk, OnOk, OnErr, length, take};
 ghost use Rattle.osgi_world.specs.Decisions.{attached, wired};
 ghost use Rattle.osgi_world.specs.declared.wiring.Wiring.{Wiring};
 ghost use Rattle.osgi_wires.specs.Agree.{AreRowsOf};
+ghost use Rattle.osgi_wires.specs.AllKnown.{AreAllKnown};
 ghost use Rattle.osgi_wires.specs.Names.{name_of};
 ghost use Rattle.osgi_wires.specs.Steps.{step_wiring};
-ghost use Rattle.osgi_wires.specs.Worlds.{AddsStep, AreNumbered, AreRowsIn, TakesBack, with_added};
-ghost use Rattle.osgi_wires.specs.computed.Growing.{AddsWiring, IsNumbered, RowsAfter};
+ghost use Rattle.osgi_wires.specs.Worlds.{AddsKnown, AddsStep, AddsWirings, AreNumbered, AreRowsIn, IsNamed, TakesBack, with_added};
+ghost use Rattle.osgi_wires.specs.computed.Growing.{IsNumbered, RowsAfter};
 
 use crate::added::Added;
 use crate::named::Named;
@@ -54,11 +55,8 @@ impl<'w> WorldRows<'w> {
         ensures rows { IfOk result (λ made. AreRowsIn made wirings.now) }
         ensures numbered { IfOk result (λ made. AreNumbered made.names made.rows) }
     {
-        let mut made = WorldRows::of_known(alloc, known)?;
-        for wiring in wirings {
-            made.add_wiring(wiring)?;
-        }
-        Ok(made)
+        let made = WorldRows::of_known(alloc, known)?;
+        Ok(made.with_wirings(wirings)?)
     }
 
     /// The rows of what is known, without wirings.
@@ -67,10 +65,50 @@ impl<'w> WorldRows<'w> {
         ensures rows { IfOk result (λ made. AreRowsIn made []) }
         ensures numbered { IfOk result (λ made. AreNumbered made.names made.rows) }
     {
-        let known = KnownIndex::new(alloc, known)?;
-        let mut named = Named::new(alloc);
-        named.add_known(&known)?;
-        Ok(WorldRows { known, named })
+        Ok(WorldRows::of_more(alloc, Named::new(alloc), known, 0)?)
+    }
+
+    /// The rows of more that is known: to rows of the first so many, what the others export and use is added.
+    pub fn of_more(
+        alloc: Global,
+        named: Named,
+        known: &'w [Known],
+        first: usize,
+    ) -> Result<WorldRows<'w>, AllocError>
+        requires named { IsNamed named }
+        requires first { first ≤ length known.now }
+        ensures known { IfOk result (λ made. made.known ≡ known.now) }
+        ensures added { IfOk result (λ made. (W : List Wiring) → AreAllKnown (take first known.now) W → AreRowsOf (take first known.now) W (name_of named.names) named.rows → AddsKnown (take first known.now) W named made) }
+        ensures numbered { IfOk result (λ made. AreNumbered made.names made.rows) }
+    {
+        let index = KnownIndex::new(alloc, known)?;
+        let mut grown = named;
+        grown.add_known(&index, &known[first..])?;
+        Ok(WorldRows {
+            known: index,
+            named: grown,
+        })
+    }
+
+    /// The rows with those of more wirings.
+    pub fn with_wirings(self, wirings: &[Wiring]) -> Result<WorldRows<'w>, AllocError>
+        ensures added { IfOk result (λ made. AddsWirings self.entry made wirings.now) }
+    {
+        let mut made = self;
+        for wiring in wirings {
+            made.add_wiring(wiring)?;
+        }
+        Ok(made)
+    }
+
+    /// The rows with their names, without what is known.
+    pub fn into_named(self) -> Named
+        ensures names { result.names ≡ self.entry.names }
+        ensures rows { result.rows ≡ self.entry.rows }
+        ensures numbered { AreNumbered result.names result.rows }
+    {
+        let WorldRows { named, .. } = self;
+        named
     }
 
     pub fn known(&self) -> &KnownIndex<'w>
@@ -176,7 +214,7 @@ impl<'w> WorldRows<'w> {
     }
 
     fn add_wiring(&mut self, wiring: &Wiring) -> Result<(), AllocError>
-        ensures added { OnOk result (AddsWiring self.old self.new wiring.now) }
+        ensures added { OnOk result (AddsWirings self.old self.new (wiring.now ∷ [])) }
     {
         self.add_wires(wiring.revision, wiring.wires.items())?;
         self.add_fragments(wiring.revision, wiring.fragments.items())?;
@@ -184,7 +222,7 @@ impl<'w> WorldRows<'w> {
     }
 
     fn add_wires(&mut self, revision: RevisionId, wires: &[Wire]) -> Result<(), AllocError>
-        ensures added { OnOk result (AddsWiring self.old self.new (record { revision = revision; wires = wires.now; fragments = [] })) }
+        ensures added { OnOk result (AddsWirings self.old self.new (record { revision = revision; wires = wires.now; fragments = [] } ∷ [])) }
     {
         for wire in wires {
             self.add_wire(revision, wire)?;
@@ -197,7 +235,7 @@ impl<'w> WorldRows<'w> {
         host: RevisionId,
         fragments: &[RevisionId],
     ) -> Result<(), AllocError>
-        ensures added { OnOk result (AddsWiring self.old self.new (record { revision = host; wires = []; fragments = fragments.now })) }
+        ensures added { OnOk result (AddsWirings self.old self.new (record { revision = host; wires = []; fragments = fragments.now } ∷ [])) }
     {
         for fragment in fragments {
             self.attach(host, *fragment)?;

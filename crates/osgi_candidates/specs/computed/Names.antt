@@ -3,7 +3,7 @@ use Rattle.std.specs.Prelude.{◌≡◌, ◌⊎◌, ◌↔◌, ℕ, IsTrue, List
 use Rattle.osgi_base.specs.declared.ids.RevisionId.{RevisionId}
 use Rattle.osgi_candidates.specs.declared.names.KnownNames.{KnownNames}
 use Rattle.osgi_candidates.specs.declared.names.Place.{Place}
-use Rattle.osgi_world.specs.Lists.{In}
+use Rattle.osgi_world.specs.Lists.{In, Two}
 use Rattle.osgi_world.specs.Lookups.{IsKnown, known_at, symbolic_name}
 use Rattle.osgi_world.specs.declared.capability.Capability.{Capability}
 use Rattle.osgi_world.specs.declared.requirement.Requirement.{Requirement}
@@ -45,6 +45,10 @@ pub record AddsKnown (k : Known) (old new : KnownNames) : Type 0 where
   pub capabilities : GrowsBy old.capabilities new.capabilities (capability_added k)
   pub fragments : GrowsBy old.fragments new.fragments (fragment_added k)
   pub revisions : (n : List ℕ) (r : RevisionId) → In r (values_of new.revisions n) ↔ (In r (values_of old.revisions n) ⊎ (n ≡ k.revision.name) × (r ≡ k.id))
+
+-- each revision is known once
+abbrev pub AreOnce : List Known → Type 0
+AreOnce K = ¬ Two (λ (k l : Known). k.id ≡ l.id) K
 
 -- the names are those of the known revisions; of several with one id the first counts
 pub record AreNames (K : List Known) (names : KnownNames) : Type 0 where

@@ -1,12 +1,12 @@
--- Rows when a row or a wiring is added.
-use Rattle.std.specs.Prelude.{◌≡◌, ℕ, ◌<◌, List, [], ◌∷◌, ◌++◌, length}
+-- Rows when a row is added.
+use Rattle.std.specs.Prelude.{ℕ, ◌<◌, List, [], ◌∷◌, ◌++◌, length}
 use Rattle.osgi_world.specs.Decisions.{Step}
 use Rattle.osgi_world.specs.declared.wiring.Wiring.{Wiring}
 use Rattle.osgi_wires.specs.Agree.{AreRowsOf}
 use Rattle.osgi_wires.specs.Names.{name_of}
 use Rattle.osgi_wires.specs.Rows.{RowLists}
 use Rattle.osgi_wires.specs.Steps.{step_wiring}
-use Rattle.osgi_wires.specs.Worlds.{AreNumbered, AreRowsIn, WorldLists}
+use Rattle.osgi_wires.specs.Worlds.{AreRowsIn, WorldLists}
 use Rattle.osgi_wires.specs.declared.added.Added.{Added}
 use Rattle.osgi_wires.specs.declared.added.Added.TheVariants.{Attachment as OfAttachment, Import as OfImport, Nothing, Required as OfRequired}
 
@@ -16,13 +16,6 @@ IsNumbered names (OfImport row) = row.imported < length names
 IsNumbered names (OfRequired row) = Unit {0}
 IsNumbered names (OfAttachment row) = Unit {0}
 IsNumbered names Nothing = Unit {0}
-
--- rows of any wirings are those of the wirings with one wiring more
-pub record AddsWiring (old new : WorldLists) (g : Wiring) : Type 0 where
-  pub known : new.known ≡ old.known
-  pub names : new.names ≡ old.names
-  pub agree : (W : List Wiring) → AreRowsIn old W → AreRowsIn new (W ++ g ∷ [])
-  pub numbered : AreNumbered old.names old.rows → AreNumbered new.names new.rows
 
 -- with the step, rows of any wirings grow so
 abbrev pub RowsAfter : WorldLists → Step → (RowLists → RowLists) → Type 0

@@ -8,9 +8,9 @@ use Rattle.osgi_world.specs.Satisfaction.{is_package}
 use Rattle.osgi_world.specs.declared.capability.Capability.{Capability}
 use Rattle.osgi_world.specs.declared.revision.Revision.{Revision}
 use Rattle.osgi_world.specs.declared.world.Known.{Known}
-use Rattle.osgi_wires.specs.Names.{AreOnce, HasNumber}
+use Rattle.osgi_wires.specs.Names.{HasNumber}
 use Rattle.osgi_wires.specs.Rows.{OwnExport, OwnUse}
-use Rattle.osgi_wires.specs.Worlds.{AreNumbered}
+use Rattle.osgi_wires.specs.Worlds.{IsNamed}
 use Rattle.osgi_wires.specs.declared.named.Named.{Named}
 
 -- an owner exports a package; an export of it uses another
@@ -22,10 +22,6 @@ pub data Fact : Type 0 where
 abbrev pub HasFact : Named → Fact → Type 0
 HasFact n (exporting o p) = (i : ℕ) × HasNumber n.names p i × OwnExport n.rows o i
 HasFact n (using o p u) = (i : ℕ) × (j : ℕ) × HasNumber n.names p i × HasNumber n.names u j × OwnUse n.rows o i j
-
-pub record IsNamed (n : Named) : Type 0 where
-  pub numbered : AreNumbered n.names n.rows
-  pub once : AreOnce n.names
 
 -- these facts are added
 pub record Adds (old new : Named) (P : Fact → Type 0) : Type 0 where

@@ -9,14 +9,14 @@ use Rattle.osgi_core.proofs.resolving.resolve.Goals as goal
 
 pub returns-in-Missing-clause-replied : goal.returns-in-Missing-clause-replied
 returns-in-Missing-clause-replied c =
-    by_refused c.refused.result (IsReplied (op.Resolve c.args.bundle) c.args.tables.now c.args.tables.now) NoSuchBundle c.refused.ensures.refused (replied_missing c.args.tables.now c.args.bundle c.in-Missing.ensures.target)
+    by_refused c.refused.result (IsReplied (op.Resolve c.args.bundle) c.args.tables.now c.args.tables.now) NoSuchBundle c.refused.ensures.refused (replied_missing c.args.tables.now c.args.bundle (rw c.wirings.ensures.wirings at c.in-Missing.ensures.target))
 
 pub returns-in-Fragment-clause-replied : goal.returns-in-Fragment-clause-replied
 returns-in-Fragment-clause-replied c =
     by_refused c.refused-in-Fragment.result (IsReplied (op.Resolve c.args.bundle) c.args.tables.now c.args.tables.now) InvalidOperation c.refused-in-Fragment.ensures.refused
-    (replied_fragment c.args.tables.now c.args.bundle c.in-Fragment.ensures.target)
+    (replied_fragment c.args.tables.now c.args.bundle (rw c.wirings.ensures.wirings at c.in-Fragment.ensures.target))
 
 pub returns-in-Resolved-clause-replied : goal.returns-in-Resolved-clause-replied
 returns-in-Resolved-clause-replied c =
     subst (IsReplied (op.Resolve c.args.bundle) c.args.tables.now c.args.tables.now) (sym c.none_resolved.ensures.none.0)
-    (replied_resolved c.args.tables.now c.args.bundle c.in-Resolved.ensures.target.0 c.in-Resolved.ensures.target.1)
+    (replied_resolved c.args.tables.now c.args.bundle (rw c.wirings.ensures.wirings at c.in-Resolved.ensures.target.0) (rw c.wirings.ensures.wirings at c.in-Resolved.ensures.target.1))

@@ -9,10 +9,10 @@ use Rattle.osgi_core.proofs.wires.list_wires.Goals as goal
 
 pub returns-in_default-clause-replied : goal.returns-in_default-clause-replied
 returns-in_default-clause-replied c =
-    by_refused c.refused.result (IsReplied (op.ListWires c.args.bundle) c.args.tables.now c.args.tables.now) NoSuchBundle c.refused.ensures.refused (wires_missing c.args.tables.now c.args.bundle (sym c.in_default.ensures.current))
+    by_refused c.refused.result (IsReplied (op.ListWires c.args.bundle) c.args.tables.now c.args.tables.now) NoSuchBundle c.refused.ensures.refused (wires_missing c.args.tables.now c.args.bundle (sym (rw c.wirings-wirings.ensures.wirings at c.in_default.ensures.current)))
 
 pub rows-requires-clause-current : goal.rows-requires-clause-current
 rows-requires-clause-current c = record { known = c.in-Some.known.now; is = sym c.in-Some.ensures.current; id = refl }
 
 pub returns-clause-replied : goal.returns-clause-replied
-returns-clause-replied c = wires_listed c.args.tables.now c.args.bundle c.in-Some.known.now c.in_ok-rows.rows c.in_ok-rows.fragments (sym c.in-Some.ensures.current) c.in_ok-rows.ensures.rows
+returns-clause-replied c = wires_listed c.args.tables.now c.args.bundle c.in-Some.known.now c.in_ok-rows.rows c.in_ok-rows.fragments (sym (rw c.wirings-wirings.ensures.wirings at c.in-Some.ensures.current)) (rw c.wirings-wirings.ensures.wirings at c.in_ok-rows.ensures.rows)

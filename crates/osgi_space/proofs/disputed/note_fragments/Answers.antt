@@ -1,5 +1,5 @@
 -- Each attachment is noted, and what was noted before stays so.
-use Rattle.std.proofs.Common.{ℕ, Contains, sym, subst}
+use Rattle.std.proofs.Common.{ℕ}
 use Rattle.std.proofs.lemmas.List.{get_or_default}
 use Rattle.osgi_space.specs.computed.Disputes.{IsNoted}
 use Rattle.osgi_space.proofs.Adding.{all-more, all-of}
@@ -9,7 +9,7 @@ use Rattle.osgi_space.proofs.disputed.note_fragments.Goals as goal
 
 pub loop-row-preserved : goal.loop-row-preserved
 loop-row-preserved c =
-    let rows = c.attached-row-items.result.now in
+    let rows = c.args.attached.now in
     let at = get_or_default rows c.loop-row.row-index _ _ c.loop-row-test.true in
     record {
       noted = all-more (λ (row : Attachment). (p : ℕ) → OwnExport c.args.rows.now row.fragment p → IsNoted c.loop-row.possible p row.host)
@@ -20,5 +20,5 @@ loop-row-preserved c =
 
 pub returns-clause-noted : goal.returns-clause-noted
 returns-clause-noted c = λ h f p at own.
-    all-of (λ (row : Attachment). (p : ℕ) → OwnExport c.args.rows.now row.fragment p → IsNoted c.loop-row.possible p row.host) c.attached-row-items.result.now c.loop-row.row-index c.loop-row-test.false c.loop-row.invariant.noted
-    (record { host = h; fragment = f }) (subst (λ rows. Contains rows (record { host = h; fragment = f })) (sym c.attached-row-items.ensures.rows) at) p own
+    all-of (λ (row : Attachment). (p : ℕ) → OwnExport c.args.rows.now row.fragment p → IsNoted c.loop-row.possible p row.host) c.args.attached.now c.loop-row.row-index c.loop-row-test.false c.loop-row.invariant.noted
+    (record { host = h; fragment = f }) at p own

@@ -7,6 +7,6 @@ use Rattle.osgi_space.proofs.disputed.note_fragments.Given as goal
 
 abbrev pub invariant-loop-row : goal.invariant-loop-row
 invariant-loop-row l = record {
-  noted : All (λ (row : Attachment). (p : ℕ) → OwnExport l.rows row.fragment p → IsNoted l.possible p row.host) (take l.row-index l.row-items);
+  noted : All (λ (row : Attachment). (p : ℕ) → OwnExport l.rows row.fragment p → IsNoted l.possible p row.host) (take l.row-index l.attached);
   kept : HoldsAll l.fn.possible l.possible;
 }

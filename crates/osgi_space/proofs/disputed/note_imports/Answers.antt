@@ -1,5 +1,4 @@
 -- Each row is noted, and what was noted before stays so.
-use Rattle.std.proofs.Common.{Contains, sym, subst}
 use Rattle.std.proofs.lemmas.List.{get_or_default}
 use Rattle.osgi_space.specs.computed.Disputes.{IsNoted}
 use Rattle.osgi_space.proofs.Adding.{all-more, all-of}
@@ -8,7 +7,7 @@ use Rattle.osgi_space.proofs.disputed.note_imports.Goals as goal
 
 pub loop-row-preserved : goal.loop-row-preserved
 loop-row-preserved c =
-    let rows = c.imports-row-items.result.now in
+    let rows = c.args.imports.now in
     let at = get_or_default rows c.loop-row.row-index _ _ c.loop-row-test.true in
     record {
       noted = all-more (λ (row : Import). IsNoted c.loop-row.possible row.imported row.provider) (λ (row : Import). IsNoted c.note.new.self row.imported row.provider) rows c.loop-row.row-index _ c.loop-row-test.true at
@@ -18,5 +17,5 @@ loop-row-preserved c =
 
 pub returns-clause-noted : goal.returns-clause-noted
 returns-clause-noted c = λ r p x at.
-    all-of (λ (row : Import). IsNoted c.loop-row.possible row.imported row.provider) c.imports-row-items.result.now c.loop-row.row-index c.loop-row-test.false c.loop-row.invariant.noted
-    (record { revision = r; imported = p; provider = x }) (subst (λ rows. Contains rows (record { revision = r; imported = p; provider = x })) (sym c.imports-row-items.ensures.rows) at)
+    all-of (λ (row : Import). IsNoted c.loop-row.possible row.imported row.provider) c.args.imports.now c.loop-row.row-index c.loop-row-test.false c.loop-row.invariant.noted
+    (record { revision = r; imported = p; provider = x }) at

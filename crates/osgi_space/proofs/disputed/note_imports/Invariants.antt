@@ -6,6 +6,6 @@ use Rattle.osgi_space.proofs.disputed.note_imports.Given as goal
 
 abbrev pub invariant-loop-row : goal.invariant-loop-row
 invariant-loop-row l = record {
-  noted : All (λ (row : Import). IsNoted l.possible row.imported row.provider) (take l.row-index l.row-items);
+  noted : All (λ (row : Import). IsNoted l.possible row.imported row.provider) (take l.row-index l.imports);
   kept : HoldsAll l.fn.possible l.possible;
 }

@@ -23,9 +23,9 @@ loop-place-preserved c = λ fit asks.
 
 pub returns : goal.returns
 returns c =
-    let are = subst (λ (w : World). AreNames w.known c.self.inside.names) c.self.view_is c.self.invariant.1.0 in
+    let are = subst (λ (w : World). AreNames w.known c.self.inside.index.now.names) c.self.view_is c.self.invariant.1.names in
     record {
       collected = λ fit asks.
           let all = subst (λ (l : List Place). Extends c.args.self.now c.args.at c.new-found.result c.loop-place.found (IsAtSome c.args.self.now c.args.at l)) (take_all c.loop-place.place-index c.of-place-items.result.now c.loop-place-test.false ∙ c.of-place-items.ensures.values) (c.loop-place.invariant fit asks) in
-          collects_all c.args.self.now fit c.self.inside.names are c.args.at c.args.requirement.now asks c.new-found.result c.loop-place.found c.new-found.ensures.empty all;
+          collects_all c.args.self.now fit c.self.inside.index.now.names are c.args.at c.args.requirement.now asks c.new-found.result c.loop-place.found c.new-found.ensures.empty all;
     }

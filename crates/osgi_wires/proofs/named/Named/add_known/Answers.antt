@@ -14,7 +14,7 @@ use Rattle.osgi_wires.proofs.named.Named.add_known.Goals as goal
 pub loop-each-preserved : goal.loop-each-preserved
 loop-each-preserved c =
     let K = c.args.known.now in
-    let all = c.all-each-items.result.now in
+    let all = c.args.more.now in
     let each = c.each-item.result in
     let i = c.loop-each.each-index in
     let more = says-more (KnownSays K) each all i c.loop-each-test.true c.each-item.is in

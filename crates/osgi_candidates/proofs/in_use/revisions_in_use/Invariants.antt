@@ -1,8 +1,0 @@
--- The set has what the wirings so far use.
-use Rattle.std.proofs.Common.{take}
-use Rattle.osgi_candidates.specs.computed.InUses.{HasRevision, IsUsedBy}
-use Rattle.osgi_coherence.specs.computed.Growing.{Grows, Nothing}
-use Rattle.osgi_candidates.proofs.in_use.revisions_in_use.Given as goal
-
-abbrev pub invariant-loop-wiring : goal.invariant-loop-wiring
-invariant-loop-wiring l = Grows Nothing (HasRevision l.in_use) IsUsedBy (take l.wiring-index l.wirings)

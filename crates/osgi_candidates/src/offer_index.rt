@@ -1,0 +1,99 @@
+//! What a world offers, kept from one resolve to the next.
+
+ghost use Rattle.std.specs.Prelude.{List, OnOk};
+ghost use Rattle.osgi_candidates.specs.Following.{Covers, Follows};
+ghost use Rattle.osgi_candidates.specs.computed.Halfway.{IsHalfway};
+ghost use Rattle.osgi_world.specs.Consistency.{Consistent};
+ghost use Rattle.osgi_world.specs.Wirings.{IsWorld};
+ghost use Rattle.osgi_world.specs.declared.wiring.Wiring.{Wiring};
+ghost use Rattle.osgi_world.specs.declared.world.Known.{Known};
+
+use crate::held::HeldWirings;
+use crate::in_use::add_all_in_use;
+use crate::names::KnownNames;
+use osgi_lookup::index::KnownIndex;
+use osgi_world::world::World;
+use std::alloc::{AllocError, Global};
+use std::collections::BTreeSet;
+
+/// What a world offers, by names and by revisions, as far as it was followed: how many of its known revisions and wirings
+/// were added, the names of these revisions, these wirings by revision, and the revisions in use. A world grows at its ends.
+#[derive(Drop)]
+pub struct OfferIndex {
+    known: usize,
+    wirings: usize,
+    pub(crate) names: KnownNames,
+    pub(crate) held: HeldWirings,
+    pub(crate) in_use: BTreeSet<u32>,
+}
+
+impl OfferIndex {
+    /// The index of nothing. It can follow each world.
+    pub fn new(alloc: Global) -> OfferIndex
+        ensures follows { (K : List Known) (W : List Wiring) → Follows result K W }
+    {
+        OfferIndex {
+            known: 0,
+            wirings: 0,
+            names: KnownNames::new(alloc),
+            held: HeldWirings::new(alloc),
+            in_use: BTreeSet::new(alloc),
+        }
+    }
+
+    /// Adds what is new in the world. If memory runs out, it is the index of nothing again.
+    pub fn follow(&mut self, alloc: Global, world: &World) -> Result<(), AllocError>
+        requires follows { Follows self.old world.now.known world.now.wirings }
+        requires is_world { IsWorld world.now.known world.now.wirings }
+        requires consistent { Consistent world.now.known world.now.wirings }
+        ensures covers { OnOk result (Covers self.new world.now.known world.now.wirings) }
+        ensures follows { Follows self.new world.now.known world.now.wirings }
+    {
+        match self.add_new(alloc, world) {
+            Ok(()) => Ok(()),
+            Err(error) => {
+                *self = OfferIndex::new(alloc);
+                Err(error)
+            }
+        }
+    }
+
+    fn add_new(&mut self, alloc: Global, world: &World) -> Result<(), AllocError>
+        requires follows { Follows self.old world.now.known world.now.wirings }
+        requires is_world { IsWorld world.now.known world.now.wirings }
+        ensures covers { OnOk result (Covers self.new world.now.known world.now.wirings) }
+    {
+        self.add_known(alloc, world)?;
+        self.add_wirings(alloc, world)?;
+        Ok(())
+    }
+
+    /// Adds the revisions that became known.
+    fn add_known(&mut self, alloc: Global, world: &World) -> Result<(), AllocError>
+        requires follows { Follows self.old world.now.known world.now.wirings }
+        requires is_world { IsWorld world.now.known world.now.wirings }
+        ensures halfway { OnOk result (IsHalfway self.new world.now.known world.now.wirings) }
+    {
+        let known = world.known.items();
+        self.names.add_all(alloc, &known[self.known..])?;
+        self.known = known.len();
+        Ok(())
+    }
+
+    /// Adds the wirings that came into force.
+    fn add_wirings(&mut self, alloc: Global, world: &World) -> Result<(), AllocError>
+        requires halfway { IsHalfway self.old world.now.known world.now.wirings }
+        ensures covers { OnOk result (Covers self.new world.now.known world.now.wirings) }
+    {
+        let wirings = world.wirings.items();
+        if self.wirings == wirings.len() {
+            return Ok(());
+        }
+        let known = KnownIndex::new(alloc, world.known.items())?;
+        let added = &wirings[self.wirings..];
+        self.held.add_all(&known, added)?;
+        add_all_in_use(&mut self.in_use, added)?;
+        self.wirings = wirings.len();
+        Ok(())
+    }
+}

@@ -1,0 +1,127 @@
+//! The wirings in force, with what is kept of their world between resolves.
+
+ghost use Rattle.std.specs.Prelude.{◌≡◌, ◌+◌, ◌-◌, ◌^◌, ◌<◌, ◌≤◌, None, IfOk, IsOk, OnOk, OnErr};
+ghost use Rattle.osgi_resolver.specs.Answers.{IsAnswerTo};
+ghost use Rattle.osgi_wiring.specs.States.{BecomesKnown, current_in, current_of, first_world, IsKeptWorld, MayExtend, NeedsNothing, with_known, with_wirings};
+ghost use Rattle.osgi_world.specs.Candidates.{IsUnresolved};
+
+use crate::answer::Answer;
+use crate::index::Index;
+use crate::resolving::resolve_with;
+use osgi_base::ids::{BundleId, RevisionId};
+use osgi_base::list::List;
+use osgi_base::shared::Shared;
+use osgi_wiring::Wirings;
+use osgi_world::revision::Revision;
+use osgi_world::wiring::Wiring;
+use std::alloc::{AllocError, Global};
+use std::marker::Model;
+
+/// The known revisions and the wirings in force, as `Wirings` has them. A resolve makes use of what an earlier one has found out,
+/// and looks only at what is new in the world since.
+#[derive(Drop)]
+pub struct IndexedWirings {
+    alloc: Global,
+    wirings: Wirings,
+    index: Index,
+}
+
+impl Model for IndexedWirings {
+    ghost use Rattle.std.specs.Coded.{codes};
+    ghost use Rattle.osgi_model.specs.contracts.filter.Filter as filter;
+    ghost use Rattle.osgi_model.specs.contracts.value.Value as value;
+    ghost use Rattle.osgi_resolver.specs.computed.Following.{FollowsWorld};
+    ghost use Rattle.osgi_wiring.specs.States.{WiringState};
+
+    ghost Value = { WiringState };
+
+    ghost coded = { Prim.hlevel (codes, filter.the_row.coded, value.the_row.coded) };
+
+    ghost view = { λ w. w.wirings };
+
+    ghost invariant = { λ w. FollowsWorld w.index w.wirings.world };
+}
+
+impl IndexedWirings {
+    /// The system bundle alone, by its only revision, which is in force.
+    pub fn new(alloc: Global, system: Shared<Revision>) -> Result<IndexedWirings, AllocError>
+        requires needs_nothing { NeedsNothing system }
+        ensures world { IfOk result (λ wirings. wirings.world ≡ first_world system) }
+        ensures issued { IfOk result (λ wirings. wirings.issued ≡ 0) }
+        ensures kept { IfOk result (λ wirings. IsKeptWorld wirings.world wirings.issued) }
+    {
+        Ok(IndexedWirings {
+            alloc,
+            wirings: Wirings::new(alloc, system)?,
+            index: Index::new(alloc),
+        })
+    }
+
+    pub fn wirings(&self) -> &Wirings
+        ensures wirings { result.now ≡ self.now }
+        ensures kept { IsKeptWorld self.now.world self.now.issued }
+    {
+        // What holds of the world at all times is said where it is asked for.
+        let _ = self.wirings.world();
+        &self.wirings
+    }
+
+    /// Makes room for one more known revision.
+    pub fn reserve(&mut self) -> Result<(), AllocError>
+        ensures world { self.new.world ≡ self.old.world }
+        ensures issued { self.new.issued ≡ self.old.issued }
+        ensures room { OnOk result (0 < self.new.spare) }
+        ensures no_less { self.old.spare ≤ self.new.spare }
+        ensures unchanged { OnErr result (self.new ≡ self.old) }
+    {
+        self.wirings.reserve()
+    }
+
+    /// Makes known what an install or an update brought of a bundle that has no current revision, under the next id.
+    pub fn add(
+        &mut self,
+        bundle: BundleId,
+        revision: Shared<Revision>,
+    ) -> Result<RevisionId, AllocError>
+        requires ids_left { self.old.issued < 4294967295 }
+        requires no_current { current_in self.old.world.known bundle ≡ None }
+        ensures id { IfOk result (λ id. id.0 ≡ self.old.issued + 1) }
+        ensures issued { OnOk result (self.new.issued ≡ self.old.issued + 1) }
+        ensures world { IfOk result (λ id. self.new.world ≡ with_known self.old.world (current_of id bundle revision)) }
+        ensures known { IfOk result (λ id. BecomesKnown self.old.world self.new.world (current_of id bundle revision)) }
+        ensures kept { OnOk result (IsKeptWorld self.new.world self.new.issued) }
+        ensures unchanged { OnErr result (self.new ≡ self.old) }
+        ensures room { 0 < self.old.spare → IsOk result }
+    {
+        self.wirings.add(bundle, revision)
+    }
+
+    /// Resolves the root: searches for the first good choice of its wires, of those of the revisions that these pull in, and of the
+    /// fragments that are attached. At most so many words of choices are looked at as the budget says. Nothing is put in force.
+    pub fn resolve(&mut self, root: RevisionId, budget: u64) -> Result<Answer, AllocError>
+        requires unresolved { IsUnresolved self.old.world.known self.old.world.wirings root }
+        requires budget { budget < 2 ^ 64 - 1 }
+        ensures answer { IfOk result (IsAnswerTo self.old.world root budget) }
+        ensures unchanged { self.new ≡ self.old }
+    {
+        resolve_with(
+            self.alloc,
+            self.wirings.world(),
+            &mut self.index,
+            root,
+            budget,
+        )
+    }
+
+    /// Puts wirings in force.
+    pub fn extend(&mut self, added: List<Wiring>) -> Result<(), AllocError>
+        requires extends { MayExtend self.old.world added }
+        ensures world { OnOk result (self.new.world ≡ with_wirings self.old.world added) }
+        ensures kept { OnOk result (IsKeptWorld self.new.world self.new.issued) }
+        ensures issued { self.new.issued ≡ self.old.issued }
+        ensures spare { self.new.spare ≡ self.old.spare }
+        ensures unchanged { OnErr result (self.new ≡ self.old) }
+    {
+        self.wirings.extend(added)
+    }
+}

@@ -1,0 +1,20 @@
+-- Rows that are kept while a world grows.
+use Rattle.std.specs.Prelude.{◌≤◌, List, length, take}
+use Rattle.osgi_world.specs.declared.wiring.Wiring.{Wiring}
+use Rattle.osgi_world.specs.declared.world.Known.{Known}
+use Rattle.osgi_wires.specs.Agree.{AreRowsOf}
+use Rattle.osgi_wires.specs.AllKnown.{AreAllKnown}
+use Rattle.osgi_wires.specs.Names.{name_of}
+use Rattle.osgi_wires.specs.Worlds.{AreNumbered}
+use Rattle.osgi_space.specs.computed.Disputes.{AreNoted}
+use Rattle.osgi_space.specs.declared.kept_rows.KeptRows.{KeptRows}
+
+-- the rows are those of the first so many known revisions and wirings of the world, with the possible sources in them. These wirings
+-- name no other revisions
+pub record FollowsRows (kept : KeptRows) (K : List Known) (W : List Wiring) : Type 0 where
+  pub known : kept.known ≤ length K
+  pub wirings : kept.wirings ≤ length W
+  pub all_known : AreAllKnown (take kept.known K) (take kept.wirings W)
+  pub rows : AreRowsOf (take kept.known K) (take kept.wirings W) (name_of kept.named.names) kept.named.rows
+  pub numbered : AreNumbered kept.named.names kept.named.rows
+  pub noted : AreNoted kept.named.rows kept.possible
