@@ -19,6 +19,11 @@ pub fn split_at<'a>(text: &'a str, separator: &str) -> (&'a str, &'a str) {
     text.split_once(separator).unwrap_or((text, ""))
 }
 
+/// The number that a word writes.
+pub fn number_of(word: &str) -> Option<u64> {
+    word.parse::<u64>().ok()
+}
+
 /// The text of a word.
 pub fn text_of(alloc: Global, word: &str) -> Result<Text, AllocError> {
     Text::of(alloc, word.as_bytes())
@@ -34,6 +39,20 @@ pub fn put_text(out: &mut String, text: &Text) -> Result<(), AllocError> {
     push_bytes(out, text.bytes())
 }
 
+/// Adds bytes in quotation marks, as a row writes them.
+pub fn put_quoted(out: &mut String, bytes: &[u8]) -> Result<(), AllocError> {
+    put(out, "\"")?;
+    push_bytes(out, bytes)?;
+    put(out, "\"")
+}
+
+/// Adds bytes in brackets, as a row writes them.
+pub fn put_bracketed(out: &mut String, bytes: &[u8]) -> Result<(), AllocError> {
+    put(out, "[")?;
+    push_bytes(out, bytes)?;
+    put(out, "]")
+}
+
 /// Adds a value as `{}` prints it.
 pub fn put_shown<T: Display>(out: &mut String, value: &T) -> Result<(), AllocError> {
     write!(out, "{value}")
@@ -42,6 +61,11 @@ pub fn put_shown<T: Display>(out: &mut String, value: &T) -> Result<(), AllocErr
 /// Adds a value as `{:?}` prints it.
 pub fn put_debug<T: Debug>(out: &mut String, value: &T) -> Result<(), AllocError> {
     write!(out, "{value:?}")
+}
+
+/// Whether two values are equal.
+pub fn are_equal<T: PartialEq>(first: &T, second: &T) -> bool {
+    first == second
 }
 
 /// Whether a value equals its copy.
@@ -57,25 +81,4 @@ pub fn check_copy<T: Copied + PartialEq>(
 ) -> Result<(), AllocError> {
     let is_same = is_as_its_copy(alloc, value)?;
     complain(out, is_same, ", copy differs")
-}
-
-/// Whether a text was read as this value.
-pub fn is_read_as<T: PartialEq + Drop, E: Drop>(
-    read: Result<Result<T, E>, AllocError>,
-    value: &T,
-) -> Result<bool, AllocError> {
-    match read? {
-        Ok(read) => Ok(read == *value),
-        Err(_) => Ok(false),
-    }
-}
-
-/// Adds a complaint, unless what was printed of a value was read as this value.
-pub fn check_read<T: PartialEq + Drop, E: Drop>(
-    out: &mut String,
-    read: Result<Result<T, E>, AllocError>,
-    value: &T,
-) -> Result<(), AllocError> {
-    let is_same = is_read_as(read, value)?;
-    complain(out, is_same, ", which reads otherwise")
 }

@@ -3,6 +3,7 @@
 use osgi_base::list::List;
 use osgi_base::shared::Shared;
 use osgi_base::text::Text;
+use osgi_escapes::answers::text_of;
 use osgi_ops::depot::{Depot, DepotRow, Stored};
 use osgi_world::revision::Revision;
 use osgi_world::system::system_revision;
@@ -10,8 +11,9 @@ use std::alloc::{AllocError, Global};
 
 /// A revision of this name, in version 1.0.0.
 fn revision_named(alloc: Global, name: &str) -> Result<Revision, AllocError> {
+    let name = text_of(alloc, name)?;
     let mut revision = system_revision(alloc)?;
-    revision.name = Text::of(alloc, name.as_bytes())?;
+    revision.name = name;
     Ok(revision)
 }
 
@@ -22,7 +24,7 @@ fn row_at(alloc: Global, location: &str) -> Result<DepotRow, AllocError> {
         revision,
         manifest: Text::empty(),
     };
-    let location = Text::of(alloc, location.as_bytes())?;
+    let location = text_of(alloc, location)?;
     Ok(DepotRow { location, stored })
 }
 

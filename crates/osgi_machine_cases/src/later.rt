@@ -3,99 +3,159 @@
 use osgi_base::ids::{BundleId, ListenerId};
 use osgi_base::list::List;
 use osgi_base::text::Text;
+use osgi_escapes::answers::text_of;
 use osgi_ops::kind::Kind;
 use osgi_ops::op::Op;
 use osgi_ops::target::Target;
 use std::alloc::{AllocError, Global};
 
-/// The operation of this name, about the bundle, that has neither a text nor a list.
-pub fn later(name: &str, bundle: BundleId) -> Option<Op> {
-    if name == "Hand" {
-        Some(Op::Hand)
-    } else if name == "EndHand" {
-        Some(Op::EndHand {
+/// Operations that have neither a text nor a list.
+#[derive(Clone, Copy)]
+enum Plain {
+    Hand,
+    EndHand,
+    TakeJob,
+    EndJob,
+    BeginStart,
+    EndStart,
+    BeginStop,
+    EndStop,
+    Uninstall,
+    DropWirings,
+    EndRefresh,
+    BeginLevel,
+    ListLevel,
+    MoveLevel,
+    EndLevel,
+    SetBundleLevel,
+}
+
+/// Operations that have a text.
+#[derive(Clone, Copy)]
+enum Wordy {
+    AddListener,
+    RemoveListener,
+    QueueJob,
+    Print,
+    Fail,
+    Update,
+    Load,
+    WishStart,
+}
+
+const PLAIN: [(&str, Plain); 16] = [
+    ("Hand", Plain::Hand),
+    ("EndHand", Plain::EndHand),
+    ("TakeJob", Plain::TakeJob),
+    ("EndJob", Plain::EndJob),
+    ("BeginStart", Plain::BeginStart),
+    ("EndStart", Plain::EndStart),
+    ("BeginStop", Plain::BeginStop),
+    ("EndStop", Plain::EndStop),
+    ("Uninstall", Plain::Uninstall),
+    ("DropWirings", Plain::DropWirings),
+    ("EndRefresh", Plain::EndRefresh),
+    ("BeginLevel", Plain::BeginLevel),
+    ("ListLevel", Plain::ListLevel),
+    ("MoveLevel", Plain::MoveLevel),
+    ("EndLevel", Plain::EndLevel),
+    ("SetBundleLevel", Plain::SetBundleLevel),
+];
+
+const WORDY: [(&str, Wordy); 8] = [
+    ("AddListener", Wordy::AddListener),
+    ("RemoveListener", Wordy::RemoveListener),
+    ("QueueJob", Wordy::QueueJob),
+    ("Print", Wordy::Print),
+    ("Fail", Wordy::Fail),
+    ("Update", Wordy::Update),
+    ("Load", Wordy::Load),
+    ("WishStart", Wordy::WishStart),
+];
+
+fn plain_named(name: &str) -> Option<Plain> {
+    for (word, plain) in &PLAIN {
+        if *word == name {
+            return Some(*plain);
+        }
+    }
+    None
+}
+
+fn wordy_named(name: &str) -> Option<Wordy> {
+    for (word, wordy) in &WORDY {
+        if *word == name {
+            return Some(*wordy);
+        }
+    }
+    None
+}
+
+fn plain_op(plain: Plain, bundle: BundleId) -> Op {
+    match plain {
+        Plain::Hand => Op::Hand,
+        Plain::EndHand => Op::EndHand {
             listener: ListenerId(1),
-        })
-    } else if name == "TakeJob" {
-        Some(Op::TakeJob)
-    } else if name == "EndJob" {
-        Some(Op::EndJob)
-    } else if name == "BeginStart" {
-        Some(Op::BeginStart {
+        },
+        Plain::TakeJob => Op::TakeJob,
+        Plain::EndJob => Op::EndJob,
+        Plain::BeginStart => Op::BeginStart {
             bundle,
             transient: true,
-        })
-    } else if name == "EndStart" {
-        Some(Op::EndStart {
+        },
+        Plain::EndStart => Op::EndStart {
             bundle,
             failed: true,
-        })
-    } else if name == "BeginStop" {
-        Some(Op::BeginStop {
+        },
+        Plain::BeginStop => Op::BeginStop {
             target: Target::Id(bundle),
             transient: true,
-        })
-    } else if name == "EndStop" {
-        Some(Op::EndStop {
+        },
+        Plain::EndStop => Op::EndStop {
             bundle,
             failed: false,
-        })
-    } else if name == "Uninstall" {
-        Some(Op::Uninstall { bundle })
-    } else if name == "DropWirings" {
-        Some(Op::DropWirings)
-    } else if name == "EndRefresh" {
-        Some(Op::EndRefresh)
-    } else if name == "BeginLevel" {
-        Some(Op::BeginLevel { target_level: 2 })
-    } else if name == "ListLevel" {
-        Some(Op::ListLevel { level: 1 })
-    } else if name == "MoveLevel" {
-        Some(Op::MoveLevel { to: 2 })
-    } else if name == "EndLevel" {
-        Some(Op::EndLevel)
-    } else if name == "SetBundleLevel" {
-        Some(Op::SetBundleLevel { bundle, level: 1 })
-    } else {
-        None
+        },
+        Plain::Uninstall => Op::Uninstall { bundle },
+        Plain::DropWirings => Op::DropWirings,
+        Plain::EndRefresh => Op::EndRefresh,
+        Plain::BeginLevel => Op::BeginLevel { target_level: 2 },
+        Plain::ListLevel => Op::ListLevel { level: 1 },
+        Plain::MoveLevel => Op::MoveLevel { to: 2 },
+        Plain::EndLevel => Op::EndLevel,
+        Plain::SetBundleLevel => Op::SetBundleLevel { bundle, level: 1 },
     }
 }
 
-/// The operation of this name that has a text.
-fn with_text(name: &str, owner: BundleId, text: Text) -> Option<Op> {
-    if name == "AddListener" {
-        Some(Op::AddListener {
+fn wordy_op(wordy: Wordy, owner: BundleId, text: Text) -> Op {
+    match wordy {
+        Wordy::AddListener => Op::AddListener {
             owner,
             name: text,
             kind: Kind::Bundle,
             filter: None,
-        })
-    } else if name == "RemoveListener" {
-        Some(Op::RemoveListener { owner, name: text })
-    } else if name == "QueueJob" {
-        Some(Op::QueueJob { owner, name: text })
-    } else if name == "Print" {
-        Some(Op::Print { owner, text })
-    } else if name == "Fail" {
-        Some(Op::Fail { owner, text })
-    } else if name == "Update" {
-        Some(Op::Update {
+        },
+        Wordy::RemoveListener => Op::RemoveListener { owner, name: text },
+        Wordy::QueueJob => Op::QueueJob { owner, name: text },
+        Wordy::Print => Op::Print { owner, text },
+        Wordy::Fail => Op::Fail { owner, text },
+        Wordy::Update => Op::Update {
             bundle: owner,
             location: text,
-        })
-    } else if name == "Load" {
-        Some(Op::Load {
+        },
+        Wordy::Load => Op::Load {
             bundle: owner,
             class: text,
-        })
-    } else if name == "WishStart" {
-        Some(Op::WishStart {
+        },
+        Wordy::WishStart => Op::WishStart {
             target: Target::Name(text),
             transient: false,
-        })
-    } else {
-        None
+        },
     }
+}
+
+/// The operation of this name, about the bundle, that has neither a text nor a list.
+pub fn later(name: &str, bundle: BundleId) -> Option<Op> {
+    Some(plain_op(plain_named(name)?, bundle))
 }
 
 /// The operation of this name, about the bundle, that has a text or a list.
@@ -106,8 +166,10 @@ pub fn later_with_text(
 ) -> Result<Option<Op>, AllocError> {
     if name == "BeginRefresh" {
         let bundles = List::new(alloc)?;
-        Ok(Some(Op::BeginRefresh { bundles }))
-    } else {
-        Ok(with_text(name, bundle, Text::of(alloc, b"a text")?))
+        return Ok(Some(Op::BeginRefresh { bundles }));
+    }
+    match wordy_named(name) {
+        Some(wordy) => Ok(Some(wordy_op(wordy, bundle, text_of(alloc, "a text")?))),
+        None => Ok(None),
     }
 }

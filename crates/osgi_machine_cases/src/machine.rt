@@ -2,12 +2,14 @@
 
 use osgi_base::ids::Tag;
 use osgi_core::Core;
+use osgi_escapes::answers::{are_equal, put, put_shown};
+use osgi_escapes::complain;
 use osgi_ops::entry::Entry;
 use osgi_ops::op::Op;
 use osgi_ops::reply::Reply;
+use osgi_rows::entries::entry_of;
 use osgi_rows::shown::{add_checked, add_shown};
 use std::alloc::{AllocError, Global};
-use std::fmt::Write;
 
 /// What the machine answers to an operation.
 fn answered(alloc: Global, core: &mut Core, tag: Tag, op: &Op) -> Result<Reply, AllocError> {
@@ -16,12 +18,15 @@ fn answered(alloc: Global, core: &mut Core, tag: Tag, op: &Op) -> Result<Reply, 
 
 /// Applies an operation; the entry that it comes to.
 fn applied(alloc: Global, core: &mut Core, tag: Tag, op: Op) -> Result<Entry, AllocError> {
-    match answered(alloc, core, tag, &op) {
-        Ok(reply) => Ok(Entry { tag, op, reply }),
-        Err(error) => {
-            drop(op);
-            Err(error)
-        }
+    let reply = answered(alloc, core, tag, &op);
+    entry_of(tag, Ok(op), reply)
+}
+
+/// Whether an entry is the last of a history.
+fn is_last(entries: &[Entry], entry: &Entry) -> bool {
+    match entries {
+        [.., last] => are_equal(last, entry),
+        [] => false,
     }
 }
 
@@ -33,10 +38,7 @@ fn add_compared(
     entry: &Entry,
 ) -> Result<(), AllocError> {
     add_checked(alloc, out, entry)?;
-    match core.entries() {
-        [.., last] if last == entry => Ok(()),
-        _ => out.push_str(", not recorded"),
-    }
+    complain(out, is_last(core.entries(), entry), ", not recorded")
 }
 
 /// Adds what the machine answers to an operation, and whether it is the last of the history.
@@ -48,9 +50,7 @@ pub fn add_recorded(
     op: Op,
 ) -> Result<(), AllocError> {
     let entry = applied(alloc, core, tag, op)?;
-    let added = add_compared(alloc, out, core, &entry);
-    drop(entry);
-    added
+    add_compared(alloc, out, core, &entry)
 }
 
 /// The kind of an operation, and the bundle that asked for it where it names one.
@@ -72,16 +72,33 @@ fn kind(op: &Op) -> (&'static str, u32) {
     }
 }
 
+/// Adds the tag of an entry.
+fn add_tag(out: &mut String, tag: Tag) -> Result<(), AllocError> {
+    put(out, " | ")?;
+    put_shown(out, &tag.caller)?;
+    put(out, ".")?;
+    put_shown(out, &tag.command)
+}
+
+/// Adds the kind of an operation, after the bundle that asked for it.
+fn add_kind(out: &mut String, op: &Op) -> Result<(), AllocError> {
+    let (kind, bundle) = kind(op);
+    put(out, " ")?;
+    put_shown(out, &bundle)?;
+    put(out, " ")?;
+    put(out, kind)?;
+    put(out, ": ")
+}
+
 fn add_entry(alloc: Global, out: &mut String, entry: &Entry) -> Result<(), AllocError> {
-    let tag = entry.tag;
-    let (kind, bundle) = kind(&entry.op);
-    write!(out, " | {}.{} {bundle} {kind}: ", tag.caller, tag.command)?;
+    add_tag(out, entry.tag)?;
+    add_kind(out, &entry.op)?;
     add_shown(alloc, out, entry)
 }
 
 /// Adds the entries of a history.
 pub fn add_history(alloc: Global, out: &mut String, entries: &[Entry]) -> Result<(), AllocError> {
-    write!(out, "{}", entries.len())?;
+    put_shown(out, &entries.len())?;
     for entry in entries {
         add_entry(alloc, out, entry)?;
     }

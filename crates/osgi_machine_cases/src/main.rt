@@ -19,6 +19,7 @@ mod depot;
 mod later;
 mod machine;
 mod names;
+mod refusals;
 mod rows;
 
 use depot::depot_of;

@@ -3,13 +3,15 @@
 use crate::depot::depot_of;
 use crate::later::{later, later_with_text};
 use crate::machine::{add_history, add_recorded};
-use crate::names::{Form, add_join, add_limits, add_many, add_refusal};
+use crate::names::{add_join, add_limits, add_many};
+use crate::refusals::{Form, add_refusal};
 use osgi_base::ids::{BundleId, Tag};
 use osgi_core::Core;
+use osgi_escapes::answers::{put, split_word};
 use osgi_ops::limits::Limits;
 use osgi_ops::op::Op;
 use osgi_rows::asked::asked;
-use osgi_rows::words::{number, split_bundle, split_word};
+use osgi_rows::words::{number, split_bundle};
 use std::alloc::{AllocError, Global};
 
 /// Limits with room for so many entries, a million at most.
@@ -30,7 +32,7 @@ fn begin(
     location: &str,
 ) -> Result<(), AllocError> {
     *core = Core::new(alloc, limited(entries), depot_of(alloc, location)?)?;
-    out.push_str("begun")
+    put(out, "begun")
 }
 
 /// The tag that a word writes, as `CALLER.NUMBER`.
@@ -42,6 +44,9 @@ fn tag_of(word: &str) -> Option<Tag> {
     })
 }
 
+/// Why a name is of no operation.
+const NO_OPERATION: &str = "no such operation";
+
 /// The operation that a row asks for, by a command of the console or by its name; or why it asks for none.
 fn op_of(
     alloc: Global,
@@ -50,11 +55,26 @@ fn op_of(
 ) -> Result<Result<Op, &'static str>, AllocError> {
     let (word, name) = split_word(text);
     if word == "later" {
-        Ok(later(name, bundle).ok_or("no such operation"))
+        Ok(later(name, bundle).ok_or(NO_OPERATION))
     } else if word == "later_with_text" {
-        Ok(later_with_text(alloc, name, bundle)?.ok_or("no such operation"))
+        Ok(later_with_text(alloc, name, bundle)?.ok_or(NO_OPERATION))
     } else {
         asked(alloc, bundle, text)
+    }
+}
+
+/// Asks for the operation that a row says after its tag.
+fn ask_tagged(
+    alloc: Global,
+    out: &mut String,
+    core: &mut Core,
+    tag: Tag,
+    text: &str,
+) -> Result<(), AllocError> {
+    let (bundle, command) = split_bundle(text);
+    match op_of(alloc, bundle, command)? {
+        Ok(op) => add_recorded(alloc, out, core, tag, op),
+        Err(why) => put(out, why),
     }
 }
 
@@ -66,13 +86,9 @@ fn ask(
     word: &str,
     text: &str,
 ) -> Result<(), AllocError> {
-    let Some(tag) = tag_of(word) else {
-        return out.push_str("no such row");
-    };
-    let (bundle, command) = split_bundle(text);
-    match op_of(alloc, bundle, command)? {
-        Ok(op) => add_recorded(alloc, out, core, tag, op),
-        Err(why) => out.push_str(why),
+    match tag_of(word) {
+        Some(tag) => ask_tagged(alloc, out, core, tag, text),
+        None => put(out, "no such row"),
     }
 }
 

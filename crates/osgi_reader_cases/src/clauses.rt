@@ -1,68 +1,73 @@
 //! The clauses of header values.
 
-use crate::copies::check_copy;
-use crate::headers::push_fault;
+use crate::headers::put_fault;
 use osgi_base::list::List;
-use osgi_escapes::push_bytes;
-use osgi_header::clause::{Clause, ClauseAt, Pair, Typed};
+use osgi_base::text::Text;
+use osgi_escapes::answers::{check_copy, put, put_bracketed, put_shown, put_text};
+use osgi_header::clause::{Clause, ClauseAt, Pair, ReadClauses, Typed};
 use std::alloc::{AllocError, Global};
 
-fn push_path(out: &mut String, path: &[u8]) -> Result<(), AllocError> {
-    out.push('[')?;
-    push_bytes(out, path)?;
-    out.push(']')
+fn put_paths(out: &mut String, paths: &[Text]) -> Result<(), AllocError> {
+    for path in paths {
+        put_bracketed(out, path.bytes())?;
+    }
+    Ok(())
 }
 
-fn push_directive(out: &mut String, directive: &Pair) -> Result<(), AllocError> {
-    out.push('{')?;
-    push_bytes(out, directive.name.bytes())?;
-    out.push_str(":=")?;
-    push_bytes(out, directive.value.bytes())?;
-    out.push('}')
+fn put_directive(out: &mut String, directive: &Pair) -> Result<(), AllocError> {
+    put(out, "{")?;
+    put_text(out, &directive.name)?;
+    put(out, ":=")?;
+    put_text(out, &directive.value)?;
+    put(out, "}")
 }
 
-fn push_attribute(out: &mut String, attribute: &Typed) -> Result<(), AllocError> {
-    out.push('{')?;
-    push_bytes(out, attribute.name.bytes())?;
-    out.push(':')?;
-    push_bytes(out, attribute.kind.bytes())?;
-    out.push('=')?;
-    push_bytes(out, attribute.value.bytes())?;
-    out.push('}')
+fn put_attribute(out: &mut String, attribute: &Typed) -> Result<(), AllocError> {
+    put(out, "{")?;
+    put_text(out, &attribute.name)?;
+    put(out, ":")?;
+    put_text(out, &attribute.kind)?;
+    put(out, "=")?;
+    put_text(out, &attribute.value)?;
+    put(out, "}")
 }
 
-fn push_directives(out: &mut String, directives: &[Pair]) -> Result<(), AllocError> {
+fn put_directives(out: &mut String, directives: &[Pair]) -> Result<(), AllocError> {
     for directive in directives {
-        push_directive(out, directive)?;
+        put_directive(out, directive)?;
     }
     Ok(())
 }
 
-fn push_attributes(out: &mut String, attributes: &[Typed]) -> Result<(), AllocError> {
+fn put_attributes(out: &mut String, attributes: &[Typed]) -> Result<(), AllocError> {
     for attribute in attributes {
-        push_attribute(out, attribute)?;
+        put_attribute(out, attribute)?;
     }
     Ok(())
 }
 
-fn push_clause(out: &mut String, clause: &Clause) -> Result<(), AllocError> {
-    for path in clause.paths.items() {
-        push_path(out, path.bytes())?;
+fn put_clause(out: &mut String, clause: &Clause) -> Result<(), AllocError> {
+    put_paths(out, clause.paths.items())?;
+    put_directives(out, clause.directives.items())?;
+    put_attributes(out, clause.attributes.items())
+}
+
+/// Adds clauses with `,` between, and `none` where there are none.
+fn put_clauses(out: &mut String, clauses: &[Clause]) -> Result<(), AllocError> {
+    if clauses.is_empty() {
+        put(out, "none")?;
     }
-    push_directives(out, clause.directives.items())?;
-    push_attributes(out, clause.attributes.items())
+    let mut separator = "";
+    for clause in clauses {
+        put(out, separator)?;
+        put_clause(out, clause)?;
+        separator = ",";
+    }
+    Ok(())
 }
 
 fn add_all(alloc: Global, out: &mut String, clauses: &List<Clause>) -> Result<(), AllocError> {
-    if clauses.items().is_empty() {
-        out.push_str("none")?;
-    }
-    for (at, clause) in clauses.items().iter().enumerate() {
-        if at > 0 {
-            out.push(',')?;
-        }
-        push_clause(out, clause)?;
-    }
+    put_clauses(out, clauses.items())?;
     check_copy(alloc, out, clauses)
 }
 
@@ -70,26 +75,36 @@ fn add_all(alloc: Global, out: &mut String, clauses: &List<Clause>) -> Result<()
 pub fn clauses(alloc: Global, out: &mut String, text: &[u8]) -> Result<(), AllocError> {
     match osgi_header::clauses(alloc, text)? {
         Ok(clauses) => add_all(alloc, out, &clauses),
-        Err(fault) => push_fault(out, fault),
+        Err(fault) => put_fault(out, fault),
     }
 }
 
-/// Adds each clause with the byte at which it begins.
-fn add_places(out: &mut String, clauses: &[ClauseAt]) -> Result<(), AllocError> {
-    for ClauseAt { at, clause } in clauses {
-        write!(out, "{at}:")?;
-        push_clause(out, clause)?;
-        out.push('|')?;
+/// Adds a clause after the byte at which it begins.
+fn put_place(out: &mut String, place: &ClauseAt) -> Result<(), AllocError> {
+    put_shown(out, &place.at)?;
+    put(out, ":")?;
+    put_clause(out, &place.clause)?;
+    put(out, "|")
+}
+
+fn put_places(out: &mut String, places: &[ClauseAt]) -> Result<(), AllocError> {
+    for place in places {
+        put_place(out, place)?;
     }
     Ok(())
+}
+
+/// Adds each clause with its place, and the fault that follows them.
+fn put_read(out: &mut String, read: &ReadClauses) -> Result<(), AllocError> {
+    put_places(out, read.clauses.items())?;
+    match read.fault {
+        Some(fault) => put_fault(out, fault),
+        None => Ok(()),
+    }
 }
 
 /// The clauses of a header's value before its first fault, where each begins, and that fault.
 pub fn read_clauses(alloc: Global, out: &mut String, text: &[u8]) -> Result<(), AllocError> {
     let read = osgi_header::read_clauses(alloc, text)?;
-    add_places(out, read.clauses.items())?;
-    match read.fault {
-        Some(fault) => push_fault(out, fault),
-        None => Ok(()),
-    }
+    put_read(out, &read)
 }

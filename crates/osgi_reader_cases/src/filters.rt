@@ -1,11 +1,11 @@
 //! Filters: read, printed and copied.
 
-use crate::copies::check_copy;
-use osgi_escapes::{complain, push_bytes};
+use osgi_escapes::answers::{check_copy, number_of, put, split_word};
+use osgi_escapes::push_bytes;
+use osgi_escapes::readings::{check_read, value_or_fault};
 use osgi_filter::{parse, print};
 use osgi_model::filter::Filter;
 use std::alloc::{AllocError, Global};
-use std::fmt::Write;
 
 /// Adds a complaint, unless an item's test and the whole filter equal their copies.
 fn check_copies(alloc: Global, out: &mut String, filter: &Filter) -> Result<(), AllocError> {
@@ -15,63 +15,81 @@ fn check_copies(alloc: Global, out: &mut String, filter: &Filter) -> Result<(), 
     check_copy(alloc, out, filter)
 }
 
-fn reads_as(alloc: Global, text: &[u8], filter: &Filter) -> Result<bool, AllocError> {
-    match parse(alloc, text)? {
-        Ok(read) => Ok(read == *filter),
-        Err(_) => Ok(false),
-    }
+/// Adds what was printed of a filter, and a complaint unless it reads as that.
+fn add_text(
+    alloc: Global,
+    out: &mut String,
+    text: &[u8],
+    filter: &Filter,
+) -> Result<(), AllocError> {
+    push_bytes(out, text)?;
+    check_read(out, parse(alloc, text), filter)
 }
 
 /// Adds what is printed of a filter.
 fn add_printed(alloc: Global, out: &mut String, filter: &Filter) -> Result<(), AllocError> {
-    let text = print(alloc, filter)?;
-    push_bytes(out, text.bytes())?;
-    complain(
-        out,
-        reads_as(alloc, text.bytes(), filter)?,
-        ", which reads otherwise",
-    )?;
+    add_text(alloc, out, print(alloc, filter)?.bytes(), filter)?;
     check_copies(alloc, out, filter)
 }
 
 /// The filter that a text reads as.
 pub fn filter(alloc: Global, out: &mut String, text: &[u8]) -> Result<(), AllocError> {
-    match parse(alloc, text)? {
-        Ok(filter) => add_printed(alloc, out, &filter),
-        Err(fault) => write!(out, "{fault}"),
+    match value_or_fault(out, parse(alloc, text))? {
+        Some(filter) => add_printed(alloc, out, &filter),
+        None => Ok(()),
     }
 }
 
 /// An item within so many filters of an operator.
-fn levels(alloc: Global, operator: &[u8], count: u32) -> Result<Vec<u8>, AllocError> {
-    let mut text = Vec::new(alloc);
+fn levels(alloc: Global, operator: &[u8], count: u64) -> Result<Vec<u8>, AllocError> {
+    let mut before = Vec::new(alloc);
+    let mut after = Vec::new(alloc);
     for _ in 0..count {
-        text.push(b'(')?;
-        text.extend_from_slice(operator)?;
+        before.push(b'(')?;
+        before.extend_from_slice(operator)?;
+        after.push(b')')?;
     }
-    text.extend_from_slice(b"(a=1)")?;
-    text.extend_from_slice(vec![in alloc; b')'; count as usize]?.as_slice())?;
-    Ok(text)
+    before.extend_from_slice(b"(a=1)")?;
+    before.extend_from_slice(after.as_slice())?;
+    Ok(before)
 }
 
-/// What is said of a filter's text that is to be printed as it stands.
-fn printed_so(alloc: Global, text: &[u8], filter: &Filter) -> Result<&'static str, AllocError> {
-    Ok(if print(alloc, filter)?.bytes() == text {
-        "read, and printed as it stands"
+/// Whether what is printed of a filter is this text.
+fn is_printed_so(alloc: Global, text: &[u8], filter: &Filter) -> Result<bool, AllocError> {
+    Ok(print(alloc, filter)?.bytes() == text)
+}
+
+/// Adds what is said of a filter's text that is to be printed as it stands.
+fn add_printed_so(
+    alloc: Global,
+    out: &mut String,
+    text: &[u8],
+    filter: &Filter,
+) -> Result<(), AllocError> {
+    if is_printed_so(alloc, text, filter)? {
+        put(out, "read, and printed as it stands")
     } else {
-        "printed otherwise"
-    })
+        put(out, "printed otherwise")
+    }
+}
+
+/// Adds what a filter's text is read as that is to be printed as it stands.
+fn add_nested(alloc: Global, out: &mut String, text: &[u8]) -> Result<(), AllocError> {
+    match value_or_fault(out, parse(alloc, text))? {
+        Some(filter) => add_printed_so(alloc, out, text, &filter),
+        None => Ok(()),
+    }
 }
 
 /// Whether an item is a filter within so many of an operator.
 pub fn nested(alloc: Global, out: &mut String, text: &str) -> Result<(), AllocError> {
-    let (operator, count) = text.split_once(' ').unwrap_or((text, ""));
-    let Ok(count) = count.parse::<u32>() else {
-        return out.push_str("no count");
-    };
-    let text = levels(alloc, operator.as_bytes(), count)?;
-    match parse(alloc, text.as_slice())? {
-        Ok(filter) => out.push_str(printed_so(alloc, text.as_slice(), &filter)?),
-        Err(fault) => write!(out, "{fault}"),
+    let (operator, count) = split_word(text);
+    match number_of(count) {
+        Some(count) => add_nested(
+            alloc,
+            out,
+            levels(alloc, operator.as_bytes(), count)?.as_slice(),
+        ),
+        None => put(out, "no count"),
     }
 }

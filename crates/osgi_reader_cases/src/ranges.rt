@@ -1,68 +1,71 @@
 //! Ranges, and the versions within them.
 
-use crate::copies::check_copy;
+use osgi_escapes::answers::{are_equal, check_copy, put_shown, split_at};
+use osgi_escapes::readings::{check_read, value_or_fault};
 use osgi_escapes::{complain, push_bytes};
 use osgi_version::range::VersionRange;
 use osgi_version::version::Version;
 use std::alloc::{AllocError, Global};
-use std::fmt::Write;
 
-fn reads_as(alloc: Global, text: &[u8], range: &VersionRange) -> Result<bool, AllocError> {
-    match VersionRange::parse(alloc, text)? {
-        Ok(read) => Ok(read == *range),
-        Err(_) => Ok(false),
-    }
+/// Adds what was printed of a range, and a complaint unless it reads as that.
+fn add_text(
+    alloc: Global,
+    out: &mut String,
+    text: &[u8],
+    range: &VersionRange,
+) -> Result<(), AllocError> {
+    push_bytes(out, text)?;
+    check_read(out, VersionRange::parse(alloc, text), range)
 }
 
 /// Adds what is printed of a range.
 fn add_printed(alloc: Global, out: &mut String, range: &VersionRange) -> Result<(), AllocError> {
-    let text = range.print(alloc)?;
-    push_bytes(out, text.as_slice())?;
-    complain(
-        out,
-        reads_as(alloc, text.as_slice(), range)?,
-        ", which reads otherwise",
-    )?;
+    add_text(alloc, out, range.print(alloc)?.as_slice(), range)?;
     check_copy(alloc, out, range)
 }
 
 /// The range that a text reads as.
 pub fn range(alloc: Global, out: &mut String, text: &[u8]) -> Result<(), AllocError> {
-    match VersionRange::parse(alloc, text)? {
-        Ok(range) => add_printed(alloc, out, &range),
-        Err(fault) => write!(out, "{fault}"),
+    match value_or_fault(out, VersionRange::parse(alloc, text))? {
+        Some(range) => add_printed(alloc, out, &range),
+        None => Ok(()),
     }
 }
 
+/// Adds whether a range contains the version that a text reads as.
 fn add_contains(
     alloc: Global,
     out: &mut String,
     range: &VersionRange,
     version: &[u8],
 ) -> Result<(), AllocError> {
-    match Version::parse(alloc, version)? {
-        Ok(version) => write!(out, "{}", range.contains(&version)),
-        Err(fault) => write!(out, "{fault}"),
+    match value_or_fault(out, Version::parse(alloc, version))? {
+        Some(version) => put_shown(out, &range.contains(&version)),
+        None => Ok(()),
     }
 }
 
 /// Whether a range contains a version, which stands after it and a `|`.
 pub fn within(alloc: Global, out: &mut String, text: &str) -> Result<(), AllocError> {
-    let (range, version) = text.split_once('|').unwrap_or((text, ""));
-    match VersionRange::parse(alloc, range.as_bytes())? {
-        Ok(range) => add_contains(alloc, out, &range, version.as_bytes()),
-        Err(fault) => write!(out, "{fault}"),
+    let (range, version) = split_at(text, "|");
+    match value_or_fault(out, VersionRange::parse(alloc, range.as_bytes()))? {
+        Some(range) => add_contains(alloc, out, &range, version.as_bytes()),
+        None => Ok(()),
     }
 }
 
-/// Whether the range that a text reads as is at least 0.0.0, and equals the one that is made so only then.
+/// Adds whether a range is at least 0.0.0, and a complaint unless it equals the one that is made so only then.
+fn add_at_least_zero(out: &mut String, range: &VersionRange) -> Result<(), AllocError> {
+    let is_so = range.is_at_least_zero();
+    let is_same = are_equal(range, &VersionRange::at_least_zero());
+    put_shown(out, &is_so)?;
+    complain(out, is_same == is_so, ", made otherwise")
+}
+
+/// Whether the range that a text reads as is at least 0.0.0.
 pub fn at_least_zero(alloc: Global, out: &mut String, text: &[u8]) -> Result<(), AllocError> {
-    match VersionRange::parse(alloc, text)? {
-        Ok(range) => {
-            let is_same = range == VersionRange::at_least_zero();
-            write!(out, "{}", range.is_at_least_zero())?;
-            complain(out, is_same == range.is_at_least_zero(), ", made otherwise")
-        }
-        Err(fault) => write!(out, "{fault}"),
+    match value_or_fault(out, VersionRange::parse(alloc, text))? {
+        Some(range) => add_at_least_zero(out, &range),
+        None => Ok(()),
     }
 }

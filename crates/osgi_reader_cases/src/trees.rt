@@ -1,69 +1,68 @@
 //! Filters as trees.
 
 use osgi_base::text::Text;
-use osgi_escapes::push_bytes;
+use osgi_escapes::answers::{put, put_quoted};
+use osgi_escapes::readings::value_or_fault;
 use osgi_filter::parse;
 use osgi_model::filter::{Filter, Test};
 use std::alloc::{AllocError, Global};
-use std::fmt::Write;
 
-fn push_text(out: &mut String, label: &str, text: &Text) -> Result<(), AllocError> {
-    out.push_str(label)?;
-    out.push_str(" \"")?;
-    push_bytes(out, text.bytes())?;
-    out.push('"')
+fn put_text(out: &mut String, label: &str, text: &Text) -> Result<(), AllocError> {
+    put(out, label)?;
+    put(out, " ")?;
+    put_quoted(out, text.bytes())
 }
 
-fn push_pieces(out: &mut String, pieces: &[Text]) -> Result<(), AllocError> {
-    out.push_str(" pieces")?;
+fn put_pieces(out: &mut String, pieces: &[Text]) -> Result<(), AllocError> {
+    put(out, " pieces")?;
     for piece in pieces {
-        push_text(out, "", piece)?;
+        put_text(out, "", piece)?;
     }
     Ok(())
 }
 
-fn push_test(out: &mut String, test: &Test) -> Result<(), AllocError> {
+fn put_test(out: &mut String, test: &Test) -> Result<(), AllocError> {
     match test {
-        Test::Equal(text) => push_text(out, " equal", text),
-        Test::Approx(text) => push_text(out, " approx", text),
-        Test::AtLeast(text) => push_text(out, " at-least", text),
-        Test::AtMost(text) => push_text(out, " at-most", text),
-        Test::Present => out.push_str(" present"),
-        Test::Pieces(pieces) => push_pieces(out, pieces.items()),
+        Test::Equal(text) => put_text(out, " equal", text),
+        Test::Approx(text) => put_text(out, " approx", text),
+        Test::AtLeast(text) => put_text(out, " at-least", text),
+        Test::AtMost(text) => put_text(out, " at-most", text),
+        Test::Present => put(out, " present"),
+        Test::Pieces(pieces) => put_pieces(out, pieces.items()),
     }
 }
 
-#[cycle(push)]
-fn push_filter(out: &mut String, filter: &Filter) -> Result<(), AllocError> {
+#[cycle(put)]
+fn put_filter(out: &mut String, filter: &Filter) -> Result<(), AllocError> {
     match filter {
-        Filter::And(filters) => push_all(out, "and", filters.items()),
-        Filter::Or(filters) => push_all(out, "or", filters.items()),
+        Filter::And(filters) => put_all(out, "and", filters.items()),
+        Filter::Or(filters) => put_all(out, "or", filters.items()),
         Filter::Not(filter) => {
-            out.push_str("not ")?;
-            push_filter(out, filter.get())
+            put(out, "not ")?;
+            put_filter(out, filter.get())
         }
         Filter::Item { name, test } => {
-            push_text(out, "item", name)?;
-            push_test(out, test)
+            put_text(out, "item", name)?;
+            put_test(out, test)
         }
     }
 }
 
-#[cycle(push)]
-fn push_all(out: &mut String, label: &str, filters: &[Filter]) -> Result<(), AllocError> {
-    out.push_str(label)?;
+#[cycle(put)]
+fn put_all(out: &mut String, label: &str, filters: &[Filter]) -> Result<(), AllocError> {
+    put(out, label)?;
     for filter in filters {
-        out.push_str(" {")?;
-        push_filter(out, filter)?;
-        out.push('}')?;
+        put(out, " {")?;
+        put_filter(out, filter)?;
+        put(out, "}")?;
     }
     Ok(())
 }
 
 /// The filter that a text reads as, part by part.
 pub fn tree(alloc: Global, out: &mut String, text: &[u8]) -> Result<(), AllocError> {
-    match parse(alloc, text)? {
-        Ok(filter) => push_filter(out, &filter),
-        Err(fault) => write!(out, "{fault}"),
+    match value_or_fault(out, parse(alloc, text))? {
+        Some(filter) => put_filter(out, &filter),
+        None => Ok(()),
     }
 }

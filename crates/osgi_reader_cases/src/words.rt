@@ -1,58 +1,60 @@
 //! Words of lines, read by their kinds, and the names that a directive lists.
 
+use osgi_base::ids::ServiceId;
 use osgi_base::list::List;
 use osgi_base::text::Text;
-use osgi_escapes::push_bytes;
+use osgi_escapes::answers::{put, put_bracketed, put_shown};
 use osgi_header::names;
 use osgi_syntax::ids::id;
 use osgi_syntax::names::{bundle_name, class, classes, name};
 use osgi_syntax::words::split_words;
 use std::alloc::{AllocError, Global};
-use std::fmt::Write;
 
-/// Adds a text as `[TEXT]`, and `none` where there is none.
-fn push_read(out: &mut String, read: Option<Text>) -> Result<(), AllocError> {
-    match read {
-        Some(text) => push_word(out, text.bytes()),
-        None => out.push_str("none"),
-    }
-}
-
-fn push_word(out: &mut String, word: &[u8]) -> Result<(), AllocError> {
-    out.push('[')?;
-    push_bytes(out, word)?;
-    out.push(']')
-}
-
-fn push_texts(out: &mut String, texts: List<Text>) -> Result<(), AllocError> {
-    for text in texts.items() {
-        push_word(out, text.bytes())?;
+fn put_each(out: &mut String, texts: &[Text]) -> Result<(), AllocError> {
+    for text in texts {
+        put_bracketed(out, text.bytes())?;
     }
     Ok(())
 }
 
-/// The class names of a word.
-fn class_names(alloc: Global, out: &mut String, word: &[u8]) -> Result<(), AllocError> {
-    match classes(alloc, word)? {
-        Some(texts) => push_texts(out, texts),
-        None => out.push_str("none"),
+/// Adds a text as `[TEXT]`, and `none` where there is none.
+fn put_read(out: &mut String, read: Result<Option<Text>, AllocError>) -> Result<(), AllocError> {
+    match read? {
+        Some(text) => put_bracketed(out, text.bytes()),
+        None => put(out, "none"),
     }
 }
 
-/// The service of a word that is an id.
-fn service(out: &mut String, word: &[u8]) -> Result<(), AllocError> {
-    match id(word) {
-        Some(service) => write!(out, "{}", service.0),
-        None => out.push_str("none"),
+/// Adds texts as `[TEXT]` each, and `none` where there is no list.
+fn put_list(
+    out: &mut String,
+    read: Result<Option<List<Text>>, AllocError>,
+) -> Result<(), AllocError> {
+    match read? {
+        Some(texts) => put_each(out, texts.items()),
+        None => put(out, "none"),
+    }
+}
+
+/// Adds the number of a service, and `none` where there is none.
+fn put_id(out: &mut String, read: Option<ServiceId>) -> Result<(), AllocError> {
+    match read {
+        Some(service) => put_shown(out, &service.0),
+        None => put(out, "none"),
     }
 }
 
 /// The words of a text, `[WORD]` each.
-fn words(alloc: Global, out: &mut String, text: &[u8]) -> Result<(), AllocError> {
+fn put_words(alloc: Global, out: &mut String, text: &[u8]) -> Result<(), AllocError> {
     for word in split_words(alloc, text)? {
-        push_word(out, word)?;
+        put_bracketed(out, word)?;
     }
     Ok(())
+}
+
+/// The names that a directive's value lists.
+fn put_names(alloc: Global, out: &mut String, text: &[u8]) -> Result<(), AllocError> {
+    put_each(out, names(alloc, text)?.items())
 }
 
 /// What a word of this kind stands for.
@@ -63,20 +65,20 @@ pub fn word_read(
     word: &[u8],
 ) -> Result<(), AllocError> {
     if kind == "class" {
-        push_read(out, class(alloc, word)?)
+        put_read(out, class(alloc, word))
     } else if kind == "classes" {
-        class_names(alloc, out, word)
+        put_list(out, classes(alloc, word))
     } else if kind == "name" {
-        push_read(out, name(alloc, word)?)
+        put_read(out, name(alloc, word))
     } else if kind == "bundle-name" {
-        push_read(out, bundle_name(alloc, word)?)
+        put_read(out, bundle_name(alloc, word))
     } else if kind == "id" {
-        service(out, word)
+        put_id(out, id(word))
     } else if kind == "words" {
-        words(alloc, out, word)
+        put_words(alloc, out, word)
     } else if kind == "name-list" {
-        push_texts(out, names(alloc, word)?)
+        put_names(alloc, out, word)
     } else {
-        out.push_str("no such word")
+        put(out, "no such word")
     }
 }

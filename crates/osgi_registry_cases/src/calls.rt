@@ -1,6 +1,6 @@
 //! The calls of the registry that operations come to.
 
-ghost use Rattle.std.specs.Prelude.{◌+◌, ◌<◌, ◌≤◌};
+ghost use Rattle.std.specs.Prelude.{◌≡◌, ◌+◌, ◌<◌, ◌≤◌};
 
 use crate::assignable::Assignable;
 use crate::uses::get;
@@ -87,6 +87,78 @@ fn register(
     Ok(registered(registry.register(owner, classes, object, properties)?))
 }
 
+fn modify(
+    alloc: Global,
+    registry: &mut Registry,
+    owner: BundleId,
+    service: ServiceId,
+    properties: &Attributes,
+) -> Result<Reply, AllocError>
+    ensures issued { registry.new.issued ≡ registry.old.issued }
+{
+    let properties = properties.copy(alloc)?;
+    Ok(done(registry.modify(owner, service, properties)?))
+}
+
+fn unregister(registry: &mut Registry, owner: BundleId, service: ServiceId) -> Reply
+    ensures issued { registry.new.issued ≡ registry.old.issued }
+{
+    done(registry.unregister(owner, service))
+}
+
+fn get_object(
+    registry: &mut Registry,
+    user: BundleId,
+    service: ServiceId,
+) -> Result<Reply, AllocError>
+    ensures issued { registry.new.issued ≡ registry.old.issued }
+{
+    Ok(object(get(registry, user, service)?))
+}
+
+fn unget(registry: &mut Registry, user: BundleId, service: ServiceId) -> Reply
+    ensures issued { registry.new.issued ≡ registry.old.issued }
+{
+    Reply::Flag {
+        value: registry.unget(user, service),
+    }
+}
+
+fn find_all(
+    registry: &Registry,
+    class: &Text,
+    filter: Option<&Filter>,
+) -> Result<Reply, AllocError> {
+    Ok(Reply::Services {
+        services: registry.find_all(class, filter)?,
+    })
+}
+
+fn list(alloc: Global, registry: &Registry) -> Result<Reply, AllocError> {
+    Ok(Reply::ServiceRows {
+        rows: rows(alloc, registry)?,
+    })
+}
+
+/// What the registry answers to an operation that changes nothing.
+fn answer_to(
+    alloc: Global,
+    registry: &Registry,
+    op: &Op,
+    assignable: Assignable<'_>,
+) -> Result<Reply, AllocError> {
+    match op {
+        Op::Find { class, filter, .. } => Ok(Reply::Best {
+            service: find(registry, class, filter.as_ref(), assignable),
+        }),
+        Op::FindAll { class, filter, .. } => find_all(registry, class, filter.as_ref()),
+        Op::ListServices => list(alloc, registry),
+        _ => Ok(Reply::Refused {
+            refusal: Refusal::InvalidOperation,
+        }),
+    }
+}
+
 /// What the registry answers to an operation.
 pub fn reply_to(
     alloc: Global,
@@ -108,23 +180,10 @@ pub fn reply_to(
             owner,
             service,
             properties,
-        } => Ok(done(registry.modify(*owner, *service, properties.copy(alloc)?)?)),
-        &Op::Unregister { owner, service } => Ok(done(registry.unregister(owner, service))),
-        Op::Find { class, filter, .. } => Ok(Reply::Best {
-            service: find(registry, class, filter.as_ref(), assignable),
-        }),
-        Op::FindAll { class, filter, .. } => Ok(Reply::Services {
-            services: registry.find_all(class, filter.as_ref())?,
-        }),
-        &Op::Get { user, service } => Ok(object(get(registry, user, service)?)),
-        &Op::Unget { user, service } => Ok(Reply::Flag {
-            value: registry.unget(user, service),
-        }),
-        Op::ListServices => Ok(Reply::ServiceRows {
-            rows: rows(alloc, registry)?,
-        }),
-        _ => Ok(Reply::Refused {
-            refusal: Refusal::InvalidOperation,
-        }),
+        } => modify(alloc, registry, *owner, *service, properties),
+        &Op::Unregister { owner, service } => Ok(unregister(registry, owner, service)),
+        &Op::Get { user, service } => get_object(registry, user, service),
+        &Op::Unget { user, service } => Ok(unget(registry, user, service)),
+        _ => answer_to(alloc, registry, op, assignable),
     }
 }

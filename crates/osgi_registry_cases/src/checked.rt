@@ -2,12 +2,11 @@
 
 use osgi_base::ids::ServiceId;
 use osgi_base::list::List;
-use osgi_base::text::Text;
+use osgi_escapes::answers::{are_equal, put, put_shown, text_of};
+use osgi_escapes::complain;
 use osgi_ops::entry::Entry;
 use osgi_registry::Registry;
-use osgi_rows::shown::complain;
 use std::alloc::{AllocError, Global};
-use std::fmt::Write;
 
 /// The classes that a check looks for.
 const CLASSES: [&str; 3] = ["a.A", "a.B", "b.C"];
@@ -15,11 +14,12 @@ const CLASSES: [&str; 3] = ["a.A", "a.B", "b.C"];
 /// Adds ids.
 pub fn add_ids(out: &mut String, ids: &[ServiceId]) -> Result<(), AllocError> {
     if ids.is_empty() {
-        return out.push_str("none");
+        return put(out, "none");
     }
     let mut separator = "";
     for id in ids {
-        write!(out, "{separator}{}", id.0)?;
+        put(out, separator)?;
+        put_shown(out, &id.0)?;
         separator = " ";
     }
     Ok(())
@@ -34,6 +34,18 @@ fn live_ids(alloc: Global, registry: &Registry) -> Result<List<ServiceId>, Alloc
     Ok(ids)
 }
 
+/// Adds services, which have to be those that scans find.
+fn add_compared(
+    alloc: Global,
+    out: &mut String,
+    ids: &List<ServiceId>,
+    entries: &[Entry],
+) -> Result<(), AllocError> {
+    add_ids(out, ids.items())?;
+    let scanned = osgi_history::live(alloc, entries)?;
+    complain(out, are_equal(&scanned, ids), ", scans find others")
+}
+
 /// Adds the live services, which have to be those that scans find.
 pub fn add_live(
     alloc: Global,
@@ -42,25 +54,32 @@ pub fn add_live(
     entries: &[Entry],
 ) -> Result<(), AllocError> {
     let ids = live_ids(alloc, registry)?;
-    add_ids(out, ids.items())?;
-    complain(
-        out,
-        osgi_history::live(alloc, entries)? == ids,
-        ", scans find others",
-    )
+    add_compared(alloc, out, &ids, entries)
 }
 
 /// All services of a class.
 fn found(alloc: Global, registry: &Registry, class: &str) -> Result<List<ServiceId>, AllocError> {
-    let class = Text::of(alloc, class.as_bytes())?;
+    let class = text_of(alloc, class)?;
     registry.find_all(&class, None)
+}
+
+/// Adds the services of a class.
+fn add_class(
+    alloc: Global,
+    out: &mut String,
+    registry: &Registry,
+    class: &str,
+) -> Result<(), AllocError> {
+    put(out, " | ")?;
+    put(out, class)?;
+    put(out, " ")?;
+    add_ids(out, found(alloc, registry, class)?.items())
 }
 
 /// Adds the services of each class.
 pub fn add_found(alloc: Global, out: &mut String, registry: &Registry) -> Result<(), AllocError> {
     for class in CLASSES {
-        write!(out, " | {class} ")?;
-        add_ids(out, found(alloc, registry, class)?.items())?;
+        add_class(alloc, out, registry, class)?;
     }
     Ok(())
 }

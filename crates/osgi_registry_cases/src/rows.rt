@@ -3,13 +3,14 @@
 use crate::assignable::Assignable;
 use crate::trial::Trial;
 use osgi_base::ids::BundleId;
+use osgi_escapes::answers::{put, split_at, split_word};
 use osgi_rows::asked::asked;
-use osgi_rows::words::{number, split_bundle, split_word};
+use osgi_rows::words::{number, split_bundle};
 use std::alloc::{AllocError, Global};
 
 fn begin(alloc: Global, out: &mut String, trial: &mut Trial) -> Result<(), AllocError> {
     *trial = Trial::new(alloc)?;
-    out.push_str("begun")
+    put(out, "begun")
 }
 
 /// Asks for a bundle's command, where a test says which services are assignable.
@@ -23,7 +24,7 @@ fn ask(
     let (bundle, command) = split_bundle(text);
     match asked(alloc, bundle, command)? {
         Ok(op) => trial.ask(out, &op, assignable),
-        Err(why) => out.push_str(why),
+        Err(why) => put(out, why),
     }
 }
 
@@ -33,7 +34,7 @@ fn ask_where(
     trial: &mut Trial,
     text: &str,
 ) -> Result<(), AllocError> {
-    let (test, call) = text.split_once(": ").unwrap_or((text, ""));
+    let (test, call) = split_at(text, ": ");
     ask(alloc, out, trial, Assignable::of(test), call)
 }
 
@@ -41,7 +42,7 @@ fn has(alloc: Global, out: &mut String, trial: &Trial, text: &str) -> Result<(),
     let (bundle, command) = split_bundle(text);
     match asked(alloc, bundle, command)? {
         Ok(op) => trial.has(out, &op),
-        Err(why) => out.push_str(why),
+        Err(why) => put(out, why),
     }
 }
 

@@ -4,13 +4,13 @@ ghost use Rattle.std.specs.Prelude.{◌≡◌};
 
 use crate::uses::count;
 use osgi_base::ids::{BundleId, ServiceId, Tag};
+use osgi_escapes::answers::{put, put_shown};
+use osgi_escapes::complain;
 use osgi_ops::entry::Entry;
 use osgi_ops::op::Op;
 use osgi_ops::reply::Reply;
 use osgi_registry::Registry;
-use osgi_rows::shown::complain;
 use std::alloc::{AllocError, Global};
-use std::fmt::Write;
 
 /// The tag of all calls of the registry.
 pub const TAG: Tag = Tag {
@@ -30,6 +30,24 @@ fn registered(entries: &[Entry]) -> u32 {
     u32::try_from(count).unwrap_or(0)
 }
 
+/// Adds the uses of a service by a bundle, if there are any.
+fn put_uses(
+    out: &mut String,
+    user: BundleId,
+    service: ServiceId,
+    uses: u64,
+) -> Result<(), AllocError> {
+    if uses == 0 {
+        return Ok(());
+    }
+    put(out, " ")?;
+    put_shown(out, &service.0)?;
+    put(out, ":")?;
+    put_shown(out, &user.0)?;
+    put(out, "*")?;
+    put_shown(out, &uses)
+}
+
 /// Adds the uses of a service by a bundle, which have to be as many as scans count.
 fn add_use(
     out: &mut String,
@@ -41,14 +59,9 @@ fn add_use(
     ensures issued { registry.new.issued ≡ registry.old.issued }
 {
     let uses = osgi_history::uses(entries, user, service);
-    if uses > 0 {
-        write!(out, " {}:{}*{uses}", service.0, user.0)?;
-    }
-    complain(
-        out,
-        count(registry, user, service)? == Some(uses),
-        ", the registry differs",
-    )
+    put_uses(out, user, service, uses)?;
+    let is_same = count(registry, user, service)? == Some(uses);
+    complain(out, is_same, ", the registry differs")
 }
 
 /// Adds the uses by the first bundles of all services, by service and then by bundle.
@@ -59,7 +72,7 @@ pub fn add_uses(
 ) -> Result<(), AllocError>
     ensures issued { registry.new.issued ≡ registry.old.issued }
 {
-    out.push_str(" | uses")?;
+    put(out, " | uses")?;
     for place in 0..registered(entries).saturating_mul(BUNDLES) {
         let (service, user) = (place / BUNDLES + 1, place % BUNDLES);
         add_use(
@@ -73,6 +86,24 @@ pub fn add_uses(
     Ok(())
 }
 
+/// An unget that counts one use less.
+fn unget(user: BundleId, service: ServiceId) -> Entry {
+    Entry {
+        tag: TAG,
+        op: Op::Unget { user, service },
+        reply: Reply::Flag { value: true },
+    }
+}
+
+/// An unregister that takes a service out.
+fn unregister(owner: BundleId, service: ServiceId) -> Entry {
+    Entry {
+        tag: TAG,
+        op: Op::Unregister { owner, service },
+        reply: Reply::Done,
+    }
+}
+
 /// Adds an unget for each use of the service by the bundle.
 fn give_back_one(
     entries: &mut Vec<Entry>,
@@ -80,11 +111,7 @@ fn give_back_one(
     service: ServiceId,
 ) -> Result<(), AllocError> {
     for _ in 0..osgi_history::uses(entries.as_slice(), user, service) {
-        entries.push(Entry {
-            tag: TAG,
-            op: Op::Unget { user, service },
-            reply: Reply::Flag { value: true },
-        })?;
+        entries.push(unget(user, service))?;
     }
     Ok(())
 }
@@ -107,14 +134,7 @@ pub fn add_release(
 ) -> Result<(), AllocError> {
     give_back(alloc, entries, bundle)?;
     for service in services {
-        entries.push(Entry {
-            tag: TAG,
-            op: Op::Unregister {
-                owner: bundle,
-                service: *service,
-            },
-            reply: Reply::Done,
-        })?;
+        entries.push(unregister(bundle, *service))?;
     }
     Ok(())
 }

@@ -7,14 +7,16 @@ use crate::calls::reply_to;
 use crate::checked::{add_found, add_ids, add_live};
 use crate::scanned::{TAG, add_release, add_uses};
 use osgi_base::ids::{BundleId, ServiceId};
+use osgi_escapes::answers::{are_equal, is_as_its_copy, put, put_shown};
+use osgi_escapes::complain;
 use osgi_model::value::Attributes;
 use osgi_ops::entry::Entry;
 use osgi_ops::op::Op;
 use osgi_ops::service::Service;
 use osgi_registry::Registry;
-use osgi_rows::shown::{add_checked, complain, is_as_its_copy};
+use osgi_rows::entries::entry_of;
+use osgi_rows::shown::add_checked;
 use std::alloc::{AllocError, Global};
-use std::fmt::Write;
 
 /// A registry, and the entries that its calls leave.
 #[derive(Drop)]
@@ -45,7 +47,7 @@ impl Trial {
         assignable: Assignable<'_>,
     ) -> Result<(), AllocError> {
         let Some(left) = self.left.checked_sub(1) else {
-            return out.push_str("no calls left");
+            return put(out, "no calls left");
         };
         self.left = left;
         ask(
@@ -69,22 +71,25 @@ impl Trial {
     }
 
     pub fn count(&self, out: &mut String) -> Result<(), AllocError> {
-        write!(out, "{}", self.registry.count())
+        put_shown(out, &self.registry.count())
     }
 
     /// Adds whether a service is as an operation that modifies it would make it.
     pub fn has(&self, out: &mut String, op: &Op) -> Result<(), AllocError> {
-        let Op::Modify {
-            owner,
-            service,
-            properties,
-        } = op
-        else {
-            return out.push_str("nothing");
-        };
-        match live(&self.registry, *service) {
-            Some(service) => add_has(self.alloc, out, service, *owner, properties),
-            None => out.push_str("none"),
+        match op {
+            Op::Modify {
+                owner,
+                service,
+                properties,
+            } => has(
+                self.alloc,
+                out,
+                &self.registry,
+                *owner,
+                *service,
+                properties,
+            ),
+            _ => put(out, "nothing"),
         }
     }
 
@@ -92,24 +97,6 @@ impl Trial {
     pub fn check(&mut self, out: &mut String) -> Result<(), AllocError> {
         check(self.alloc, out, &mut self.registry, self.entries.as_slice())
     }
-}
-
-/// Does an operation; the entry that it comes to.
-fn answered(
-    alloc: Global,
-    registry: &mut Registry,
-    op: &Op,
-    assignable: Assignable<'_>,
-) -> Result<Entry, AllocError>
-    requires { registry.old.issued < 4294967295 }
-    ensures issued { registry.new.issued ≤ registry.old.issued + 1 }
-{
-    let reply = reply_to(alloc, registry, op, assignable)?;
-    Ok(Entry {
-        tag: TAG,
-        op: op.copy(alloc)?,
-        reply,
-    })
 }
 
 /// Adds the last entry.
@@ -132,7 +119,8 @@ fn ask(
     requires { registry.old.issued < 4294967295 }
     ensures issued { registry.new.issued ≤ registry.old.issued + 1 }
 {
-    entries.push(answered(alloc, registry, op, assignable)?)?;
+    let reply = reply_to(alloc, registry, op, assignable);
+    entries.push(entry_of(TAG, op.copy(alloc), reply)?)?;
     add_last(alloc, out, entries.as_slice())
 }
 
@@ -175,7 +163,7 @@ fn live(registry: &Registry, service: ServiceId) -> Option<&Service> {
     None
 }
 
-/// Adds whether the bundle owns the service, and just these are its properties.
+/// Adds whether the bundle owns a service, and just these are its properties.
 fn add_has(
     alloc: Global,
     out: &mut String,
@@ -183,7 +171,22 @@ fn add_has(
     owner: BundleId,
     properties: &Attributes,
 ) -> Result<(), AllocError> {
-    let has = service.owner == owner && service.properties == *properties;
-    out.push_str(if has { "yes" } else { "no" })?;
+    let has = service.owner == owner && are_equal(&service.properties, properties);
+    put(out, if has { "yes" } else { "no" })?;
     complain(out, is_as_its_copy(alloc, service)?, ", its copy differs")
+}
+
+/// Adds the same of the service of this id, if it is live.
+fn has(
+    alloc: Global,
+    out: &mut String,
+    registry: &Registry,
+    owner: BundleId,
+    service: ServiceId,
+    properties: &Attributes,
+) -> Result<(), AllocError> {
+    match live(registry, service) {
+        Some(service) => add_has(alloc, out, service, owner, properties),
+        None => put(out, "none"),
+    }
 }

@@ -1,9 +1,9 @@
 //! The operations that rows ask for.
 
-use crate::shown::is_as_its_copy;
 use osgi_base::ids::BundleId;
 use osgi_base::list::List;
 use osgi_console::parse;
+use osgi_escapes::answers::is_as_its_copy;
 use osgi_ops::op::Op;
 use osgi_session::line::{Content, Line};
 use std::alloc::{AllocError, Global};
@@ -33,6 +33,31 @@ fn op_by(
     }
 }
 
+/// The operation that lines ask for, of which there is to be one.
+fn op_in(
+    alloc: Global,
+    bundle: BundleId,
+    lines: &[Line],
+) -> Result<Result<Op, &'static str>, AllocError> {
+    match lines {
+        [line] => op_by(alloc, bundle, &line.content),
+        _ => Ok(Err("nothing")),
+    }
+}
+
+/// The same, where the lines equal their copy.
+fn checked_op(
+    alloc: Global,
+    bundle: BundleId,
+    lines: &List<Line>,
+) -> Result<Result<Op, &'static str>, AllocError> {
+    if is_as_its_copy(alloc, lines)? {
+        op_in(alloc, bundle, lines.items())
+    } else {
+        Ok(Err("the line's copy differs"))
+    }
+}
+
 /// The operation of the bundle that a line of the console asks for, or why it asks for none.
 pub fn asked(
     alloc: Global,
@@ -40,11 +65,5 @@ pub fn asked(
     text: &str,
 ) -> Result<Result<Op, &'static str>, AllocError> {
     let lines = lines_of(alloc, text)?;
-    if !is_as_its_copy(alloc, &lines)? {
-        return Ok(Err("the line's copy differs"));
-    }
-    match lines.items() {
-        [line] => op_by(alloc, bundle, &line.content),
-        _ => Ok(Err("nothing")),
-    }
+    checked_op(alloc, bundle, &lines)
 }

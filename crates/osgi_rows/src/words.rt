@@ -1,15 +1,11 @@
 //! The words of a row.
 
 use osgi_base::ids::BundleId;
+use osgi_escapes::answers::split_word;
 
 /// The number that a word writes; the greatest where it writes none.
 pub fn number(word: &str) -> u32 {
     word.parse().unwrap_or(u32::MAX)
-}
-
-/// The first word of a text, and what stands after the space that follows it.
-pub fn split_word(text: &str) -> (&str, &str) {
-    text.split_once(' ').unwrap_or((text, ""))
 }
 
 /// The bundle that a text begins with, and what stands after it.
