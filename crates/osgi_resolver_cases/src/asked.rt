@@ -7,10 +7,10 @@ ghost use Rattle.osgi_world.specs.Candidates.{IsUnresolved};
 use crate::shown::{push_cause, push_found};
 use osgi_base::ids::RevisionId;
 use osgi_base::list::List;
-use osgi_resolver::{Answer, IndexedWirings, resolve};
+use osgi_resolver::{Answer, IndexedWirings};
 use osgi_wiring::Wirings;
 use osgi_world::wiring::Wiring;
-use std::alloc::{AllocError, Global};
+use std::alloc::AllocError;
 use std::fmt::Write;
 
 /// Why a revision cannot be resolved, if it cannot.
@@ -46,10 +46,8 @@ fn extend(
     }
 }
 
-/// Adds how a revision that may be resolved is resolved, and puts in force what is found. Without what was kept of the world the
-/// answer has to be the same.
+/// Adds how a revision that may be resolved is resolved, and puts in force what is found.
 fn push_answer(
-    alloc: Global,
     out: &mut String,
     wirings: &mut IndexedWirings,
     root: RevisionId,
@@ -57,13 +55,7 @@ fn push_answer(
 ) -> Result<(), AllocError>
     requires unresolved { IsUnresolved wirings.old.world.known wirings.old.world.wirings root }
 {
-    let budget = u64::from(budget);
-    let anew = resolve(alloc, wirings.wirings().world(), root, budget)?;
-    let answer = wirings.resolve(root, budget)?;
-    if answer != anew {
-        out.push_str("not as it is anew: ")?;
-    }
-    match answer {
+    match wirings.resolve(root, u64::from(budget))? {
         Answer::Found { word, added } => {
             push_found(out, word.items(), added.items())?;
             extend(out, wirings, added)
@@ -75,7 +67,6 @@ fn push_answer(
 
 /// Adds how a revision is resolved, or why it cannot be.
 pub fn push_resolved(
-    alloc: Global,
     out: &mut String,
     wirings: &mut IndexedWirings,
     root: RevisionId,
@@ -83,6 +74,6 @@ pub fn push_resolved(
 ) -> Result<(), AllocError> {
     match obstacle(wirings.wirings(), root) {
         Some(reason) => out.push_str(reason),
-        None => push_answer(alloc, out, wirings, root, budget),
+        None => push_answer(out, wirings, root, budget),
     }
 }

@@ -3,6 +3,7 @@
 use crate::asked::push_resolved;
 use crate::known::{add, wirings_of};
 use crate::shown::push_wirings;
+use osgi_resolver::IndexedWirings;
 use osgi_world_rows::{cut, known_revision, number, revision_id};
 use std::alloc::{AllocError, Global};
 
@@ -37,7 +38,6 @@ fn make_known(
 
 /// Adds the answer to a question about a world.
 fn push_answer(
-    alloc: Global,
     out: &mut String,
     wirings: &mut IndexedWirings,
     question: (&str, &str),
@@ -45,7 +45,7 @@ fn push_answer(
     let (word, rest) = question;
     if word == "resolve" {
         let (root, rest) = cut(rest);
-        push_resolved(alloc, out, wirings, revision_id(root), budget(rest))
+        push_resolved(out, wirings, revision_id(root), budget(rest))
     } else if word == "wires" {
         let wirings = wirings.wirings().world().wirings.items();
         push_wirings(out, wirings.get(1..).unwrap_or(&[]))
@@ -65,7 +65,7 @@ fn take(
         return make_known(alloc, out, wirings, rest);
     }
     begin(out)?;
-    push_answer(alloc, out, wirings, (word, rest))
+    push_answer(out, wirings, (word, rest))
 }
 
 fn take_all(
