@@ -8,11 +8,11 @@ use Rattle.osgi_choice.proofs.Decide.{clashes-dec}
 use Rattle.osgi_choice.proofs.Inside.{sources-inside}
 use Rattle.osgi_choice.proofs.Twos.{stable}
 use Rattle.osgi_choice.proofs.Views.{in_force-member}
+use Rattle.osgi_sources.specs.computed.Clashes.{KeepsUsesAmong}
 use Rattle.osgi_hopeless.proofs.Settling.{away-settled, settled-away}
 use Rattle.osgi_hopeless.specs.computed.Clashing.{HasClash}
 use Rattle.osgi_hopeless.specs.computed.Open.{AreUnsettled, Has}
 use Rattle.osgi_space.proofs.Bridge.{clash-from, clash-to, implied-from, implied-to}
-use Rattle.osgi_space.specs.computed.Clashes.{KeepsUsesAmong}
 use Rattle.osgi_wires.specs.Agree.{AreRowsOf}
 use Rattle.osgi_wires.specs.Rows.{RowLists}
 use Rattle.osgi_world.specs.Candidates.{IsProblem}

@@ -6,9 +6,9 @@ use Rattle.std.specs.BTreeSet.{BTreeSet, contains, Updates}
 use Rattle.std.specs.Ordering.{nat_cmp}
 use Rattle.osgi_base.specs.declared.ids.RevisionId.{RevisionId}
 use Rattle.osgi_coherence.proofs.Grow.{in_more}
+use Rattle.osgi_sources.specs.laws.Sets.{set_put}
+use Rattle.osgi_sources.specs.computed.Exact.{exact_number}
 use Rattle.osgi_hopeless.specs.computed.Open.{Has}
-use Rattle.osgi_space.proofs.Sets.{set_put}
-use Rattle.osgi_space.specs.computed.Exact.{exact_number}
 use Rattle.osgi_wires.specs.Agree.{id}
 use Rattle.osgi_world.specs.Lists.{In}
 

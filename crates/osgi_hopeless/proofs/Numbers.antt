@@ -1,7 +1,7 @@
 -- Revisions by their numbers.
 use Rattle.std.proofs.Common.{◌≡◌, ◌↔◌, ℕ, List, refl, sym, ap, subst, Any}
 use Rattle.osgi_base.specs.declared.ids.RevisionId.{RevisionId}
-use Rattle.osgi_space.proofs.Adding.{any-in, any-of}
+use Rattle.osgi_sources.specs.laws.Adding.{any-in, any-of}
 use Rattle.osgi_space.proofs.Ids.{contains-in, in-contains}
 use Rattle.osgi_wires.specs.Agree.{id}
 use Rattle.osgi_world.specs.Lists.{In}

@@ -2,12 +2,12 @@
 use Rattle.std.proofs.Common.{◌↔◌, ℕ, ◌<◌, List}
 use Rattle.std.specs.BTreeSet.{BTreeSet}
 use Rattle.osgi_choice.proofs.Complete.{provider-in_force}
+use Rattle.osgi_sources.specs.computed.RowSources.{Owns}
 use Rattle.osgi_hopeless.proofs.Settling.{away-settled, settled-away}
 use Rattle.osgi_hopeless.specs.computed.Clashing.{HasLost, IsLost}
 use Rattle.osgi_hopeless.specs.computed.Open.{AreUnsettled}
 use Rattle.osgi_path.specs.declared.wired.Wired.{Wired}
 use Rattle.osgi_space.proofs.Bridge.{owns-from, owns-to}
-use Rattle.osgi_space.specs.computed.RowSources.{Owns}
 use Rattle.osgi_wires.specs.Agree.{AreRowsOf}
 use Rattle.osgi_wires.specs.Rows.{RowLists}
 use Rattle.osgi_world.specs.Candidates.{IsProblem}

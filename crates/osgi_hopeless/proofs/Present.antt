@@ -4,10 +4,10 @@ use Rattle.osgi_base.specs.declared.ids.RevisionId.{RevisionId}
 use Rattle.osgi_choice.proofs.Checks.{new-present, old-new}
 use Rattle.osgi_choice.proofs.Views.{attached-old, in_force-old}
 use Rattle.osgi_choice.specs.Checks.{IsNew}
+use Rattle.osgi_sources.specs.laws.Adding.{any-in, any-of}
 use Rattle.osgi_hopeless.proofs.Answering.{known-is}
 use Rattle.osgi_hopeless.specs.computed.Rivals.{HasRival, HasRivals}
 use Rattle.osgi_path.specs.Standing.{IsProblemOf, Standing, made}
-use Rattle.osgi_space.proofs.Adding.{any-in, any-of}
 use Rattle.osgi_space.proofs.Ids.{contains-in, in-contains}
 use Rattle.osgi_wires.specs.Agree.{id}
 use Rattle.osgi_world.specs.Consistency.{AreRivals}

@@ -8,8 +8,8 @@ use Rattle.osgi_choice.proofs.Complete.{old-settled, reached-in_force}
 use Rattle.osgi_choice.proofs.Decide.{settled-dec}
 use Rattle.osgi_choice.proofs.Twos.{stable}
 use Rattle.osgi_choice.proofs.Views.{in_force-cases, in_force-member}
+use Rattle.osgi_sources.specs.computed.Reach.{Reach, starts, steps}
 use Rattle.osgi_hopeless.specs.computed.Open.{AreUnsettled, Has, ReachesOne}
-use Rattle.osgi_space.specs.computed.Reach.{Reach, starts, steps}
 use Rattle.osgi_wires.specs.Agree.{AreRowsOf, id}
 use Rattle.osgi_wires.specs.Rows.{Reexports, Requires, RowLists}
 use Rattle.osgi_world.specs.Candidates.{IsProblem}

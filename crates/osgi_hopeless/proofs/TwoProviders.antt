@@ -2,12 +2,12 @@
 use Rattle.std.proofs.Common.{◌≡◌, ◌≢◌, ◌↔◌, inl, inr, ℕ, List, [], ◌∷◌, refl, sym, ◌∙◌, ap, subst, Any, Contains}
 use Rattle.osgi_base.specs.declared.ids.RevisionId.{RevisionId}
 use Rattle.osgi_choice.proofs.Values.{nat-dec}
+use Rattle.osgi_sources.specs.laws.Adding.{any-of}
+use Rattle.osgi_sources.specs.laws.Members.{here}
+use Rattle.osgi_sources.proofs.Rows.{no_import, some-import, some-imported}
 use Rattle.osgi_hopeless.specs.computed.Providers.{FirstDiffers, HasTwoProviders}
 use Rattle.osgi_hopeless.specs.computed.Stuck.{TwoProviders}
-use Rattle.osgi_space.proofs.Adding.{any-of}
 use Rattle.osgi_space.proofs.Bridge.{imports-to}
-use Rattle.osgi_space.proofs.Members.{here}
-use Rattle.osgi_space.proofs.Rows.{no_import, some-import, some-imported}
 use Rattle.osgi_wires.specs.Agree.{AreRowsOf, id}
 use Rattle.osgi_wires.specs.Rows.{Imports, RowLists, imports_for, imports_of}
 use Rattle.osgi_wires.specs.declared.rows.Import.{Import}

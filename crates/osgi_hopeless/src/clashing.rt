@@ -2,18 +2,18 @@
 
 ghost use Rattle.std.specs.Prelude.{◌↔◌, IfOk, IsTrue};
 ghost use Rattle.osgi_base.specs.declared.ids.RevisionId.{RevisionId};
+ghost use Rattle.osgi_sources.specs.computed.Clashes.{KeepsUsesAmong};
+ghost use Rattle.osgi_sources.specs.computed.Disputes.{AreDisputed};
 ghost use Rattle.osgi_hopeless.specs.computed.Clashing.{HasClash};
 ghost use Rattle.osgi_hopeless.specs.computed.Open.{AreUnsettled, Has};
 ghost use Rattle.osgi_path.specs.Standing.{IsProblemOf, made};
-ghost use Rattle.osgi_space.specs.computed.Clashes.{KeepsUsesAmong};
-ghost use Rattle.osgi_space.specs.computed.Disputes.{AreDisputed};
 ghost use Rattle.osgi_world.specs.Lists.{In};
 ghost use Rattle.osgi_world.specs.declared.problem.Problem.{Problem};
 
 use osgi_base::ids::RevisionId;
 use osgi_path::Path;
-use osgi_space::among::Among;
-use osgi_space::uses::keeps_uses;
+use osgi_sources::among::Among;
+use osgi_sources::uses::keeps_uses;
 use osgi_wires::rows::Rows;
 use std::alloc::{AllocError, Global};
 use std::collections::BTreeSet;

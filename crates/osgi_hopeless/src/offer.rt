@@ -1,11 +1,11 @@
 //! Whether wires go to what is not on offer any more.
 
 ghost use Rattle.std.specs.Prelude.{◌↔◌, ℕ, List, IfOk, IsTrue};
+ghost use Rattle.osgi_sources.specs.computed.RowSources.{Owns};
 ghost use Rattle.osgi_hopeless.specs.computed.Clashing.{HasLost, IsLost};
 ghost use Rattle.osgi_hopeless.specs.computed.Open.{AreUnsettled};
 ghost use Rattle.osgi_path.specs.Standing.{IsProblemOf, made};
 ghost use Rattle.osgi_path.specs.declared.wired.Wired.{Wired};
-ghost use Rattle.osgi_space.specs.computed.RowSources.{Owns};
 ghost use Rattle.osgi_wires.specs.Worlds.{AreRowsIn};
 ghost use Rattle.osgi_world.specs.Lists.{In};
 ghost use Rattle.osgi_world.specs.Wirings.{ImportsElsewhere, IsExport, OnOffer};
@@ -13,7 +13,7 @@ ghost use Rattle.osgi_world.specs.declared.problem.Problem.{Problem};
 ghost use Rattle.osgi_world.specs.declared.wiring.Wiring.{Wiring};
 
 use osgi_path::{Path, Wired};
-use osgi_space::package_sources::imports_elsewhere;
+use osgi_sources::package_sources::imports_elsewhere;
 use osgi_wires::rows::Rows;
 use osgi_wires::world_rows::WorldRows;
 use osgi_world::wiring::CapRef;

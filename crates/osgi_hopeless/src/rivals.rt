@@ -4,10 +4,10 @@ ghost use Rattle.std.specs.Prelude.{◌↔◌, ℕ, Contains, IfOk, IsTrue};
 ghost use Rattle.std.specs.Ordering.{nat_cmp};
 ghost use Rattle.osgi_choice.specs.Checks.{IsNew};
 ghost use Rattle.osgi_base.specs.declared.ids.RevisionId.{RevisionId};
+ghost use Rattle.osgi_sources.specs.computed.Adds.{Adds};
+ghost use Rattle.osgi_sources.specs.computed.Collected.{IsCollected};
 ghost use Rattle.osgi_hopeless.specs.computed.Rivals.{HasRival, HasRivals, IsCurrentSingleton, IsOther, IsPresent};
 ghost use Rattle.osgi_path.specs.Standing.{IsProblemOf, made};
-ghost use Rattle.osgi_space.specs.computed.Adds.{Adds};
-ghost use Rattle.osgi_space.specs.computed.Collected.{IsCollected};
 ghost use Rattle.osgi_wires.specs.Agree.{id};
 ghost use Rattle.osgi_world.specs.Lists.{In};
 ghost use Rattle.osgi_world.specs.declared.problem.Problem.{Problem};
@@ -16,7 +16,7 @@ use crate::place::known_at;
 use osgi_base::ids::RevisionId;
 use osgi_lookup::index::KnownIndex;
 use osgi_path::Path;
-use osgi_space::found::Found;
+use osgi_sources::found::Found;
 use std::alloc::{AllocError, Global};
 
 fn is_current_singleton(known: &KnownIndex, revision: RevisionId) -> bool

@@ -9,7 +9,7 @@ ghost use Rattle.osgi_world.specs.declared.problem.Problem.{Problem};
 
 use osgi_base::ids::RevisionId;
 use osgi_path::Path;
-use osgi_space::bundles::reached_bundles;
+use osgi_sources::bundles::reached_bundles;
 use osgi_wires::rows::Rows;
 use std::alloc::{AllocError, Global};
 use std::collections::BTreeSet;

@@ -9,9 +9,9 @@ use Rattle.std.specs.Ordering.{is_eq, is_lt, nat_cmp}
 use Rattle.std.specs.declared.cmp.Ordering.{Ordering}
 use Rattle.std.specs.declared.cmp.Ordering.TheVariants.{Less, Equal, Greater}
 use Rattle.osgi_wires.specs.Names.{name_of}
+use Rattle.osgi_sources.specs.declared.given.Given.{Given}
 use Rattle.osgi_space.specs.Violations.{IsBelow}
 use Rattle.osgi_space.specs.computed.Firsts.{IsBefore}
-use Rattle.osgi_space.specs.declared.given.Given.{Given}
 
 abbrev text_cmp : List ℕ → List ℕ → Ordering
 text_cmp = slice_cmp nat_cmp

@@ -7,9 +7,9 @@ use Rattle.osgi_world.specs.declared.wiring.Wiring.{Wiring}
 use Rattle.osgi_world.specs.declared.world.Known.{Known}
 use Rattle.osgi_wires.specs.Agree.{AreRowsOf}
 use Rattle.osgi_wires.specs.Rows.{RowLists}
-use Rattle.osgi_space.specs.computed.Clashes.{KeepsUses}
-use Rattle.osgi_space.specs.computed.RowSources.{Clash, Implied}
-use Rattle.osgi_space.proofs.Adding.{any-in, any-of}
+use Rattle.osgi_sources.specs.computed.Clashes.{KeepsUses}
+use Rattle.osgi_sources.specs.computed.RowSources.{Clash, Implied}
+use Rattle.osgi_sources.specs.laws.Adding.{any-in, any-of}
 use Rattle.osgi_space.proofs.Bridge.{clash-from, clash-to, implied-from, implied-to}
 use Rattle.osgi_space.proofs.Ids.{contains-in, in-contains}
 

@@ -2,10 +2,10 @@
 use Rattle.std.proofs.Common.{◌≡◌, inl, inr, ℕ, ◌+◌, ◌<◌, List, length, get_or, take, refl, subst}
 use Rattle.std.specs.Prelude.{MatchOption, Option, None, Some}
 use Rattle.osgi_wires.specs.Rows.{RowLists}
-use Rattle.osgi_space.specs.computed.Clashes.{IsClash}
+use Rattle.osgi_sources.specs.computed.Clashes.{IsClash}
+use Rattle.osgi_sources.specs.declared.given.Given.{Given}
+use Rattle.osgi_sources.specs.laws.Adding.{any-of, contains-more, none-more}
 use Rattle.osgi_space.specs.computed.Firsts.{IsBefore, IsFirstClash}
-use Rattle.osgi_space.specs.declared.given.Given.{Given}
-use Rattle.osgi_space.proofs.Adding.{any-of, contains-more, none-more}
 use Rattle.osgi_space.proofs.Before.{before-trans, not-before-itself}
 
 module _ (R : RowLists) (names : List (List ℕ)) (r : ℕ) (pairs : List Given) (i : ℕ) (pair : Given) (h : i < length pairs) (at : pair ≡ get_or pairs i pair) where

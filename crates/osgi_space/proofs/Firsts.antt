@@ -12,16 +12,16 @@ use Rattle.osgi_world.specs.Lists.{In}
 use Rattle.osgi_world.specs.Sources as relation
 use Rattle.osgi_world.specs.declared.wiring.Wiring.{Wiring}
 use Rattle.osgi_world.specs.declared.world.Known.{Known}
+use Rattle.osgi_sources.specs.computed.Clashes.{IsClash}
+use Rattle.osgi_sources.specs.computed.Pairs.{IsImplied}
+use Rattle.osgi_sources.specs.computed.RowSources.{Clash, Implied, seen, follows, ExportUses}
+use Rattle.osgi_sources.specs.declared.given.Given.{Given}
+use Rattle.osgi_sources.specs.laws.Adding.{any-of}
+use Rattle.osgi_sources.specs.laws.Following.{starts-among}
 use Rattle.osgi_space.specs.Violations.{IsBelow, IsFirstViolation, IsViolated}
-use Rattle.osgi_space.specs.computed.Clashes.{IsClash}
 use Rattle.osgi_space.specs.computed.Firsts.{IsFirstClash, IsFirstImplied}
-use Rattle.osgi_space.specs.computed.Pairs.{IsImplied}
-use Rattle.osgi_space.specs.computed.RowSources.{Clash, Implied, seen, follows, ExportUses}
-use Rattle.osgi_space.specs.declared.given.Given.{Given}
 use Rattle.osgi_space.specs.declared.violation.Violation.{Violation}
-use Rattle.osgi_space.proofs.Adding.{any-of}
 use Rattle.osgi_space.proofs.Bridge.{clash-from, clash-to, implied-from, implied-to}
-use Rattle.osgi_space.proofs.Following.{starts-among}
 
 module _ (R : RowLists) (names : List (List ℕ)) (numbered : AreNumbered names R) where
   used-number : (e p u : ℕ) → ExportUses R e p u → u < length names

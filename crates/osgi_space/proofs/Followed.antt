@@ -10,9 +10,9 @@ use Rattle.osgi_wires.specs.Rows.{RowLists, no_rows}
 use Rattle.osgi_wires.specs.Worlds.{AreNumbered}
 use Rattle.osgi_wires.specs.declared.named.Named.{Named}
 use Rattle.osgi_wires.proofs.MoreKnown.{nothing-all_known, nothing-known, nothing-named}
+use Rattle.osgi_sources.specs.computed.Disputes.{AreNoted, IsPossible}
+use Rattle.osgi_sources.specs.declared.disputed.Possible.{Possible}
 use Rattle.osgi_space.specs.Kept.{FollowsRows}
-use Rattle.osgi_space.specs.computed.Disputes.{AreNoted, IsPossible}
-use Rattle.osgi_space.specs.declared.disputed.Possible.{Possible}
 use Rattle.osgi_space.specs.declared.kept_rows.KeptRows.{KeptRows}
 
 none-possible : (p x : ℕ) → IsPossible no_rows p x → ⊥

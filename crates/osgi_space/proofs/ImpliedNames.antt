@@ -16,12 +16,13 @@ use Rattle.osgi_wires.specs.Rows.{RowLists}
 use Rattle.osgi_world.specs.Sources as relation
 use Rattle.osgi_world.specs.declared.wiring.Wiring.{Wiring}
 use Rattle.osgi_world.specs.declared.world.Known.{Known}
+use Rattle.osgi_sources.specs.computed.Exact.{exact_number}
+use Rattle.osgi_sources.specs.computed.Pairs.{IsImplied}
+use Rattle.osgi_sources.specs.declared.given.Given.{Given}
+use Rattle.osgi_sources.specs.laws.Adding.{any-in, any-of}
 use Rattle.osgi_space.specs.ImpliedOrder.{implied_cmp}
-use Rattle.osgi_space.specs.computed.Exact.{exact_number}
-use Rattle.osgi_space.specs.computed.Pairs.{IsImplied, named_pair}
-use Rattle.osgi_space.specs.declared.given.Given.{Given}
+use Rattle.osgi_space.specs.computed.NamedPairs.{named_pair}
 use Rattle.osgi_space.specs.declared.implied_constraints.Implied.{Implied}
-use Rattle.osgi_space.proofs.Adding.{any-in, any-of}
 use Rattle.osgi_space.proofs.Bridge.{implied-from, implied-to}
 
 pub implied_total : IsTotalOrder implied_cmp

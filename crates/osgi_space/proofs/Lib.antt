@@ -1,11 +1,5 @@
--- Lemmas on rows and pairs, on what is found by steps, and on what rows say of wirings.
+-- Lemmas on what rows say of wirings, on what is found by name, and on what is kept.
 pub mod Bridge
-pub mod Sets
-pub mod Members
-pub mod Adding
-pub mod Lengths
-pub mod Rows
-mod Givers
 mod ImpliedNames
 mod Firsts
 mod Rising
@@ -14,11 +8,6 @@ mod Before
 mod Coherent
 pub mod Numbering
 pub mod Ids
-mod Agreeing
-mod Clashing
-mod Following
-mod Worklist
 mod SeenPackages
-mod Noted
 mod Resumed
 mod Followed

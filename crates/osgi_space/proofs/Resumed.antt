@@ -18,8 +18,8 @@ use Rattle.osgi_wires.specs.declared.rows.Export.{Export}
 use Rattle.osgi_wires.specs.declared.rows.Import.{Import}
 use Rattle.osgi_wires.specs.laws.AllKnown.{capability-known, is-known, known-in}
 use Rattle.osgi_wires.proofs.Stepped.{in-append_cases}
-use Rattle.osgi_space.specs.computed.Disputes.{AreNoted, HoldsAll, IsNoted, IsPossible}
-use Rattle.osgi_space.specs.declared.disputed.Possible.{Possible}
+use Rattle.osgi_sources.specs.computed.Disputes.{AreNoted, HoldsAll, IsNoted, IsPossible}
+use Rattle.osgi_sources.specs.declared.disputed.Possible.{Possible}
 use Rattle.osgi_space.proofs.Numbering.{named}
 
 -- an item of the longer list is one of the shorter, or one of those after it

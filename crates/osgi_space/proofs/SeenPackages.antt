@@ -19,19 +19,19 @@ use Rattle.osgi_world.specs.Lists.{In}
 use Rattle.osgi_world.specs.Sources as relation
 use Rattle.osgi_world.specs.declared.wiring.Wiring.{Wiring}
 use Rattle.osgi_world.specs.declared.world.Known.{Known}
+use Rattle.osgi_sources.specs.computed.Exact.{exact_number}
+use Rattle.osgi_sources.specs.computed.Givens.{IsSeen}
+use Rattle.osgi_sources.specs.declared.given.Given.{Given}
+use Rattle.osgi_sources.specs.laws.Adding.{any-in, any-more, any-of}
+use Rattle.osgi_sources.specs.laws.Members.{contains-map, map-contains}
+use Rattle.osgi_sources.specs.laws.Sets.{set_put}
 use Rattle.osgi_space.specs.Seen.{IsClassSpace}
 use Rattle.osgi_space.specs.computed.ByName.{AddsSource, HasSource, IsFilled, as_entry, text_cmp}
-use Rattle.osgi_space.specs.computed.Exact.{exact_number}
-use Rattle.osgi_space.specs.computed.Givens.{IsSeen}
-use Rattle.osgi_space.specs.declared.given.Given.{Given}
 use Rattle.osgi_space.specs.declared.seen_packages.PackageSources.{PackageSources}
-use Rattle.osgi_space.proofs.Adding.{any-in, any-more, any-of}
 use Rattle.osgi_space.proofs.Bridge.{sources-from, sources-to}
 use Rattle.osgi_space.proofs.Ids.{contains-in, ids-contain, in-contains}
 use Rattle.osgi_space.proofs.ImpliedNames.{decides_text}
-use Rattle.osgi_space.proofs.Members.{contains-map, map-contains}
 use Rattle.osgi_space.proofs.Numbering.{named, source-number}
-use Rattle.osgi_space.proofs.Sets.{set_put}
 
 one_value : {X : Type 0} (o : Option X) (x y : X) → o ≡ Some x → o ≡ Some y → x ≡ y
 one_value o x y a b = ap (λ (p : Option _). unwrap_or p x) (sym a ∙ b)

@@ -6,7 +6,7 @@ use Rattle.osgi_wires.specs.Agree.{AreRowsOf}
 use Rattle.osgi_wires.specs.AllKnown.{AreAllKnown}
 use Rattle.osgi_wires.specs.Names.{name_of}
 use Rattle.osgi_wires.specs.Worlds.{AreNumbered}
-use Rattle.osgi_space.specs.computed.Disputes.{AreNoted}
+use Rattle.osgi_sources.specs.computed.Disputes.{AreNoted}
 use Rattle.osgi_space.specs.declared.kept_rows.KeptRows.{KeptRows}
 
 -- the rows are those of the first so many known revisions and wirings of the world, with the possible sources in them. These wirings

@@ -3,8 +3,8 @@
 ghost use Rattle.std.specs.Prelude.{◌↔◌, IfOk, IsTrue};
 ghost use Rattle.osgi_world.specs.Consistency.{IsCoherent};
 
-use crate::uses::all_keep_uses;
 use osgi_coherence::keeps_wiring_rules;
+use osgi_sources::uses::all_keep_uses;
 use osgi_wires::world_rows::WorldRows;
 use osgi_world::world::World;
 use std::alloc::{AllocError, Global};

@@ -1,18 +1,18 @@
 //! The rows of a world, and the packages that may be disputed in them.
 
 ghost use Rattle.std.specs.Prelude.{◌≡◌, IfOk, OnErr};
+ghost use Rattle.osgi_sources.specs.computed.Disputes.{AreDisputed, AreNoted, HoldsAll};
 ghost use Rattle.osgi_space.specs.Kept.{FollowsRows};
-ghost use Rattle.osgi_space.specs.computed.Disputes.{AreDisputed, AreNoted, HoldsAll};
 ghost use Rattle.osgi_wires.specs.AllKnown.{AreAllKnown};
 ghost use Rattle.osgi_wires.specs.Rows.{RowLists};
 ghost use Rattle.osgi_wires.specs.Worlds.{AddsStep, AreNumbered, AreRowsIn, TakesBack, with_added};
 ghost use Rattle.osgi_world.specs.Decisions.{attached, wired};
 
-use crate::disputed::{
-    Possible, note_fragment, note_fragments, note_imports, note_known, possible_sources,
-};
 use crate::kept_rows::KeptRows;
 use osgi_base::ids::RevisionId;
+use osgi_sources::disputed::{
+    Possible, note_fragment, note_fragments, note_imports, note_known, possible_sources,
+};
 use osgi_wires::added::Added;
 use osgi_wires::rows::Rows;
 use osgi_wires::world_rows::WorldRows;
@@ -31,7 +31,7 @@ pub struct DisputedRows<'w> {
 }
 
 impl<'w> Model for DisputedRows<'w> {
-    ghost use Rattle.osgi_space.specs.computed.Disputes.{AreNoted};
+    ghost use Rattle.osgi_sources.specs.computed.Disputes.{AreNoted};
     ghost use Rattle.osgi_wires.specs.Worlds.{WorldLists};
     ghost use Rattle.std.specs.Coded.{codes};
     ghost use Rattle.osgi_model.specs.contracts.filter.Filter as filter;

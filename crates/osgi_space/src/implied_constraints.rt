@@ -2,22 +2,22 @@
 
 ghost use Rattle.std.specs.Prelude.{◌≡◌, ◌<◌, ◌↔◌, List, All, Any, IfOk, IsTrue, length};
 ghost use Rattle.std.specs.BTreeSet.{contains};
+ghost use Rattle.osgi_sources.specs.declared.given.Given.{Given};
 ghost use Rattle.osgi_space.specs.ImpliedOrder.{AreInOrder, implied_cmp};
-ghost use Rattle.osgi_space.specs.computed.Pairs.{named_pair};
-ghost use Rattle.osgi_space.specs.declared.given.Given.{Given};
+ghost use Rattle.osgi_space.specs.computed.NamedPairs.{named_pair};
 ghost use Rattle.osgi_space.specs.declared.implied_constraints.Implied.{Implied};
 ghost use Rattle.osgi_wires.specs.Worlds.{AreRowsIn};
 ghost use Rattle.osgi_world.specs.Lists.{In};
 ghost use Rattle.osgi_world.specs.Sources as relation;
 ghost use Rattle.osgi_world.specs.declared.wiring.Wiring.{Wiring};
 
-use crate::among::Among;
-use crate::constraints::constraints_of;
 use crate::first::name_bytes;
-use crate::given::Given;
 use osgi_base::ids::RevisionId;
 use osgi_base::list::List;
 use osgi_base::text::Text;
+use osgi_sources::among::Among;
+use osgi_sources::constraints::constraints_of;
+use osgi_sources::given::Given;
 use osgi_wires::names::Names;
 use osgi_wires::world_rows::WorldRows;
 use std::alloc::{AllocError, Global};

@@ -5,7 +5,7 @@ ghost use Rattle.osgi_space.specs.Kept.{FollowsRows};
 ghost use Rattle.osgi_world.specs.declared.wiring.Wiring.{Wiring};
 ghost use Rattle.osgi_world.specs.declared.world.Known.{Known};
 
-use crate::disputed::Possible;
+use osgi_sources::disputed::Possible;
 use osgi_wires::named::Named;
 use std::alloc::Global;
 

@@ -1,25 +1,15 @@
 //! The class spaces of a world: where packages come from, what `uses` implies, and whether wirings are consistent.
 #![tactic(auto)]
 
-pub mod among;
-pub mod bundles;
-mod clash;
 mod class_spaces;
 mod consistent;
-mod constraints;
-pub mod disputed;
 pub mod disputed_rows;
 mod first;
-pub mod found;
-pub mod given;
 mod implied_constraints;
 pub mod kept_rows;
 mod naming;
-pub mod package_sources;
 mod questions;
 mod seen_packages;
-mod space;
-pub mod uses;
 mod violation;
 
 pub use class_spaces::{ClassSpaces, implied, sources};

@@ -5,11 +5,11 @@ ghost use Rattle.std.specs.List.Sorted.{IsStrictlyIncreasing};
 ghost use Rattle.osgi_base.specs.declared.ids.RevisionId.{RevisionId};
 ghost use Rattle.osgi_wires.specs.Agree.{id};
 ghost use Rattle.osgi_world.specs.Lists.{In};
-ghost use Rattle.osgi_space.specs.declared.given.Given.{Given};
+ghost use Rattle.osgi_sources.specs.declared.given.Given.{Given};
 
-use crate::given::Given;
 use osgi_base::ids::RevisionId;
 use osgi_base::list::List;
+use osgi_sources::given::Given;
 use std::alloc::{AllocError, Global};
 
 /// The same numbers, each once and rising.

@@ -9,10 +9,10 @@ ghost use Rattle.osgi_world.specs.Sources.{Sources};
 ghost use Rattle.osgi_world.specs.declared.wiring.Wiring.{Wiring};
 
 use crate::naming::source_ids;
-use crate::package_sources::sources_of;
 use osgi_base::ids::RevisionId;
 use osgi_base::list::List;
 use osgi_base::text::Text;
+use osgi_sources::package_sources::sources_of;
 use osgi_wires::world_rows::WorldRows;
 use std::alloc::{AllocError, Global};
 

@@ -2,7 +2,7 @@
 use Rattle.std.specs.Prelude.{◌↔◌, ℕ, ◌⊎◌, IsTrue}
 use Rattle.std.specs.BTreeSet.{BTreeSet, contains}
 use Rattle.std.specs.Ordering.{nat_cmp}
-use Rattle.osgi_space.specs.computed.Reach.{Reach}
+use Rattle.osgi_sources.specs.computed.Reach.{Reach}
 use Rattle.osgi_wires.specs.Agree.{id}
 use Rattle.osgi_wires.specs.Rows.{RowLists, Reexports, Requires}
 use Rattle.osgi_world.specs.Decisions.{Made}

@@ -2,10 +2,10 @@
 use Rattle.std.specs.Prelude.{◌≡◌, ℕ, ◌<◌, ◌⊎◌, List, length, Any, Contains, Option, None, Some}
 use Rattle.osgi_wires.specs.Names.{name_of}
 use Rattle.osgi_wires.specs.Rows.{RowLists}
+use Rattle.osgi_sources.specs.computed.Clashes.{IsClash}
+use Rattle.osgi_sources.specs.computed.Pairs.{IsImplied}
+use Rattle.osgi_sources.specs.declared.given.Given.{Given}
 use Rattle.osgi_space.specs.Violations.{IsBelow}
-use Rattle.osgi_space.specs.computed.Clashes.{IsClash}
-use Rattle.osgi_space.specs.computed.Pairs.{IsImplied}
-use Rattle.osgi_space.specs.declared.given.Given.{Given}
 
 -- by the package's name, then by the revision that sees it
 abbrev pub IsBefore : List (List ℕ) → Given → Given → Type 0

@@ -1,12 +1,12 @@
 -- The constraints by rows are those of the wirings that are decided.
 use Rattle.std.proofs.Common.{◌≡◌, ◌∙◌, ◌↔◌, List, ap, subst, sym, IsTrue}
 use Rattle.osgi_base.specs.declared.ids.RevisionId.{RevisionId}
+use Rattle.osgi_sources.specs.computed.Clashes.{KeepsUsesAmong}
+use Rattle.osgi_sources.specs.computed.Disputes.{AreDisputed}
 use Rattle.osgi_hopeless.proofs.Answering.{known-is}
 use Rattle.osgi_hopeless.proofs.Clashes.{clash-breaks, clash-of}
 use Rattle.osgi_hopeless.specs.computed.Open.{Has}
 use Rattle.osgi_path.specs.Standing.{made}
-use Rattle.osgi_space.specs.computed.Clashes.{KeepsUsesAmong}
-use Rattle.osgi_space.specs.computed.Disputes.{AreDisputed}
 use Rattle.osgi_wires.specs.Agree.{AreRowsOf}
 use Rattle.osgi_wires.specs.Names.{name_of}
 use Rattle.osgi_wires.specs.Rows.{RowLists}

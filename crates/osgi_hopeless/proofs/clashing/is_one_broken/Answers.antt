@@ -4,9 +4,9 @@ use Rattle.osgi_base.specs.declared.ids.RevisionId.{RevisionId}
 use Rattle.osgi_coherence.proofs.Grow.{at_in, each_done, each_step}
 use Rattle.osgi_coherence.proofs.Items.{no_revision, there}
 use Rattle.osgi_coherence.proofs.OneValue.{not_true}
+use Rattle.osgi_sources.specs.computed.Clashes.{KeepsUsesAmong}
 use Rattle.osgi_hopeless.proofs.Answering.{no, yes}
 use Rattle.osgi_hopeless.specs.computed.Open.{Has}
-use Rattle.osgi_space.specs.computed.Clashes.{KeepsUsesAmong}
 use Rattle.osgi_hopeless.proofs.clashing.is_one_broken.Goals as goal
 
 pub loop-member-init : goal.loop-member-init

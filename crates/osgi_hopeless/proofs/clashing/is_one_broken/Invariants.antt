@@ -1,8 +1,8 @@
 -- No constraint of the members so far is violated.
 use Rattle.std.proofs.Common.{take}
 use Rattle.osgi_base.specs.declared.ids.RevisionId.{RevisionId}
+use Rattle.osgi_sources.specs.computed.Clashes.{KeepsUsesAmong}
 use Rattle.osgi_hopeless.specs.computed.Open.{Has}
-use Rattle.osgi_space.specs.computed.Clashes.{KeepsUsesAmong}
 use Rattle.osgi_world.specs.Lists.{In}
 use Rattle.osgi_hopeless.proofs.clashing.is_one_broken.Given as goal
 

@@ -1,9 +1,9 @@
 -- The provider's payload has the capability, and it is not replaced.
 use Rattle.std.proofs.Common.{List, ◌<◌, ◌≤◌, ◌∙◌, ap, sym, subst, arith}
 use Rattle.osgi_coherence.proofs.OneValue.{not_true}
+use Rattle.osgi_sources.specs.computed.RowSources.{Owns}
 use Rattle.osgi_hopeless.proofs.Answering.{no, opposite}
 use Rattle.osgi_hopeless.proofs.Offering.{offer-not_replaced, offer-owns, offered}
-use Rattle.osgi_space.specs.computed.RowSources.{Owns}
 use Rattle.osgi_wires.specs.Names.{name_of}
 use Rattle.osgi_wires.specs.Rows.{RowLists}
 use Rattle.osgi_world.specs.Lookups.{capability_count}

@@ -1,9 +1,9 @@
 -- What is no export is not replaced, and a package without a number is imported by none.
 use Rattle.std.proofs.Common.{◌≡◌, ◌↔◌, ◌∙◌, inl, ℕ, List, refl, sym, subst, IsTrue}
+use Rattle.osgi_sources.specs.computed.RowSources.{ImportsElsewhere as RowsElsewhere}
 use Rattle.osgi_hopeless.proofs.Answering.{no}
 use Rattle.osgi_space.proofs.Bridge.{elsewhere-from, elsewhere-to}
 use Rattle.osgi_space.proofs.Numbering.{named, source-number}
-use Rattle.osgi_space.specs.computed.RowSources.{ImportsElsewhere as RowsElsewhere}
 use Rattle.osgi_wires.specs.Names.{HasNumber, name_of}
 use Rattle.osgi_wires.specs.Rows.{RowLists}
 use Rattle.osgi_world.specs.Wirings.{ImportsElsewhere, IsExport}

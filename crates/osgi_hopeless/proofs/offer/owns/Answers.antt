@@ -1,9 +1,9 @@
 -- The revision itself, or one of its fragments.
 use Rattle.std.proofs.Common.{◌≡◌, inl, inr, refl, sym, subst, Any}
 use Rattle.std.proofs.lemmas.List.{get_or_default}
+use Rattle.osgi_sources.specs.laws.Adding.{any-at, none-more, none-whole}
+use Rattle.osgi_sources.proofs.Rows.{some-attached}
 use Rattle.osgi_hopeless.proofs.Answering.{no, yes}
-use Rattle.osgi_space.proofs.Adding.{any-at, none-more, none-whole}
-use Rattle.osgi_space.proofs.Rows.{some-attached}
 use Rattle.osgi_wires.specs.Rows.{Attaches}
 use Rattle.osgi_wires.specs.declared.rows.Attachment.{Attachment}
 use Rattle.osgi_hopeless.proofs.offer.owns.Goals as goal

@@ -2,9 +2,9 @@
 use Rattle.std.proofs.Common.{Any, sym, subst}
 use Rattle.std.proofs.lemmas.List.{get_or_default}
 use Rattle.osgi_coherence.proofs.OneValue.{not_true}
+use Rattle.osgi_sources.specs.laws.Adding.{any-at, none-more, none-whole}
 use Rattle.osgi_hopeless.proofs.Answering.{no, yes}
 use Rattle.osgi_hopeless.proofs.TwoProviders.{Differs, some-differs}
-use Rattle.osgi_space.proofs.Adding.{any-at, none-more, none-whole}
 use Rattle.osgi_hopeless.proofs.providers.has_two_providers.Goals as goal
 
 pub loop-row-preserved : goal.loop-row-preserved

@@ -1,8 +1,8 @@
 -- One number for each revision.
 use Rattle.std.proofs.Common.{get_or}
 use Rattle.osgi_coherence.proofs.Items.{no_revision, there}
+use Rattle.osgi_sources.specs.laws.Adding.{adds-more, adds-same, adds-start, adds-whole}
 use Rattle.osgi_hopeless.proofs.Numbers.{IsNumber, some-number}
-use Rattle.osgi_space.proofs.Adding.{adds-more, adds-same, adds-start, adds-whole}
 use Rattle.osgi_hopeless.proofs.rivals.add_all.Goals as goal
 
 pub loop-revision-init : goal.loop-revision-init

@@ -1,10 +1,10 @@
 -- The numbers of the revisions so far were added.
 use Rattle.std.proofs.Common.{take}
 use Rattle.std.specs.Ordering.{nat_cmp}
+use Rattle.osgi_sources.specs.laws.Adding.{Each}
+use Rattle.osgi_sources.specs.computed.Adds.{Adds}
+use Rattle.osgi_sources.specs.computed.Collected.{IsCollected}
 use Rattle.osgi_hopeless.proofs.Numbers.{IsNumber}
-use Rattle.osgi_space.proofs.Adding.{Each}
-use Rattle.osgi_space.specs.computed.Adds.{Adds}
-use Rattle.osgi_space.specs.computed.Collected.{IsCollected}
 use Rattle.osgi_hopeless.proofs.rivals.add_all.Given as goal
 
 abbrev pub invariant-loop-revision : goal.invariant-loop-revision

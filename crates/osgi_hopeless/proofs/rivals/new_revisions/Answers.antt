@@ -3,10 +3,10 @@ use Rattle.std.proofs.Common.{◌∙◌, inl, inr, ℕ, List, subst, get_or}
 use Rattle.osgi_base.specs.declared.ids.RevisionId.{RevisionId}
 use Rattle.osgi_coherence.proofs.Grow.{at_in}
 use Rattle.osgi_coherence.proofs.Items.{no_revision, there}
+use Rattle.osgi_sources.specs.laws.Adding.{adds-from, adds-more, adds-start, adds-whole}
+use Rattle.osgi_sources.specs.computed.Adds.{Adds}
 use Rattle.osgi_hopeless.proofs.Present.{are-new}
 use Rattle.osgi_path.specs.Standing.{made}
-use Rattle.osgi_space.proofs.Adding.{adds-from, adds-more, adds-start, adds-whole}
-use Rattle.osgi_space.specs.computed.Adds.{Adds}
 use Rattle.osgi_wires.specs.Agree.{id}
 use Rattle.osgi_world.specs.DueDecisions.{fragments_of}
 use Rattle.osgi_world.specs.Lists.{In}

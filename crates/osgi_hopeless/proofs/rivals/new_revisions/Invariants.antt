@@ -3,9 +3,9 @@ use Rattle.std.proofs.Common.{ℕ, take}
 use Rattle.std.specs.Ordering.{nat_cmp}
 use Rattle.osgi_base.specs.declared.ids.RevisionId.{RevisionId}
 use Rattle.osgi_path.specs.Standing.{IsProblemOf, made}
-use Rattle.osgi_space.proofs.Adding.{Each}
-use Rattle.osgi_space.specs.computed.Adds.{Adds}
-use Rattle.osgi_space.specs.computed.Collected.{IsCollected}
+use Rattle.osgi_sources.specs.laws.Adding.{Each}
+use Rattle.osgi_sources.specs.computed.Adds.{Adds}
+use Rattle.osgi_sources.specs.computed.Collected.{IsCollected}
 use Rattle.osgi_wires.specs.Agree.{id}
 use Rattle.osgi_world.specs.DueDecisions.{fragments_of}
 use Rattle.osgi_world.specs.Lists.{In}

@@ -2,10 +2,10 @@
 use Rattle.std.proofs.Common.{◌==◌, inl, inr, List, length, sym, ◌∙◌, ap, subst, IsTrue}
 use Rattle.std.proofs.lemmas.Bool.{false≢true}
 use Rattle.osgi_coherence.proofs.OneValue.{not_true}
+use Rattle.osgi_sources.proofs.Lengths.{empty-true}
 use Rattle.osgi_hopeless.proofs.Answering.{known-is, no, yes}
 use Rattle.osgi_hopeless.specs.computed.Stuck.{AreRefused}
 use Rattle.osgi_path.specs.Standing.{made}
-use Rattle.osgi_space.proofs.Lengths.{empty-true}
 use Rattle.osgi_world.specs.Lookups.{IsNeeded, is_multiple}
 use Rattle.osgi_world.specs.declared.wiring.CapRef.{CapRef}
 use Rattle.osgi_hopeless.proofs.unmet.cannot_be_met.Goals as goal

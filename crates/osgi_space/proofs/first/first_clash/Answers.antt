@@ -3,9 +3,9 @@ use Rattle.std.proofs.Common.{◌≡◌, ◌<◌, ◌↔◌, ℕ, List, length, 
 use Rattle.std.specs.Prelude.{MatchOption}
 use Rattle.std.proofs.lemmas.List.{get_or_default, take_all}
 use Rattle.std.proofs.lemmas.Bool.{false≢true}
-use Rattle.osgi_space.specs.computed.Clashes.{IsClash}
+use Rattle.osgi_sources.specs.computed.Clashes.{IsClash}
+use Rattle.osgi_sources.specs.declared.given.Given.{Given}
 use Rattle.osgi_space.specs.computed.Firsts.{IsBefore, IsFirstClash}
-use Rattle.osgi_space.specs.declared.given.Given.{Given}
 use Rattle.osgi_wires.specs.Rows.{RowLists}
 use Rattle.osgi_space.proofs.FirstClash.{first-kept, first-quiet, first-taken}
 use Rattle.osgi_space.proofs.first.first_clash.Goals as goal

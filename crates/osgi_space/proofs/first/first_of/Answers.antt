@@ -4,9 +4,9 @@ use Rattle.std.proofs.lemmas.List.{get_or_default}
 use Rattle.std.specs.BTreeSet.{contains}
 use Rattle.std.specs.Ordering.{nat_cmp}
 use Rattle.osgi_wires.specs.Rows.{RowLists}
+use Rattle.osgi_sources.specs.computed.Pairs.{IsImplied}
+use Rattle.osgi_sources.specs.declared.given.Given.{Given}
 use Rattle.osgi_space.specs.computed.Firsts.{IsFirstClash}
-use Rattle.osgi_space.specs.computed.Pairs.{IsImplied}
-use Rattle.osgi_space.specs.declared.given.Given.{Given}
 use Rattle.osgi_space.proofs.Firsts.{first-implied, implied-number}
 use Rattle.osgi_space.proofs.first.first_of.Goals as goal
 

@@ -10,11 +10,11 @@ use Rattle.osgi_base.specs.declared.ids.RevisionId.{RevisionId}
 use Rattle.osgi_wires.specs.Agree.{id}
 use Rattle.osgi_wires.specs.Names.{name_of}
 use Rattle.osgi_world.specs.Lists.{In}
+use Rattle.osgi_sources.specs.declared.given.Given.{Given}
+use Rattle.osgi_sources.specs.laws.Adding.{all-more, all-of}
 use Rattle.osgi_space.specs.Violations.{IsFirstViolation}
 use Rattle.osgi_space.specs.computed.Firsts.{IsFirstImplied}
-use Rattle.osgi_space.specs.declared.given.Given.{Given}
 use Rattle.osgi_space.specs.declared.violation.Violation.{Violation}
-use Rattle.osgi_space.proofs.Adding.{all-more, all-of}
 use Rattle.osgi_space.proofs.Firsts.{first-violated, none-violated}
 use Rattle.osgi_space.proofs.Ids.{contain-id}
 use Rattle.osgi_space.proofs.Rising.{stands-before}

@@ -2,12 +2,12 @@
 use Rattle.std.proofs.Common.{◌≡◌, ◌↔◌, inl, inr, List, get_or, sym, ◌∙◌, subst, Any, IsTrue}
 use Rattle.std.proofs.lemmas.List.{get_or_default, take_all}
 use Rattle.std.specs.BTreeSet.{contains}
+use Rattle.osgi_sources.specs.declared.given.Given.{Given}
+use Rattle.osgi_sources.specs.laws.Adding.{any-more}
+use Rattle.osgi_sources.specs.laws.Sets.{set_put}
 use Rattle.osgi_space.specs.ImpliedOrder.{implied_cmp}
-use Rattle.osgi_space.specs.computed.Pairs.{named_pair}
-use Rattle.osgi_space.specs.declared.given.Given.{Given}
-use Rattle.osgi_space.proofs.Adding.{any-more}
+use Rattle.osgi_space.specs.computed.NamedPairs.{named_pair}
 use Rattle.osgi_space.proofs.ImpliedNames.{exact_implied}
-use Rattle.osgi_space.proofs.Sets.{set_put}
 use Rattle.osgi_space.proofs.implied_constraints.named_pairs.Goals as goal
 
 pub loop-pair-preserved : goal.loop-pair-preserved

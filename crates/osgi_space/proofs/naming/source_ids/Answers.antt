@@ -4,10 +4,10 @@ use Rattle.std.specs.List.Sorted.{IsStrictlyIncreasing}
 use Rattle.osgi_base.specs.declared.ids.RevisionId.{RevisionId}
 use Rattle.osgi_wires.specs.Agree.{id}
 use Rattle.osgi_world.specs.Lists.{In}
-use Rattle.osgi_space.specs.declared.given.Given.{Given}
-use Rattle.osgi_space.proofs.Adding.{any-in, any-of}
+use Rattle.osgi_sources.specs.declared.given.Given.{Given}
+use Rattle.osgi_sources.specs.laws.Adding.{any-in, any-of}
+use Rattle.osgi_sources.specs.laws.Members.{contains-map, map-contains}
 use Rattle.osgi_space.proofs.Ids.{ids-contain, numbers-of}
-use Rattle.osgi_space.proofs.Members.{contains-map, map-contains}
 use Rattle.osgi_space.proofs.naming.source_ids.Goals as goal
 
 pub returns-clause-rising : goal.returns-clause-rising

@@ -3,9 +3,9 @@ use Rattle.std.proofs.Common.{◌≡◌, ◌↔◌, ℕ, List, Any, Contains, su
 use Rattle.osgi_base.specs.declared.ids.RevisionId.{RevisionId}
 use Rattle.osgi_wires.specs.Names.{HasNumber}
 use Rattle.osgi_world.specs.Sources as relation
+use Rattle.osgi_sources.specs.computed.Givens.{IsSeen}
+use Rattle.osgi_sources.specs.declared.given.Given.{Given}
 use Rattle.osgi_space.specs.computed.ByName.{HasSource}
-use Rattle.osgi_space.specs.computed.Givens.{IsSeen}
-use Rattle.osgi_space.specs.declared.given.Given.{Given}
 use Rattle.osgi_space.proofs.SeenPackages.{class-space, seen-source}
 use Rattle.osgi_space.proofs.seen_packages.space_in.Goals as goal
 

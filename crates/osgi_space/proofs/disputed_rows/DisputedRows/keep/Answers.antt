@@ -1,6 +1,6 @@
 -- The rows of the whole world are kept.
 use Rattle.std.proofs.Common.{◌∙◌, length, ap, refl, sym, subst}
-use Rattle.osgi_space.specs.computed.Disputes.{AreNoted}
+use Rattle.osgi_sources.specs.computed.Disputes.{AreNoted}
 use Rattle.osgi_space.proofs.Followed.{follows-whole}
 use Rattle.osgi_wires.specs.Agree.{AreRowsOf}
 use Rattle.osgi_wires.specs.Names.{name_of}

@@ -1,6 +1,6 @@
 -- What is possible in the first rows is noted.
 use Rattle.std.proofs.Common.{subst}
-use Rattle.osgi_space.specs.computed.Disputes.{AreNoted}
+use Rattle.osgi_sources.specs.computed.Disputes.{AreNoted}
 use Rattle.osgi_wires.specs.Rows.{RowLists}
 use Rattle.osgi_space.proofs.disputed_rows.DisputedRows.new.Goals as goal
 

@@ -1,7 +1,7 @@
 -- Fewer rows have fewer possible sources.
 use Rattle.std.proofs.Common.{◌≡◌, ◌∙◌, ap, sym, subst}
-use Rattle.osgi_space.specs.computed.Disputes.{AreNoted}
-use Rattle.osgi_space.proofs.Noted.{noted-fewer}
+use Rattle.osgi_sources.specs.computed.Disputes.{AreNoted}
+use Rattle.osgi_sources.specs.laws.Noted.{noted-fewer}
 use Rattle.osgi_wires.specs.Rows.{RowLists}
 use Rattle.osgi_wires.specs.Worlds.{WorldLists, with_added}
 use Rattle.osgi_space.proofs.disputed_rows.DisputedRows.take_back.Goals as goal

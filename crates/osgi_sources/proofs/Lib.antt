@@ -1,0 +1,7 @@
+-- Lemmas on rows, on what is found by steps, and on sources that differ.
+pub mod Lengths
+pub mod Rows
+mod Givers
+mod Agreeing
+mod Clashing
+mod Worklist

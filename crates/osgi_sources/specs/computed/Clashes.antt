@@ -1,0 +1,21 @@
+-- Clashes, as the code looks for them.
+use Rattle.std.specs.Prelude.{ℕ, List, Contains}
+use Rattle.osgi_wires.specs.Rows.{RowLists}
+use Rattle.osgi_sources.specs.computed.RowSources.{Clash, Implied}
+use Rattle.osgi_sources.specs.declared.given.Given.{Given}
+
+-- one of the inner ones is not among the outer ones
+abbrev pub Lacks : List Given → List Given → Type 0
+Lacks outer inner = (g : Given) × Contains inner g × ¬ Contains outer g
+
+-- r and the revision that sees the package have different sources of it
+abbrev pub IsClash : RowLists → ℕ → Given → Type 0
+IsClash R r pair = Clash R r pair.source pair.package
+
+-- no implied constraint of r that comes from revisions of A alone is violated
+abbrev pub KeepsUsesAmong : RowLists → (ℕ → Type 0) → ℕ → Type 0
+KeepsUsesAmong R A r = (e u : ℕ) → Implied R A r e u → ¬ Clash R r e u
+
+-- no implied constraint of r is violated
+abbrev pub KeepsUses : RowLists → ℕ → Type 0
+KeepsUses R r = KeepsUsesAmong R (λ x. Unit {0}) r
