@@ -160,6 +160,16 @@ class Space:
     def is_reexport(self, owner, index):
         return self.requirement(owner, index) is not None and self.requirement(owner, index).reexport
 
+    # ---- payloads
+
+    def payload_requirements(self, host, fragments):
+        """Pairs of an owner and a place; those of the host first, then each fragment's. Dynamic imports are not among them."""
+        return [(owner, place) for owner in [host, *fragments] for place in range(self.requirement_count(owner))]
+
+    def payload_capabilities(self, host, fragments):
+        """Likewise, each after the host, which provides it."""
+        return [(host, owner, place) for owner in [host, *fragments] for place in range(len(self.capabilities(owner)))]
+
     # ---- wirings
 
     def in_force(self):

@@ -126,6 +126,12 @@ def answer_clash(space, settled):
     return f"{r} {u} {ids(space.sources(r, u))} {ids(space.sources(e, u))}"
 
 
+def answer_payload(space, host, fragments):
+    requirements = [f"{owner}.{place}" for owner, place in space.payload_requirements(host, fragments)]
+    capabilities = [f"{provider}.{owner}.{place}" for provider, owner, place in space.payload_capabilities(host, fragments)]
+    return f"[{' '.join(requirements)}] [{' '.join(capabilities)}]"
+
+
 def answer_question(space, words):
     kind = words[0]
     if kind == "sources":
@@ -136,6 +142,8 @@ def answer_question(space, words):
         return spelled_truth(space.is_consistent())
     if kind == "copy":
         return "equal"
+    if kind == "payload":
+        return answer_payload(space, int(words[1]), list(map(int, words[2:])))
     if kind == "all":
         return answer_all(space, words[1:])
     raise ValueError(f"no question: {kind}")

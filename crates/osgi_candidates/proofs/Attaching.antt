@@ -8,7 +8,7 @@ use Rattle.std.specs.declared.cmp.Ordering.TheVariants.{Equal}
 use Rattle.std.proofs.lemmas.Map.Lookups.{exact_unsigned}
 use Rattle.osgi_base.specs.declared.ids.RevisionId.{RevisionId}
 use Rattle.osgi_candidates.specs.computed.Fitting.{IsFit}
-use Rattle.osgi_candidates.specs.computed.Fragments.{AreAttachable, AreBundled, IsMatch, bundled_cmp, fragment_of}
+use Rattle.osgi_candidates.specs.computed.Fragments.{AreAttachable, AreBundled, IsMatch, IsMatchOf, bundled_cmp, fragment_of}
 use Rattle.osgi_candidates.specs.computed.Names.{AreNames, values_of}
 use Rattle.osgi_candidates.specs.declared.fragments.Bundled.{Bundled}
 use Rattle.osgi_candidates.specs.declared.names.KnownNames.{KnownNames}
@@ -26,6 +26,7 @@ use Rattle.osgi_world.specs.Candidates.{IsProblem, matching}
 use Rattle.osgi_world.specs.Lists.{In, Two}
 use Rattle.osgi_world.specs.Lookups.{bundle_of, is_host_of, known_at, revision_at, symbolic_name}
 use Rattle.osgi_world.specs.Payloads.{current_fragments}
+use Rattle.osgi_world.specs.Satisfaction.{matches_host}
 use Rattle.osgi_world.specs.declared.problem.Problem.{Problem}
 use Rattle.osgi_world.specs.declared.revision.Revision.{Revision}
 use Rattle.osgi_world.specs.declared.world.Known.{Known}
@@ -33,20 +34,20 @@ use Rattle.osgi_world.specs.declared.world.World.{World}
 
 -- ---- one after another
 
-module _ (K : List Known) (h : RevisionId) where
-  pub bundled_none : (keys : List Bundled) → keys ≡ [] → AreBundled K h [] keys
+module _ (K : List Known) (host : Revision) where
+  pub bundled_none : (keys : List Bundled) → keys ≡ [] → AreBundled K host [] keys
   bundled_none keys empty = record { good = λ b i. absurd (subst (λ l. In b l) empty i); all = λ f i. absurd i }
 
-  pub bundled_skip : (among : List RevisionId) (f : RevisionId) (keys : List Bundled) → AreBundled K h among keys → ¬ IsMatch K h f → AreBundled K h (among ++ f ∷ []) keys
+  pub bundled_skip : (among : List RevisionId) (f : RevisionId) (keys : List Bundled) → AreBundled K host among keys → ¬ IsMatchOf K host f → AreBundled K host (among ++ f ∷ []) keys
   bundled_skip among f keys are skip = record {
     good = are.good;
-    all = λ x i m. elim (in_either among f x i) [ inl o ↦ are.all x o m | inr e ↦ absurd (skip (subst (IsMatch K h) e m)) ];
+    all = λ x i m. elim (in_either among f x i) [ inl o ↦ are.all x o m | inr e ↦ absurd (skip (subst (IsMatchOf K host) e m)) ];
   }
 
-  pub bundled_put : (among : List RevisionId) (b : Bundled) (keys new : List Bundled) → AreBundled K h among keys → IsMatch K h b.fragment → b.bundle.0 ≡ bundle_of K b.fragment → new ≡ insert_key bundled_cmp keys b → AreBundled K h (among ++ b.fragment ∷ []) new
+  pub bundled_put : (among : List RevisionId) (b : Bundled) (keys new : List Bundled) → AreBundled K host among keys → IsMatchOf K host b.fragment → b.bundle.0 ≡ bundle_of K b.fragment → new ≡ insert_key bundled_cmp keys b → AreBundled K host (among ++ b.fragment ∷ []) new
   bundled_put among b keys new are is bundle put = record {
     good = λ x i. elim (put_in bundled_cmp b keys x (subst (λ l. In x l) put i)) [
-      | inl e ↦ subst (λ (y : Bundled). IsMatch K h y.fragment × (y.bundle.0 ≡ bundle_of K y.fragment)) (sym e) (is, bundle)
+      | inl e ↦ subst (λ (y : Bundled). IsMatchOf K host y.fragment × (y.bundle.0 ≡ bundle_of K y.fragment)) (sym e) (is, bundle)
       | inr o ↦ are.good x o
     ];
     all = λ f i m. elim (in_either among b.fragment f i) [
@@ -74,6 +75,13 @@ known-some : (o : Option Known) → IsSome o → option_map (λ (k : Known). k.r
 known-some None s e = cc s
 known-some (Some k) s e = cc e
 
+-- a fragment matches the host with an id exactly where it matches its revision
+host-of : (K : List Known) (h : RevisionId) (v : Revision) → revision_at K h ≡ Some v → (f : RevisionId) → is_host_of K f h ≡ option_map_or (λ fragment. matches_host fragment v) (revision_at K f) false
+host-of K h v is f = ap (λ o. option_map_or (λ fragment. option_map_or (λ host. matches_host fragment host) o false) (revision_at K f) false) is
+
+match-of : (K : List Known) (h : RevisionId) (v : Revision) → revision_at K h ≡ Some v → (f : RevisionId) → IsMatch K h f ↔ IsMatchOf K v f
+match-of K h v is f = (λ m. (m.0, subst IsTrue (host-of K h v is f) m.1), λ m. (m.0, subst IsTrue (sym (host-of K h v is f)) m.1))
+
 module _ (w : World) (fit : IsFit w) (h : RevisionId) where
   pub attachable_none : (list : List RevisionId) → list ≡ [] → revision_at w.known h ≡ None → AreAttachable w h list
   attachable_none list empty none = record {
@@ -92,12 +100,12 @@ module _ (w : World) (fit : IsFit w) (h : RevisionId) where
       let same : k.0.revision ≡ a.fragment = cc revision in
       are.fragments f k.0 k.1 v.name f (k.2, (a.asked, ap (λ (x : Revision). x.host) same ∙ a.host, name), sym id)
 
-  pub attachable_are : (names : KnownNames) → AreNames w.known names → (v : Revision) → revision_at w.known h ≡ Some v → (set : BTreeSet Bundled) (list : List RevisionId) → AreBundled w.known h (values_of names.fragments v.name) set.keys → list ≡ map fragment_of set.keys → IsOrdered bundled_cmp set →
+  pub attachable_are : (names : KnownNames) → AreNames w.known names → (v : Revision) → revision_at w.known h ≡ Some v → (set : BTreeSet Bundled) (list : List RevisionId) → AreBundled w.known v (values_of names.fragments v.name) set.keys → list ≡ map fragment_of set.keys → IsOrdered bundled_cmp set →
       AreAttachable w h list
   attachable_are names are v is set list bundled made up = record {
     are = λ f. (
-      λ i. let m = map-in fragment_of set.keys f (subst (λ l. In f l) made i) in subst (IsMatch w.known h) (sym m.2) (bundled.good m.0 m.1).0,
-      λ m. let b = bundled.all f (listed names are v is f m) m in subst (λ l. In f l) (sym made) (subst (λ r. In r (map fragment_of set.keys)) b.2 (in-map fragment_of set.keys b.0 b.1)),
+      λ i. let m = map-in fragment_of set.keys f (subst (λ l. In f l) made i) in subst (IsMatch w.known h) (sym m.2) ((match-of w.known h v is m.0.fragment).1 (bundled.good m.0 m.1).0),
+      λ m. let b = bundled.all f (listed names are v is f m) ((match-of w.known h v is f).0 m) in subst (λ l. In f l) (sym made) (subst (λ r. In r (map fragment_of set.keys)) b.2 (in-map fragment_of set.keys b.0 b.1)),
     );
     ordered = λ t.
         let R : RevisionId → RevisionId → Type 0 = λ e f. bundle_of w.known f ≤ bundle_of w.known e in

@@ -22,7 +22,8 @@ pub record Covers (index : OfferIndex) (K : List Known) (W : List Wiring) : Type
   pub held : AreHeld K W index.held
   pub in_use : AreInUse W index.in_use
 
--- the index covers the first of the known revisions and the first of the wirings; these wirings speak of no later revision
+-- the index covers the first of the known revisions and the first of the wirings; the wires of these go to capabilities of such
+-- revisions
 pub record Follows (index : OfferIndex) (K : List Known) (W : List Wiring) : Type 0 where
   pub known : List Known
   pub later_known : List Known

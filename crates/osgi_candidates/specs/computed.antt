@@ -1,4 +1,4 @@
--- What private functions and proofs cite. No public promise cites these.
+-- What private functions and proofs cite, and what `Covers` is made of.
 pub mod Names
 pub mod Holding
 pub mod InUses

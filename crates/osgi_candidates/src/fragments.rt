@@ -2,11 +2,13 @@
 
 ghost use Rattle.std.specs.Prelude.{◌≡◌, ◌↔◌, IfOk, IsTrue, OnOk, map};
 ghost use Rattle.std.specs.BTreeSet.{IsOrdered};
-ghost use Rattle.osgi_candidates.specs.computed.Fragments.{AreAttachable, AreBundled, IsMatch, bundled_cmp, fragment_of};
+ghost use Rattle.osgi_candidates.specs.computed.Fragments.{AreAttachable, AreBundled, IsMatchOf, bundled_cmp, fragment_of};
 ghost use Rattle.osgi_candidates.specs.computed.Fitting.{IsFit};
 
 use crate::offers::Offers;
 use osgi_base::ids::{BundleId, RevisionId};
+use osgi_fragment::host_matches;
+use osgi_world::revision::Revision;
 use std::alloc::{AllocError, Global};
 use std::collections::BTreeSet;
 
@@ -25,7 +27,7 @@ impl Offers<'_> {
         match self.known.revision(host) {
             Some(revision) => {
                 let among = self.index.names.fragments.of(&revision.name);
-                let bundled = self.bundled(alloc, host, among)?;
+                let bundled = self.bundled(alloc, revision, among)?;
                 Ok(by_bundle(alloc, &bundled)?)
             }
             None => Ok(Vec::new(alloc)),
@@ -36,10 +38,10 @@ impl Offers<'_> {
     fn bundled(
         &self,
         alloc: Global,
-        host: RevisionId,
+        host: &Revision,
         among: &[RevisionId],
     ) -> Result<BTreeSet<Bundled>, AllocError>
-        ensures bundled { IfOk result (λ set. AreBundled self.now.known host among.now set.keys) }
+        ensures bundled { IfOk result (λ set. AreBundled self.now.known host.now among.now set.keys) }
     {
         let mut bundled = BTreeSet::new(alloc);
         for fragment in among {
@@ -54,10 +56,13 @@ impl Offers<'_> {
     }
 
     /// Whether the revision is a current fragment that matches the host.
-    fn is_match(&self, fragment: RevisionId, host: RevisionId) -> bool
-        ensures matches { IsTrue result ↔ IsMatch self.now.known host fragment }
+    fn is_match(&self, fragment: RevisionId, host: &Revision) -> bool
+        ensures matches { IsTrue result ↔ IsMatchOf self.now.known host.now fragment }
     {
-        self.known.is_current(fragment) && self.known.is_host_of(fragment, host)
+        match self.known.known(fragment) {
+            Some(known) => known.current && host_matches(known.revision.get(), host),
+            None => false,
+        }
     }
 }
 

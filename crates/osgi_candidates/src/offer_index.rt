@@ -1,6 +1,6 @@
 //! What a world offers, kept from one resolve to the next.
 
-ghost use Rattle.std.specs.Prelude.{List, OnOk};
+ghost use Rattle.std.specs.Prelude.{List, OnErr, OnOk};
 ghost use Rattle.osgi_candidates.specs.Following.{Covers, Follows};
 ghost use Rattle.osgi_candidates.specs.computed.Halfway.{IsHalfway};
 ghost use Rattle.osgi_world.specs.Consistency.{Consistent};
@@ -48,6 +48,7 @@ impl OfferIndex {
         requires consistent { Consistent world.now.known world.now.wirings }
         ensures covers { OnOk result (Covers self.new world.now.known world.now.wirings) }
         ensures follows { Follows self.new world.now.known world.now.wirings }
+        ensures nothing { OnErr result ((K : List Known) (W : List Wiring) → Follows self.new K W) }
     {
         match self.add_new(alloc, world) {
             Ok(()) => Ok(()),

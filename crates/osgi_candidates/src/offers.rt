@@ -80,14 +80,15 @@ impl<'w> Offers<'w> {
         self.index.in_use.contains(&revision.0)
     }
 
-    /// The known revisions with this symbolic name.
+    /// The known revisions with this symbolic name, in no promised order.
     pub fn named(&self, name: &Text) -> &[RevisionId]
         ensures named { (r : RevisionId) → In r result.now ↔ IsKnown self.now.known r × (symbolic_name self.now.known r ≡ name.now) }
     {
         self.index.names.revisions.of(name)
     }
 
-    /// The candidates of a requirement, the preferred first.
+    /// The candidates of an effective requirement of a current revision, the preferred first. Said of a consistent world in order
+    /// that has an unresolved revision; of others nothing is said.
     pub fn candidates(&self, alloc: Global, requirement: ReqRef) -> Result<Vec<CapRef>, AllocError>
         ensures candidates { IfOk result (λ list. (P : Problem) → IsProblem P → P.world ≡ self.now → CanBeAsked P.world.known requirement → list.items ≡ candidates P requirement) }
     {
@@ -95,7 +96,7 @@ impl<'w> Offers<'w> {
         Ok(list)
     }
 
-    /// The current fragments that match the host, by bundle id.
+    /// The current fragments that match the host, by bundle id. Said of such a world as for `candidates`.
     pub fn fragments_for(
         &self,
         alloc: Global,

@@ -14,6 +14,7 @@
 //! | `consistent` | whether the wirings are consistent |
 //! | `all PACKAGE ..` | of each revision its number, the sources of each of these packages that has some, as `PACKAGE[ID]`, and the constraints; and at the end whether the wirings are consistent |
 //! | `copy` | whether a copy of the world is an equal world |
+//! | `payload HOST FRAGMENT ..` | the payload of the host with these fragments: the requirements, then the capabilities, each with who provides it: `[OWNER.PLACE ..] [PROVIDER.OWNER.PLACE ..]` |
 //! | `attach HOST FRAGMENT`, `wire ID WIRE`, `undo` | nothing. The world that `clash` asks about, and no other, has this fragment or wire more, or loses what was added last |
 //! | `clash ID ..` | the first clash of a constraint that comes from these revisions alone: `ID PACKAGE [ID ID] [ID ID]`, whose lists are the sources of the package for this revision, and those for the revision that it is to agree with; or `none` |
 //!

@@ -1,14 +1,15 @@
 //! What rows ask of worlds.
 
-use crate::shown::{push_ids, push_pairs};
+use crate::shown::{push_capabilities, push_ids, push_pairs, push_requirements};
 use crate::steps::{Steps, is_step};
 use osgi_base::ids::RevisionId;
 use osgi_base::list::List;
 use osgi_base::text::Text;
 use osgi_escapes::complain;
+use osgi_fragment::payload;
 use osgi_space::{ClassSpaces, Implied, implied, is_consistent, sources};
 use osgi_world::world::World;
-use osgi_world_rows::{cut, revision_id, text_of, world};
+use osgi_world_rows::{cut, revision_id, revision_ids, text_of, world};
 use std::alloc::{AllocError, Global};
 use std::fmt::Write;
 
@@ -140,6 +141,21 @@ fn push_copy(alloc: Global, out: &mut String, world: &World) -> Result<(), Alloc
     out.push_str(if copy == *world { "equal" } else { "other" })
 }
 
+/// Adds the payload of `HOST FRAGMENT ..`: the places of its requirements, then those of its capabilities.
+fn push_payload(
+    alloc: Global,
+    out: &mut String,
+    world: &World,
+    text: &str,
+) -> Result<(), AllocError> {
+    let (host, fragments) = cut(text);
+    let fragments = revision_ids(alloc, fragments)?;
+    let hosted = payload(alloc, world, revision_id(host), fragments.as_slice())?;
+    push_requirements(out, hosted.requirements.items())?;
+    out.push(' ')?;
+    push_capabilities(out, hosted.capabilities.items())
+}
+
 /// Adds the answer to a question about the world of a row.
 fn push_answer(
     alloc: Global,
@@ -158,6 +174,8 @@ fn push_answer(
         push_all(alloc, out, asked, rest)
     } else if word == "copy" {
         push_copy(alloc, out, asked.world)
+    } else if word == "payload" {
+        push_payload(alloc, out, asked.world, rest)
     } else {
         out.push_str("no question")
     }

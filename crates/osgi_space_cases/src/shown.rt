@@ -4,6 +4,7 @@ use osgi_base::ids::RevisionId;
 use osgi_escapes::push_bytes;
 use osgi_space::Implied;
 use osgi_uses::clash::Clash;
+use osgi_world::wiring::{CapRef, ReqRef};
 use std::alloc::AllocError;
 use std::fmt::Write;
 
@@ -40,6 +41,43 @@ pub fn push_pairs(out: &mut String, pairs: &[Implied]) -> Result<(), AllocError>
     for pair in pairs {
         out.push(before)?;
         push_pair(out, pair)?;
+        before = ' ';
+    }
+    out.push(']')
+}
+
+fn push_requirement(out: &mut String, place: &ReqRef) -> Result<(), AllocError> {
+    write!(out, "{}.{}", place.owner.0, place.index)
+}
+
+/// Adds `[OWNER.PLACE OWNER.PLACE]`.
+pub fn push_requirements(out: &mut String, places: &[ReqRef]) -> Result<(), AllocError> {
+    let mut before = '[';
+    if places.is_empty() {
+        out.push('[')?;
+    }
+    for place in places {
+        out.push(before)?;
+        push_requirement(out, place)?;
+        before = ' ';
+    }
+    out.push(']')
+}
+
+fn push_capability(out: &mut String, place: &CapRef) -> Result<(), AllocError> {
+    let (provider, owner) = (place.provider.0, place.owner.0);
+    write!(out, "{provider}.{owner}.{}", place.index)
+}
+
+/// Adds `[PROVIDER.OWNER.PLACE PROVIDER.OWNER.PLACE]`.
+pub fn push_capabilities(out: &mut String, places: &[CapRef]) -> Result<(), AllocError> {
+    let mut before = '[';
+    if places.is_empty() {
+        out.push('[')?;
+    }
+    for place in places {
+        out.push(before)?;
+        push_capability(out, place)?;
         before = ' ';
     }
     out.push(']')

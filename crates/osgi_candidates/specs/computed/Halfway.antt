@@ -1,4 +1,4 @@
--- An index of offers to which the known revisions were added, and no wirings yet.
+-- An index of offers to which the known revisions were added, and not yet the new wirings.
 use Rattle.std.specs.Prelude.{◌≡◌, List, ◌++◌}
 use Rattle.osgi_candidates.specs.Following.{Covers}
 use Rattle.osgi_candidates.specs.declared.offer_index.OfferIndex.{OfferIndex}

@@ -37,7 +37,7 @@ pub record Holds (K : List Known) (g : Wiring) (h : Held) : Type 0 where
   pub fragments : AreFragments g.fragments h.fragments
   pub elsewhere : AreElsewhere K g.revision g.wires h.elsewhere
 
--- the wirings are held by their revisions; of several with one revision the last counts
+-- the wirings are held by their revisions; of several with one revision it is one of them
 pub record AreHeld (K : List Known) (W : List Wiring) (held : HeldWirings) : Type 0 where
   pub each : (g : Wiring) → In g W → IsSome (get nat_cmp held.wirings g.revision.0)
   pub only : (r : RevisionId) (h : Held) → get nat_cmp held.wirings r.0 ≡ Some h → (g : Wiring) × In g W × (g.revision ≡ r) × Holds K g h

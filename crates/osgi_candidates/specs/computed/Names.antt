@@ -50,7 +50,8 @@ pub record AddsKnown (k : Known) (old new : KnownNames) : Type 0 where
 abbrev pub AreOnce : List Known → Type 0
 AreOnce K = ¬ Two (λ (k l : Known). k.id ≡ l.id) K
 
--- the names are those of the known revisions; of several with one id the first counts
+-- each capability and each current fragment stands under its name, perhaps beside others; the revisions under a name are exactly
+-- those that have it. Of several revisions with one id the first counts
 pub record AreNames (K : List Known) (names : KnownNames) : Type 0 where
   pub capabilities : (id : RevisionId) (k : Known) → known_at K id ≡ Some k → (n : List ℕ) (p : Place) → capability_added k n p → In p (values_of names.capabilities n)
   pub fragments : (id : RevisionId) (k : Known) → known_at K id ≡ Some k → (n : List ℕ) (r : RevisionId) → fragment_added k n r → In r (values_of names.fragments n)

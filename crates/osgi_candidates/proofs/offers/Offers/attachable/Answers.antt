@@ -16,7 +16,7 @@ returns-in_ok-by_bundle-in-Some c =
     let known : c.self.inside.known ≡ w.known = c.self.invariant.0 ∙ ap (λ (w : World). w.known) c.self.view_is in
     let are = subst (λ (w : World). AreNames w.known c.self.inside.index.now.names) c.self.view_is c.self.invariant.1.names in
     let is : revision_at w.known c.args.host ≡ Some c.in-Some.revision.now = ap (λ (K : List Known). revision_at K c.args.host) (sym known) ∙ sym c.in-Some.ensures.revision in
-    let bundled = subst (λ (l : List RevisionId). AreBundled w.known c.args.host l c.in_ok-bundled-in-Some.bundled.keys) c.of-among.ensures.values c.in_ok-bundled-in-Some.ensures.bundled in
+    let bundled = subst (λ (l : List RevisionId). AreBundled w.known c.in-Some.revision.now l c.in_ok-bundled-in-Some.bundled.keys) c.of-among.ensures.values c.in_ok-bundled-in-Some.ensures.bundled in
     record {
       exact = λ fit.
           attachable_are w fit c.args.host c.self.inside.index.now.names are c.in-Some.revision.now is c.in_ok-bundled-in-Some.bundled c.in_ok-by_bundle-in-Some.field-0.items bundled c.in_ok-by_bundle-in-Some.ensures.fragments
