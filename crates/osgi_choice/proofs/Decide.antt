@@ -185,7 +185,7 @@ spatial-dec P (attaching h f) = inl tt
 spatial-dec P (choose h q) = true-dec (is_bundle (requirement_namespace P.world.known q) || is_package (requirement_namespace P.world.known q))
 spatial-dec P (pick h q c) = true-dec (is_bundle (requirement_namespace P.world.known q) || is_package (requirement_namespace P.world.known q))
 
-closed-dec : (P : Problem) (D : Made) (c : RevisionId) → Decided (IsDecided P D c)
+pub closed-dec : (P : Problem) (D : Made) (c : RevisionId) → Decided (IsDecided P D c)
 closed-dec P D c = either-dec (force-dec P.world.wirings c) (both-dec (item-dec rev-dec c (members P D)) (all-dec (λ d. IsSpatial P d → IsMade D d) (λ d. if-dec (spatial-dec P d) (made-go (value_made D d))) (due P D c)))
 
 reached-steps : (K : List Known) (W : List Wiring) (r : RevisionId) → Steps (BundleWire K W r) (Reexports K W) (providers W)

@@ -1,15 +1,18 @@
 -- What a provider has on offer, by rows, and wires to what is not on offer.
-use Rattle.std.proofs.Common.{◌↔◌, ℕ, ◌<◌, List}
+use Rattle.std.proofs.Common.{◌≡◌, ◌↔◌, ℕ, ◌<◌, List, [], subst, Any}
 use Rattle.std.specs.BTreeSet.{BTreeSet}
 use Rattle.osgi_choice.proofs.Complete.{provider-in_force}
-use Rattle.osgi_sources.specs.computed.RowSources.{Owns}
 use Rattle.osgi_hopeless.proofs.Settling.{away-settled, settled-away}
 use Rattle.osgi_hopeless.specs.computed.Clashing.{HasLost, IsLost}
 use Rattle.osgi_hopeless.specs.computed.Open.{AreUnsettled}
 use Rattle.osgi_path.specs.declared.wired.Wired.{Wired}
+use Rattle.osgi_sources.specs.laws.Adding.{any-none}
 use Rattle.osgi_space.proofs.Bridge.{owns-from, owns-to}
+use Rattle.osgi_sources.proofs.Rows.{some-imported}
+use Rattle.osgi_sources.specs.computed.RowSources.{Owns}
 use Rattle.osgi_wires.specs.Agree.{AreRowsOf}
-use Rattle.osgi_wires.specs.Rows.{RowLists}
+use Rattle.osgi_wires.specs.Rows.{Imports, RowLists, imports_of}
+use Rattle.osgi_wires.specs.declared.rows.Import.{Import}
 use Rattle.osgi_world.specs.Candidates.{IsProblem}
 use Rattle.osgi_world.specs.Decisions.{Made}
 use Rattle.osgi_world.specs.DueDecisions.{members}
@@ -21,6 +24,10 @@ use Rattle.osgi_world.specs.declared.problem.Problem.{Problem}
 use Rattle.osgi_world.specs.declared.wiring.CapRef.{CapRef}
 use Rattle.osgi_world.specs.declared.wiring.Wiring.{Wiring}
 use Rattle.osgi_world.specs.declared.world.Known.{Known}
+
+-- a revision that has no row of a wire for a package has no such wire
+pub no-import-of : (R : RowLists) (r : ℕ) → imports_of R r ≡ [] → (p x : ℕ) → ¬ Imports R r p x
+no-import-of R r none p x i = any-none (λ (row : Import). Unit {0}) (subst (λ xs. Any (λ (row : Import). Unit {0}) xs) none ((some-imported R (λ q y. Unit {0}) r).1 (p, x, i, tt)))
 
 -- an export of a package that the provider imports from elsewhere
 abbrev pub IsReplaced : List Known → List Wiring → CapRef → Type 0

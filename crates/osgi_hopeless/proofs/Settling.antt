@@ -5,7 +5,7 @@ use Rattle.std.specs.Ordering.{nat_cmp}
 use Rattle.osgi_base.specs.declared.ids.RevisionId.{RevisionId}
 use Rattle.osgi_choice.proofs.Closure.{true-dec}
 use Rattle.osgi_choice.proofs.Complete.{old-settled, reached-in_force}
-use Rattle.osgi_choice.proofs.Decide.{settled-dec}
+use Rattle.osgi_choice.proofs.Decide.{closed-dec, settled-dec}
 use Rattle.osgi_choice.proofs.Twos.{stable}
 use Rattle.osgi_choice.proofs.Views.{in_force-cases, in_force-member}
 use Rattle.osgi_sources.specs.computed.Reach.{Reach, starts, steps}
@@ -37,23 +37,23 @@ module _ (K : List Known) (W : List Wiring) (N : ℕ → List ℕ) (R : RowLists
   reach-from (first {c = c} at) = starts ((is.requires r c.0).1 at)
   reach-from (more {c = c} {d = d} l at) = steps (reach-from l) ((is.reexports c.0 d.0).1 at)
 
+-- what is reached is reached by a bundle wire at first
+pub reach-first : (R : RowLists) {r x : ℕ} → Reach (Requires R r) (Reexports R) x → (c : ℕ) × Requires R r c
+reach-first R (starts {x = x} at) = (x, at)
+reach-first R (steps l at) = reach-first R l
+
 -- ---- the members that are not settled
 
 module _ (P : Problem) (L : IsProblem P) (D : Made) (N : ℕ → List ℕ) (R : RowLists) (is : AreRowsOf P.world.known (partial P D) N R)
-    (ms listed : List RevisionId) (decided open_ones set : BTreeSet ℕ) (are : ms ≡ members P D)
-    (listed-is : (r : RevisionId) → In r listed ↔ (In r (members P D) × IsDecided P D r))
-    (decided-is : (n : ℕ) → Has decided n ↔ In (id n) listed)
-    (open-is : (n : ℕ) → Has open_ones n ↔ (In (id n) ms × ¬ Has decided n))
+    (ms listed : List RevisionId) (open_ones set : BTreeSet ℕ) (are : ms ≡ members P D)
+    (listed-is : (r : RevisionId) → In r listed ↔ (In r (members P D) × ¬ IsDecided P D r))
+    (open-is : (n : ℕ) → Has open_ones n ↔ In (id n) listed)
     (set-is : (n : ℕ) → Has set n ↔ (In (id n) ms × ReachesOne R open_ones n)) where
   not-decided : (n : ℕ) → Has open_ones n → ¬ IsDecided P D (id n)
-  not-decided n has d =
-      let o = (open-is n).0 has in
-      o.1 ((decided-is n).1 ((listed-is (id n)).1 (subst (In (id n)) are o.0, d)))
+  not-decided n has = ((listed-is (id n)).0 ((open-is n).0 has)).1
 
   is-decided : (r : RevisionId) → In r (members P D) → ¬ Has open_ones r.0 → IsDecided P D r
-  is-decided r i away =
-      let d : Has decided r.0 = has-stable decided r.0 (λ n. away ((open-is r.0).1 (subst (In r) (sym are) i, n))) in
-      ((listed-is r).0 ((decided-is r.0).0 d)).1
+  is-decided r i away = stable (closed-dec P D r) (λ n. away ((open-is r.0).1 ((listed-is r).1 (i, n))))
 
   reached-decided : (r c : RevisionId) → In r (members P D) → ReachedFrom P.world.known (partial P D) r c → ¬ Has open_ones c.0 → IsDecided P D c
   reached-decided r c i l away = elim (in_force-cases P D c (reached-in_force P L D (in_force-member P D r i) l)) [

@@ -1,13 +1,14 @@
 -- A revision has two providers of a package where a row of it differs from the first one for that package.
-use Rattle.std.proofs.Common.{◌≡◌, ◌≢◌, ◌↔◌, inl, inr, ℕ, List, [], ◌∷◌, refl, sym, ◌∙◌, ap, subst, Any, Contains}
+use Rattle.std.proofs.Common.{◌≡◌, ◌≢◌, ◌<◌, ◌↔◌, inl, inr, ℕ, List, [], ◌∷◌, length, refl, sym, ◌∙◌, ap, subst, arith, Any, Contains}
 use Rattle.osgi_base.specs.declared.ids.RevisionId.{RevisionId}
 use Rattle.osgi_choice.proofs.Values.{nat-dec}
-use Rattle.osgi_sources.specs.laws.Adding.{any-of}
-use Rattle.osgi_sources.specs.laws.Members.{here}
-use Rattle.osgi_sources.proofs.Rows.{no_import, some-import, some-imported}
 use Rattle.osgi_hopeless.specs.computed.Providers.{FirstDiffers, HasTwoProviders}
 use Rattle.osgi_hopeless.specs.computed.Stuck.{TwoProviders}
+use Rattle.osgi_sources.specs.laws.Adding.{any-in, any-none, any-of}
 use Rattle.osgi_space.proofs.Bridge.{imports-to}
+use Rattle.osgi_space.proofs.Ids.{contains-in}
+use Rattle.osgi_sources.specs.laws.Members.{here}
+use Rattle.osgi_sources.proofs.Rows.{no_import, some-import, some-imported}
 use Rattle.osgi_wires.specs.Agree.{AreRowsOf, id}
 use Rattle.osgi_wires.specs.Rows.{Imports, RowLists, imports_for, imports_of}
 use Rattle.osgi_wires.specs.declared.rows.Import.{Import}
@@ -41,6 +42,24 @@ module _ (R : RowLists) (r : ℕ) where
         λ two. let z = one-differs two.0 two.1 two.2 two.3 two.4 two.5 (imports_for R r two.0) refl in
             some.1 (two.0, z.0, z.1, z.2),
       )
+
+  -- a single wire goes to one provider
+  only : (Q : Import → Type 0) (row : Import) → Any Q (row ∷ []) → Q row
+  only Q row any = elim (contains-in (row ∷ []) any.1 (any-in Q (row ∷ []) any)) [ inl e ↦ subst Q e any.4 | inr i ↦ elim i [ ] ]
+
+  abbrev Is : ℕ → ℕ → Import → Type 0
+  Is p x row = (row.imported ≡ p) × (row.provider ≡ x)
+
+  an-import : (p x : ℕ) → Imports R r p x → Any (Is p x) (imports_of R r)
+  an-import p x i = (some-imported R (λ q y. (q ≡ p) × (y ≡ x)) r).1 (p, x, i, (refl, refl))
+
+  pub few-same : (rows : List Import) → rows ≡ imports_of R r → length rows < 2 → ¬ HasTwoProviders R r
+  few-same [] e few two = any-none (Is two.0 two.1) (subst (λ xs. Any (Is two.0 two.1) xs) (sym e) (an-import two.0 two.1 two.3))
+  few-same (row ∷ []) e few two =
+      let a = only (Is two.0 two.1) row (subst (λ xs. Any (Is two.0 two.1) xs) (sym e) (an-import two.0 two.1 two.3)) in
+      let b = only (Is two.0 two.2) row (subst (λ xs. Any (Is two.0 two.2) xs) (sym e) (an-import two.0 two.2 two.4)) in
+      two.5 (sym a.1 ∙ b.1)
+  few-same (row ∷ other ∷ rows) e few two = absurd (omega (arith, few))
 
 -- the same of the wirings whose rows these are
 module _ (K : List Known) (W : List Wiring) (N : ℕ → List ℕ) (R : RowLists) (is : AreRowsOf K W N R) (m : RevisionId) where

@@ -40,6 +40,9 @@ fn is_replaced(rows: &WorldRows, capability: CapRef) -> bool
     ensures replaced { (W : List Wiring) → AreRowsIn rows.now W
         → IsTrue result ↔ ((p : List ℕ) × IsExport rows.now.known capability.owner capability.index p × ImportsElsewhere rows.now.known W capability.provider p) }
 {
+    if rows.rows().imports_of(capability.provider.0).is_empty() {
+        return false;
+    }
     let Some(package) = rows
         .known()
         .exported_package(capability.owner, capability.index)

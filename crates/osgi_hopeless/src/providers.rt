@@ -20,7 +20,11 @@ fn first_differs(rows: &Rows, revision: u32, package: u32, provider: u32) -> boo
 pub fn has_two_providers(rows: &Rows, revision: u32) -> bool
     ensures two { IsTrue result ↔ HasTwoProviders rows.now revision }
 {
-    for row in rows.imports_of(revision) {
+    let imports = rows.imports_of(revision);
+    if imports.len() < 2 {
+        return false;
+    }
+    for row in imports {
         if first_differs(rows, revision, row.imported, row.provider) {
             return true;
         }

@@ -9,6 +9,7 @@ ghost use Rattle.osgi_sources.specs.computed.Collected.{IsCollected};
 ghost use Rattle.osgi_hopeless.specs.computed.Rivals.{HasRival, HasRivals, IsCurrentSingleton, IsOther, IsPresent};
 ghost use Rattle.osgi_path.specs.Standing.{IsProblemOf, made};
 ghost use Rattle.osgi_wires.specs.Agree.{id};
+ghost use Rattle.osgi_world.specs.DueDecisions.{fragments_of, members};
 ghost use Rattle.osgi_world.specs.Lists.{In};
 ghost use Rattle.osgi_world.specs.declared.problem.Problem.{Problem};
 
@@ -23,6 +24,42 @@ fn is_current_singleton(known: &KnownIndex, revision: RevisionId) -> bool
     ensures singleton { IsTrue result ↔ IsCurrentSingleton known.now revision }
 {
     known.is_current(revision) && known.is_singleton(revision)
+}
+
+/// Whether one of the revisions is a current singleton.
+fn has_current_singleton(known: &KnownIndex, revisions: &[RevisionId]) -> bool
+    ensures some { IsTrue result ↔ ((r : RevisionId) × In r revisions.now × IsCurrentSingleton known.now r) }
+{
+    for revision in revisions {
+        if is_current_singleton(known, *revision) {
+            return true;
+        }
+    }
+    false
+}
+
+/// Whether a fragment that is attached to one of these members is a current singleton.
+fn is_one_attached(alloc: Global, path: &Path, hosts: &[RevisionId]) -> Result<bool, AllocError>
+    ensures some { IfOk result (λ answer. (P : Problem) → IsProblemOf path.now P → ((m : RevisionId) → In m hosts.now → In m (members P (made P path.now))) → (m r : RevisionId) → In m hosts.now → In r (fragments_of P (made P path.now) m) → IsCurrentSingleton path.now.world.known r → IsTrue answer) }
+{
+    for host in hosts {
+        let fragments = path.fragments(alloc, *host)?;
+        if has_current_singleton(known_at(path), fragments.as_slice()) {
+            return Ok(true);
+        }
+    }
+    Ok(false)
+}
+
+/// Whether a member, or a fragment that is attached to one, is a current singleton.
+fn is_one_new(alloc: Global, path: &Path) -> Result<bool, AllocError>
+    ensures some { IfOk result (λ answer. (P : Problem) → IsProblemOf path.now P → (r : RevisionId) → IsNew P (made P path.now) r → IsCurrentSingleton path.now.world.known r → IsTrue answer) }
+{
+    let members = path.members();
+    if has_current_singleton(known_at(path), members) {
+        return Ok(true);
+    }
+    Ok(is_one_attached(alloc, path, members)?)
 }
 
 fn add_all(found: &mut Found<u32>, revisions: &[RevisionId]) -> Result<(), AllocError>
@@ -101,6 +138,9 @@ fn has_rival(path: &Path, new: &Found<u32>, revision: RevisionId) -> bool
 pub fn has_rivals(alloc: Global, path: &Path) -> Result<bool, AllocError>
     ensures rivals { IfOk result (λ answer. (P : Problem) → IsProblemOf path.now P → IsTrue answer ↔ HasRivals P (made P path.now)) }
 {
+    if !is_one_new(alloc, path)? {
+        return Ok(false);
+    }
     let new = new_revisions(alloc, path)?;
     for revision in &new.items {
         if has_rival(path, &new, RevisionId(*revision)) {

@@ -24,23 +24,6 @@ fn numbers(alloc: Global, revisions: &[RevisionId]) -> Result<BTreeSet<u32>, All
     Ok(set)
 }
 
-/// The members that are not among the decided ones.
-fn undecided_members(
-    alloc: Global,
-    members: &[RevisionId],
-    decided: &BTreeSet<u32>,
-) -> Result<BTreeSet<u32>, AllocError>
-    ensures undecided { IfOk result (λ set. (n : ℕ) → Has set n ↔ (In (id n) members.now × ¬ Has decided.now n)) }
-{
-    let mut set = BTreeSet::new(alloc);
-    for member in members {
-        if !decided.contains(&member.0) {
-            set.insert(member.0)?;
-        }
-    }
-    Ok(set)
-}
-
 fn has_one(set: &BTreeSet<u32>, numbers: &[u32]) -> bool
     ensures one { IsTrue result ↔ ((n : ℕ) × In n numbers.now × Has set.now n) }
 {
@@ -63,6 +46,9 @@ fn reaches_one(
 {
     if set.contains(&revision) {
         return Ok(true);
+    }
+    if rows.required_by(revision).is_empty() {
+        return Ok(false);
     }
     let reached = reached_bundles(alloc, rows, revision)?;
     Ok(has_one(set, reached.items.as_slice()))
@@ -90,9 +76,7 @@ fn reaching_one(
 pub fn unsettled(alloc: Global, path: &Path) -> Result<BTreeSet<u32>, AllocError>
     ensures unsettled { IfOk result (λ set. (P : Problem) → IsProblemOf path.now P → AreUnsettled P (made P path.now) set) }
 {
-    let listed = path.decided(alloc)?;
-    let decided = numbers(alloc, listed.as_slice())?;
-    let members = path.members();
-    let undecided = undecided_members(alloc, members, &decided)?;
-    Ok(reaching_one(alloc, path.rows().rows(), members, &undecided)?)
+    let listed = path.undecided(alloc)?;
+    let undecided = numbers(alloc, listed.as_slice())?;
+    Ok(reaching_one(alloc, path.rows().rows(), path.members(), &undecided)?)
 }

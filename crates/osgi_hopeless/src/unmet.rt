@@ -64,6 +64,9 @@ fn is_owner_unmet(path: &Path, member: RevisionId, owner: RevisionId) -> bool
     ensures unmet { (P : Problem) → IsMemberOf path.now P member → IsOwner P (made P path.now) member owner
         → IsTrue result ↔ OwnUnmet P (made P path.now) member owner }
 {
+    if path.is_sure(owner) {
+        return false;
+    }
     let count = known_at(path).requirement_count(owner) as u32;
     for index in 0..count {
         if cannot_be_met(path, member, ReqRef { owner, index }) {

@@ -1,5 +1,5 @@
 -- What is due after one decision more.
-use Rattle.std.proofs.Common.{◌≡◌, ℕ, ◌+◌, ◌<◌, ◌≤◌, ◌⊎◌, inl, inr, zero, suc, Bool, true, false, IsTrue, length, take, List, [], ◌∷◌, ◌++◌, map, flat_map, reverse, Option, None, Some, refl, sym, ◌∙◌, ap, subst, arith, append-nil, length-append}
+use Rattle.std.proofs.Common.{◌≡◌, ℕ, ◌+◌, ◌<◌, ◌≤◌, inl, inr, zero, suc, IsTrue, length, List, [], ◌∷◌, ◌++◌, map, flat_map, reverse, Some, refl, sym, ◌∙◌, ap, subst, arith, append-nil, length-append}
 use Rattle.std.specs.Prelude.{All, slice_get}
 use Rattle.std.proofs.lemmas.List.{length-map, length-reverse, map-append, take-append-le}
 use Rattle.std.proofs.lemmas.List.Elements.{All-cons}
@@ -18,14 +18,13 @@ use Rattle.osgi_choice.proofs.States.{due-host, member-current, next-due}
 use Rattle.osgi_choice.specs.States.{State, step}
 use Rattle.osgi_path.specs.Standing.{decision_of}
 use Rattle.osgi_path.specs.computed.Afters.{IsAskedAfter, owners_with}
-use Rattle.osgi_path.specs.computed.Asks.{asks_of, decisions_in}
+use Rattle.osgi_path.specs.computed.Asks.{decisions_in}
 use Rattle.osgi_path.specs.computed.Courses.{CourseLists, IsRight, lists_of, made_of}
-use Rattle.osgi_path.specs.computed.Nexts.{IsNextOf, IsOpenedBy, made_with}
+use Rattle.osgi_path.specs.computed.Nexts.{IsNextOf, IsOpenedBy}
 use Rattle.osgi_path.specs.computed.Openings.{IsOpened, Waits}
 use Rattle.osgi_path.specs.declared.course.Course.{Course}
 use Rattle.osgi_path.specs.declared.course.Mark.{Mark}
 use Rattle.osgi_path.specs.declared.decision.Decision.{Decision}
-use Rattle.osgi_path.specs.declared.decision.Decision.TheVariants.{Attach, Choose, Pick}
 use Rattle.osgi_path.specs.declared.opening.More.{More}
 use Rattle.osgi_path.proofs.Grown.{asked, opened-ask, opened-last, opened-some}
 use Rattle.osgi_path.proofs.Next.{length-made_of, next-there, right-state}

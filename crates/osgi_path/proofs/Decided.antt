@@ -27,7 +27,8 @@ use Rattle.osgi_path.proofs.Next.{length-in_order, length-made_of, queue-parts, 
 use Rattle.osgi_path.specs.Standing.{decision_of}
 use Rattle.osgi_path.specs.computed.Asks.{decisions_in}
 use Rattle.osgi_path.specs.computed.Courses.{CourseLists, IsRight, made_of}
-use Rattle.osgi_path.specs.computed.Views.{asks_space, is_free, is_lone, is_none_of, is_of_space, is_spatial}
+use Rattle.osgi_path.specs.computed.Free.{asks_space, is_free, is_lone, is_none_of, is_of_space}
+use Rattle.osgi_path.specs.computed.Views.{is_spatial}
 use Rattle.osgi_path.specs.declared.course.Mark.{Mark}
 use Rattle.osgi_path.specs.declared.decision.Decision as code
 

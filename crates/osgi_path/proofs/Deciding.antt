@@ -1,5 +1,5 @@
 -- A decision with who joins by it.
-use Rattle.std.proofs.Common.{◌≡◌, ℕ, ◌+◌, ◌<◌, ◌⊎◌, length, List, ◌++◌, reverse, Option, Some, Ok, Err, refl, sym, ◌∙◌, ap, subst}
+use Rattle.std.proofs.Common.{◌≡◌, ℕ, ◌+◌, ◌<◌, ◌⊎◌, length, List, ◌++◌, reverse, Option, Some, sym, ◌∙◌, ap, subst}
 use Rattle.std.specs.Prelude.{slice_get}
 use Rattle.std.specs.Option.{option_to_list}
 use Rattle.osgi_base.specs.declared.ids.RevisionId.{RevisionId}
@@ -10,7 +10,6 @@ use Rattle.osgi_world.specs.declared.world.World.{World}
 use Rattle.osgi_path.specs.Standing.{decision_of}
 use Rattle.osgi_path.specs.computed.Asks.{decisions_in}
 use Rattle.osgi_path.specs.computed.Courses.{CourseLists, IsRight, lists_of}
-use Rattle.osgi_path.specs.computed.Known.{IsProblemIn}
 use Rattle.osgi_path.specs.computed.Nexts.{IsDecidedBy, IsDecidedWith, made_with}
 use Rattle.osgi_path.specs.computed.Openings.{IsOpened}
 use Rattle.osgi_path.specs.declared.course.Course.{Course}

@@ -3,8 +3,8 @@ use Rattle.std.proofs.Common.{◌≡◌, ℕ, ◌+◌, ◌<◌, ◌≤◌, ◌�
 use Rattle.std.proofs.lemmas.List.{get_or_default}
 use Rattle.osgi_base.specs.declared.ids.RevisionId.{RevisionId}
 use Rattle.osgi_world.specs.Candidates.{IsProblem, matching}
-use Rattle.osgi_world.specs.Decisions.{Decision, IsMade, Made, attaching, host, is_yes, value_made}
-use Rattle.osgi_world.specs.DueDecisions.{attachments, decisions_of, due, fragments_of, in_turn, members, payload, queue}
+use Rattle.osgi_world.specs.Decisions.{Decision, IsMade, Made, attaching, is_yes, value_made}
+use Rattle.osgi_world.specs.DueDecisions.{attachments, decisions_of, due, fragments_of, in_turn, members}
 use Rattle.osgi_world.specs.Lists.{In, Two}
 use Rattle.osgi_world.specs.Payloads.{own_requirements}
 use Rattle.osgi_world.specs.declared.problem.Problem.{Problem}
@@ -12,10 +12,9 @@ use Rattle.osgi_choice.proofs.Complete.{members-once}
 use Rattle.osgi_choice.proofs.Lists.{flat_map-in}
 use Rattle.osgi_choice.proofs.Queue.{made-in_order, queued}
 use Rattle.osgi_choice.proofs.States.{due-host, due-in}
-use Rattle.osgi_choice.proofs.Values.{not-open_made}
 use Rattle.osgi_choice.specs.Queue.{in_order}
 use Rattle.osgi_choice.specs.States.{State}
-use Rattle.osgi_path.specs.computed.Asks.{asks_of, first_among, first_due}
+use Rattle.osgi_path.specs.computed.Asks.{first_among, first_due}
 use Rattle.osgi_path.specs.computed.Openings.{IsOpened}
 use Rattle.osgi_path.proofs.Grown.{asked, made-due, one-more, open-due, same-front}
 use Rattle.osgi_path.proofs.Next.{length-in_order, queue-parts}

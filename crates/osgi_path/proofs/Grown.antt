@@ -1,5 +1,5 @@
 -- The queue after one decision more.
-use Rattle.std.proofs.Common.{◌≡◌, ◌≢◌, ℕ, ◌+◌, ◌-◌, ◌<◌, ◌≤◌, ◌⊎◌, inl, inr, zero, suc, Bool, true, false, IsTrue, if◌then◌else◌, length, take, drop, List, [], ◌∷◌, ◌++◌, map, filter, flat_map, Option, Some, None, refl, sym, ◌∙◌, ap, subst, arith, append-nil, append_assoc, length-append, get_or}
+use Rattle.std.proofs.Common.{◌≡◌, ℕ, ◌+◌, ◌<◌, ◌≤◌, ◌⊎◌, inl, inr, zero, suc, Bool, true, false, IsTrue, if◌then◌else◌, length, take, drop, List, [], ◌∷◌, ◌++◌, flat_map, Option, Some, None, refl, sym, ◌∙◌, ap, subst, arith, append-nil, append_assoc, length-append, get_or}
 use Rattle.std.specs.Prelude.{slice_get}
 use Rattle.std.specs.List.{list_any}
 use Rattle.std.proofs.lemmas.Grind.{flat_map-append}
@@ -11,8 +11,6 @@ use Rattle.osgi_world.specs.Decisions.{Decision, IsMade, Made, attaching, choose
 use Rattle.osgi_world.specs.DueDecisions.{attachments, decisions_of, due, in_turn, members, payload, queue}
 use Rattle.osgi_world.specs.Lists.{In, Two}
 use Rattle.osgi_world.specs.declared.problem.Problem.{Problem}
-use Rattle.osgi_world.specs.declared.wiring.CapRef.{CapRef}
-use Rattle.osgi_world.specs.declared.wiring.ReqRef.{ReqRef}
 use Rattle.osgi_choice.proofs.Lists.{any-in, in-any, in-append_cases, in-append_left, in-append_right, in-map, map-in}
 use Rattle.osgi_choice.proofs.Queue.{due-once, due-same, in_order-made, queued}
 use Rattle.osgi_choice.proofs.States.{IsDue, attaches, chooses, due-in, picks}

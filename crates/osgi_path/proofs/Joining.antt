@@ -3,7 +3,6 @@ use Rattle.std.proofs.Common.{◌≡◌, Bool, true, false, ◌||◌, ◌==◌, 
 use Rattle.std.specs.List.{list_any}
 use Rattle.osgi_base.specs.declared.ids.RevisionId.{RevisionId}
 use Rattle.osgi_world.specs.DueDecisions.{is_in_force, provider_of, pull_in}
-use Rattle.osgi_world.specs.Lists.{In}
 use Rattle.osgi_world.specs.Wirings.{InForce}
 use Rattle.osgi_world.specs.declared.problem.Problem.{Problem}
 use Rattle.osgi_world.specs.declared.wiring.Wire.{Wire}

@@ -13,3 +13,4 @@ pub mod Viewing
 pub mod Decided
 pub mod Rows
 pub mod Payloads
+pub mod Owners

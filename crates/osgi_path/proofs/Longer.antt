@@ -1,15 +1,15 @@
 -- A course with one decision more.
-use Rattle.std.proofs.Common.{◌≡◌, ℕ, ◌+◌, ◌<◌, ◌≤◌, ◌⊎◌, inl, inr, zero, suc, IsTrue, length, take, List, [], ◌∷◌, ◌++◌, filter, flat_map, map, reverse, Option, None, Some, refl, sym, ◌∙◌, ap, subst, arith, length-append}
+use Rattle.std.proofs.Common.{◌≡◌, ℕ, ◌<◌, inl, inr, IsTrue, length, take, List, [], ◌∷◌, ◌++◌, flat_map, reverse, Option, None, Some, refl, sym, ◌∙◌, ap, subst, arith}
 use Rattle.std.specs.Prelude.{slice_get}
 use Rattle.std.specs.Option.{option_to_list}
 use Rattle.std.proofs.lemmas.List.{length-map, length-reverse, reverse-append}
 use Rattle.std.proofs.Math.Seq.{take-append_seam}
 use Rattle.osgi_base.specs.declared.ids.RevisionId.{RevisionId}
-use Rattle.osgi_world.specs.Candidates.{IsProblem, matching}
+use Rattle.osgi_world.specs.Candidates.{IsProblem}
 use Rattle.osgi_world.specs.ChoiceWords.{IsWord, decide, made_by, make, width}
 use Rattle.osgi_world.specs.Decisions as spec
 use Rattle.osgi_world.specs.Decisions.{Made, adds, arity, attached, attaching, choose, is_yes, value_made}
-use Rattle.osgi_world.specs.DueDecisions.{due, fragments_of, members, next_decision, payload, provider_of, pull_in}
+use Rattle.osgi_world.specs.DueDecisions.{members, next_decision, payload, provider_of, pull_in}
 use Rattle.osgi_world.specs.Lists.{In}
 use Rattle.osgi_world.specs.declared.problem.Problem.{Problem}
 use Rattle.osgi_world.specs.Lookups.{is_effective}
@@ -20,7 +20,6 @@ use Rattle.osgi_choice.proofs.Lists.{in-append_cases}
 use Rattle.osgi_choice.proofs.States.{IsDue, attaches, chooses, fragments-in, member-current, next-due, payload-asked, payload-in, picks}
 use Rattle.osgi_choice.proofs.Values.{value-cases}
 use Rattle.osgi_choice.proofs.Words.{made-more, word-more}
-use Rattle.osgi_choice.specs.States.{State}
 use Rattle.osgi_path.specs.Standing.{decision_of}
 use Rattle.osgi_path.specs.computed.Asks.{decisions_in}
 use Rattle.osgi_path.specs.computed.Courses.{AreKnown, AreSteps, CourseLists, IsRight, lists_of, made_of, taken_back, word_of}

@@ -1,5 +1,5 @@
 -- Marks, the last first, and the values of their decisions.
-use Rattle.std.proofs.Common.{◌≡◌, ℕ, ◌+◌, ◌<◌, length, get_or, take, if◌then◌else◌, List, [], ◌∷◌, ◌++◌, Option, Some, map, reverse, refl, sym, ◌∙◌, ap}
+use Rattle.std.proofs.Common.{◌≡◌, ℕ, ◌+◌, ◌<◌, length, get_or, take, if◌then◌else◌, List, [], ◌∷◌, ◌++◌, Some, map, reverse, refl, sym, ◌∙◌, ap}
 use Rattle.std.proofs.lemmas.List.{reverse-append, take_more}
 use Rattle.osgi_world.specs.Decisions.{Decision, same_decision, value_made}
 use Rattle.osgi_path.specs.Standing.{decision_of}

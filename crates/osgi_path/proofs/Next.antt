@@ -11,7 +11,6 @@ use Rattle.osgi_world.specs.DueDecisions.{due, members, next_decision, queue}
 use Rattle.osgi_world.specs.Lists.{In}
 use Rattle.osgi_world.specs.declared.problem.Problem.{Problem}
 use Rattle.osgi_choice.proofs.Queue.{next-queued, queued}
-use Rattle.osgi_choice.proofs.Values.{open-none}
 use Rattle.osgi_choice.proofs.Words.{word-state}
 use Rattle.osgi_choice.specs.Queue.{in_order}
 use Rattle.osgi_choice.specs.States.{State}

@@ -2,16 +2,15 @@
 use Rattle.std.proofs.Common.{◌≡◌, ℕ, ◌<◌, ◌⊎◌, Bool, true, false, IsTrue, inl, inr, zero, suc, length, take, List, [], ◌∷◌, ◌++◌, map, reverse, Option, None, Some, if◌then◌else◌, refl, sym, ◌∙◌, ap, ap₂, subst, arith}
 use Rattle.std.specs.Prelude.{is_some, not, slice_get}
 use Rattle.std.proofs.lemmas.Bool.{false≢true}
-use Rattle.std.proofs.lemmas.List.{length-map, length-reverse}
+use Rattle.std.proofs.lemmas.List.{length-reverse}
 use Rattle.std.proofs.lemmas.Option.{slice_get_cases}
 use Rattle.osgi_base.specs.declared.ids.RevisionId.{RevisionId}
-use Rattle.osgi_world.specs.Candidates.{IsProblem, candidates}
+use Rattle.osgi_world.specs.Candidates.{candidates}
 use Rattle.osgi_world.specs.ChoiceWords.{IsComplete, made_by, width}
-use Rattle.osgi_world.specs.Decisions as spec
 use Rattle.osgi_world.specs.Decisions.{Made, arity, wired_to}
-use Rattle.osgi_world.specs.DueDecisions.{members, next_decision, payload}
+use Rattle.osgi_world.specs.DueDecisions.{fragments_of, members, next_decision, payload}
 use Rattle.osgi_world.specs.Lists.{In}
-use Rattle.osgi_world.specs.Lookups.{is_effective, is_optional}
+use Rattle.osgi_world.specs.Lookups.{is_current, is_effective, is_optional, requirement_count}
 use Rattle.osgi_world.specs.Partial.{partial}
 use Rattle.osgi_world.specs.declared.problem.Problem.{Problem}
 use Rattle.osgi_world.specs.declared.world.Known.{Known}
@@ -21,12 +20,13 @@ use Rattle.osgi_world.specs.declared.wiring.ReqRef.{ReqRef}
 use Rattle.osgi_wires.specs.Steps.{with_steps}
 use Rattle.osgi_wires.specs.Worlds.{AreRowsIn, WorldLists}
 use Rattle.osgi_uses.specs.States.{SpacesState, wirings_of}
-use Rattle.osgi_choice.proofs.Values.{some-inj}
+use Rattle.osgi_choice.proofs.States.{in-payload}
 use Rattle.osgi_path.specs.Standing.{HasValue, IsProblemOf, Standing, decision_of, made}
 use Rattle.osgi_path.specs.computed.Asks.{decisions_in}
 use Rattle.osgi_path.specs.computed.Courses.{CourseLists, IsAlong, IsRight, lists_of, made_of, steps_of, taken_back, word_of}
-use Rattle.osgi_path.specs.computed.Known.{AreRight, IsProblemIn}
-use Rattle.osgi_path.specs.computed.Moving.{AreLearnt, IsLearnt, IsLonger, IsOnWay}
+use Rattle.osgi_path.specs.Sure.{AreSure}
+use Rattle.osgi_path.specs.computed.Known.{AreRight, IsProblemIn, Knows}
+use Rattle.osgi_path.specs.computed.Moving.{IsLearnt, IsLonger, IsOnWay}
 use Rattle.osgi_path.specs.computed.Nexts.{IsSameCourse}
 use Rattle.osgi_path.specs.computed.Steps.{IsAsked, IsListed, steps_in}
 use Rattle.osgi_path.specs.computed.Views.{IsReady}
@@ -37,6 +37,7 @@ use Rattle.osgi_path.specs.declared.decision.Decision.TheVariants.{Attach, Choos
 use Rattle.osgi_path.specs.declared.lists.Lists.{Lists}
 use Rattle.osgi_path.proofs.Longer.{asked-of, last-mark, learnt-known, listed-next, next-of}
 use Rattle.osgi_path.proofs.Next.{next-there}
+use Rattle.osgi_path.proofs.Owners.{same-candidates}
 use Rattle.osgi_path.proofs.Rows.{rows-seen}
 
 pub along-right : (P : Problem) (F : CourseLists) (ms : List Mark) → IsAlong P F ms → IsRight P ms F
@@ -103,7 +104,7 @@ module _ (W : World) (root : RevisionId) (lists : Lists) (spaces : SpacesState) 
   arity-of : (P Q : Problem) → IsProblemOf (standing_of W root c) P → IsProblemOf (standing_of W root c) Q → (d : Decision) → IsListed lists P d → IsListed lists Q d → arity P (decision_of d) ≡ arity Q (decision_of d)
   arity-of P Q p q (Attach h f) a b = refl
   arity-of P Q p q (Choose h x) a b =
-      let same : candidates P x ≡ candidates Q x = some-inj (candidates P x) (candidates Q x) (sym (on.right P (in-lists P p) x a.has a.knows) ∙ on.right Q (in-lists Q q) x b.has b.knows) in
+      let same : candidates P x ≡ candidates Q x = same-candidates lists on.right P Q (in-lists P p) (in-lists Q q) x a.knows a.has b.has in
       ap₂ (λ (cs : List CapRef) (K : List Known). length (map (λ c. wired_to h x c ∷ []) cs ++ (if is_optional K x then [] ∷ [] else []))) same (ap (λ (V : World). V.known) (p.world ∙ sym q.world))
   arity-of P Q p q (Pick h x y) a b = refl
 
@@ -205,14 +206,26 @@ module _ (W : World) (root : RevisionId) (lists : Lists) (spaces : SpacesState) 
   pub members-at : (P : Problem) → IsProblemOf s P → c.ids.items ≡ members P (made P s)
   members-at P of = (stands-at P of).ids ∙ ap (members P) (sym (made-at P of))
 
+  pub knows-at : (P : Problem) → IsProblemOf s P → (m : RevisionId) → In m (members P (made P s)) → Knows lists m
+  knows-at P of m i = on.learnt.members m (subst (In m) (sym (members-at P of)) i)
+
   pub asked-at : (P : Problem) (m : RevisionId) (q : ReqRef) → IsProblemOf s P → In m (members P (made P s)) → In q (payload P (made P s) m) → IsTrue (is_effective P.world.known q) → IsAsked lists P q
   asked-at P m q of i j e =
       asked-of P of.is lists c (stands-at P of) on.learnt m q m (subst (λ (D : Made). In m (members P D)) (made-at P of) i) (subst (λ (D : Made). In q (payload P D m)) (made-at P of) j) e
+
+  pub sure-at : (P : Problem) → IsProblemOf s P → (m owner : RevisionId) → In m (members P (made P s)) → (owner ≡ m) ⊎ In owner (fragments_of P (made P s) m) →
+      (Knows lists owner → IsTrue (is_current P.world.known owner) → AreSure P owner) → AreSure P owner
+  sure-at P of m owner i own sure q e within needed =
+      let D = made P s in
+      let j : In q (payload P D m) = in-payload P D m q (subst (λ o. (o ≡ m) ⊎ In o (fragments_of P D m)) (sym e) own) (subst (λ o. q.index < requirement_count P.world.known o) (sym e) within) in
+      let asked = asked-at P m q of i j needed.effective in
+      sure (subst (Knows lists) e asked.knows) (subst (λ o. IsTrue (is_current P.world.known o)) e asked.has.current) q e within needed
 
   pub ready-at : (P : Problem) → IsProblemOf s P → IsReady P lists c
   ready-at P of = record {
     in_it = lists-at P of;
     at = stands-at P of;
+    learnt = on.learnt;
     known = learnt-known P lists (reverse c.marks.items) (lists_of c) (stands-at P of) on.learnt;
   }
 

@@ -3,7 +3,7 @@
 use Rattle.std.specs.Prelude.{◌≡◌, ◌<◌, ℕ, List}
 use Rattle.osgi_base.specs.declared.ids.RevisionId.{RevisionId}
 use Rattle.osgi_world.specs.Candidates.{IsProblem}
-use Rattle.osgi_world.specs.ChoiceWords.{IsWord, made_by, width}
+use Rattle.osgi_world.specs.ChoiceWords.{made_by, width}
 use Rattle.osgi_world.specs.Decisions as decisions
 use Rattle.osgi_world.specs.Decisions.{Made, attaching, choose, pick}
 use Rattle.osgi_world.specs.declared.problem.Problem.{Problem}

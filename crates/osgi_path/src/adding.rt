@@ -167,7 +167,7 @@ fn wiring_of(
     requires right { AreRight lists.now }
     ensures wiring { IfOk result (λ made. (P : Problem) → IsReady P lists.now course.now → In member course.now.ids.items → made ≡ wiring P (decided_in course.now) member) }
 {
-    let fragments = fragments(alloc, &lists.offers, course, member)?;
+    let fragments = fragments(alloc, lists, course, member)?;
     let mut wires = List::new(alloc)?;
     add_owner(&mut wires, lists, course, member, member)?;
     add_owners(&mut wires, lists, course, member, fragments.as_slice())?;

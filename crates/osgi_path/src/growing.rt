@@ -171,10 +171,10 @@ pub fn first_of(
     ensures kept { KnowsAll lists.old lists.new }
     ensures first { IfOk result (λ list. (P : Problem) → IsProblemIn lists.old.offers P → IsTrue (is_current P.world.known member) → decisions_in list.items ≡ first_due P member) }
 {
-    let fragments = lists.offers.fragments_for(alloc, member)?;
-    if !fragments.is_empty() {
-        return Ok(attachments_of(alloc, member, fragments.as_slice())?);
-    }
     lists.learn(alloc, member)?;
+    let fragments = lists.fragments_for(member);
+    if !fragments.is_empty() {
+        return Ok(attachments_of(alloc, member, fragments)?);
+    }
     Ok(asks_of(alloc, lists, member, &[member])?)
 }

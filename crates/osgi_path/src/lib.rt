@@ -11,6 +11,7 @@ mod lists;
 mod moves;
 mod moving;
 mod opening;
+mod owned;
 mod path;
 mod step;
 mod views;

@@ -1,6 +1,6 @@
 //! The path of a search from the empty word to where it stands.
 
-ghost use Rattle.std.specs.Prelude.{◌≡◌, ◌↔◌, ◌∷◌, [], ◌++◌, IsTrue, IfOk, OnOk, OnErr, MatchOption};
+ghost use Rattle.std.specs.Prelude.{◌≡◌, ◌↔◌, ◌⊎◌, ◌∷◌, [], ◌++◌, IsTrue, IfOk, OnOk, OnErr, MatchOption};
 ghost use Rattle.std.specs.Bool.{Decides};
 ghost use Rattle.osgi_base.specs.declared.ids.RevisionId.{RevisionId};
 ghost use Rattle.osgi_world.specs.Candidates.{candidates};
@@ -14,6 +14,7 @@ ghost use Rattle.osgi_world.specs.Partial as partial;
 ghost use Rattle.osgi_world.specs.Wirings.{HasWire};
 ghost use Rattle.osgi_world.specs.declared.problem.Problem.{Problem};
 ghost use Rattle.osgi_wires.specs.Worlds.{AreRowsIn};
+ghost use Rattle.osgi_path.specs.Sure.{AreSure};
 ghost use Rattle.osgi_path.specs.Standing.{HasValue, IsProblemOf, decision_of, made};
 ghost use Rattle.osgi_path.specs.declared.wired.Wired.{Wired};
 
@@ -183,11 +184,11 @@ impl<'w> Path<'w> {
         self.course.ids.as_slice()
     }
 
-    /// The members whose attachments, bundle requirements and imports are decided.
-    pub fn decided(&self, alloc: Global) -> Result<Vec<RevisionId>, AllocError>
-        ensures decided { IfOk result (λ list. (P : Problem) → IsProblemOf self.now P → (r : RevisionId) → In r list.items ↔ In r (members P (made P self.now)) × IsDecided P (made P self.now) r) }
+    /// The members that have an attachment, a bundle requirement or an import left to decide.
+    pub fn undecided(&self, alloc: Global) -> Result<Vec<RevisionId>, AllocError>
+        ensures undecided { IfOk result (λ list. (P : Problem) → IsProblemOf self.now P → (r : RevisionId) → In r list.items ↔ In r (members P (made P self.now)) × ¬ IsDecided P (made P self.now) r) }
     {
-        views::decided(alloc, &self.lists.offers, &self.course)
+        views::undecided(alloc, &self.lists, &self.course)
     }
 
     /// The fragments that are attached to a member, as far as decided, by bundle id.
@@ -198,7 +199,7 @@ impl<'w> Path<'w> {
     ) -> Result<Vec<RevisionId>, AllocError>
         ensures fragments { IfOk result (λ list. (P : Problem) → IsProblemOf self.now P → In member (members P (made P self.now)) → list.items ≡ fragments_of P (made P self.now) member) }
     {
-        views::fragments(alloc, &self.lists.offers, &self.course, member)
+        views::fragments(alloc, &self.lists, &self.course, member)
     }
 
     /// The candidates of an effective requirement of a member's payload.
@@ -206,6 +207,14 @@ impl<'w> Path<'w> {
         ensures candidates { (P : Problem) (m : RevisionId) → IsProblemOf self.now P → In m (members P (made P self.now)) → In requirement (payload P (made P self.now) m) → IsTrue (is_effective P.world.known requirement) → result.now ≡ candidates P requirement }
     {
         self.lists.candidates(requirement)
+    }
+
+    /// Whether each requirement that is needed of an owner of a member's payload has a candidate, and may have one wire alone. Where
+    /// the answer is false, that need not be so.
+    pub fn is_sure(&self, owner: RevisionId) -> bool
+        ensures sure { IsTrue result → (P : Problem) (m : RevisionId) → IsProblemOf self.now P → In m (members P (made P self.now)) → (owner ≡ m) ⊎ In owner (fragments_of P (made P self.now) m) → AreSure P owner }
+    {
+        self.lists.is_sure(owner)
     }
 
     /// The wires that the decisions made.

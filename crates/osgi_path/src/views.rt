@@ -1,6 +1,6 @@
 //! What is seen of a course: fragments, decided members and wires.
 
-ghost use Rattle.std.specs.Prelude.{◌≡◌, ◌↔◌, ◌&&◌, ◌<◌, IfOk, IsTrue, Some, drop, length, reverse, slice_get};
+ghost use Rattle.std.specs.Prelude.{◌≡◌, ◌↔◌, IfOk, Some, drop, length, reverse, slice_get};
 ghost use Rattle.std.specs.Bool.{Decides};
 ghost use Rattle.std.specs.List.{list_any};
 ghost use Rattle.std.specs.Option.{option_to_list};
@@ -10,28 +10,26 @@ ghost use Rattle.osgi_world.specs.Decisions.{attaching, is_yes, value_made};
 ghost use Rattle.osgi_world.specs.DueDecisions.{fragments_of, members};
 ghost use Rattle.osgi_world.specs.Hopeless.{IsDecided};
 ghost use Rattle.osgi_world.specs.Lists.{In};
-ghost use Rattle.osgi_world.specs.Lookups.{is_current, requirement_count};
 ghost use Rattle.osgi_world.specs.Partial.{partial};
-ghost use Rattle.osgi_world.specs.Payloads.{own_requirements};
 ghost use Rattle.osgi_world.specs.Wirings.{HasWire};
 ghost use Rattle.osgi_world.specs.declared.problem.Problem.{Problem};
-ghost use Rattle.osgi_world.specs.declared.wiring.ReqRef.{ReqRef};
 ghost use Rattle.osgi_path.specs.Standing.{decision_of};
 ghost use Rattle.osgi_path.specs.computed.Courses.{word_of};
-ghost use Rattle.osgi_path.specs.computed.Known.{IsProblemIn};
-ghost use Rattle.osgi_path.specs.computed.Views.{IsAt, asks_space, decided_in, is_free, is_of_space, is_spatial, wired_by};
+ghost use Rattle.osgi_path.specs.computed.Known.{AreRight, IsProblemIn, Knows};
+ghost use Rattle.osgi_path.specs.computed.Moving.{IsLearnt};
+ghost use Rattle.osgi_path.specs.computed.Views.{IsAt, decided_in, is_spatial, wired_by};
 ghost use Rattle.osgi_path.specs.declared.wired.Wired.{Wired};
 
 use crate::course::{Course, Mark};
 use crate::decision::Decision;
 use crate::growing::{is_first, value_of};
+use crate::lists::Lists;
+use crate::owned::is_of_space;
 use crate::step::Step;
 use crate::wired::Wired;
 use osgi_base::ids::RevisionId;
 use osgi_base::list::List;
 use osgi_candidates::Offers;
-use osgi_lookup::namespaces::{is_bundle, is_package};
-use osgi_world::wiring::ReqRef;
 use std::alloc::{AllocError, Global};
 
 // ---- fragments
@@ -46,15 +44,15 @@ fn has_fragment(course: &Course, host: RevisionId, fragment: RevisionId) -> bool
 /// The fragments that are attached to a member, by bundle id.
 pub fn fragments(
     alloc: Global,
-    offers: &Offers,
+    lists: &Lists,
     course: &Course,
     member: RevisionId,
 ) -> Result<Vec<RevisionId>, AllocError>
-    ensures fragments { IfOk result (λ list. (P : Problem) → IsProblemIn offers.now P → list.items ≡ fragments_of P (decided_in course.now) member) }
+    requires right { AreRight lists.now }
+    ensures fragments { IfOk result (λ list. (P : Problem) → IsProblemIn lists.now.offers P → Knows lists.now member → list.items ≡ fragments_of P (decided_in course.now) member) }
 {
-    let matching = offers.fragments_for(alloc, member)?;
     let mut fragments = Vec::new(alloc);
-    for fragment in &matching {
+    for fragment in lists.fragments_for(member) {
         if has_fragment(course, member, *fragment) {
             fragments.push(*fragment)?;
         }
@@ -63,13 +61,6 @@ pub fn fragments(
 }
 
 // ---- decided members
-
-/// Whether a requirement of the namespace is for a bundle or a package.
-fn is_of_space(namespace: &[u8]) -> bool
-    ensures of_space { result ≡ is_of_space namespace.now }
-{
-    is_bundle(namespace) || is_package(namespace)
-}
 
 /// Whether the decision is on an attachment, a bundle requirement or an import.
 fn is_spatial(offers: &Offers, decision: Decision) -> bool
@@ -94,79 +85,32 @@ fn is_spatial_left(offers: &Offers, course: &Course) -> bool
         .any(|decision| is_spatial(offers, *decision))
 }
 
-/// Whether the requirement of a bundle or a package has a decision.
-fn asks_space(alloc: Global, offers: &Offers, requirement: ReqRef) -> Result<bool, AllocError>
-    ensures asks { IfOk result (λ asks. (P : Problem) → IsProblemIn offers.now P → IsTrue (is_current P.world.known requirement.owner) → requirement.index < requirement_count P.world.known requirement.owner → asks ≡ asks_space P requirement) }
-{
-    let known = offers.known();
-    if !(known.is_effective(requirement) && is_of_space(known.requirement_namespace(requirement))) {
-        return Ok(false);
-    }
-    if !known.is_multiple(requirement) {
-        return Ok(true);
-    }
-    let candidates = offers.candidates(alloc, requirement)?;
-    Ok(!candidates.is_empty())
-}
-
-/// Whether an owner has a requirement of a bundle or a package that has a decision.
-fn owner_asks_space(alloc: Global, offers: &Offers, owner: RevisionId) -> Result<bool, AllocError>
-    ensures asks { IfOk result (λ asks. (P : Problem) → IsProblemIn offers.now P → IsTrue (is_current P.world.known owner) → asks ≡ list_any (asks_space P) (own_requirements P.world.known owner)) }
-{
-    let mut asks = false;
-    for index in 0..offers.known().requirement_count(owner) {
-        let requirement = ReqRef {
-            owner,
-            index: index as u32,
-        };
-        if !asks {
-            asks = asks_space(alloc, offers, requirement)?;
-        }
-    }
-    Ok(asks)
-}
-
-/// Whether a member of which nothing is decided yet has nothing of space to decide.
-fn is_decided_early(alloc: Global, offers: &Offers, member: RevisionId) -> Result<bool, AllocError>
-    ensures early { IfOk result (λ early. (P : Problem) → IsProblemIn offers.now P → IsTrue (is_current P.world.known member) → early ≡ is_free P member) }
-{
-    let fragments = offers.fragments_for(alloc, member)?;
-    if !fragments.is_empty() {
-        return Ok(false);
-    }
-    Ok(!owner_asks_space(alloc, offers, member)?)
-}
-
 /// Whether the member at this place is decided.
-fn is_decided_at(
-    alloc: Global,
-    offers: &Offers,
-    course: &Course,
-    place: usize,
-    member: RevisionId,
-) -> Result<bool, AllocError>
-    ensures decided { IfOk result (λ decided. (P : Problem) → IsProblemIn offers.now P → IsAt P course.now → slice_get course.now.ids.items place ≡ Some member → Decides decided (IsDecided P (decided_in course.now) member)) }
+fn is_decided_at(lists: &Lists, course: &Course, place: usize, member: RevisionId) -> bool
+    requires right { AreRight lists.now }
+    ensures decided { (P : Problem) → IsProblemIn lists.now.offers P → Knows lists.now member → IsAt P course.now → slice_get course.now.ids.items place ≡ Some member → Decides result (IsDecided P (decided_in course.now) member) }
 {
     if place < course.last {
-        return Ok(true);
+        return true;
     }
     if place == course.last {
-        return Ok(!is_spatial_left(offers, course));
+        return !is_spatial_left(&lists.offers, course);
     }
-    Ok(is_decided_early(alloc, offers, member)?)
+    lists.is_free(member)
 }
 
-/// The members whose attachments, bundle requirements and imports are decided.
-pub fn decided(
+/// The members that have an attachment, a bundle requirement or an import left to decide.
+pub fn undecided(
     alloc: Global,
-    offers: &Offers,
+    lists: &Lists,
     course: &Course,
 ) -> Result<Vec<RevisionId>, AllocError>
-    ensures decided { IfOk result (λ list. (P : Problem) → IsProblemIn offers.now P → IsAt P course.now → (r : RevisionId) → In r list.items ↔ In r (members P (decided_in course.now)) × IsDecided P (decided_in course.now) r) }
+    requires right { AreRight lists.now }
+    ensures undecided { IfOk result (λ list. (P : Problem) → IsProblemIn lists.now.offers P → IsLearnt lists.now course.now → IsAt P course.now → (r : RevisionId) → In r list.items ↔ In r (members P (decided_in course.now)) × ¬ IsDecided P (decided_in course.now) r) }
 {
     let mut list = Vec::new(alloc);
     for (place, member) in course.ids.iter().enumerate() {
-        if is_decided_at(alloc, offers, course, place, *member)? {
+        if !is_decided_at(lists, course, place, *member) {
             list.push(*member)?;
         }
     }
@@ -189,7 +133,7 @@ fn wired_by(step: Option<Step>) -> Option<Wired>
 pub fn wires(alloc: Global, course: &Course) -> Result<Vec<Wired>, AllocError>
     ensures wires { IfOk result (λ list. (P : Problem) → IsProblem P → IsAt P course.now → (w : Wired) → In w list.items ↔ In w.revision (members P (decided_in course.now)) × HasWire (partial P (decided_in course.now)) w.revision w.wire) }
 {
-    let mut list = Vec::new(alloc);
+    let mut list = Vec::with_capacity(alloc, course.marks.len())?;
     for mark in &course.marks {
         if let Some(wired) = wired_by(mark.step) {
             list.push(wired)?;

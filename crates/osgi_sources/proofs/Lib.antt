@@ -5,3 +5,4 @@ mod Givers
 mod Agreeing
 mod Clashing
 mod Worklist
+mod Alone

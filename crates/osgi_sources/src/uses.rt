@@ -4,7 +4,7 @@ ghost use Rattle.std.specs.Prelude.{◌↔◌, Any, All, IfOk, IsTrue};
 ghost use Rattle.std.specs.BTreeSet.{contains};
 ghost use Rattle.std.specs.Ordering.{nat_cmp};
 ghost use Rattle.osgi_sources.specs.computed.Amongst.{IsAmong};
-ghost use Rattle.osgi_sources.specs.computed.Clashes.{IsClash, KeepsUses, KeepsUsesAmong};
+ghost use Rattle.osgi_sources.specs.computed.Clashes.{HasWires, IsClash, KeepsUses, KeepsUsesAmong};
 ghost use Rattle.osgi_sources.specs.computed.Disputes.{AreDisputed};
 ghost use Rattle.osgi_sources.specs.declared.given.Given.{Given};
 ghost use Rattle.osgi_world.specs.declared.wiring.Wiring.{Wiring};
@@ -68,7 +68,18 @@ fn are_kept(
     Ok(true)
 }
 
-/// Whether no constraint of the revision that comes from these revisions alone is violated.
+/// Whether the revision has a wire for a package or for a required bundle.
+fn has_wires(rows: &Rows, revision: u32) -> bool
+    ensures wires { IsTrue result ↔ HasWires rows.now revision }
+{
+    if !rows.imports_of(revision).is_empty() {
+        return true;
+    }
+    !rows.required_by(revision).is_empty()
+}
+
+/// Whether no constraint of the revision that comes from these revisions alone is violated. One without wires has all packages
+/// from itself, and so agrees with itself.
 pub fn keeps_uses(
     alloc: Global,
     rows: &Rows,
@@ -83,6 +94,9 @@ pub fn keeps_uses(
         return Ok(true);
     }
     if !among.has(revision) {
+        return Ok(true);
+    }
+    if !has_wires(rows, revision) {
         return Ok(true);
     }
     let space = space_of(alloc, rows, revision)?;

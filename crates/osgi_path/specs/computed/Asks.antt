@@ -1,5 +1,5 @@
 -- The decisions of requirements, by the kind of these.
-use Rattle.std.specs.Prelude.{ℕ, List, Bool, [], ◌∷◌, ◌++◌, filter, flat_map, map, if◌then◌else◌}
+use Rattle.std.specs.Prelude.{ℕ, List, Bool, [], ◌∷◌, flat_map, map, if◌then◌else◌}
 use Rattle.std.specs.List.{list_any}
 use Rattle.osgi_base.specs.declared.ids.RevisionId.{RevisionId}
 use Rattle.osgi_world.specs.Candidates.{matching}

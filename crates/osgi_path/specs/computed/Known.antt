@@ -1,33 +1,38 @@
--- The candidates that were asked for.
-use Rattle.std.specs.Prelude.{◌≡◌, ℕ, IsSome, List, Option, Some, slice_get, option_and_then}
+-- What was found out of owners.
+use Rattle.std.specs.Prelude.{◌≡◌, IsSome, IsTrue, Some, slice_get}
 use Rattle.std.specs.BTreeMap.{get}
 use Rattle.std.specs.Option.{option_map}
 use Rattle.std.specs.Ordering.{nat_cmp}
 use Rattle.osgi_base.specs.declared.ids.RevisionId.{RevisionId}
-use Rattle.osgi_world.specs.Candidates.{CanBeAsked, IsProblem, candidates}
+use Rattle.osgi_world.specs.Candidates.{CanBeAsked, IsProblem, candidates, matching}
+use Rattle.osgi_world.specs.Lookups.{is_current}
 use Rattle.osgi_world.specs.declared.problem.Problem.{Problem}
-use Rattle.osgi_world.specs.declared.wiring.CapRef.{CapRef}
 use Rattle.osgi_world.specs.declared.wiring.ReqRef.{ReqRef}
 use Rattle.osgi_world.specs.declared.world.World.{World}
+use Rattle.osgi_path.specs.Sure.{AreSure}
+use Rattle.osgi_path.specs.computed.Free.{is_free}
 use Rattle.osgi_path.specs.declared.lists.Lists.{Lists}
+use Rattle.osgi_path.specs.declared.owned.Owned.{Owned}
 
 -- P is a problem in the world
 pub record IsProblemIn (W : World) (P : Problem) : Type 0 where
   pub world : P.world ≡ W
   pub is : IsProblem P
 
--- the lists have those of the owner's requirements
+-- the lists know the owner
 abbrev pub Knows : Lists → RevisionId → Type 0
 Knows lists owner = IsSome (get nat_cmp lists.by_owner owner.0)
 
--- what is listed for a requirement
-abbrev pub listed : Lists → ReqRef → Option (List CapRef)
-listed lists q = option_and_then (λ of. option_map (λ list. list.items) (slice_get of.items q.index)) (get nat_cmp lists.by_owner q.owner.0)
+-- what was found out of the owner is so in the problem
+pub record IsRightOf (P : Problem) (owner : RevisionId) (of : Owned) : Type 0 where
+  pub candidates_are : (q : ReqRef) → q.owner ≡ owner → CanBeAsked P.world.known q → option_map (λ list. list.items) (slice_get of.lists.items q.index) ≡ Some (candidates P q)
+  pub fragments_are : of.fragments.items ≡ matching P owner
+  pub free_is : IsTrue (is_current P.world.known owner) → of.is_free ≡ is_free P owner
+  pub sure_is : IsTrue (is_current P.world.known owner) → IsTrue of.is_sure → AreSure P owner
 
--- it is the candidates, in any problem of the world
+-- what was found out is so in any problem of the world
 abbrev pub AreRight : Lists → Type 0
-AreRight lists =
-    (P : Problem) → IsProblemIn lists.offers P → (q : ReqRef) → CanBeAsked P.world.known q → Knows lists q.owner → listed lists q ≡ Some (candidates P q)
+AreRight lists = (P : Problem) → IsProblemIn lists.offers P → (owner : RevisionId) (of : Owned) → get nat_cmp lists.by_owner owner.0 ≡ Some of → IsRightOf P owner of
 
 -- what was known still is
 abbrev pub KnowsAll : Lists → Lists → Type 0

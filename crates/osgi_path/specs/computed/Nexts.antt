@@ -10,7 +10,7 @@ use Rattle.osgi_path.specs.Standing.{decision_of}
 use Rattle.osgi_path.specs.computed.Asks.{decisions_in}
 use Rattle.osgi_path.specs.computed.Courses.{IsRight, lists_of, made_of}
 use Rattle.osgi_path.specs.computed.Known.{IsProblemIn}
-use Rattle.osgi_path.specs.computed.Openings.{IsOpened, Waits}
+use Rattle.osgi_path.specs.computed.Openings.{IsOpened}
 use Rattle.osgi_path.specs.declared.course.Course.{Course}
 use Rattle.osgi_path.specs.declared.course.Mark.{Mark}
 use Rattle.osgi_path.specs.declared.decision.Decision.{Decision}

@@ -1,5 +1,5 @@
 -- What the values of decisions add, as the code has it.
-use Rattle.std.specs.Prelude.{ℕ, List, [], ◌∷◌, Option, None, Some}
+use Rattle.std.specs.Prelude.{List, [], ◌∷◌, Option, None, Some}
 use Rattle.osgi_world.specs.Candidates.{CanBeAsked}
 use Rattle.osgi_world.specs.Decisions as steps
 use Rattle.osgi_world.specs.Decisions.{attached, wired}

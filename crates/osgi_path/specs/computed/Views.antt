@@ -1,22 +1,20 @@
 -- What is seen of a course: which decisions are of packages and bundles, and the wires that marks made.
-use Rattle.std.specs.Prelude.{◌≡◌, ◌⊎◌, ℕ, ◌&&◌, ◌||◌, not, Bool, true, false, List, [], ◌∷◌, Option, None, Some, flat_map, reverse}
-use Rattle.std.specs.List.{list_any}
+use Rattle.std.specs.Prelude.{◌≡◌, ◌⊎◌, ℕ, Bool, true, List, [], ◌∷◌, Option, None, Some, flat_map, reverse}
 use Rattle.osgi_base.specs.declared.ids.RevisionId.{RevisionId}
-use Rattle.osgi_world.specs.Candidates.{candidates, matching}
 use Rattle.osgi_world.specs.Decisions as decisions
 use Rattle.osgi_world.specs.Decisions.{Made, attaching, choose, pick}
 use Rattle.osgi_world.specs.DueDecisions.{fragments_of}
 use Rattle.osgi_world.specs.Lists.{In, item_at}
-use Rattle.osgi_world.specs.Lookups.{is_effective, is_multiple, requirement_namespace}
-use Rattle.osgi_world.specs.Payloads.{own_requirements}
-use Rattle.osgi_world.specs.Satisfaction.{is_bundle, is_package}
+use Rattle.osgi_world.specs.Lookups.{requirement_namespace}
 use Rattle.osgi_world.specs.declared.problem.Problem.{Problem}
 use Rattle.osgi_world.specs.declared.wiring.CapRef.{CapRef}
 use Rattle.osgi_world.specs.declared.wiring.ReqRef.{ReqRef}
 use Rattle.osgi_world.specs.declared.wiring.Wire.{Wire}
 use Rattle.osgi_world.specs.declared.world.Known.{Known}
 use Rattle.osgi_path.specs.computed.Courses.{AreKnown, IsRight, lists_of, made_of}
+use Rattle.osgi_path.specs.computed.Free.{is_of_space}
 use Rattle.osgi_path.specs.computed.Known.{IsProblemIn}
+use Rattle.osgi_path.specs.computed.Moving.{IsLearnt}
 use Rattle.osgi_path.specs.declared.course.Course.{Course}
 use Rattle.osgi_path.specs.declared.course.Mark.{Mark}
 use Rattle.osgi_path.specs.declared.lists.Lists.{Lists}
@@ -34,31 +32,10 @@ decided_in course = made_of (reverse course.marks.items)
 
 -- ---- decisions of attachments, bundle requirements and imports
 
-abbrev pub is_of_space : List ℕ → Bool
-is_of_space namespace = is_bundle namespace || is_package namespace
-
 abbrev pub is_spatial : List Known → decisions.Decision → Bool
 is_spatial K (attaching h f) = true
 is_spatial K (choose h q) = is_of_space (requirement_namespace K q)
 is_spatial K (pick h q c) = is_of_space (requirement_namespace K q)
-
-abbrev pub is_none_of : List CapRef → Bool
-is_none_of [] = true
-is_none_of (c ∷ cs) = false
-
--- the requirement has such a decision
-abbrev pub asks_space : Problem → ReqRef → Bool
-asks_space P q =
-    (is_effective P.world.known q && is_of_space (requirement_namespace P.world.known q))
-    && not (is_multiple P.world.known q && is_none_of (candidates P q))
-
-abbrev pub is_lone : List RevisionId → Bool
-is_lone [] = true
-is_lone (f ∷ fs) = false
-
--- the member has nothing of space to decide
-abbrev pub is_free : Problem → RevisionId → Bool
-is_free P m = is_lone (matching P m) && not (list_any (asks_space P) (own_requirements P.world.known m))
 
 -- ---- wires
 
@@ -76,6 +53,7 @@ wired_in ms = flat_map (λ (m : Mark). wired_by m.step) ms
 pub record IsReady (P : Problem) (lists : Lists) (course : Course) : Type 0 where
   pub in_it : IsProblemIn lists.offers P
   pub at : IsAt P course
+  pub learnt : IsLearnt lists course
   pub known : AreKnown P lists (decided_in course) course.ids.items
 
 -- an owner of a part of the host's payload

@@ -1,6 +1,6 @@
 -- Clashes, as the code looks for them.
-use Rattle.std.specs.Prelude.{ℕ, List, Contains}
-use Rattle.osgi_wires.specs.Rows.{RowLists}
+use Rattle.std.specs.Prelude.{ℕ, ◌⊎◌, List, Contains}
+use Rattle.osgi_wires.specs.Rows.{Imports, Requires, RowLists}
 use Rattle.osgi_sources.specs.computed.RowSources.{Clash, Implied}
 use Rattle.osgi_sources.specs.declared.given.Given.{Given}
 
@@ -19,3 +19,7 @@ KeepsUsesAmong R A r = (e u : ℕ) → Implied R A r e u → ¬ Clash R r e u
 -- no implied constraint of r is violated
 abbrev pub KeepsUses : RowLists → ℕ → Type 0
 KeepsUses R r = KeepsUsesAmong R (λ x. Unit {0}) r
+
+-- r has a wire for a package or for a required bundle
+abbrev pub HasWires : RowLists → ℕ → Type 0
+HasWires R r = ((p x : ℕ) × Imports R r p x) ⊎ ((c : ℕ) × Requires R r c)

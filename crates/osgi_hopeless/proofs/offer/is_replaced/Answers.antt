@@ -1,14 +1,26 @@
 -- What is no export is not replaced, and a package without a number is imported by none.
-use Rattle.std.proofs.Common.{◌≡◌, ◌↔◌, ◌∙◌, inl, ℕ, List, refl, sym, subst, IsTrue}
-use Rattle.osgi_sources.specs.computed.RowSources.{ImportsElsewhere as RowsElsewhere}
+use Rattle.std.proofs.Common.{◌≡◌, ◌↔◌, ◌∙◌, inl, ℕ, List, [], refl, sym, ap, subst, IsTrue}
 use Rattle.osgi_hopeless.proofs.Answering.{no}
+use Rattle.osgi_hopeless.proofs.Offering.{no-import-of}
+use Rattle.osgi_sources.proofs.Lengths.{empty-true}
 use Rattle.osgi_space.proofs.Bridge.{elsewhere-from, elsewhere-to}
 use Rattle.osgi_space.proofs.Numbering.{named, source-number}
+use Rattle.osgi_sources.specs.computed.RowSources.{ImportsElsewhere as RowsElsewhere}
 use Rattle.osgi_wires.specs.Names.{HasNumber, name_of}
-use Rattle.osgi_wires.specs.Rows.{RowLists}
+use Rattle.osgi_wires.specs.Rows.{RowLists, imports_of}
 use Rattle.osgi_world.specs.Wirings.{ImportsElsewhere, IsExport}
 use Rattle.osgi_world.specs.declared.world.Known.{Known}
 use Rattle.osgi_hopeless.proofs.offer.is_replaced.Goals as goal
+
+pub returns-then-is_empty : goal.returns-then-is_empty
+returns-then-is_empty c = record {
+  replaced = λ W is. no (λ r.
+      let world = c.args.rows.now in
+      let provider = c.args.capability.provider in
+      let none : imports_of world.rows provider.0 ≡ [] = ap (λ (R : RowLists). imports_of R provider.0) (sym c.rows.ensures.rows) ∙ sym c.imports_of.ensures.rows ∙ empty-true c.imports_of.result.now (sym c.is_empty.ensures ∙ c.if-is_empty.true) in
+      let at = is.imports_from provider.0 r.2.from.0 r.0 r.2.imports in
+      no-import-of world.rows provider.0 none at.0 r.2.from.0 at.2);
+}
 
 pub returns-in_default : goal.returns-in_default
 returns-in_default c = record {
@@ -40,7 +52,7 @@ returns-in-Some-number c = record {
       let has = subst (λ (names : List (List ℕ)). HasNumber names q number) c.names.ensures.names c.in-Some-number.ensures.number in
       let name : N number ≡ q = named world.names q number has in
       let elsewhere : IsTrue c.imports_elsewhere.result ↔ RowsElsewhere world.rows provider.0 number =
-      subst (λ (R : RowLists). IsTrue c.imports_elsewhere.result ↔ RowsElsewhere R provider.0 number) c.rows.ensures.rows c.imports_elsewhere.ensures.elsewhere in (
+      subst (λ (R : RowLists). IsTrue c.imports_elsewhere.result ↔ RowsElsewhere R provider.0 number) c.rows-in-Some-number.ensures.rows c.imports_elsewhere.ensures.elsewhere in (
         λ t. (q, export, subst (ImportsElsewhere world.known W provider) name (elsewhere-to world.known W N world.rows is provider.0 number (elsewhere.0 t))),
         λ r.
             let same : r.0 ≡ N number = sym r.1.1 ∙ export.1 ∙ sym name in

@@ -4,4 +4,4 @@ use Rattle.osgi_hopeless.proofs.TwoProviders.{Differs}
 use Rattle.osgi_hopeless.proofs.providers.has_two_providers.Given as goal
 
 abbrev pub invariant-loop-row : goal.invariant-loop-row
-invariant-loop-row l = ¬ Any (Differs l.rows l.revision) (take l.row-index l.row-items)
+invariant-loop-row l = ¬ Any (Differs l.rows l.revision) (take l.row-index l.imports)

@@ -19,8 +19,8 @@ returns c = record {
       let rows = c.rows.result.now in
       let N = name_of rows.names in
       let is : AreRowsOf P.world.known (partial P D) N rows.rows = subst (λ K. AreRowsOf K (partial P D) N rows.rows) (known-is c.args.path.now P L rows.known c.rows.ensures.known) (c.rows.ensures.rows P L) in
-      let set-is = subst (λ (R : RowLists). (n : ℕ) → Has c.in_ok-reaching_one.field-0 n ↔ (In (id n) c.members-members.result.now × ReachesOne R c.in_ok-undecided.undecided n)) c.rows-2.ensures.rows c.in_ok-reaching_one.ensures.reaching in
-      let decided-is = subst (λ (xs : List RevisionId). (n : ℕ) → Has c.in_ok-decided.decided n ↔ In (id n) xs) c.as_slice.ensures.value c.in_ok-decided.ensures.numbers in
-      are-unsettled P L.is D N rows.rows is c.members-members.result.now c.in_ok-listed.listed.items c.in_ok-decided.decided c.in_ok-undecided.undecided c.in_ok-reaching_one.field-0 (c.members-members.ensures.members P L)
-      (c.in_ok-listed.ensures.decided P L) decided-is c.in_ok-undecided.ensures.undecided set-is;
+      let set-is = subst (λ (R : RowLists). (n : ℕ) → Has c.in_ok-reaching_one.field-0 n ↔ (In (id n) c.members.result.now × ReachesOne R c.in_ok-undecided.undecided n)) c.rows-2.ensures.rows c.in_ok-reaching_one.ensures.reaching in
+      let open-is = subst (λ (xs : List RevisionId). (n : ℕ) → Has c.in_ok-undecided.undecided n ↔ In (id n) xs) c.as_slice.ensures.value c.in_ok-undecided.ensures.numbers in
+      are-unsettled P L.is D N rows.rows is c.members.result.now c.in_ok-listed.listed.items c.in_ok-undecided.undecided c.in_ok-reaching_one.field-0 (c.members.ensures.members P L)
+      (c.in_ok-listed.ensures.undecided P L) open-is set-is;
 }

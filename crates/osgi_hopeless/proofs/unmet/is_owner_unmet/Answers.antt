@@ -1,5 +1,5 @@
 -- The next requirement, and the first that cannot be met.
-use Rattle.std.proofs.Common.{◌≡◌, ◌<◌, ◌≤◌, ◌∙◌, ap, subst, below_more, arith}
+use Rattle.std.proofs.Common.{inl, inr, refl, ◌≡◌, ◌<◌, ◌≤◌, ◌∙◌, ap, subst, below_more, arith}
 use Rattle.osgi_choice.proofs.States.{in-payload}
 use Rattle.osgi_coherence.proofs.OneValue.{not_true}
 use Rattle.osgi_hopeless.proofs.Answering.{known-is, no, yes}
@@ -7,6 +7,13 @@ use Rattle.osgi_hopeless.specs.computed.Stuck.{CannotBeMet, place}
 use Rattle.osgi_path.specs.Standing.{made}
 use Rattle.osgi_world.specs.Lookups.{requirement_count}
 use Rattle.osgi_hopeless.proofs.unmet.is_owner_unmet.Goals as goal
+
+pub returns-then-is_sure : goal.returns-then-is_sure
+returns-then-is_sure c = record {
+  unmet = λ P M o. no (λ u.
+      let sure = c.is_sure.ensures.sure c.if-is_sure.true P c.args.member M.problem M.member o (place c.args.owner u.0) refl u.1 u.2.needed in
+      elim u.2.no_wire [ inl none ↦ sure.some none | inr m ↦ sure.single m.0 ]);
+}
 
 pub loop-index-preserved : goal.loop-index-preserved
 loop-index-preserved c = λ P M o.

@@ -1,5 +1,5 @@
 -- All kinds, in turn.
-use Rattle.std.proofs.Common.{◌++◌, ◌∙◌, ap, sym}
+use Rattle.std.proofs.Common.{◌++◌, ◌∙◌, ap}
 use Rattle.osgi_path.specs.computed.Asks.{asks_by, decisions_in}
 use Rattle.osgi_path.specs.declared.kind.Kind.TheVariants.{Bundle, Other, Package}
 use Rattle.osgi_path.proofs.Asking.{asks-in_turn}

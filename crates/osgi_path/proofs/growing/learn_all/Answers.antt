@@ -1,6 +1,5 @@
 -- One owner more.
-use Rattle.std.proofs.Common.{get_or, ◌∙◌}
-use Rattle.std.proofs.lemmas.List.{get_or_default}
+use Rattle.std.proofs.Common.{◌∙◌}
 use Rattle.std.proofs.lemmas.List.Elements.{All-more}
 use Rattle.osgi_base.specs.declared.ids.RevisionId.{RevisionId}
 use Rattle.osgi_path.specs.computed.Known.{Knows}

@@ -16,12 +16,12 @@ use Rattle.osgi_path.proofs.views.is_decided_at.Goals as goal
 
 pub returns-then-place-course : goal.returns-then-place-course
 returns-then-place-course c = record {
-  decided = λ P in_it at there. let course = c.args.course.now in (λ t. decided-before P in_it.is (reverse course.marks.items) (lists_of course) at c.args.place c.args.member there (omega arith), λ d. refl);
+  decided = λ P in_it knows at there. let course = c.args.course.now in (λ t. decided-before P in_it.is (reverse course.marks.items) (lists_of course) at c.args.place c.args.member there (omega arith), λ d. refl);
 }
 
 pub returns-then-place-course-2 : goal.returns-then-place-course-2
 returns-then-place-course-2 c = record {
-  decided = λ P in_it at there.
+  decided = λ P in_it knows at there.
       let course = c.args.course.now in
       let left = c.is_spatial_left.ensures.left ∙ ap (λ (W : World). list_any (λ d. is_spatial W.known (decision_of d)) (drop (length course.marks.items) course.queue.items)) (sym in_it.world) in
       subst (λ b. Decides (not b) (IsDecided P (decided_in course) c.args.member)) (sym left)
@@ -30,11 +30,11 @@ returns-then-place-course-2 c = record {
 
 pub returns : goal.returns
 returns c = record {
-  decided = λ P in_it at there.
+  decided = λ P in_it knows at there.
       let course = c.args.course.now in
       let ms = reverse course.marks.items in
       let m = c.args.member in
       let is_current = member-current P in_it.is (decided_in course) (right-state P ms (lists_of course) at) m (subst (Rattle.osgi_world.specs.Lists.In m) at.ids (get-in course.ids.items c.args.place m there)) in
-      subst (λ b. Decides b (IsDecided P (decided_in course) m)) (sym (c.in_ok-is_decided_early.ensures.early P in_it is_current.0))
+      subst (λ b. Decides b (IsDecided P (decided_in course) m)) (sym (c.is_free.ensures.free P c.requires.right in_it knows is_current.0))
       (decided-later P in_it.is ms (lists_of course) at c.args.place m there (omega arith));
 }

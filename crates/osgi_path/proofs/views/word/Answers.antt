@@ -1,5 +1,5 @@
 -- The values of all marks.
-use Rattle.std.proofs.Common.{◌≡◌, ◌∙◌, map, ap, sym, arith}
+use Rattle.std.proofs.Common.{◌∙◌, map, ap, sym, arith}
 use Rattle.std.proofs.lemmas.List.{take_all}
 use Rattle.osgi_path.specs.declared.course.Mark.{Mark}
 use Rattle.osgi_path.proofs.Marks.{word-values}

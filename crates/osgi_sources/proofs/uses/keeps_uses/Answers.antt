@@ -4,9 +4,10 @@ use Rattle.std.proofs.lemmas.Bool.{false≢true}
 use Rattle.std.specs.BTreeSet.{contains}
 use Rattle.std.specs.Ordering.{nat_cmp}
 use Rattle.osgi_sources.specs.computed.Amongst.{IsAmong}
-use Rattle.osgi_sources.specs.computed.Clashes.{IsClash, KeepsUsesAmong}
+use Rattle.osgi_sources.specs.computed.Clashes.{HasWires, IsClash, KeepsUsesAmong}
 use Rattle.osgi_sources.specs.declared.given.Given.{Given}
 use Rattle.osgi_sources.specs.laws.Adding.{any-in, any-of}
+use Rattle.osgi_sources.proofs.Alone.{agrees-with-itself}
 use Rattle.osgi_sources.proofs.Agreeing.{clash-disputed}
 use Rattle.osgi_sources.specs.laws.Following.{none-implied}
 use Rattle.osgi_sources.proofs.uses.keeps_uses.Goals as goal
@@ -30,6 +31,11 @@ returns-then-not-has c =
     let keeps : KeepsUsesAmong c.args.rows.now (IsAmong c.args.among) c.args.revision = λ e u implied clash.
     none-implied c.args.rows.now (IsAmong c.args.among) c.args.revision away (record { «package» = u; source = e }) implied in
     record { kept = (λ t. keeps, λ k. refl) }
+
+pub returns-then-not-has_wires : goal.returns-then-not-has_wires
+returns-then-not-has_wires c =
+    let none : ¬ HasWires c.args.rows.now c.args.revision = λ has. let yes = c.has_wires.ensures.wires.1 has in let no = c.if-not-has_wires.true in cc in
+    record { kept = (λ t. agrees-with-itself c.args.rows.now c.args.revision none (IsAmong c.args.among), λ k. refl) }
 
 pub returns-then-not-has_disputed : goal.returns-then-not-has_disputed
 returns-then-not-has_disputed c =

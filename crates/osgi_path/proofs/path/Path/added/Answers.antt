@@ -1,6 +1,6 @@
 -- The wirings of the members.
-use Rattle.std.proofs.Common.{◌≡◌, ◌∙◌, ◌∷◌, ◌++◌, Ok, Err, List, reverse, ap, sym, subst}
-use Rattle.std.specs.Prelude.{IfOk, OnErr, OnOk}
+use Rattle.std.proofs.Common.{◌≡◌, ◌∙◌, Ok, Err, ap, sym}
+use Rattle.std.specs.Prelude.{IfOk}
 use Rattle.osgi_world.specs.Partial as partial
 use Rattle.osgi_world.specs.declared.problem.Problem.{Problem}
 use Rattle.osgi_path.specs.Standing.{IsProblemOf, made}

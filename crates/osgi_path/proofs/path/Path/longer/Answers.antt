@@ -1,6 +1,6 @@
 -- The next decision is made.
-use Rattle.std.proofs.Common.{◌≡◌, ◌∙◌, ◌∷◌, ◌++◌, Ok, Err, List, reverse, ap, sym, subst}
-use Rattle.std.specs.Prelude.{IfOk, OnErr, OnOk}
+use Rattle.std.proofs.Common.{◌≡◌, Ok, Err, sym, subst}
+use Rattle.std.specs.Prelude.{OnErr, OnOk}
 use Rattle.osgi_path.specs.Standing.{HasValue}
 use Rattle.osgi_path.specs.computed.Moving.{IsLonger, IsOnWay}
 use Rattle.osgi_path.specs.computed.Nexts.{IsSameCourse}

@@ -1,6 +1,5 @@
 -- They are the members of the course.
-use Rattle.std.proofs.Common.{◌≡◌, ◌∙◌, ◌∷◌, ◌++◌, Ok, Err, List, reverse, ap, sym, subst}
-use Rattle.std.specs.Prelude.{IfOk, OnErr, OnOk}
+use Rattle.std.proofs.Common.{◌∙◌, sym}
 use Rattle.osgi_path.proofs.OnWay.{members-at}
 use Rattle.osgi_path.proofs.path.Path.members.Goals as goal
 

@@ -1,5 +1,4 @@
 -- The last decision is taken back.
-use Rattle.std.proofs.Common.{sym}
 use Rattle.osgi_path.proofs.OnWay.{on-shorter}
 use Rattle.osgi_path.proofs.path.Path.shorter.Goals as goal
 

@@ -1,6 +1,5 @@
 -- The value of its mark.
-use Rattle.std.proofs.Common.{◌≡◌, ◌∙◌, ◌∷◌, ◌++◌, Ok, Err, List, reverse, ap, sym, subst}
-use Rattle.std.specs.Prelude.{IfOk, OnErr, OnOk}
+use Rattle.std.proofs.Common.{◌∙◌, reverse, ap, sym}
 use Rattle.osgi_world.specs.Decisions.{value_made}
 use Rattle.osgi_path.specs.Standing.{decision_of}
 use Rattle.osgi_path.specs.computed.Courses.{made_of}

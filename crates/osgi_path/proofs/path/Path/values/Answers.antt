@@ -1,6 +1,5 @@
 -- The decision that waits is the next one.
-use Rattle.std.proofs.Common.{◌≡◌, ◌∙◌, ◌∷◌, ◌++◌, Ok, Err, List, reverse, ap, sym, subst}
-use Rattle.std.specs.Prelude.{IfOk, OnErr, OnOk}
+use Rattle.std.proofs.Common.{◌∙◌, sym}
 use Rattle.osgi_path.proofs.OnWay.{lists-at, next-listed, none-wide, some-wide}
 use Rattle.osgi_path.proofs.path.Path.values.Goals as goal
 

@@ -1,17 +1,14 @@
 -- Of the decisions of the course.
-use Rattle.std.proofs.Common.{◌≡◌, ◌↔◌, ◌∙◌, ◌∷◌, ◌++◌, Ok, Err, List, reverse, ap, sym, subst}
-use Rattle.std.specs.Prelude.{IfOk, OnErr, OnOk}
+use Rattle.std.proofs.Common.{◌↔◌, Ok, Err, sym, subst}
+use Rattle.std.specs.Prelude.{IfOk}
 use Rattle.osgi_world.specs.Candidates.{IsProblem}
-use Rattle.osgi_base.specs.declared.ids.RevisionId.{RevisionId}
 use Rattle.osgi_world.specs.Decisions.{Made}
-use Rattle.osgi_world.specs.DueDecisions.{fragments_of, members}
-use Rattle.osgi_world.specs.Hopeless.{IsDecided}
+use Rattle.osgi_world.specs.DueDecisions.{members}
 use Rattle.osgi_world.specs.Lists.{In}
 use Rattle.osgi_world.specs.Partial as partial
 use Rattle.osgi_world.specs.Wirings.{HasWire}
 use Rattle.osgi_world.specs.declared.problem.Problem.{Problem}
 use Rattle.osgi_path.specs.Standing.{IsProblemOf, made}
-use Rattle.osgi_path.specs.computed.Known.{IsProblemIn}
 use Rattle.osgi_path.specs.computed.Views.{IsAt, decided_in}
 use Rattle.osgi_path.specs.declared.wired.Wired.{Wired}
 use Rattle.osgi_path.proofs.OnWay.{made-at, stands-at}

@@ -6,7 +6,7 @@ use Rattle.osgi_world.specs.Candidates.{CanBeAsked, candidates}
 use Rattle.osgi_world.specs.declared.problem.Problem.{Problem}
 use Rattle.osgi_world.specs.declared.wiring.ReqRef.{ReqRef}
 use Rattle.osgi_path.specs.computed.Known.{IsProblemIn}
-use Rattle.osgi_path.proofs.lists.lists_of.Given as goal
+use Rattle.osgi_path.proofs.owned.lists_of.Given as goal
 
 abbrev pub invariant-loop-index : goal.invariant-loop-index
 invariant-loop-index l = record {

@@ -5,8 +5,8 @@ use Rattle.osgi_world.specs.Lists.{below}
 use Rattle.osgi_world.specs.Lookups.{is_current}
 use Rattle.osgi_world.specs.declared.problem.Problem.{Problem}
 use Rattle.osgi_path.specs.computed.Known.{IsProblemIn}
-use Rattle.osgi_path.specs.computed.Views.{asks_space}
-use Rattle.osgi_path.proofs.views.owner_asks_space.Given as goal
+use Rattle.osgi_path.specs.computed.Free.{asks_space}
+use Rattle.osgi_path.proofs.owned.owner_asks_space.Given as goal
 
 abbrev pub invariant-loop-index : goal.invariant-loop-index
 invariant-loop-index l =
