@@ -52,14 +52,22 @@ fn run_block(rt: &HostRuntime, core: &mut Core, block: &str) -> Result<()> {
     Ok(())
 }
 
+/// Runs the blocks of a text one after another.
+fn run_blocks(rt: &HostRuntime, core: &mut Core, text: &str) -> Result<()> {
+    for block in text.split("\n.\n") {
+        run_block(rt, core, block)?;
+    }
+    Ok(())
+}
+
 /// Runs the blocks of a text on one machine.
 pub fn run(rt: &HostRuntime, text: &str) -> Result<()> {
     let depot = Depot {
         rows: List::new(rt.alloc())?,
     };
     let mut core = Core::new(rt.alloc(), Limits::standard(), depot)?;
-    for block in text.split("\n.\n") {
-        run_block(rt, &mut core, block)?;
-    }
-    Ok(())
+    let ran = run_blocks(rt, &mut core, text);
+    // Its parts are few, and its tables many: a machine that is dropped whole takes minutes of proof.
+    let _ = core.into_parts();
+    ran
 }

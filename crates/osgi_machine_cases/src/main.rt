@@ -28,8 +28,8 @@ use osgi_ops::limits::Limits;
 use rows::add_answer;
 use std::io;
 
-fn main(rt: HostRuntime) -> io::Result<()> {
-    let mut core = Core::new(rt.alloc(), Limits::standard(), depot_of(rt.alloc(), "")?)?;
+/// Answers each row of standard input.
+fn answer_all(rt: &HostRuntime, core: &mut Core) -> io::Result<()> {
     for line in rt.lines(rt.alloc()) {
         let line = line?;
         let line = line.as_str();
@@ -37,9 +37,17 @@ fn main(rt: HostRuntime) -> io::Result<()> {
             println!(rt; "{line}")?;
         } else {
             let mut answer = String::new(rt.alloc());
-            add_answer(rt.alloc(), &mut answer, &mut core, line)?;
+            add_answer(rt.alloc(), &mut answer, core, line)?;
             println!(rt; "{line} => {answer}")?;
         }
     }
     Ok(())
+}
+
+fn main(rt: HostRuntime) -> io::Result<()> {
+    let mut core = Core::new(rt.alloc(), Limits::standard(), depot_of(rt.alloc(), "")?)?;
+    let answered = answer_all(&rt, &mut core);
+    // Its parts are few, and its tables many: a machine that is dropped whole takes minutes of proof.
+    let _ = core.into_parts();
+    answered
 }

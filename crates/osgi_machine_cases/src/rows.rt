@@ -13,6 +13,7 @@ use osgi_ops::op::Op;
 use osgi_rows::asked::asked;
 use osgi_rows::words::{number, split_bundle};
 use std::alloc::{AllocError, Global};
+use std::mem;
 
 /// Limits with room for so many entries, a million at most.
 fn limited(entries: u32) -> Limits {
@@ -31,7 +32,8 @@ fn begin(
     entries: u32,
     location: &str,
 ) -> Result<(), AllocError> {
-    *core = Core::new(alloc, limited(entries), depot_of(alloc, location)?)?;
+    let next = Core::new(alloc, limited(entries), depot_of(alloc, location)?)?;
+    let _ = mem::replace(core, next).into_parts();
     put(out, "begun")
 }
 

@@ -1,7 +1,7 @@
 -- Which sources new revisions and wirings add to the possible ones.
-use Rattle.std.proofs.Common.{◌≡◌, ◌⊎◌, inl, inr, ℕ, List, ◌++◌, ◌-◌, ◌≤◌, length, length-append, take, drop, refl, sym, ◌∙◌, ap, subst, arith, Contains}
+use Rattle.std.proofs.Common.{◌≡◌, ◌⊎◌, inl, inr, ℕ, List, ◌++◌, length, take, drop, refl, sym, ◌∙◌, ap, subst, Contains}
 use Rattle.std.proofs.Math.Seq.{drop-append_seam}
-use Rattle.std.proofs.lemmas.List.{take-append-drop, take_rest}
+use Rattle.std.proofs.lemmas.List.{take-append-drop}
 use Rattle.std.proofs.lemmas.List.Elements.{Contains-append_cases}
 use Rattle.osgi_base.specs.declared.ids.RevisionId.{RevisionId}
 use Rattle.osgi_world.specs.Lists.{In}
@@ -76,10 +76,3 @@ module _ (K : List Known) (first : ℕ) (W : List Wiring) (old : Named) (before 
 -- the names of rows are each once
 pub once-of : (K : List Known) (W : List Wiring) (names : List (List ℕ)) (R : RowLists) → AreRowsOf K W (name_of names) R → AreOnce names
 once-of K W names R are = λ text i j at other. are.names i j (named names text i at ∙ sym (named names text j other))
-
-pub within : {X : Type 0} (xs ys : List X) → (more : List X) × (ys ≡ xs ++ more) → length xs ≤ length ys
-within xs ys (more, is) = omega (arith, ap length is, length-append xs more)
-
--- what stands after the first so many, by what is the same
-pub rest-of : {X : Type 0} (xs first ys whole : List X) → xs ≡ first → ys ≡ whole → take (length ys - length xs) (drop (length xs) ys) ≡ drop (length first) whole
-rest-of xs first ys whole is same = take_rest ys (length xs) ∙ (λ i. drop (length (is i)) (same i))

@@ -9,8 +9,8 @@ use Rattle.osgi_wires.specs.Worlds.{AreNumbered}
 use Rattle.osgi_sources.specs.computed.Disputes.{AreNoted}
 use Rattle.osgi_space.specs.declared.kept_rows.KeptRows.{KeptRows}
 
--- the rows are those of the first so many known revisions and wirings of the world, with the possible sources in them. These wirings
--- name no other revisions
+-- the rows are those of the first so many known revisions and wirings of the world, and each possible source in them is noted. The
+-- requirements, capabilities and fragments of these wirings are of these revisions
 pub record FollowsRows (kept : KeptRows) (K : List Known) (W : List Wiring) : Type 0 where
   pub known : kept.known ≤ length K
   pub wirings : kept.wirings ≤ length W

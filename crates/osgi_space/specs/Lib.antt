@@ -1,4 +1,4 @@
--- Class spaces: violated uses clauses; and what the code computes.
+-- Class spaces: violated uses clauses, the order of constraints, what a revision sees, rows that are kept; and what the code computes.
 pub mod Violations
 pub mod ImpliedOrder
 pub mod Seen

@@ -8,8 +8,8 @@ use Rattle.osgi_world.specs.declared.wiring.Wiring.{Wiring}
 use Rattle.osgi_world.specs.declared.world.Known.{Known}
 use Rattle.osgi_space.specs.declared.violation.Violation.{Violation}
 
--- an implied constraint of the revision, which comes from revisions of A alone: it and the revision that sees the package each
--- have a source of it that the other lacks
+-- an implied constraint of the revision, which comes from revisions of A alone: the revision and the one that sees the package each
+-- have a source of the package that the other lacks
 pub record IsViolated (K : List Known) (W : List Wiring) (A : RevisionId → Type 0) (v : Violation) : Type 0 where
   pub implied : Implied K W A v.revision v.seen_by v.package
   pub clash : Clash K W v.revision v.seen_by v.package

@@ -96,7 +96,7 @@ pub fn sources(
     ensures sources { IfOk result (λ list. (x : RevisionId) → In x list ↔ Sources world.now.known world.now.wirings revision «package».now x) }
 {
     let spaces = ClassSpaces::new(alloc, world)?;
-    Ok(spaces.sources(alloc, revision, package)?)
+    spaces.sources(alloc, revision, package)
 }
 
 /// The implied constraints of the revision, each once, by rising revision that sees the package, then by the package's bytes.
@@ -109,5 +109,5 @@ pub fn implied(
     ensures implied { IfOk result (λ list. (v : Implied) → In v list ↔ relation.Implied world.now.known world.now.wirings (λ x. Unit {0}) revision v.seen_by v.package) }
 {
     let spaces = ClassSpaces::new(alloc, world)?;
-    Ok(spaces.implied(alloc, revision)?)
+    spaces.implied(alloc, revision)
 }

@@ -1,13 +1,26 @@
 //! Whether the wirings of a world are consistent.
 
 ghost use Rattle.std.specs.Prelude.{◌↔◌, IfOk, IsTrue};
+ghost use Rattle.osgi_wires.specs.Worlds.{AreRowsIn};
 ghost use Rattle.osgi_world.specs.Consistency.{IsCoherent};
 
 use osgi_coherence::keeps_wiring_rules;
 use osgi_sources::uses::all_keep_uses;
 use osgi_wires::world_rows::WorldRows;
+use osgi_world::wiring::Wiring;
 use osgi_world::world::World;
 use std::alloc::{AllocError, Global};
+
+/// Whether wirings are consistent, but that it is not asked whether each wire's capability satisfies its requirement.
+fn are_consistent(alloc: Global, rows: &WorldRows, wirings: &[Wiring]) -> Result<bool, AllocError>
+    requires rows { AreRowsIn rows.now wirings.now }
+    ensures consistent { IfOk result (λ answer. IsTrue answer ↔ IsCoherent rows.now.known wirings.now) }
+{
+    if !keeps_wiring_rules(alloc, rows.known(), wirings)? {
+        return Ok(false);
+    }
+    Ok(all_keep_uses(alloc, rows.rows(), wirings)?)
+}
 
 /// Whether the wirings of the world are consistent, but that it is not asked whether each wire's capability satisfies its
 /// requirement. Nothing is asked of the world: revisions may have several wirings, and wires may go to what is not known.
@@ -16,8 +29,5 @@ pub fn is_consistent(alloc: Global, world: &World) -> Result<bool, AllocError>
 {
     let wirings = world.wirings.items();
     let rows = WorldRows::new(alloc, world.known.items(), wirings)?;
-    if !keeps_wiring_rules(alloc, rows.known(), wirings)? {
-        return Ok(false);
-    }
-    Ok(all_keep_uses(alloc, rows.rows(), wirings)?)
+    are_consistent(alloc, &rows, wirings)
 }

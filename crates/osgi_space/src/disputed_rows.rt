@@ -1,12 +1,13 @@
 //! The rows of a world, and the packages that may be disputed in them.
 
-ghost use Rattle.std.specs.Prelude.{◌≡◌, IfOk, OnErr};
-ghost use Rattle.osgi_sources.specs.computed.Disputes.{AreDisputed, AreNoted, HoldsAll};
+ghost use Rattle.std.specs.Prelude.{◌≡◌, ◌≤◌, ℕ, Contains, IfOk, OnErr, drop, length};
+ghost use Rattle.osgi_sources.specs.computed.Disputes.{AreDisputed, AreNoted, HoldsAll, IsNoted};
 ghost use Rattle.osgi_space.specs.Kept.{FollowsRows};
 ghost use Rattle.osgi_wires.specs.AllKnown.{AreAllKnown};
-ghost use Rattle.osgi_wires.specs.Rows.{RowLists};
+ghost use Rattle.osgi_wires.specs.Rows.{OwnExport, RowLists};
 ghost use Rattle.osgi_wires.specs.Worlds.{AddsStep, AreNumbered, AreRowsIn, TakesBack, with_added};
 ghost use Rattle.osgi_world.specs.Decisions.{attached, wired};
+ghost use Rattle.osgi_world.specs.Lists.{In};
 
 use crate::kept_rows::KeptRows;
 use osgi_base::ids::RevisionId;
@@ -62,7 +63,7 @@ impl<'w> DisputedRows<'w> {
         Ok(DisputedRows { rows, possible })
     }
 
-    /// The rows of a world that was followed: what is new is added to those that were kept.
+    /// The rows of a world that was followed: what is new is added to those that were kept. If memory runs out, what was kept is lost.
     pub fn resume(
         alloc: Global,
         kept: KeptRows,
@@ -80,18 +81,12 @@ impl<'w> DisputedRows<'w> {
             known: first,
             wirings: followed,
         } = kept;
-        let mut possible = possible;
         let before = WorldRows::of_more(alloc, named, known, first)?;
-        note_known(&mut possible, before.rows(), &known[first..])?;
+        let possible = with_known(possible, before.rows(), &known[first..])?;
         let imports = before.rows().imports().len();
         let attached = before.rows().attached().len();
         let rows = before.with_wirings(&wirings[followed..])?;
-        note_imports(&mut possible, &rows.rows().imports()[imports..])?;
-        note_fragments(
-            &mut possible,
-            rows.rows(),
-            &rows.rows().attached()[attached..],
-        )?;
+        let possible = with_more(possible, rows.rows(), imports, attached)?;
         Ok(DisputedRows { rows, possible })
     }
 
@@ -171,4 +166,33 @@ fn note(possible: &mut Possible, rows: &Rows, added: Added) -> Result<(), AllocE
         Added::Nothing => {}
     }
     Ok(())
+}
+
+/// The possible sources with these revisions as what their own exports come from.
+fn with_known(possible: Possible, rows: &Rows, known: &[Known]) -> Result<Possible, AllocError>
+    ensures noted { IfOk result (λ more. (k : Known) (p : ℕ) → In k known.now → OwnExport rows.now k.id.0 p → IsNoted more p k.id.0) }
+    ensures kept { IfOk result (HoldsAll possible) }
+{
+    let mut more = possible;
+    note_known(&mut more, rows, known)?;
+    Ok(more)
+}
+
+/// The possible sources with those of the wires for packages and of the attachments from these places on.
+fn with_more(
+    possible: Possible,
+    rows: &Rows,
+    imports: usize,
+    attached: usize,
+) -> Result<Possible, AllocError>
+    requires imports { imports ≤ length rows.now.imports }
+    requires attached { attached ≤ length rows.now.attached }
+    ensures imports { IfOk result (λ more. (r p x : ℕ) → Contains (drop imports rows.now.imports) (record { revision = r; imported = p; provider = x }) → IsNoted more p x) }
+    ensures attached { IfOk result (λ more. (h f p : ℕ) → Contains (drop attached rows.now.attached) (record { host = h; fragment = f }) → OwnExport rows.now f p → IsNoted more p h) }
+    ensures kept { IfOk result (HoldsAll possible) }
+{
+    let mut more = possible;
+    note_imports(&mut more, &rows.imports()[imports..])?;
+    note_fragments(&mut more, rows, &rows.attached()[attached..])?;
+    Ok(more)
 }
