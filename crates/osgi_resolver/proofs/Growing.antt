@@ -1,5 +1,5 @@
 -- What follows a world follows it as it grows.
-use Rattle.std.proofs.Common.{◌≡◌, ◌∷◌, ◌++◌, [], List, append-nil, subst}
+use Rattle.std.proofs.Common.{◌∷◌, ◌++◌, [], List, append-nil, subst}
 use Rattle.osgi_candidates.proofs.Following.{follows_known, follows_wirings}
 use Rattle.osgi_resolver.specs.computed.Following.{FollowsWorld}
 use Rattle.osgi_resolver.specs.declared.index.Index.{Index}

@@ -20,8 +20,9 @@ abbrev pub IsCause : Problem → Cause → Type 0
 IsCause P (NoCandidate q) = IsFirstLacking P q
 IsCause P Clash = (q : ReqRef) → ¬ IsLacking P q
 
--- the effort is within the budget, and this is the first good word with the wirings that it adds, or else no wirings extend the
--- present ones, for that cause; or the effort is above the budget
+-- the effort is within the budget, and this is the first good word with the wirings that it adds, or else no consistent wirings
+-- with the root in force extend the present ones, for that cause; or the effort is above the budget, and one word more than the
+-- budget was visited
 abbrev pub IsAnswer : Problem → ℕ → Answer → Type 0
 IsAnswer P budget (Found word added) = IsFirst P word × IsEffortWithin P budget × (added ≡ partial.added P (made_by P word))
 IsAnswer P budget (NoWord cause) = ((V : List Wiring) → ¬ Extends P.world.known P.world.wirings V P.root) × IsEffortWithin P budget × IsCause P cause

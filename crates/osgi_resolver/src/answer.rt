@@ -6,9 +6,9 @@ use osgi_world::wiring::{ReqRef, Wiring};
 /// Why nothing can be chosen.
 #[derive(Clone, Copy, Debug, PartialEq, Eq)]
 pub enum Cause {
-    /// The first mandatory requirement of the root itself that has no candidate.
+    /// The first mandatory effective requirement of the root itself that has no candidate.
     NoCandidate(ReqRef),
-    /// Each mandatory requirement of the root has candidates, and still no choice is consistent.
+    /// Each mandatory effective requirement of the root has candidates, and still no choice is consistent.
     Clash,
 }
 
@@ -19,7 +19,7 @@ pub enum Answer {
         word: List<u64>,
         added: List<Wiring>,
     },
-    /// No consistent wirings extend the present ones and contain the root.
+    /// No consistent wirings extend the present ones and contain the root, and the effort is within the budget.
     NoWord(Cause),
     /// The effort is above the budget.
     Spent {

@@ -18,7 +18,7 @@ use std::alloc::{AllocError, Global};
 use std::marker::Model;
 
 /// The known revisions and the wirings in force, as `Wirings` has them. A resolve makes use of what an earlier one has found out,
-/// and looks only at what is new in the world since.
+/// and reads only what is new in the world since, and the ids of the known revisions.
 #[derive(Drop)]
 pub struct IndexedWirings {
     alloc: Global,
@@ -97,7 +97,8 @@ impl IndexedWirings {
     }
 
     /// Resolves the root: searches for the first good choice of its wires, of those of the revisions that these pull in, and of the
-    /// fragments that are attached. At most so many words of choices are looked at as the budget says. Nothing is put in force.
+    /// fragments that are attached. The budget limits the effort: how many words that are not hopeless come before the first good
+    /// one or, where none is good, how many there are. Nothing is put in force.
     pub fn resolve(&mut self, root: RevisionId, budget: u64) -> Result<Answer, AllocError>
         requires unresolved { IsUnresolved self.old.world.known self.old.world.wirings root }
         requires budget { budget < 2 ^ 64 - 1 }

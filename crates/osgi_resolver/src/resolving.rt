@@ -26,7 +26,8 @@ use std::alloc::{AllocError, Global};
 use std::mem;
 
 /// Resolves the root: searches for the first good choice of its wires, of those of the revisions that these pull in, and of the
-/// fragments that are attached. At most so many words of choices are looked at as the budget says.
+/// fragments that are attached. The budget limits the effort: how many words that are not hopeless come before the first good one
+/// or, where none is good, how many there are.
 pub fn resolve(
     alloc: Global,
     world: &World,

@@ -7,10 +7,10 @@ ghost use Rattle.osgi_world.specs.Candidates.{IsUnresolved};
 use crate::shown::{push_cause, push_found};
 use osgi_base::ids::RevisionId;
 use osgi_base::list::List;
-use osgi_resolver::{Answer, IndexedWirings};
+use osgi_resolver::{Answer, IndexedWirings, resolve};
 use osgi_wiring::Wirings;
 use osgi_world::wiring::Wiring;
-use std::alloc::AllocError;
+use std::alloc::{AllocError, Global};
 use std::fmt::Write;
 
 /// Why a revision cannot be resolved, if it cannot.
@@ -75,5 +75,36 @@ pub fn push_resolved(
     match obstacle(wirings.wirings(), root) {
         Some(reason) => out.push_str(reason),
         None => push_answer(out, wirings, root, budget),
+    }
+}
+
+/// Adds how a revision that may be resolved is resolved where nothing of its world was kept. Nothing is put in force.
+fn push_answer_anew(
+    alloc: Global,
+    out: &mut String,
+    wirings: &Wirings,
+    root: RevisionId,
+    budget: u32,
+) -> Result<(), AllocError>
+    requires unresolved { IsUnresolved wirings.now.world.known wirings.now.world.wirings root }
+{
+    match resolve(alloc, wirings.world(), root, u64::from(budget))? {
+        Answer::Found { word, added } => push_found(out, word.items(), added.items()),
+        Answer::NoWord(cause) => push_cause(out, wirings, cause),
+        Answer::Spent { visited } => write!(out, "spent {visited}"),
+    }
+}
+
+/// Adds how a revision is resolved where nothing of its world was kept, or why it cannot be.
+pub fn push_resolved_anew(
+    alloc: Global,
+    out: &mut String,
+    wirings: &Wirings,
+    root: RevisionId,
+    budget: u32,
+) -> Result<(), AllocError> {
+    match obstacle(wirings, root) {
+        Some(reason) => out.push_str(reason),
+        None => push_answer_anew(alloc, out, wirings, root, budget),
     }
 }

@@ -12,12 +12,13 @@
 //! | Step | What is answered |
 //! |---|---|
 //! | `resolve ID`, `resolve ID BUDGET` | how the revision is resolved, with a budget of 1,000,000 where none is given: one of the answers below |
+//! | `anew ID`, `anew ID BUDGET` | the same by a call that keeps nothing of the world from one time to the next; what is found is not put in force |
 //! | `add REVISION` | nothing, or `cannot be known`: the revision becomes known |
 //! | `wires` | the wirings that are in force, but that of the framework: `WIRING, WIRING`, or `none` |
 //!
 //! | Answer | What it says |
 //! |---|---|
-//! | `found [NUMBER NUMBER] WIRING, WIRING` | the first good word, and the wirings that it adds, in the form of `osgi_world_rows`. Now they are in force: the answer ends with `: taken`, or with `: not taken` where there was no memory for that |
+//! | `found [NUMBER NUMBER] WIRING, WIRING` | the first good word, and the wirings that it adds, in the form of `osgi_world_rows`. After `resolve` they are in force: the answer ends with `: taken`, or with `: not taken` where there was no memory for that |
 //! | `no candidate NAMESPACE NAME` | the first mandatory requirement of the revision that nothing can meet |
 //! | `clash` | nothing consistent can be chosen |
 //! | `spent NUMBER` | so many words were looked at, one more than the budget |

@@ -1,6 +1,6 @@
 //! Rows: what is known at first, and steps.
 
-use crate::asked::push_resolved;
+use crate::asked::{push_resolved, push_resolved_anew};
 use crate::known::{add, wirings_of};
 use crate::shown::push_wirings;
 use osgi_resolver::IndexedWirings;
@@ -38,14 +38,23 @@ fn make_known(
 
 /// Adds the answer to a question about a world.
 fn push_answer(
+    alloc: Global,
     out: &mut String,
     wirings: &mut IndexedWirings,
     question: (&str, &str),
 ) -> Result<(), AllocError> {
     let (word, rest) = question;
+    let (root, allowed) = cut(rest);
     if word == "resolve" {
-        let (root, rest) = cut(rest);
-        push_resolved(out, wirings, revision_id(root), budget(rest))
+        push_resolved(out, wirings, revision_id(root), budget(allowed))
+    } else if word == "anew" {
+        push_resolved_anew(
+            alloc,
+            out,
+            wirings.wirings(),
+            revision_id(root),
+            budget(allowed),
+        )
     } else if word == "wires" {
         let wirings = wirings.wirings().world().wirings.items();
         push_wirings(out, wirings.get(1..).unwrap_or(&[]))
@@ -65,7 +74,7 @@ fn take(
         return make_known(alloc, out, wirings, rest);
     }
     begin(out)?;
-    push_answer(out, wirings, (word, rest))
+    push_answer(alloc, out, wirings, (word, rest))
 }
 
 fn take_all(

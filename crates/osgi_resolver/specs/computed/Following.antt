@@ -4,7 +4,7 @@ use Rattle.osgi_resolver.specs.declared.index.Index.{Index}
 use Rattle.osgi_space.specs.Kept.{FollowsRows}
 use Rattle.osgi_world.specs.declared.world.World.{World}
 
--- the offers and the rows are those of a world that has grown to this one
+-- the offers are those of a beginning of this world, and so are the rows, perhaps of another one
 pub record FollowsWorld (index : Index) (world : World) : Type 0 where
   pub offers : Follows index.offers world.known world.wirings
   pub rows : FollowsRows index.rows world.known world.wirings

@@ -3,7 +3,6 @@ use Rattle.std.proofs.Common.{◌≡◌, ◌∙◌, List, ap, sym, subst}
 use Rattle.osgi_path.specs.Standing.{Standing}
 use Rattle.osgi_problem.proofs.WorldProblems.{the_problem-is}
 use Rattle.osgi_problem.specs.WorldProblems.{the_problem}
-use Rattle.osgi_resolver.specs.Answers.{IsAnswerTo}
 use Rattle.osgi_search.specs.Outcomes.{IsOutcome}
 use Rattle.osgi_space.specs.Kept.{FollowsRows}
 use Rattle.osgi_wires.specs.AllKnown.{AreAllKnown}
