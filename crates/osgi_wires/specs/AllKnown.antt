@@ -1,4 +1,4 @@
--- Wirings that name known revisions alone.
+-- Wirings whose requirements, capabilities and fragments are of known revisions.
 use Rattle.std.specs.Prelude.{List}
 use Rattle.osgi_base.specs.declared.ids.RevisionId.{RevisionId}
 use Rattle.osgi_world.specs.Lookups.{IsKnown}

@@ -16,6 +16,7 @@ use Rattle.osgi_wires.specs.declared.rows.Export.{Export}
 use Rattle.osgi_wires.specs.declared.rows.Import.{Import}
 use Rattle.osgi_wires.specs.declared.rows.Use.{Use}
 
+-- what contracts see of `WorldRows`
 pub record WorldLists : Type 0 where
   pub known : List Known
   pub names : List (List ℕ)
@@ -58,7 +59,7 @@ pub record TakesBack (old new : WorldLists) (added : Added) : Type 0 where
   pub rows : (R : RowLists) → old.rows ≡ with_added R added → new.rows ≡ R
   pub numbered : AreNumbered new.names new.rows
 
--- wires and attachments are added after those that are there, and the exports stay
+-- package wires and attachments are added after those that are there, and the exports stay
 pub record AddsWires (old new : RowLists) : Type 0 where
   pub imports : (more : List Import) × (new.imports ≡ old.imports ++ more)
   pub attached : (more : List Attachment) × (new.attached ≡ old.attached ++ more)
@@ -72,7 +73,7 @@ pub record AddsWirings (old new : WorldLists) (V : List Wiring) : Type 0 where
   pub agree : (W : List Wiring) → AreRowsIn old W → AreRowsIn new (W ++ V)
   pub numbered : AreNumbered old.names old.rows → AreNumbered new.names new.rows
 
--- rows of the wirings over the revisions K are those over more revisions: the wires and attachments stay, and those of K get no exports
+-- with more known than K, the rows are still those of W; package wires and attachments stay, and no revision of K gets an export
 pub record AddsKnown (K : List Known) (W : List Wiring) (old : Named) (new : WorldLists) : Type 0 where
   pub rows : AreRowsIn new W
   pub imports : new.rows.imports ≡ old.rows.imports

@@ -1,4 +1,4 @@
--- What private functions and proofs cite. No public promise cites these.
+-- What the parts of `WorldRows`, and proofs, cite.
 pub mod Groups
 pub mod Numbers
 pub mod Payloads

@@ -33,7 +33,7 @@ impl Named {
         }
     }
 
-    /// Adds what these of the known revisions export and use.
+    /// Adds what these of the known revisions export and use. If memory runs out, some of it may have been added.
     pub fn add_known(&mut self, known: &KnownIndex, more: &[Known]) -> Result<(), AllocError>
         requires named { IsNamed self.old }
         ensures adds { OnOk result (Adds self.old self.new (OneSays (KnownSays known.now) more.now)) }
