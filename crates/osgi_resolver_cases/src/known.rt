@@ -1,13 +1,13 @@
 //! Revisions become known.
 
+use osgi_base::list::List;
 use osgi_resolver::IndexedWirings;
 use osgi_world::system::known_system;
 use osgi_world::world::Known;
-use osgi_world_rows::known_revisions;
 use std::alloc::{AllocError, Global};
 
 /// The framework alone.
-fn first_wirings(alloc: Global) -> Result<IndexedWirings, AllocError> {
+pub fn first_wirings(alloc: Global) -> Result<IndexedWirings, AllocError> {
     IndexedWirings::new(alloc, known_system(alloc)?.revision)
 }
 
@@ -23,13 +23,12 @@ pub fn add(wirings: &mut IndexedWirings, known: Known) -> Result<bool, AllocErro
     Ok(true)
 }
 
-/// The framework, and the revisions that are written with `;` between; none where they cannot be known.
-pub fn wirings_of(alloc: Global, revisions: &str) -> Result<Option<IndexedWirings>, AllocError> {
-    let mut wirings = first_wirings(alloc)?;
-    for known in known_revisions(alloc, revisions)?.into_items() {
-        if !add(&mut wirings, known)? {
-            return Ok(None);
+/// Makes revisions known, one after another, until one cannot be known; whether all of them are.
+pub fn add_all(wirings: &mut IndexedWirings, revisions: List<Known>) -> Result<bool, AllocError> {
+    for known in revisions.into_items() {
+        if !add(wirings, known)? {
+            return Ok(false);
         }
     }
-    Ok(Some(wirings))
+    Ok(true)
 }

@@ -1,10 +1,12 @@
 //! Rows: what is known at first, and steps.
 
 use crate::asked::{push_resolved, push_resolved_anew};
-use crate::known::{add, wirings_of};
+use crate::known::{add, add_all, first_wirings};
 use crate::shown::push_wirings;
+use osgi_base::list::List;
 use osgi_resolver::IndexedWirings;
-use osgi_world_rows::{cut, known_revision, number, revision_id};
+use osgi_world::world::Known;
+use osgi_world_rows::{cut, known_revision, known_revisions, number, revision_id};
 use std::alloc::{AllocError, Global};
 
 /// The budget where a row gives none.
@@ -89,11 +91,24 @@ fn take_all(
     Ok(())
 }
 
+/// Makes the first revisions of a row known, and adds the answers to its steps.
+fn push_all(
+    alloc: Global,
+    out: &mut String,
+    wirings: &mut IndexedWirings,
+    revisions: List<Known>,
+    steps: &str,
+) -> Result<(), AllocError> {
+    if !add_all(wirings, revisions)? {
+        return out.push_str("cannot be known");
+    }
+    take_all(alloc, out, wirings, steps)
+}
+
 /// Adds the answers to all steps of a row.
 pub fn push_answers(alloc: Global, out: &mut String, row: &str) -> Result<(), AllocError> {
     let (known, steps) = row.split_once('|').unwrap_or((row, ""));
-    let Some(mut wirings) = wirings_of(alloc, known)? else {
-        return out.push_str("cannot be known");
-    };
-    take_all(alloc, out, &mut wirings, steps)
+    let revisions = known_revisions(alloc, known)?;
+    let mut wirings = first_wirings(alloc)?;
+    push_all(alloc, out, &mut wirings, revisions, steps)
 }
