@@ -56,6 +56,10 @@ module _ (K : List Known) (rising : AreRising K) where
       ∙ ap (slice_get K) (position_or_len_is test K i d (omega (arith, within)) (λ n before. ne_eqb (id_of (get_or K n d)) r.0 (λ same. omega (arith, ids_rise n i d before within, is, same)))
       (λ w. eq-eqb (id_of (get_or K i d)) r.0 is))
 
+  -- a known revision with the id is the one
+  pub known_there : (r : RevisionId) (i : ℕ) (x : Bor Known) → IsItemAt K i (Some x) → x.now.id.0 ≡ r.0 → known_at K r ≡ Some x.now
+  known_there r i x got same = found_at r i x.now got.3.0 (sym (ap id_of (got.3.1 x.now)) ∙ same) ∙ sym (lent K i (Some x) got)
+
   missed_by : (id i j : ℕ) (d : Known) → IsPartitionPoint (λ k. nat_cmp (id_of k) id ≡ Less) (λ k. nat_cmp (id_of k) id ≡ Greater) K i → j < length K →
       (j < i) ⊎ (i ≤ j) → ¬ (id_of (get_or K j d) ≡ id)
   missed_by id i j d parted within (inl before) same =

@@ -1,6 +1,6 @@
 //! The known revisions by their ids.
 
-ghost use Rattle.std.specs.Prelude.{◌≡◌, ◌↔◌, IfOk, IsTrue};
+ghost use Rattle.std.specs.Prelude.{◌≡◌, ◌↔◌, IfOk, IfSome, IsTrue};
 ghost use Rattle.std.specs.Option.{option_copied};
 ghost use Rattle.osgi_lookup.specs.computed.Index.{AreRising, IsIndexOf};
 ghost use Rattle.osgi_world.specs.Lookups.{known_at};
@@ -76,14 +76,37 @@ fn do_ids_rise(all: &[Known]) -> bool
     all.is_sorted_by(|known, next| known.id.0 < next.id.0)
 }
 
-/// The revision with the id, by a binary search.
+/// The revision with the id: mostly where the ids say that it stands, else by a binary search.
 fn found<'w>(all: &'w [Known], id: RevisionId) -> Option<&'w Known>
     requires rising { AreRising all.now }
     ensures known { option_copied result ≡ known_at all.now id }
 {
+    if let Some(known) = guessed(all, id) {
+        return Some(known);
+    }
     match all.binary_search_by_key(&id.0, |known| known.id.0) {
         Ok(place) => all.get(place),
         Err(_) => None,
+    }
+}
+
+/// The revision with the id, if it stands as far from the first as their ids lie apart, as it does where no id is left out.
+fn guessed<'w>(all: &'w [Known], id: RevisionId) -> Option<&'w Known>
+    requires rising { AreRising all.now }
+    ensures known { IfSome result (λ known. known_at all.now id ≡ Some known.now) }
+{
+    let place = distance(all, id)?;
+    match all.get(place) {
+        Some(known) if known.id.0 == id.0 => Some(known),
+        _ => None,
+    }
+}
+
+/// How far the id is above that of the first revision.
+fn distance(all: &[Known], id: RevisionId) -> Option<usize> {
+    match all.first() {
+        Some(first) if first.id.0 <= id.0 => Some((id.0 - first.id.0) as usize),
+        _ => None,
     }
 }
 
