@@ -1,5 +1,5 @@
 -- Loops over a list that look for two items with one key.
-use Rattle.std.proofs.Common.{◌≡◌, ◌⊎◌, inl, inr, ℕ, zero, suc, ◌+◌, ◌<◌, ◌≤◌, List, [], ◌∷◌, ◌++◌, length, get_or, take, sym, ◌∙◌, refl, subst}
+use Rattle.std.proofs.Common.{◌≡◌, ◌⊎◌, inl, inr, ℕ, zero, suc, ◌+◌, ◌<◌, ◌≤◌, List, [], ◌∷◌, ◌++◌, length, get_or, take, sym, ◌∙◌, refl, subst, arith}
 use Rattle.std.specs.Prelude.{Bool, true, false, not}
 use Rattle.std.specs.BTreeSet.{BTreeSet, contains}
 use Rattle.std.specs.declared.cmp.Ordering.{Ordering}
@@ -53,6 +53,13 @@ module _ {X : Type 0} (R : X → X → Type 0) where
 
   pub differ_done : (xs : List X) (i : ℕ) → length xs ≤ i → ¬ Two R (take i xs) → ¬ Two R xs
   differ_done xs i past before = subst (λ l. ¬ Two R l) (take_all i xs past) before
+
+-- of fewer than two items there are no two
+pub no_two : {X : Type 0} (R : X → X → Type 0) (xs : List X) → length xs < 2 → ¬ Two R xs
+no_two R [] few two = elim two [ ]
+no_two R (x ∷ []) few (inl one) = elim one.1 [ ]
+no_two R (x ∷ []) few (inr none) = elim none [ ]
+no_two R (x ∷ y ∷ ys) few two = absurd (omega arith)
 
 pub two_weaker : {X : Type 0} (R S : X → X → Type 0) → ((x y : X) → R x y → S x y) → (xs : List X) → Two R xs → Two S xs
 two_weaker R S up [] two = elim two [ ]

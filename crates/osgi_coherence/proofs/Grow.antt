@@ -46,6 +46,13 @@ take_in (z ∷ xs) (suc i) y (inr here) = inr (take_in xs i y here)
 pub at_in : {X : Type 0} (xs : List X) (i : ℕ) (x : X) → i < length xs → x ≡ get_or xs i x → In x xs
 at_in xs i x within at = take_in xs (i + 1) x ((in_more xs i x within at x).1 (inr refl))
 
+-- an item that is put at the end
+pub pushed : {X : Type 0} (old new : List X) (x : X) → new ≡ old ++ x ∷ [] → (y : X) → In y new ↔ (In y old ⊎ (y ≡ x))
+pushed old new x is y = (
+  λ here. in_either old x y (subst (In y) is here),
+  λ either. subst (In y) (sym is) (elim either [ inl before ↦ in_before old (x ∷ []) y before | inr e ↦ subst (λ z. In z (old ++ x ∷ [])) (sym e) (in_last old x) ]),
+)
+
 -- ---- each item
 
 pub each_none : {X : Type 0} (P : X → Type 0) → Each P []

@@ -8,5 +8,6 @@ pub mod Items
 pub mod Rivals
 pub mod Offered
 pub mod Distinct
+pub mod Found
 pub mod WireKeys
 pub mod Coherent

@@ -1,24 +1,23 @@
 -- The sets of an index, from what the wirings add to them.
 use Rattle.std.proofs.Common.{◌≡◌, inl, inr, List, ap, sym, subst}
-use Rattle.std.specs.BTreeSet.{BTreeSet}
 use Rattle.osgi_base.specs.declared.ids.RevisionId.{RevisionId}
-use Rattle.osgi_coherence.specs.computed.Growing.{Grows, Has, Nothing, AnyOf}
+use Rattle.osgi_coherence.specs.computed.Growing.{Grows, Nothing, AnyOf}
 use Rattle.osgi_coherence.specs.computed.Indexed.{AreAttached, AreInForce, AreWired}
-use Rattle.osgi_coherence.specs.computed.Keys.{attachment, attachment_cmp, revision_cmp, wired_cmp, wired_place}
+use Rattle.osgi_coherence.specs.computed.Keys.{attachment, wired_place}
 use Rattle.osgi_coherence.specs.declared.keys.Attachment.{Attachment}
 use Rattle.osgi_coherence.specs.declared.keys.WiredPlace.{WiredPlace}
 use Rattle.osgi_world.specs.Lists.{In}
 use Rattle.osgi_world.specs.declared.wiring.ReqRef.{ReqRef}
 use Rattle.osgi_world.specs.declared.wiring.Wiring.{Wiring}
 
-pub in_force_is : (set : BTreeSet RevisionId) (W : List Wiring) → Grows Nothing (Has revision_cmp set) (λ (g : Wiring) key. key ≡ g.revision) W → AreInForce set W
-in_force_is set W grown r = (
+pub in_force_is : (items : List RevisionId) (W : List Wiring) → Grows Nothing (λ key. In key items) (λ (g : Wiring) key. key ≡ g.revision) W → AreInForce items W
+in_force_is items W grown r = (
   λ here. elim ((grown r).0 here) [ inl n ↦ absurd n | inr some ↦ record { wiring = some.0; stands = some.1; revision = sym some.2 } ],
   λ f. (grown r).1 (inr (f.wiring, f.stands, sym f.revision)),
 )
 
-pub attached_is : (set : BTreeSet Attachment) (W : List Wiring) → Grows Nothing (Has attachment_cmp set) (λ (g : Wiring) key. AnyOf (λ f. key ≡ attachment g.revision f) g.fragments) W → AreAttached set W
-attached_is set W grown h f = (
+pub attached_is : (items : List Attachment) (W : List Wiring) → Grows Nothing (λ key. In key items) (λ (g : Wiring) key. AnyOf (λ f. key ≡ attachment g.revision f) g.fragments) W → AreAttached items W
+attached_is items W grown h f = (
   λ here. elim ((grown (attachment h f)).0 here) [
     | inl n ↦ absurd n
     | inr some ↦ record {
@@ -34,8 +33,8 @@ attached_is set W grown h f = (
 asked_same : (r s : RevisionId) (q n : ReqRef) → wired_place r q ≡ wired_place s n → n ≡ q
 asked_same r s q n same = let back = sym same in λ i. record { owner = (back i).requirement.owner; index = (back i).requirement.index }
 
-pub wired_is : (set : BTreeSet WiredPlace) (W : List Wiring) → Grows Nothing (Has wired_cmp set) (λ (g : Wiring) key. AnyOf (λ w. key ≡ wired_place g.revision w.requirement) g.wires) W → AreWired set W
-wired_is set W grown r q = (
+pub wired_is : (items : List WiredPlace) (W : List Wiring) → Grows Nothing (λ key. In key items) (λ (g : Wiring) key. AnyOf (λ w. key ≡ wired_place g.revision w.requirement) g.wires) W → AreWired items W
+wired_is items W grown r q = (
   λ here. elim ((grown (wired_place r q)).0 here) [
     | inl n ↦ absurd n
     | inr some ↦ let w = some.2.0 in

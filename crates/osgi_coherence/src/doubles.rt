@@ -22,6 +22,9 @@ pub fn are_wires_single(
 ) -> Result<bool, AllocError>
     ensures single { IfOk result (λ ok. IsTrue ok ↔ ¬ Two (AreDouble known.now) wires.now) }
 {
+    if wires.len() < 2 {
+        return Ok(true);
+    }
     let mut keys = BTreeSet::new(alloc);
     for wire in wires {
         let key = WireKey::new(known, *wire);
@@ -40,6 +43,9 @@ pub fn are_names_single(
 ) -> Result<bool, AllocError>
     ensures single { IfOk result (λ ok. IsTrue ok ↔ ¬ Two (λ (e f : RevisionId). symbolic_name known.now e ≡ symbolic_name known.now f) fragments.now) }
 {
+    if fragments.len() < 2 {
+        return Ok(true);
+    }
     let mut names = BTreeSet::new(alloc);
     for fragment in fragments {
         let name = name_of(alloc, known, *fragment)?;

@@ -10,6 +10,7 @@ mod names;
 mod payload;
 mod rules;
 mod singletons;
+mod sorted;
 mod wires;
 
 pub use doubles::are_names_single;

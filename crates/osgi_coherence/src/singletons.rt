@@ -82,5 +82,5 @@ fn add_singleton(
 fn is_current_singleton(known: &KnownIndex, id: RevisionId) -> bool
     ensures both { IsTrue result ↔ IsTrue (is_current known.now id) × IsTrue (is_singleton known.now id) }
 {
-    known.is_current(id) && known.is_singleton(id)
+    known.is_singleton(id) && known.is_current(id)
 }

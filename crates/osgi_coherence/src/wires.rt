@@ -63,8 +63,8 @@ fn is_to_another(known: &KnownIndex, wire: &Wire) -> bool
     ensures another { IsTrue result ↔ (IsBundleWire known.now wire.now → wire.now.capability.provider ≢ wire.now.requirement.owner) }
 {
     let capability = wire.capability;
-    !known.is_bundle(capability.owner, capability.index)
-        || capability.provider != wire.requirement.owner
+    capability.provider != wire.requirement.owner
+        || !known.is_bundle(capability.owner, capability.index)
 }
 
 /// Whether the capability is in the payload of its provider, and no export of a package that the provider imports from

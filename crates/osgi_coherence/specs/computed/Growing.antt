@@ -3,6 +3,7 @@ use Rattle.std.specs.Prelude.{◌≡◌, ◌≢◌, ◌⊎◌, ◌↔◌, Bool, 
 use Rattle.std.specs.BTreeMap.{BTreeMap, get, is_at}
 use Rattle.std.specs.BTreeSet.{BTreeSet, contains}
 use Rattle.std.specs.declared.cmp.Ordering.{Ordering}
+use Rattle.std.specs.declared.cmp.Ordering.TheVariants.{Equal}
 use Rattle.osgi_world.specs.Lists.{In}
 
 -- it holds of each item
@@ -16,6 +17,14 @@ AnyOf {X} P xs = (x : X) × In x xs × P x
 -- what is there now is what was there, and what some item adds
 abbrev pub Grows : {X Y : Type 0} → (Y → Type 0) → (Y → Type 0) → (X → Y → Type 0) → List X → Type 0
 Grows {X} {Y} old now P xs = (y : Y) → now y ↔ (old y ⊎ AnyOf (λ x. P x y) xs)
+
+-- the lists have the same items
+abbrev pub HaveSame : {X : Type 0} → List X → List X → Type 0
+HaveSame {X} xs ys = (x : X) → In x xs ↔ In x ys
+
+-- an item is equal to x by the order
+abbrev pub HasEqual : {X : Type 0} → (X → X → Ordering) → List X → X → Type 0
+HasEqual cmp xs x = AnyOf (λ y. cmp y x ≡ Equal) xs
 
 abbrev pub Nothing : {Y : Type 0} → Y → Type 0
 Nothing y = ⊥

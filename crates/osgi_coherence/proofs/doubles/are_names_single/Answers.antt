@@ -1,16 +1,21 @@
--- The next fragment, the last one and the first whose name another has.
+-- Fewer than two, the next fragment, the last one and the first whose name another has.
 use Rattle.std.proofs.Common.{◌≡◌, get_or, refl, subst}
 use Rattle.std.specs.Prelude.{true}
 use Rattle.std.specs.BTreeSet.{Updates}
 use Rattle.std.proofs.lemmas.Bool.{false≢true}
 use Rattle.osgi_base.specs.declared.ids.RevisionId.{RevisionId}
 use Rattle.osgi_coherence.specs.computed.Keys.{text_cmp}
-use Rattle.osgi_coherence.proofs.Distinct.{differ_done, differ_step, fresh, seen, two_found}
+use Rattle.osgi_coherence.proofs.Distinct.{differ_done, differ_step, fresh, no_two, seen, two_found}
 use Rattle.osgi_coherence.proofs.Exact.{inserted, text_exact, text_total}
 use Rattle.osgi_coherence.proofs.Grow.{grow_step}
 use Rattle.osgi_coherence.proofs.Items.{no_revision, there}
 use Rattle.osgi_world.specs.Lookups.{symbolic_name}
 use Rattle.osgi_coherence.proofs.doubles.are_names_single.Goals as goal
+
+pub returns-then-fragments-lt2 : goal.returns-then-fragments-lt2
+returns-then-fragments-lt2 c =
+    let key = symbolic_name c.args.known.now in
+    record { single = (λ t. no_two (λ (e g : RevisionId). key e ≡ key g) c.args.fragments.now c.if-fragments-lt2.true, λ d. refl) }
 
 pub loop-fragment-preserved : goal.loop-fragment-preserved
 loop-fragment-preserved c =

@@ -4,7 +4,7 @@ use Rattle.std.specs.Prelude.{true}
 use Rattle.std.specs.BTreeSet.{Updates}
 use Rattle.std.proofs.lemmas.Bool.{false≢true}
 use Rattle.osgi_coherence.specs.computed.Keys.{wire_cmp, wire_key}
-use Rattle.osgi_coherence.proofs.Distinct.{differ_done, differ_step, fresh, seen, two_found, two_weaker}
+use Rattle.osgi_coherence.proofs.Distinct.{differ_done, differ_step, fresh, no_two, seen, two_found, two_weaker}
 use Rattle.osgi_coherence.proofs.Exact.{inserted, wire_exact, wire_total}
 use Rattle.osgi_coherence.proofs.Grow.{grow_step}
 use Rattle.osgi_coherence.proofs.Items.{no_wire, there}
@@ -12,6 +12,9 @@ use Rattle.osgi_coherence.proofs.WireKeys.{double_keys, keys_double}
 use Rattle.osgi_world.specs.Consistency.{AreDouble}
 use Rattle.osgi_world.specs.declared.wiring.Wire.{Wire}
 use Rattle.osgi_coherence.proofs.doubles.are_wires_single.Goals as goal
+
+pub returns-then-wires-lt2 : goal.returns-then-wires-lt2
+returns-then-wires-lt2 c = record { single = (λ t. no_two (AreDouble c.args.known.now) c.args.wires.now c.if-wires-lt2.true, λ d. refl) }
 
 pub loop-wire-preserved : goal.loop-wire-preserved
 loop-wire-preserved c =

@@ -1,10 +1,9 @@
 -- One more fragment.
-use Rattle.std.proofs.Common.{◌≡◌, get_or}
+use Rattle.std.proofs.Common.{rules, ◌≡◌, get_or}
 use Rattle.std.proofs.lemmas.List.{get_or_default}
 use Rattle.osgi_base.specs.declared.ids.RevisionId.{RevisionId}
 use Rattle.osgi_coherence.specs.computed.Keys.{attachment}
-use Rattle.osgi_coherence.proofs.Exact.{attachment_exact, attachment_total, inserted}
-use Rattle.osgi_coherence.proofs.Grow.{grow_step}
+use Rattle.osgi_coherence.proofs.Grow.{grow_done, grow_step, pushed}
 use Rattle.osgi_coherence.proofs.indexed.add_fragments.Goals as goal
 
 pub loop-fragment-preserved : goal.loop-fragment-preserved
@@ -14,4 +13,7 @@ loop-fragment-preserved c =
     let none : RevisionId = record { 0 = 0 } in
     let within = c.loop-fragment-test.true in
     grow_step (λ f key. key ≡ attachment c.args.wiring.now.revision f) _ _ _ fragments i (get_or fragments i none) within (get_or_default fragments i none (get_or fragments i none) within) c.loop-fragment.invariant
-    (inserted attachment_total attachment_exact c.loop-fragment.attached c.insert.new.self _ c.in_ok-insert.ensures.updates)
+    (pushed c.loop-fragment.attached.items c.push.new.self.items _ (search rules))
+
+pub returns : goal.returns
+returns c = rw (← c.items-fragment-items.ensures.items) (record { added = grow_done _ _ _ c.items-fragment-items.result.now c.loop-fragment.fragment-index c.loop-fragment-test.false c.loop-fragment.invariant })

@@ -1,11 +1,8 @@
 -- One more wire.
-use Rattle.std.proofs.Common.{◌≡◌, get_or, subst}
-use Rattle.std.specs.Prelude.{true}
-use Rattle.std.specs.BTreeSet.{Updates}
+use Rattle.std.proofs.Common.{rules, ◌≡◌, get_or, subst}
 use Rattle.std.proofs.lemmas.List.{get_or_default}
-use Rattle.osgi_coherence.specs.computed.Keys.{wired_cmp, wired_place}
-use Rattle.osgi_coherence.proofs.Exact.{inserted, wired_exact, wired_total}
-use Rattle.osgi_coherence.proofs.Grow.{grow_step}
+use Rattle.osgi_coherence.specs.computed.Keys.{wired_place}
+use Rattle.osgi_coherence.proofs.Grow.{grow_done, grow_step, pushed}
 use Rattle.osgi_world.specs.declared.wiring.Wire.{Wire}
 use Rattle.osgi_coherence.proofs.indexed.add_wired.Goals as goal
 
@@ -15,6 +12,8 @@ loop-wire-preserved c =
     let i = c.loop-wire.wire-index in
     let none : Wire = record { requirement = record { owner = record { 0 = 0 }; index = 0 }; capability = record { provider = record { 0 = 0 }; owner = record { 0 = 0 }; index = 0 } } in
     let within = c.loop-wire-test.true in
-    let updates = subst (λ k. Updates wired_cmp c.loop-wire.wired c.insert.new.self k true) c.new-place.ensures.place c.in_ok-insert.ensures.updates in
     grow_step (λ (w : Wire) key. key ≡ wired_place c.args.wiring.now.revision w.requirement) _ _ _ wires i (get_or wires i none) within (get_or_default wires i none (get_or wires i none) within) c.loop-wire.invariant
-    (inserted wired_total wired_exact c.loop-wire.wired c.insert.new.self _ updates)
+    (pushed c.loop-wire.wired.items c.push.new.self.items _ (search rules))
+
+pub returns : goal.returns
+returns c = rw (← c.items-wire-items.ensures.items) (record { added = grow_done _ _ _ c.items-wire-items.result.now c.loop-wire.wire-index c.loop-wire-test.false c.loop-wire.invariant })
