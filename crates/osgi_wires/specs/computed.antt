@@ -1,5 +1,6 @@
 -- What the parts of `WorldRows`, and proofs, cite.
 pub mod Groups
+pub mod Digests
 pub mod Numbers
 pub mod Payloads
 pub mod Growing

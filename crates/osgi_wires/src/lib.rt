@@ -2,6 +2,7 @@
 #![tactic(auto)]
 
 pub mod added;
+mod digest;
 mod exports;
 pub mod grouped;
 mod imports;

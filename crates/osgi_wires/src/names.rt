@@ -1,20 +1,27 @@
 //! Numbers for names.
 
-ghost use Rattle.std.specs.Prelude.{◌≡◌, ℕ, [], ◌∷◌, ◌++◌, length, slice_get, IfOk, OnOk, OnErr, MatchOption};
+ghost use Rattle.std.specs.Prelude.{◌≡◌, ◌↔◌, ℕ, [], ◌∷◌, ◌++◌, length, slice_get, IfOk, IsTrue, OnOk, OnErr, MatchOption};
 ghost use Rattle.std.specs.Option.{option_copied};
 ghost use Rattle.osgi_wires.specs.Names.{AreOnce, HasNumber, Interns};
 
+use crate::digest::digest;
 use osgi_base::text::Text;
 use std::alloc::{AllocError, Global};
 use std::collections::BTreeMap;
 use std::marker::Model;
 
 /// Names, each once, by the order in which they came. Contracts see the list of the names: the number of a name is its place.
+///
+/// A name is found by its digest, which is compared at the cost of a number. Names of one digest are told apart by an ordered
+/// map of their own, so no choice of names makes a search slow, and the digest need not be a good hash.
 #[derive(Drop)]
 pub struct Names {
     alloc: Global,
     texts: Vec<Text>,
-    numbers: BTreeMap<Text, u32>,
+    /// By each digest of a name, the first name that has it.
+    by_digest: BTreeMap<u64, u32>,
+    /// The names whose digest an earlier name has.
+    by_text: BTreeMap<Text, u32>,
 }
 
 impl Model for Names {
@@ -25,7 +32,7 @@ impl Model for Names {
 
     ghost view = { λ n. n.texts.items };
 
-    ghost invariant = { λ n. AreNumbersOf n.numbers n.texts.items };
+    ghost invariant = { λ n. AreNumbersOf n.by_digest n.by_text n.texts.items };
 }
 
 impl Names {
@@ -35,7 +42,8 @@ impl Names {
         Names {
             alloc,
             texts: Vec::new(alloc),
-            numbers: BTreeMap::new(alloc),
+            by_digest: BTreeMap::new(alloc),
+            by_text: BTreeMap::new(alloc),
         }
     }
 
@@ -44,7 +52,20 @@ impl Names {
         ensures number { MatchOption result ((number : ℕ) → ¬ HasNumber self.now text.now number) (λ number. HasNumber self.now text.now number) }
         ensures once { AreOnce self.now }
     {
-        self.numbers.get(text).copied()
+        match self.by_digest.get(&digest(text)).copied() {
+            Some(number) if self.is_name(number, text) => Some(number),
+            _ => self.by_text.get(text).copied(),
+        }
+    }
+
+    /// Whether the name has this number.
+    fn is_name(&self, number: u32, text: &Text) -> bool
+        ensures is { IsTrue result ↔ HasNumber self.now text.now number }
+    {
+        match self.texts.get(number as usize) {
+            Some(name) => name == text,
+            None => false,
+        }
     }
 
     /// The name with a number; None exactly where no name has it.
@@ -80,7 +101,12 @@ impl Names {
         };
         let name = text.copy(self.alloc)?;
         self.texts.reserve(1)?;
-        self.numbers.insert(text.copy(self.alloc)?, next)?;
+        let digest = digest(text);
+        if self.by_digest.contains_key(&digest) {
+            self.by_text.insert(text.copy(self.alloc)?, next)?;
+        } else {
+            self.by_digest.insert(digest, next)?;
+        }
         self.texts.push(name)?;
         Ok(next)
     }

@@ -1,10 +1,13 @@
--- What is true of the index of names.
-use Rattle.std.specs.Prelude.{◌≡◌, ◌↔◌, ℕ, List, Some}
+-- What is true of the indices of names.
+use Rattle.std.specs.Prelude.{◌≡◌, ◌⊎◌, ℕ, List, Some}
 use Rattle.std.specs.BTreeMap.{BTreeMap, get}
 use Rattle.std.specs.Cmp.Lexicographic.{slice_cmp}
 use Rattle.std.specs.Ordering.{nat_cmp}
-use Rattle.osgi_wires.specs.Names.{HasNumber}
+use Rattle.osgi_wires.specs.Names.{AreOnce, HasNumber}
+use Rattle.osgi_wires.specs.computed.Digests.{digest_of}
 
--- the index has the number of each name, and no others
-abbrev pub AreNumbersOf : BTreeMap (List ℕ) ℕ → List (List ℕ) → Type 0
-AreNumbersOf numbers names = (text : List ℕ) (number : ℕ) → (get (slice_cmp nat_cmp) numbers text ≡ Some number) ↔ HasNumber names text number
+-- the number of each name stands under its digest or under its text, and under a text only the number of that name
+pub record AreNumbersOf (by_digest : BTreeMap ℕ ℕ) (by_text : BTreeMap (List ℕ) ℕ) (names : List (List ℕ)) : Type 0 where
+  pub found : (text : List ℕ) (number : ℕ) → HasNumber names text number → (get nat_cmp by_digest (digest_of text) ≡ Some number) ⊎ (get (slice_cmp nat_cmp) by_text text ≡ Some number)
+  pub named : (text : List ℕ) (number : ℕ) → get (slice_cmp nat_cmp) by_text text ≡ Some number → HasNumber names text number
+  pub once : AreOnce names
