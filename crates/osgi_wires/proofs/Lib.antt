@@ -1,4 +1,5 @@
--- Lemmas on names, on rows, and on what rows say of wirings.
+-- Lemmas on values by numbers, on names, on rows, and on what rows say of wirings.
+pub mod Written
 pub mod Places
 pub mod Numbered
 pub mod NameOf

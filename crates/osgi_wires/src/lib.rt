@@ -3,12 +3,13 @@
 
 pub mod added;
 mod digest;
-mod exports;
 pub mod grouped;
-mod imports;
+mod keys;
+mod name_groups;
 pub mod named;
 pub mod names;
+mod number_groups;
 pub mod rows;
-mod spot;
+mod spots;
 mod table;
 pub mod world_rows;

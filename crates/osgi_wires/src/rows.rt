@@ -7,9 +7,7 @@ ghost use Rattle.osgi_wires.specs.declared.rows.Attachment.{Attachment};
 ghost use Rattle.osgi_wires.specs.declared.rows.Import.{Import};
 ghost use Rattle.osgi_wires.specs.declared.rows.Required.{Required};
 
-use crate::exports::Exports;
-use crate::imports::Imports;
-use crate::spot::Spot;
+use crate::spots::Spots;
 use crate::table::Table;
 use std::alloc::{AllocError, Global};
 use std::marker::Model;
@@ -56,11 +54,11 @@ pub struct Use {
 /// Rows, found by the numbers that they begin with. Wires and attachments can be taken back, those that were added last first.
 #[derive(Drop)]
 pub struct Rows {
-    imports: Imports,
-    required: Table<u32, Required>,
-    attached: Table<u32, Attachment>,
-    exports: Exports,
-    uses: Table<Spot, Use>,
+    imports: Spots<Import>,
+    required: Table<Required>,
+    attached: Table<Attachment>,
+    exports: Spots<Export>,
+    uses: Spots<Use>,
 }
 
 impl Model for Rows {
@@ -76,11 +74,11 @@ impl Rows {
         ensures empty { result ≡ no_rows }
     {
         Rows {
-            imports: Imports::new(alloc),
+            imports: Spots::new(alloc),
             required: Table::new(alloc),
             attached: Table::new(alloc),
-            exports: Exports::new(alloc),
-            uses: Table::new(alloc),
+            exports: Spots::new(alloc),
+            uses: Spots::new(alloc),
         }
     }
 
@@ -187,21 +185,21 @@ impl Rows {
     pub fn required_by(&self, revision: u32) -> &[Required]
         ensures rows { result.now ≡ required_by self.now revision }
     {
-        self.required.of(&revision)
+        self.required.of(revision)
     }
 
     /// The attachments to the host.
     pub fn attached_to(&self, host: u32) -> &[Attachment]
         ensures rows { result.now ≡ attached_to self.now host }
     {
-        self.attached.of(&host)
+        self.attached.of(host)
     }
 
     /// What the owner itself exports.
     pub fn exports_of(&self, owner: u32) -> &[Export]
         ensures rows { result.now ≡ exports_of self.now owner }
     {
-        self.exports.of_owner(owner)
+        self.exports.of_revision(owner)
     }
 
     /// The owner's own exports of the package.
@@ -215,9 +213,6 @@ impl Rows {
     pub fn uses_of(&self, owner: u32, exported: u32) -> &[Use]
         ensures rows { result.now ≡ uses_of self.now owner exported }
     {
-        self.uses.of(&Spot {
-            revision: owner,
-            name: exported,
-        })
+        self.uses.of(owner, exported)
     }
 }

@@ -1,46 +1,45 @@
-//! Rows in the order in which they were added, found by a key.
+//! Rows in the order in which they were added, found by a number.
 
-ghost use Rattle.std.specs.Prelude.{◌≡◌, List, [], ◌∷◌, ◌++◌, filter, OnOk, OnErr};
-ghost use Rattle.std.specs.BTreeMap.{is_at};
+ghost use Rattle.std.specs.Prelude.{◌≡◌, ℕ, ◌==◌, List, [], ◌∷◌, ◌++◌, filter, OnOk, OnErr};
 ghost use Rattle.std.specs.Option.{option_to_list};
 
-use crate::grouped::Grouped;
+use crate::number_groups::NumberGroups;
 use std::alloc::{AllocError, Global};
 use std::marker::Model;
 
-/// A row with a key.
-pub trait Keyed<K>: Copy {
-    ghost key_of: { Self → K };
+/// A row with a number.
+pub trait Keyed: Copy {
+    ghost number_of: { Self → ℕ };
 
-    fn key(&self) -> K
-        ensures { result ≡ key_of self.now };
+    fn number(&self) -> u32
+        ensures { result ≡ number_of self.now };
 }
 
-/// Rows with their groups by key. Contracts see the list of the rows.
+/// Rows with their groups by number. Contracts see the list of the rows.
 #[derive(Drop)]
-pub struct Table<K: Ord, V: Keyed<K>> {
+pub struct Table<V: Keyed> {
     rows: Vec<V>,
-    groups: Grouped<K, V>,
+    groups: NumberGroups<V>,
 }
 
-impl<K: Ord, V: Keyed<K>> Model for Table<K, V> {
+impl<V: Keyed> Model for Table<V> {
     ghost use Rattle.std.specs.Prelude.{List};
-    ghost use Rattle.osgi_wires.specs.computed.Groups.{AreGroupsOf};
+    ghost use Rattle.osgi_wires.specs.computed.NumberGroups.{AreGroupsOf};
 
     ghost Value = { List V };
 
     ghost view = { λ t. t.rows.items };
 
-    ghost invariant = { λ t. AreGroupsOf K.cmp V.key_of t.groups t.rows.items };
+    ghost invariant = { λ t. AreGroupsOf V.number_of t.groups t.rows.items };
 }
 
-impl<K: Ord + Drop, V: Keyed<K>> Table<K, V> {
-    pub fn new(alloc: Global) -> Table<K, V>
+impl<V: Keyed> Table<V> {
+    pub fn new(alloc: Global) -> Table<V>
         ensures empty { result ≡ [] }
     {
         Table {
             rows: Vec::new(alloc),
-            groups: Grouped::new(alloc),
+            groups: NumberGroups::new(alloc),
         }
     }
 
@@ -51,11 +50,11 @@ impl<K: Ord + Drop, V: Keyed<K>> Table<K, V> {
         self.rows.as_slice()
     }
 
-    /// The rows of the key.
-    pub fn of(&self, key: &K) -> &[V]
-        ensures rows { result.now ≡ filter (λ row. is_at (K.cmp (V.key_of row)) key.now) self.now }
+    /// The rows of the number.
+    pub fn of(&self, number: u32) -> &[V]
+        ensures rows { result.now ≡ filter (λ row. V.number_of row == number) self.now }
     {
-        self.groups.of(key)
+        self.groups.of(number)
     }
 
     /// Adds a row. If memory runs out, the rows stay as they were.
@@ -64,18 +63,18 @@ impl<K: Ord + Drop, V: Keyed<K>> Table<K, V> {
         ensures unchanged { OnErr result (self.new ≡ self.old) }
     {
         self.rows.reserve(1)?;
-        self.groups.push(row.key(), row)?;
+        self.groups.push(row.number(), row)?;
         self.rows.push(row)?;
         Ok(())
     }
 
-    /// Takes off the row that was added last, and returns it.
+    /// Takes off the row that was added last, and returns it. It takes no memory.
     pub fn pop(&mut self) -> Option<V>
         ensures taken { (rest : List V) (row : V) → self.old ≡ rest ++ row ∷ [] → self.new ≡ rest }
         ensures last { self.old ≡ self.new ++ option_to_list result }
     {
         let row = self.rows.pop()?;
-        self.groups.pop(&row.key());
+        self.groups.pop(row.number());
         Some(row)
     }
 }

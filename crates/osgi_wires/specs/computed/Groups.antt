@@ -1,5 +1,5 @@
 -- What values by a key hold.
-use Rattle.std.specs.Prelude.{◌≡◌, ◌-◌, cond, List, [], ◌∷◌, ◌++◌, filter, length, take}
+use Rattle.std.specs.Prelude.{◌≡◌, ◌-◌, cond, List, [], ◌∷◌, ◌++◌, length, take}
 use Rattle.std.specs.BTreeMap.{get, is_at}
 use Rattle.std.specs.Option.{option_map_or}
 use Rattle.std.specs.declared.cmp.Ordering.{Ordering}
@@ -23,7 +23,3 @@ TakesLast {K} cmp old new key = (k : K) → values_of cmp new k ≡ cond (is_at 
 
 abbrev pub HoldsSame : {K V : Type 0} → (K → K → Ordering) → Grouped K V → Grouped K V → Type 0
 HoldsSame {K} cmp old new = (k : K) → values_of cmp new k ≡ values_of cmp old k
-
--- the groups are those of these rows
-abbrev pub AreGroupsOf : {K V : Type 0} → (K → K → Ordering) → (V → K) → Grouped K V → List V → Type 0
-AreGroupsOf {K} cmp key_of groups rows = (key : K) → values_of cmp groups key ≡ filter (λ row. is_at (cmp (key_of row)) key) rows

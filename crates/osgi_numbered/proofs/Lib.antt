@@ -1,0 +1,2 @@
+-- A lemma on places with a value or none.
+pub mod Places

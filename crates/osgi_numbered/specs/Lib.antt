@@ -1,0 +1,2 @@
+-- What values by numbers hold.
+pub mod NumberMaps
