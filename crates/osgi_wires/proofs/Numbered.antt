@@ -27,7 +27,7 @@ pub nothing : {X : Type 0} (o : Option X) → is_some o ≡ false → o ≡ None
 nothing None none = refl
 nothing (Some x) none = absurd (cc none)
 
-is_known : {X : Type 0} (x : X) → None ≡ Some x → ⊥
+pub is_known : {X : Type 0} (x : X) → None ≡ Some x → ⊥
 is_known x e = cc
 
 module _ (names : List (List ℕ)) (name : List ℕ) (new : (number : ℕ) → ¬ HasNumber names name number) where

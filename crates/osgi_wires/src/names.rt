@@ -62,7 +62,7 @@ impl Names {
     fn is_name(&self, number: u32, text: &Text) -> bool
         ensures is { IsTrue result ↔ HasNumber self.now text.now number }
     {
-        match self.texts.get(number as usize) {
+        match self.name(number) {
             Some(name) => name == text,
             None => false,
         }
