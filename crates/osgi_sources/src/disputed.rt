@@ -6,15 +6,16 @@ ghost use Rattle.osgi_world.specs.declared.world.Known.{Known};
 ghost use Rattle.osgi_sources.specs.computed.Disputes.{AreDisputed, AreNoted, HoldsAll, IsNoted};
 ghost use Rattle.osgi_wires.specs.Rows.{OwnExport};
 
+use osgi_numbered::number_map::NumberMap;
 use osgi_wires::rows::{Attachment, Import, Rows};
 use osgi_world::world::Known;
 use std::alloc::{AllocError, Global};
-use std::collections::{BTreeMap, BTreeSet};
+use std::collections::BTreeSet;
 
 /// One possible source of each package, and the packages that have others.
 #[derive(Drop)]
 pub struct Possible {
-    first: BTreeMap<u32, u32>,
+    first: NumberMap<u32>,
     disputed: BTreeSet<u32>,
 }
 
@@ -23,7 +24,7 @@ impl Possible {
         ensures none { (p x : ℕ) → ¬ IsNoted result p x }
     {
         Possible {
-            first: BTreeMap::new(alloc),
+            first: NumberMap::new(alloc),
             disputed: BTreeSet::new(alloc),
         }
     }
@@ -39,7 +40,7 @@ impl Possible {
         ensures noted { IfOk result (λ _. IsNoted self.new «package» source) }
         ensures kept { HoldsAll self.old self.new }
     {
-        match self.first.get(&package).copied() {
+        match self.first.get(package).copied() {
             None => {
                 self.first.insert(package, source)?;
             }

@@ -1,8 +1,8 @@
 -- Packages with more than one possible source.
 use Rattle.std.specs.Prelude.{◌≡◌, ℕ, ◌⊎◌, IsTrue, Some}
-use Rattle.std.specs.BTreeMap.{get}
 use Rattle.std.specs.BTreeSet.{BTreeSet, contains}
 use Rattle.std.specs.Ordering.{nat_cmp}
+use Rattle.osgi_numbered.specs.NumberMaps.{value_at}
 use Rattle.osgi_wires.specs.Rows.{RowLists, Imports}
 use Rattle.osgi_sources.specs.computed.RowSources.{HasExport}
 use Rattle.osgi_sources.specs.declared.disputed.Possible.{Possible}
@@ -13,7 +13,7 @@ IsPossible R p x = ((r : ℕ) × Imports R r p x) ⊎ HasExport R x p
 
 -- x is the first source of p, or p is disputed
 abbrev pub IsNoted : Possible → ℕ → ℕ → Type 0
-IsNoted possible p x = (first : ℕ) × (get nat_cmp possible.first p ≡ Some first) × ((x ≡ first) ⊎ IsTrue (contains nat_cmp possible.disputed p))
+IsNoted possible p x = (first : ℕ) × (value_at possible.first p ≡ Some first) × ((x ≡ first) ⊎ IsTrue (contains nat_cmp possible.disputed p))
 
 -- what was noted stays so
 abbrev pub HoldsAll : Possible → Possible → Type 0
