@@ -2,6 +2,7 @@
 pub mod Asking
 pub mod Installing
 pub mod Keeping
+pub mod Newly
 pub mod Replying
 pub mod Serving
 pub mod Rows

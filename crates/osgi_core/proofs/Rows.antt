@@ -35,7 +35,7 @@ map_same : {X Y : Type 0} (f g : X → Y) (xs : List X) → ((x : X) → In x xs
 map_same f g [] same = refl
 map_same f g (x ∷ xs) same = λ i. same x (inl refl) i ∷ map_same f g xs (λ y there. same y (inr there)) i
 
-map_twice : {X Y Z : Type 0} (f : Y → Z) (g : X → Y) (xs : List X) → map f (map g xs) ≡ map (λ x. f (g x)) xs
+pub map_twice : {X Y Z : Type 0} (f : Y → Z) (g : X → Y) (xs : List X) → map f (map g xs) ≡ map (λ x. f (g x)) xs
 map_twice f g [] = refl
 map_twice f g (x ∷ xs) = ap (λ l. f (g x) ∷ l) (map_twice f g xs)
 
@@ -244,6 +244,11 @@ row_there [] s apart i = elim i [ ]
 row_there (r ∷ rs) s apart (inl e) = ap (λ t. cond t (Some r) (find (is_bundle s.bundle) rs)) (eq-eqb (id_of r) (id_of s) (ap id_of (sym e))) ∙ ap Some (sym e)
 row_there (r ∷ rs) s apart (inr i) = ap (λ t. cond t (Some r) (find (is_bundle s.bundle) rs)) (ne_eqb (id_of r) (id_of s) (λ e. apart.0 s i (sym e))) ∙ row_there rs s apart.1 i
 
+-- the row of a bundle is found by it
+pub row_live : (table : TableRows) (row : BundleKept) → AreInOrder table → In row table.rows → row_at row.bundle table.rows ≡ Some row
+unfolding Rise
+row_live table row order i = row_there table.rows row (rows_distinct table.rows (ids_rise table.rows order.rising)) i
+
 and_first : (x y : Bool) → (x && y) ≡ true → x ≡ true
 and_first true y is = refl
 and_first false y is = absurd (cc is)
@@ -291,14 +296,9 @@ all_settable c ids rows all = All-weaker (λ b. IsSettable b rows) (λ b. IsSett
 
 -- ---- what functions answer
 
-pub listed_ok : {E : Type 0} (W : World) (added : List Wiring) (rows : List BundleKept) (table : TableRows) (r : Result (List BundleId) E) → rows ≡ table.rows → IfOk r (λ list. list ≡ listed W added rows) → IfOk r (λ list. list ≡ listed W added table.rows)
-listed_ok W added rows table (Ok list) are is = is ∙ ap (listed W added) are
-listed_ok W added rows table (Err e) are is = tt
-
-pub settable_ok : {E : Type 0} (W : World) (added : List Wiring) (rows : List BundleKept) (table : TableRows) (r : Result (List BundleId) E) → AreInOrder table → rows ≡ table.rows → IfOk r (λ list. list ≡ listed W added rows) →
-    IfOk r (All (λ b. IsSettable b table.rows))
-settable_ok W added rows table (Ok list) order are is = subst (All (λ b. IsSettable b table.rows)) (sym (is ∙ ap (listed W added) are)) (listed_settable W added table order)
-settable_ok W added rows table (Err e) order are is = tt
+pub settable_ok : {E : Type 0} (W : World) (added : List Wiring) (table : TableRows) (r : Result (List BundleId) E) → AreInOrder table → IfOk r (λ list. list ≡ listed W added table.rows) → IfOk r (All (λ b. IsSettable b table.rows))
+settable_ok W added table (Ok list) order is = subst (All (λ b. IsSettable b table.rows)) (sym is) (listed_settable W added table order)
+settable_ok W added table (Err e) order is = tt
 
 -- one bundle more is set
 pub one_set : (list : List BundleId) (i : ℕ) (d : BundleId) (rows new : List BundleKept) → i < length list → new ≡ with_state (get_or list i d) RESOLVED rows → with_resolved (drop (i + 1) list) new ≡ with_resolved (drop i list) rows

@@ -1,23 +1,23 @@
 //! What a resolve does to the wirings and to the table of bundles, and answers.
 
-ghost use Rattle.std.specs.Prelude.{◌≡◌, ◌==◌, ◌-◌, ◌^◌, ◌<◌, [], All, IfOk, OnOk, OnErr};
+ghost use Rattle.std.specs.Prelude.{ℕ, ◌≡◌, ◌-◌, ◌^◌, ◌<◌, ◌||◌, [], All, IfOk, OnOk, OnErr, map};
+ghost use Rattle.std.specs.BTreeSet.{contains, IsOrdered};
 ghost use Rattle.std.specs.List.{list_any};
 ghost use Rattle.std.specs.Option.{option_copied};
-ghost use Rattle.osgi_base.specs.declared.ids.RevisionId.{RevisionId};
+ghost use Rattle.std.specs.Ordering.{nat_cmp};
 ghost use Rattle.osgi_bundle.specs.Rows.{AreInOrder, IsSettable};
-ghost use Rattle.osgi_ops.specs.Resolved.{has_revision, is_in_use};
 ghost use Rattle.osgi_ops.specs.declared.op.Op.TheVariants as op;
 ghost use Rattle.osgi_ops.specs.declared.reply.Reply.TheVariants as answer;
 ghost use Rattle.osgi_wiring.specs.States.{IsKeptWorld, MayExtend, with_wirings};
 ghost use Rattle.osgi_world.specs.Lookups.{requirement_at, requirement_count};
 ghost use Rattle.osgi_core.specs.computed.Replied.{HasRoom, IsReplied, StandsStill};
-ghost use Rattle.osgi_core.specs.computed.Searched.{IsAsked, IsSaid, IsTargetOf, IsThere, is_newly, listed, with_resolved};
+ghost use Rattle.osgi_core.specs.computed.Searched.{IsAsked, IsSaid, IsTargetOf, IsThere, bundle_by, bundle_of, is_by, is_by_wiring, is_installed, is_own, listed, with_resolved};
 
 use crate::tables::Tables;
 use crate::twice::refused;
 use osgi_base::ids::{BundleId, RevisionId};
 use osgi_base::list::List;
-use osgi_bundle::{BundleKept, Table};
+use osgi_bundle::Table;
 use osgi_ops::refusal::{Refusal, Unmet};
 use osgi_ops::reply::Reply;
 use osgi_ops::state::INSTALLED;
@@ -25,7 +25,9 @@ use osgi_resolver::{Answer, Cause, IndexedWirings};
 use osgi_wiring::Wirings;
 use osgi_world::requirement::Requirement;
 use osgi_world::wiring::{ReqRef, Wiring};
+use osgi_world::world::Known;
 use std::alloc::{AllocError, Global};
+use std::collections::BTreeSet;
 
 /// What a resolve of a bundle is about.
 #[derive(Clone, Copy, Debug, PartialEq, Eq)]
@@ -57,54 +59,115 @@ fn target_of(wirings: &Wirings, bundle: BundleId) -> ResolveTarget
 
 // ---- the bundles that become resolved
 
-fn has_fragment(fragments: &[RevisionId], revision: RevisionId) -> bool
-    ensures has { result ≡ list_any (λ (f : RevisionId). f.0 == revision.0) fragments.now }
+/// Whether what is known of a revision is what its bundle has as its current one.
+fn is_own(wirings: &Wirings, known: &Known) -> bool
+    ensures own { result ≡ is_own wirings.now.world known.now }
 {
-    fragments.iter().any(|fragment| fragment.0 == revision.0)
-}
-
-fn has_revision(wiring: &Wiring, revision: RevisionId) -> bool
-    ensures has { result ≡ has_revision revision wiring.now }
-{
-    wiring.revision.0 == revision.0 || has_fragment(wiring.fragments.items(), revision)
-}
-
-/// Whether one of the wirings is that of the revision, or has it as a fragment.
-fn is_used(wirings: &[Wiring], revision: RevisionId) -> bool
-    ensures used { result ≡ is_in_use wirings.now revision }
-{
-    wirings.iter().any(|wiring| has_revision(wiring, revision))
-}
-
-/// Whether the bundle of a row is installed, and resolved by wirings that are added.
-fn is_newly(wirings: &Wirings, added: &[Wiring], row: &BundleKept) -> bool
-    ensures newly { result ≡ is_newly wirings.now.world added.now row.now }
-{
-    if row.state != INSTALLED {
-        return false;
-    }
-    match wirings.current(row.bundle) {
-        Some(known) => is_used(added, known.id),
+    match wirings.current(known.bundle) {
+        Some(current) => current.id.0 == known.id.0,
         None => false,
     }
 }
 
-/// Those of the rows whose bundles become resolved by wirings that are added.
-fn collect(
+/// Whether the table has a bundle as installed, and not resolved.
+fn is_installed(bundles: &Table, bundle: BundleId) -> bool
+    ensures installed { result ≡ is_installed bundles.now bundle }
+{
+    match bundles.state(bundle) {
+        Some(state) => state == INSTALLED,
+        None => false,
+    }
+}
+
+/// The bundle that becomes resolved where a revision comes into use: it is installed, and the revision is its current one.
+fn bundle_by(wirings: &Wirings, bundles: &Table, revision: RevisionId) -> Option<BundleId>
+    ensures bundle { result ≡ bundle_by wirings.now.world bundles.now revision }
+{
+    let known = wirings.known(revision)?;
+    if is_own(wirings, known) && is_installed(bundles, known.bundle) {
+        Some(known.bundle)
+    } else {
+        None
+    }
+}
+
+/// Notes the bundle that becomes resolved where a revision comes into use.
+fn note_revision(
+    wirings: &Wirings,
+    bundles: &Table,
+    revision: RevisionId,
+    numbers: &mut BTreeSet<u32>,
+) -> Result<(), AllocError>
+    ensures noted { OnOk result ((n : ℕ) → contains nat_cmp numbers.new n ≡ (contains nat_cmp numbers.old n || is_by wirings.now.world bundles.now n revision)) }
+{
+    if let Some(bundle) = bundle_by(wirings, bundles, revision) {
+        numbers.insert(bundle.0)?;
+    }
+    Ok(())
+}
+
+/// Notes the bundles that become resolved where fragments come into use.
+fn note_fragments(
+    wirings: &Wirings,
+    bundles: &Table,
+    fragments: &[RevisionId],
+    numbers: &mut BTreeSet<u32>,
+) -> Result<(), AllocError>
+    ensures noted { OnOk result ((n : ℕ) → contains nat_cmp numbers.new n ≡ (contains nat_cmp numbers.old n || list_any (is_by wirings.now.world bundles.now n) fragments.now)) }
+{
+    for fragment in fragments {
+        note_revision(wirings, bundles, *fragment, numbers)?;
+    }
+    Ok(())
+}
+
+/// Notes the bundles that become resolved where a wiring is added: that of its revision, and those of its fragments.
+fn note_wiring(
+    wirings: &Wirings,
+    bundles: &Table,
+    wiring: &Wiring,
+    numbers: &mut BTreeSet<u32>,
+) -> Result<(), AllocError>
+    ensures noted { OnOk result ((n : ℕ) → contains nat_cmp numbers.new n ≡ (contains nat_cmp numbers.old n || is_by_wiring wirings.now.world bundles.now n wiring.now)) }
+{
+    note_revision(wirings, bundles, wiring.revision, numbers)?;
+    note_fragments(wirings, bundles, wiring.fragments.items(), numbers)
+}
+
+/// The numbers of the bundles that become resolved by wirings that are added.
+fn numbers_by(
     alloc: Global,
     wirings: &Wirings,
-    rows: &[BundleKept],
+    bundles: &Table,
     added: &[Wiring],
-) -> Result<List<BundleId>, AllocError>
-    ensures listed { IfOk result (λ list. list ≡ listed wirings.now.world added.now rows.now) }
+) -> Result<BTreeSet<u32>, AllocError>
+    ensures numbers { IfOk result (λ numbers. (n : ℕ) → contains nat_cmp numbers n ≡ list_any (is_by_wiring wirings.now.world bundles.now n) added.now) }
 {
-    let mut list = List::new(alloc)?;
-    for row in rows {
-        if is_newly(wirings, added, row) {
-            list.push(row.bundle)?;
-        }
+    let mut numbers = BTreeSet::new(alloc);
+    for wiring in added {
+        note_wiring(wirings, bundles, wiring, &mut numbers)?;
     }
-    Ok(list)
+    Ok(numbers)
+}
+
+/// The numbers as bundles.
+fn as_bundles(alloc: Global, numbers: &[u32]) -> Result<List<BundleId>, AllocError>
+    ensures bundles { IfOk result (λ list. list ≡ map bundle_of numbers.now) }
+{
+    let mut bundles = List::with_capacity(alloc, numbers.len())?;
+    for number in numbers {
+        bundles.push(BundleId(*number))?;
+    }
+    Ok(bundles)
+}
+
+/// Bundles by their numbers, rising.
+fn in_order(alloc: Global, numbers: &BTreeSet<u32>) -> Result<List<BundleId>, AllocError>
+    ensures bundles { IfOk result (λ list. list ≡ map bundle_of numbers.now.keys) }
+    ensures ordered { IsOrdered nat_cmp numbers.now }
+{
+    let rising: Vec<u32> = numbers.iter().copied().collect(alloc)?;
+    Ok(as_bundles(alloc, rising.as_slice())?)
 }
 
 /// The bundles that become resolved by wirings that are added, rising.
@@ -114,11 +177,15 @@ fn newly_resolved(
     bundles: &Table,
     added: &[Wiring],
 ) -> Result<List<BundleId>, AllocError>
+    requires kept { IsKeptWorld wirings.now.world wirings.now.issued }
     ensures listed { IfOk result (λ list. list ≡ listed wirings.now.world added.now bundles.now.rows) }
     ensures settable { IfOk result (All (λ b. IsSettable b bundles.now.rows)) }
     ensures in_order { AreInOrder bundles.now }
 {
-    collect(alloc, wirings, bundles.rows(), added)
+    // That the rows stand in order is said where they are asked for.
+    let _ = bundles.rows();
+    let numbers = numbers_by(alloc, wirings, bundles, added)?;
+    in_order(alloc, &numbers)
 }
 
 /// Says in the table that bundles are resolved.

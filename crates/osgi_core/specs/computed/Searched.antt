@@ -1,9 +1,10 @@
 -- What a Resolve finds, and does to the table of bundles. No public promise speaks of this.
-use Rattle.std.specs.Prelude.{◌≡◌, ◌==◌, ◌&&◌, ◌<◌, Bool, true, false, is_some, List, [], ◌∷◌, None, Some, filter, map}
-use Rattle.std.specs.Option.{option_map_or}
+use Rattle.std.specs.Prelude.{ℕ, ◌≡◌, ◌==◌, ◌&&◌, ◌||◌, ◌<◌, Bool, true, false, if◌then◌else◌, is_some, Option, List, [], ◌∷◌, None, Some, filter, map}
+use Rattle.std.specs.List.{list_any}
+use Rattle.std.specs.Option.{option_and_then, option_map_or}
 use Rattle.osgi_base.specs.declared.ids.BundleId.{BundleId}
 use Rattle.osgi_base.specs.declared.ids.RevisionId.{RevisionId}
-use Rattle.osgi_bundle.specs.Rows.{with_state}
+use Rattle.osgi_bundle.specs.Rows.{state_at, TableRows, with_state}
 use Rattle.osgi_bundle.specs.declared.kept.BundleKept.{BundleKept}
 use Rattle.osgi_ops.specs.Resolved.{current_revision, is_fragment_bundle, is_in_use, is_resolved}
 use Rattle.osgi_ops.specs.declared.refusal.Unmet.{Unmet}
@@ -12,7 +13,7 @@ use Rattle.osgi_ops.specs.declared.state.TheConstants.{INSTALLED, RESOLVED}
 use Rattle.osgi_resolver.specs.declared.answer.Cause.{Cause}
 use Rattle.osgi_resolver.specs.declared.answer.Cause.TheVariants.{Clash, NoCandidate}
 use Rattle.osgi_wiring.specs.States.{wiring_at}
-use Rattle.osgi_world.specs.Lookups.{requirement_at, requirement_count}
+use Rattle.osgi_world.specs.Lookups.{known_at, requirement_at, requirement_count}
 use Rattle.osgi_world.specs.declared.requirement.Requirement.{Requirement}
 use Rattle.osgi_world.specs.declared.wiring.Wiring.{Wiring}
 use Rattle.osgi_world.specs.declared.world.Known.{Known}
@@ -51,6 +52,33 @@ is_newly world added row = (row.state == INSTALLED) && option_map_or (λ (k : Kn
 
 abbrev pub listed : World → List Wiring → List BundleKept → List BundleId
 listed world added rows = map (λ (row : BundleKept). row.bundle) (filter (is_newly world added) rows)
+
+-- ---- what is found of the added wirings alone
+
+-- what is known of a revision is what its bundle has as its current one
+abbrev pub is_own : World → Known → Bool
+is_own world k = option_map_or (λ (c : Known). c.id.0 == k.id.0) (current_revision world k.bundle) false
+
+-- the table has the bundle as installed
+abbrev pub is_installed : TableRows → BundleId → Bool
+is_installed table b = option_map_or (λ state. state == INSTALLED) (state_at b table) false
+
+-- the bundle that is installed and has the revision as its current one
+abbrev pub bundle_by : World → TableRows → RevisionId → Option BundleId
+bundle_by world table r = option_and_then (λ (k : Known). if is_own world k && is_installed table k.bundle then Some k.bundle else None) (known_at world.known r)
+
+-- the bundle of this number is that of the revision
+abbrev pub is_by : World → TableRows → ℕ → RevisionId → Bool
+is_by world table n r = option_map_or (λ (b : BundleId). b.0 == n) (bundle_by world table r) false
+
+-- it is that of the wiring's revision, or of one of its fragments
+abbrev pub is_by_wiring : World → TableRows → ℕ → Wiring → Bool
+is_by_wiring world table n g = is_by world table n g.revision || list_any (is_by world table n) g.fragments
+
+abbrev pub bundle_of : ℕ → BundleId
+bundle_of n = record { 0 = n }
+
+-- ---- what is set, and what is current
 
 -- the rows where these bundles are resolved
 abbrev pub with_resolved : List BundleId → List BundleKept → List BundleKept
