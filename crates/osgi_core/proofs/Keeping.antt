@@ -1,6 +1,6 @@
 -- The machine's fields between calls.
 use Rattle.std.proofs.Common.{◌≡◌, ◌<◌, ◌≤◌, ℕ, inl, inr, List, [], ◌∷◌, ◌++◌, length, map, ap, arith, subst, sym, ◌∙◌, refl}
-use Rattle.std.specs.Prelude.{All, Bool, true, false, cond, ◌==◌, is_some, Err, None, Ok, OnErr, Option, Result, Some, unwrap_or}
+use Rattle.std.specs.Prelude.{All, Bool, true, false, cond, ◌==◌, is_some, None, Option, Some, unwrap_or}
 use Rattle.std.specs.List.{last_or}
 use Rattle.std.proofs.lemmas.Bool.{ne_eqb}
 use Rattle.std.proofs.lemmas.List.{map-append}
@@ -36,12 +36,12 @@ use Rattle.osgi_wiring.specs.States.{IsKeptWorld}
 use Rattle.osgi_world.specs.Consistency.{ExtendsWorld}
 use Rattle.osgi_world.specs.System.{known_system}
 use Rattle.osgi_world.specs.declared.world.World.{World}
-use Rattle.osgi_core.proofs.Installing.{sound_of}
-use Rattle.osgi_core.proofs.Serving.{uses_now}
+use Rattle.osgi_replies.proofs.Installing.{sound_of}
+use Rattle.osgi_serving.proofs.Serving.{uses_now}
 use Rattle.osgi_core.specs.Machine.{Machine}
 use Rattle.osgi_core.specs.computed.Kept.{IsKept}
-use Rattle.osgi_core.specs.computed.Replied.{HasRoom, IsReplied, IsWorldOf, StandsFor, StandsStill}
-use Rattle.osgi_core.specs.declared.tables.Tables.{Tables}
+use Rattle.osgi_replies.specs.Replied.{HasRoom, IsReplied, IsWorldOf, StandsFor, StandsStill}
+use Rattle.osgi_replies.specs.declared.tables.Tables.{Tables}
 
 -- the moment at which the next operation is asked for
 abbrev pub next : Setting → List Entry → Tables → Tag → Moment
@@ -217,8 +217,3 @@ recorded_step limits history after old new tag o reply kept room replied is = re
   full = λ full. absurd (omega (arith, room, full));
   room = λ below. (allowed (setting_of limits old.depot) history old new tag o reply kept room replied, is);
 }
-
--- what holds, holds where a call fails
-pub on_err : {T E : Type 0} (r : Result T E) {P : Type 0} → P → OnErr r P
-on_err (Ok x) p = tt
-on_err (Err e) p = p

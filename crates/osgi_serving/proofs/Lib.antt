@@ -1,0 +1,2 @@
+-- Lemmas on operations on services.
+pub mod Serving

@@ -1,0 +1,2 @@
+-- What an operation on services does to the registry, and answers.
+pub mod Served
