@@ -1,0 +1,4 @@
+-- Lemmas on one decision more.
+pub mod Before
+pub mod Settling
+pub mod Reasons

@@ -1,0 +1,226 @@
+-- With one decision more a word is hopeless only for a reason that the decision gives.
+use Rattle.std.proofs.Common.{◌≡◌, ℕ, ◌⊎◌, inl, inr, List, [], ◌∷◌, ◌++◌, refl, sym, ◌∙◌, ap, subst}
+use Rattle.osgi_base.specs.declared.ids.RevisionId.{RevisionId}
+use Rattle.osgi_world.specs.Candidates.{IsProblem}
+use Rattle.osgi_world.specs.ChoiceWords.{made_by, make}
+use Rattle.osgi_world.specs.Consistency.{AreRivals}
+use Rattle.osgi_world.specs.Decisions.{Decision, Made, adds, wired}
+use Rattle.osgi_world.specs.DueDecisions.{members}
+use Rattle.osgi_world.specs.Hopeless as hopeless
+use Rattle.osgi_world.specs.Hopeless.{Hopeless, IsDecided, IsHopeless, IsSettled, ReachedFrom, Settles, first, more}
+use Rattle.osgi_world.specs.Lists.{In}
+use Rattle.osgi_world.specs.Partial.{partial}
+use Rattle.osgi_world.specs.Sources.{Clash, GivesPackage, Implied, Sources, follows, reexported, seen, substituted}
+use Rattle.osgi_world.specs.Sources as source
+use Rattle.osgi_world.specs.Wirings.{HasWire, InForce, InUse, OnOffer}
+use Rattle.osgi_world.specs.declared.problem.Problem.{Problem}
+use Rattle.osgi_world.specs.declared.wiring.Wire.{Wire}
+use Rattle.osgi_world.specs.declared.wiring.Wiring.{Wiring}
+use Rattle.osgi_world.specs.declared.world.Known.{Known}
+use Rattle.osgi_choice.specs.Checks as check
+use Rattle.osgi_choice.specs.Checks.{HopelessMember, IsNew}
+use Rattle.osgi_choice.proofs.Agree.{bundle-part, implied-starts, offer-same, package-part, reexport-is_bundle, uses-part}
+use Rattle.osgi_choice.proofs.Checks.{hopeless-member, member-hopeless, new-present}
+use Rattle.osgi_choice.proofs.Complete.{provider-in_force}
+use Rattle.osgi_choice.proofs.Decide.{settled-dec}
+use Rattle.osgi_choice.proofs.Settled.{Grew, settled-sources, settled-sources_back}
+use Rattle.osgi_choice.proofs.States.{member-kept, member-new}
+use Rattle.osgi_choice.proofs.Restrict.{wire-holder}
+use Rattle.osgi_choice.proofs.Views.{adder-host, in_force-cases}
+use Rattle.osgi_choice.proofs.Words.{made-more, word-state}
+use Rattle.osgi_onward.specs.Facts.{IsOnward, OnlyNewReasons, OnlyTheseSettle, OnlyTouchedAreStuck, QuietWhileUndecided}
+use Rattle.osgi_onward.specs.Reasons as reason
+use Rattle.osgi_onward.specs.Reasons.{IsQuiet, Joined, Leads, NewAtOnce, NewBySettling, Newly, SettlesNow, Stuck, by_bundle, by_package}
+use Rattle.osgi_onward.proofs.Before.{OneMore, anew-use, growth, host-member, joined-no_force, joined-no_wire, stuck-member, stuck-touched, use-either, wire-added, wire-either}
+use Rattle.osgi_onward.proofs.Settling.{quiet-joined, quiet-part, settles-cases}
+
+-- ---- what a revision leads to
+
+leads-end : {K : List Known} {W : List Wiring} {A : RevisionId → Type 0} {m n : RevisionId} → Leads K W A m n → A n
+leads-end (reason.itself a) = a
+leads-end (by_bundle l b a) = a
+leads-end (by_package l w a) = a
+
+gives-leads : {K : List Known} {W : List Wiring} {A : RevisionId → Type 0} {m r : RevisionId} {p : List ℕ} {c y : RevisionId} → Settles K W A r → Leads K W A m c → ReachedFrom K W r c → GivesPackage K W p c y → A y → Leads K W A m y
+gives-leads s l f (substituted w other e) a = by_package l w a
+gives-leads s l f (source.itself e) a = l
+gives-leads s l f (reexported b g) a = gives-leads s (by_bundle l (reexport-is_bundle b) (s.reached _ (more f b))) (more f b) g a
+
+-- a source of a settled revision is led to along wires
+source-leads : {K : List Known} {W : List Wiring} {A : RevisionId → Type 0} {m r y : RevisionId} {p : List ℕ} → Settles K W A r → Leads K W A m r → Sources K W r p y → A y → Leads K W A m y
+source-leads s l (inl w) a = by_package l w a
+source-leads s l (inr (none, inl (c, b, g))) a = gives-leads s (by_bundle l b (s.reached c (first b))) (first b) g a
+source-leads {K = K} {W = W} {A = A} {m = m} s l (inr (none, inr (e, x))) a = subst (Leads K W A m) (sym e) l
+
+implied-end : {K : List Known} {W : List Wiring} {A : RevisionId → Type 0} {m e : RevisionId} {u : List ℕ} → Implied K W A m e u → A e
+implied-end (seen am s ae us) = ae
+implied-end (follows i s ad us) = ad
+
+pair-leads : {K : List Known} {W : List Wiring} {A : RevisionId → Type 0} {m e : RevisionId} {u : List ℕ} → Implied K W (Settles K W A) m e u → Leads K W A m e
+pair-leads (seen am s ae us) = source-leads am (reason.itself am.own) s ae.own
+pair-leads (follows i s ad us) = source-leads (implied-end i) (pair-leads i) s ad.own
+
+-- ---- clashes
+
+-- a clash of what was settled was one before
+clash-before : {K : List Known} {W V : List Wiring} {C C' : RevisionId → Type 0} → Grew K W V C C' → {r e : RevisionId} {u : List ℕ} → Settles K W C r → Settles K W C e → Clash K V r e u → Clash K W r e u
+clash-before g sr se c = record {
+  ours = c.ours;
+  ours_in = settled-sources_back g sr c.ours_in;
+  ours_out = λ s. c.ours_out (settled-sources g se s);
+  theirs = c.theirs;
+  theirs_in = settled-sources_back g se c.theirs_in;
+  theirs_out = λ s. c.theirs_out (settled-sources g sr s);
+}
+
+source-alone : {K : List Known} {W : List Wiring} {m y : RevisionId} {p : List ℕ} → ((w : Wire) → ¬ HasWire W m w) → Sources K W m p y → y ≡ m
+source-alone none (inl w) = absurd (none w.wire w.has)
+source-alone none (inr (fails, inl (c, b, g))) = absurd (none b.wire b.has)
+source-alone none (inr (fails, inr (e, x))) = e
+
+implied-alone : {K : List Known} {W : List Wiring} {A : RevisionId → Type 0} {m e : RevisionId} {u : List ℕ} → ((w : Wire) → ¬ HasWire W m w) → Implied K W A m e u → e ≡ m
+implied-alone none (seen am s ae us) = source-alone none s
+implied-alone {K = K} {W = W} none (follows {d = y} {u = u} i s ad us) = source-alone none (subst (λ z. Sources K W z u y) (implied-alone none i) s)
+
+-- a revision without wires clashes with nothing
+alone-no_clash : {K : List Known} {W : List Wiring} {A : RevisionId → Type 0} {m e : RevisionId} {u : List ℕ} → ((w : Wire) → ¬ HasWire W m w) → Implied K W A m e u → ¬ Clash K W m e u
+alone-no_clash {K = K} {W = W} {u = u} none i c = c.ours_out (subst (λ z. Sources K W z u c.ours) (sym (implied-alone none i)) c.ours_in)
+
+rivals-sym : (P : Problem) (r s : RevisionId) → AreRivals P.world.known r s → AreRivals P.world.known s r
+rivals-sym P r s d = record { different = λ e. d.different (sym e); name = sym d.name; current = (d.current.1, d.current.0); singletons = (d.singletons.1, d.singletons.0) }
+
+module _ (P : Problem) (D : Made) (d : Decision) (v : ℕ) (x : OneMore P D d v) where
+  -- ---- each reason is new, or was one before
+
+  -- an implied constraint of settled revisions was one before, or leads to a revision that settles
+  pair-before : {m e : RevisionId} {u : List ℕ} → Implied P.world.known (partial P ((d, v) ∷ D)) (IsSettled P ((d, v) ∷ D)) m e u →
+      ((n : RevisionId) × SettlesNow P D d v n × Leads P.world.known (partial P ((d, v) ∷ D)) (IsDecided P ((d, v) ∷ D)) m n) ⊎ Implied P.world.known (partial P D) (IsSettled P D) m e u
+  pair-before {m = m} (seen {e = e} am s ae us) = elim (settled-dec P D m) [
+    | inr fails ↦ inl (m, (am, fails), reason.itself am.own)
+    | inl bm ↦ elim (settled-dec P D e) [
+      | inr fails ↦ inl (e, (ae, fails), pair-leads (seen am s ae us))
+      | inl be ↦ inr (seen bm (settled-sources_back (growth P D d v x) bm s) be (uses-part ((growth P D d v x).kept e be.own) us))
+    ]
+  ]
+  pair-before {m = m} (follows {d = y} i s ad us) = elim (pair-before i) [
+    | inl a ↦ inl a
+    | inr j ↦ elim (settled-dec P D y) [
+      | inr fails ↦ inl (y, (ad, fails), pair-leads (follows i s ad us))
+      | inl settled' ↦ inr (follows j (settled-sources_back (growth P D d v x) (implied-end j) s) settled' (uses-part ((growth P D d v x).kept y settled'.own) us))
+    ]
+  ]
+
+  clash-new : ¬ Hopeless P D → (m e : RevisionId) (u : List ℕ) → In m (members P ((d, v) ∷ D)) → Implied P.world.known (partial P ((d, v) ∷ D)) (IsSettled P ((d, v) ∷ D)) m e u → Clash P.world.known (partial P ((d, v) ∷ D)) m e u → NewBySettling P D d v
+  clash-new hopeful m e u i pair c = elim (pair-before pair) [
+    | inl y ↦ reason.clashes m y.0 e u i y.1 y.2 pair c
+    | inr j ↦ absurd (hopeful (hopeless.clashes m e u j (clash-before (growth P D d v x) (implied-starts j) (implied-end j) c)))
+  ]
+
+  rivals-new : ¬ Hopeless P D → (r s : RevisionId) → InUse (partial P ((d, v) ∷ D)) r → InUse (partial P ((d, v) ∷ D)) s → AreRivals P.world.known r s → NewAtOnce P D d v
+  rivals-new hopeful r s a b rivals = elim (use-either P D d v x r a) [
+    | inr new ↦ reason.two_singletons r s new b rivals
+    | inl o ↦ elim (use-either P D d v x s b) [
+      | inr new ↦ reason.two_singletons s r new a (rivals-sym P r s rivals)
+      | inl u ↦ absurd (hopeful (hopeless.two_singletons r s o u rivals))
+    ]
+  ]
+
+  offer-before : ¬ Hopeless P D → (m : RevisionId) (w : Wire) → In m (members P D) → HasWire (partial P D) m w → ¬ OnOffer P.world.known (partial P ((d, v) ∷ D)) w.capability → ¬ IsSettled P D w.capability.provider
+  offer-before hopeful m w i h off s =
+      let g = growth P D d v x in
+      hopeful (hopeless.not_offered m w i h s (λ o. off (offer-same w.capability (g.up w.capability.provider) (g.kept w.capability.provider s.own) o)))
+
+  holder-member : (m : RevisionId) (w : Wire) → In m (members P ((d, v) ∷ D)) → HasWire (partial P D) m w → In m (members P D)
+  holder-member m w i h = elim (in_force-cases P D m (wire-holder h)) [
+    | inl o ↦ absurd (member-new P x.problem.root_is.not_in_force ((d, v) ∷ D) m i o)
+    | inr j ↦ j
+  ]
+
+  offer-new : ¬ Hopeless P D → (m : RevisionId) (w : Wire) → In m (members P ((d, v) ∷ D)) → HasWire (partial P ((d, v) ∷ D)) m w → IsSettled P ((d, v) ∷ D) w.capability.provider → ¬ OnOffer P.world.known (partial P ((d, v) ∷ D)) w.capability → Newly P D d v
+  offer-new hopeful m w i h s off = elim (wire-either P D d v x m w h) [
+    | inr a ↦ inl (reason.wire_not_offered m w a s off)
+    | inl old ↦ inr (reason.not_offered m w i h (s, offer-before hopeful m w (holder-member m w i old) old off) off)
+  ]
+
+  stuck-new : ¬ Hopeless P D → (m : RevisionId) → In m (members P ((d, v) ∷ D)) → Stuck P ((d, v) ∷ D) m → Newly P D d v
+  stuck-new hopeful m i t = inl (reason.touched m i (stuck-touched P D d v x hopeful m i t) t)
+
+  pub reason-new : ¬ Hopeless P D → HopelessMember P ((d, v) ∷ D) → Newly P D d v
+  reason-new hopeful (check.no_candidate m q i j o c) = stuck-new hopeful m i (reason.no_candidate q j o c)
+  reason-new hopeful (check.all_refused m q i j o k all) = stuck-new hopeful m i (reason.all_refused q j o k all)
+  reason-new hopeful (check.two_providers m y z p i a b e) = stuck-new hopeful m i (reason.two_providers y z p a b e)
+  reason-new hopeful (check.two_versions m i t) = stuck-new hopeful m i (reason.two_versions t)
+  reason-new hopeful (check.two_singletons r s a b e) = inl (rivals-new hopeful r s (new-present P ((d, v) ∷ D) r a) b e)
+  reason-new hopeful (check.not_offered m w i h s off) = offer-new hopeful m w i h s off
+  reason-new hopeful (check.clashes m e u i pair c) = inr (clash-new hopeful m e u i pair c)
+
+  -- ---- and a new reason is one
+
+  at_once-hopeless : NewAtOnce P D d v → Hopeless P ((d, v) ∷ D)
+  at_once-hopeless (reason.touched m i t s) = member-hopeless P ((d, v) ∷ D) (stuck-member P ((d, v) ∷ D) m i s)
+  at_once-hopeless (reason.two_singletons r s a b e) = hopeless.two_singletons r s (anew-use P D d v x r a) b e
+  at_once-hopeless (reason.wire_not_offered m w a s off) =
+      hopeless.not_offered m w (member-kept P D d v m (subst (λ y. In y (members P D)) (adder-host P d v m w a) (host-member P D d v x))) (wire-added P D d v x m w a) s off
+
+  settling-hopeless : NewBySettling P D d v → Hopeless P ((d, v) ∷ D)
+  settling-hopeless (reason.not_offered m w i h s off) = hopeless.not_offered m w i h s.0 off
+  settling-hopeless (reason.clashes m n e u i s l pair c) = hopeless.clashes m e u pair c
+
+  pub new-hopeless : Newly P D d v → Hopeless P ((d, v) ∷ D)
+  new-hopeless (inl a) = at_once-hopeless a
+  new-hopeless (inr b) = settling-hopeless b
+
+  -- ---- where the host is not decided yet, or was decided before
+
+  -- no wire went to what joins
+  joined-apart : (r n : RevisionId) (w : Wire) → Joined P D d v n → HasWire (partial P D) r w → w.capability.provider ≡ n → ⊥
+  joined-apart r n w j h e = joined-no_force P D d v x n j (subst (InForce (partial P D)) e (provider-in_force P x.problem D r w h))
+
+  -- nothing that is decided leads to it but itself
+  joined-leads : IsQuiet P D d v → {m n : RevisionId} → Joined P D d v n → Leads P.world.known (partial P ((d, v) ∷ D)) (IsDecided P ((d, v) ∷ D)) m n → m ≡ n
+  joined-leads q j (reason.itself a) = refl
+  joined-leads q {n = n} j (by_bundle {r = r} l b a) = let old = bundle-part (quiet-part P D d v x q r (leads-end l)) b in absurd (joined-apart r n old.wire j old.has old.provider)
+  joined-leads q {n = n} j (by_package {r = r} l w a) = let old = package-part (quiet-part P D d v x q r (leads-end l)) w in absurd (joined-apart r n old.wire j old.has old.provider)
+
+  quiet-offer : IsQuiet P D d v → (m : RevisionId) (w : Wire) → HasWire (partial P ((d, v) ∷ D)) m w → SettlesNow P D d v w.capability.provider → In (wired m w) (adds P d v)
+  quiet-offer q m w h s = elim (wire-either P D d v x m w h) [
+    | inr a ↦ a
+    | inl old ↦ absurd (joined-apart m w.capability.provider w (quiet-joined P D d v x q w.capability.provider s) old refl)
+  ]
+
+  quiet-reason : IsQuiet P D d v → NewBySettling P D d v → NewAtOnce P D d v
+  quiet-reason q (reason.not_offered m w i h s off) = reason.wire_not_offered m w (quiet-offer q m w h s) s.0 off
+  quiet-reason q (reason.clashes m n e u i s l pair c) =
+      let j = quiet-joined P D d v x q n s in
+      let here : Joined P D d v m = subst (Joined P D d v) (sym (joined-leads q j l)) j in
+      absurd (alone-no_clash (joined-no_wire P D d v x m here) pair c)
+
+  pub quiet-new : IsQuiet P D d v → Newly P D d v → NewAtOnce P D d v
+  quiet-new q (inl a) = a
+  quiet-new q (inr b) = quiet-reason q b
+
+-- ---- words
+
+pub one-more : (P : Problem) → IsProblem P → (w : List ℕ) (d : Decision) (v : ℕ) → IsOnward P w d v → OneMore P (made_by P w) d v
+one-more P L w d v o = record { problem = L; state = word-state P w o.word; next = o.next; range = o.range }
+
+pub made-onward : (P : Problem) (w : List ℕ) (d : Decision) (v : ℕ) → IsOnward P w d v → made_by P (w ++ v ∷ []) ≡ ((d, v) ∷ made_by P w)
+made-onward P w d v o = made-more P w v ∙ ap (λ n. make n (made_by P w) v) o.next
+
+hopeless-new : (P : Problem) → IsProblem P → (w : List ℕ) (d : Decision) (v : ℕ) → IsOnward P w d v → ¬ IsHopeless P w → IsHopeless P (w ++ v ∷ []) → Newly P (made_by P w) d v
+hopeless-new P L w d v o hopeful h = reason-new P (made_by P w) d v (one-more P L w d v o) hopeful (hopeless-member P L ((d, v) ∷ made_by P w) (subst (Hopeless P) (made-onward P w d v o) h))
+
+new-word : (P : Problem) → IsProblem P → (w : List ℕ) (d : Decision) (v : ℕ) → IsOnward P w d v → Newly P (made_by P w) d v → IsHopeless P (w ++ v ∷ [])
+new-word P L w d v o n = subst (Hopeless P) (sym (made-onward P w d v o)) (new-hopeless P (made_by P w) d v (one-more P L w d v o) n)
+
+pub only_new_reasons : (P : Problem) → IsProblem P → OnlyNewReasons P
+only_new_reasons P L w d v o hopeful = (hopeless-new P L w d v o hopeful, new-word P L w d v o)
+
+pub only_touched_are_stuck : (P : Problem) → IsProblem P → OnlyTouchedAreStuck P
+only_touched_are_stuck P L w d v m o hopeful i t = stuck-touched P (made_by P w) d v (one-more P L w d v o) hopeful m i t
+
+pub settles_anew : (P : Problem) → IsProblem P → OnlyTheseSettle P
+settles_anew P L w d v r o s = settles-cases P (made_by P w) d v (one-more P L w d v o) r s
+
+pub quiet_while_undecided : (P : Problem) → IsProblem P → QuietWhileUndecided P
+quiet_while_undecided P L w d v o hopeful q = (λ h. quiet-new P (made_by P w) d v (one-more P L w d v o) q (hopeless-new P L w d v o hopeful h), λ a. new-word P L w d v o (inl a))

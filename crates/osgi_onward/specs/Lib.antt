@@ -1,0 +1,3 @@
+-- What one decision more can make hopeless.
+pub mod Reasons
+pub mod Facts

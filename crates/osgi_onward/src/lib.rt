@@ -1,0 +1,27 @@
+//! What one decision more can make hopeless: for a search that stands at a word that is not hopeless, and has to test only
+//! what its next decision can have changed. Each function here is a fact of the theory of choice words; it does nothing.
+#![tactic(auto)]
+
+ghost use Rattle.osgi_world.specs.Candidates.{IsProblem};
+ghost use Rattle.osgi_world.specs.declared.problem.Problem.{Problem};
+ghost use Rattle.osgi_onward.specs.Facts.{OnlyNewReasons, OnlyTheseSettle, OnlyTouchedAreStuck, QuietWhileUndecided};
+
+/// A word that is not hopeless is so with one decision more exactly for one of the reasons that the decision can give.
+pub fn only_new_reasons()
+    ensures { (P : Problem) → IsProblem P → OnlyNewReasons P }
+{}
+
+/// A member that is stuck with one decision more is the host of the decision, or has joined by it.
+pub fn only_touched_are_stuck()
+    ensures { (P : Problem) → IsProblem P → OnlyTouchedAreStuck P }
+{}
+
+/// What settles by a decision has joined by it, or reaches the decision's host, which is decided now and was not before.
+pub fn settles_anew()
+    ensures { (P : Problem) → IsProblem P → OnlyTheseSettle P }
+{}
+
+/// While the host of the decisions is not decided, and once it was decided before, nothing that settles is a reason.
+pub fn quiet_while_undecided()
+    ensures { (P : Problem) → IsProblem P → QuietWhileUndecided P }
+{}
