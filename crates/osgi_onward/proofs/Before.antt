@@ -1,12 +1,12 @@
 -- What a decision leaves as it was: all that is not its host's, and what had joined before.
-use Rattle.std.proofs.Common.{◌≡◌, ◌≢◌, ℕ, ◌<◌, ◌⊎◌, inl, inr, ◌∷◌, None, Some, refl, sym, ◌∙◌, ap, subst}
+use Rattle.std.proofs.Common.{◌≡◌, ◌≢◌, ℕ, ◌<◌, ◌⊎◌, inl, inr, List, [], ◌∷◌, None, Some, refl, sym, ◌∙◌, ap, subst}
 use Rattle.osgi_base.specs.declared.ids.RevisionId.{RevisionId}
-use Rattle.osgi_world.specs.Candidates.{IsProblem, matching}
+use Rattle.osgi_world.specs.Candidates.{IsProblem, candidates, matching}
 use Rattle.osgi_world.specs.Decisions.{Decision, Made, adds, arity, attached, attaching, host, is_yes, pick, value_made, wired}
 use Rattle.osgi_world.specs.DueDecisions.{fragments_of, members, next_decision, payload}
 use Rattle.osgi_world.specs.Hopeless.{Hopeless, IsDecided}
-use Rattle.osgi_world.specs.Lists.{In}
-use Rattle.osgi_world.specs.Lookups.{symbolic_name}
+use Rattle.osgi_world.specs.Lists.{In, Two}
+use Rattle.osgi_world.specs.Lookups.{requirement_count, symbolic_name, IsNeeded}
 use Rattle.osgi_world.specs.Partial.{partial}
 use Rattle.osgi_world.specs.Wirings.{HasWire, InForce, InUse}
 use Rattle.osgi_world.specs.declared.problem.Problem.{Problem}
@@ -20,7 +20,7 @@ use Rattle.osgi_choice.proofs.Checks.{member-hopeless}
 use Rattle.osgi_choice.proofs.Growth.{grew, two-filter}
 use Rattle.osgi_choice.proofs.Restrict.{wire-holder}
 use Rattle.osgi_choice.proofs.Settled.{Grew}
-use Rattle.osgi_choice.proofs.States.{due-host, fragments-in, in-fragments, in-payload, member-new, next-due, payload-in}
+use Rattle.osgi_choice.proofs.States.{due-host, fragments-in, in-fragments, in-payload, member-new, next-due, payload-in, sound}
 use Rattle.osgi_choice.proofs.Twos.{in-dec}
 use Rattle.osgi_choice.proofs.Values.{rev-dec, some-yes, value-cases, value-head, yes-some}
 use Rattle.osgi_choice.proofs.Views.{Got, adder-host, adds-attached, attached-cases, attached-made, attached-old, in_force-cases, in_force-member, in_force-old, wire-cases, wire-got, wire-old}
@@ -40,6 +40,14 @@ stuck-member P D m i (reason.no_candidate q j o c) = check.no_candidate m q i j 
 stuck-member P D m i (reason.all_refused q j o k all) = check.all_refused m q i j o k all
 stuck-member P D m i (reason.two_providers x y p a b e) = check.two_providers m x y p i a b e
 stuck-member P D m i (reason.two_versions t) = check.two_versions m i t
+
+none-empty : {X : Type 0} (xs : List X) → ((y : X) → ¬ In y xs) → xs ≡ []
+none-empty [] none = refl
+none-empty (y ∷ xs) none = absurd (none y (inl refl))
+
+two-some : {X : Type 0} (R : X → X → Type 0) (xs : List X) → Two R xs → (y : X) × In y xs
+two-some R [] t = elim t [ ]
+two-some R (y ∷ xs) t = (y, inl refl)
 
 module _ (P : Problem) (D : Made) (d : Decision) (v : ℕ) (x : OneMore P D d v) where
   pub opened : value_made D d ≡ None
@@ -133,6 +141,35 @@ module _ (P : Problem) (D : Made) (d : Decision) (v : ℕ) (x : OneMore P D d v)
     | inl o ↦ joined-no_force m j (wire-holder o)
     | inr a ↦ j.1 (subst (λ y. In y (members P D)) (adder-host P d v m w a) host-member)
   ]
+
+  -- and no decision of it is made
+  joined-not_made : (m : RevisionId) → Joined P D d v m → (e : Decision) (a : ℕ) → host e ≡ m → value_made ((d, v) ∷ D) e ≡ Some a → ⊥
+  joined-not_made m j e a h y = elim (value-cases D d v e a y) [
+    | inl same ↦ j.1 (subst (λ r. In r (members P D)) (sym (ap host same.0) ∙ h) host-member)
+    | inr old ↦ j.1 (subst (λ r. In r (members P D)) h (sound P D x.state e a old).member)
+  ]
+
+  joined-no_fragment : (m : RevisionId) → Joined P D d v m → (f : RevisionId) → ¬ In f (fragments_of P ((d, v) ∷ D) m)
+  joined-no_fragment m j f i = joined-not_made m j (attaching m f) 0 refl (fragments-in P ((d, v) ∷ D) m f i).1
+
+  owner-joined : (m : RevisionId) → Joined P D d v m → (o : RevisionId) → (o ≡ m) ⊎ In o (fragments_of P ((d, v) ∷ D) m) → o ≡ m
+  owner-joined m j o (inl e) = e
+  owner-joined m j o (inr i) = absurd (joined-no_fragment m j o i)
+
+  lacking : (m : RevisionId) → Joined P D d v m → (q : ReqRef) → In q (payload P ((d, v) ∷ D) m) → IsNeeded P.world.known q → candidates P q ≡ [] →
+      (q : ReqRef) × (q.owner ≡ m) × (q.index < requirement_count P.world.known m) × IsNeeded P.world.known q × (candidates P q ≡ [])
+  lacking m j q i needed none =
+      let r = payload-in P ((d, v) ∷ D) m q i in
+      let own = owner-joined m j q.owner r.0 in
+      (q, own, subst (λ o. q.index < requirement_count P.world.known o) own r.1, needed, none)
+
+  -- so it is stuck only by a requirement of its own without candidates
+  pub joined-stuck : (m : RevisionId) → Joined P D d v m → Stuck P ((d, v) ∷ D) m →
+      (q : ReqRef) × (q.owner ≡ m) × (q.index < requirement_count P.world.known m) × IsNeeded P.world.known q × (candidates P q ≡ [])
+  joined-stuck m j (reason.no_candidate q i needed none) = lacking m j q i needed none
+  joined-stuck m j (reason.all_refused q i needed k all) = lacking m j q i needed (none-empty (candidates P q) (λ c l. joined-not_made m j (pick m q c) 1 refl (all c l)))
+  joined-stuck m j (reason.two_providers y z p a b e) = absurd (joined-no_wire m j a.wire a.has)
+  joined-stuck m j (reason.two_versions t) = let f = two-some (λ e f. symbolic_name P.world.known e ≡ symbolic_name P.world.known f) (fragments_of P ((d, v) ∷ D) m) t in absurd (joined-no_fragment m j f.0 f.1)
 
   -- ---- what is in use
 

@@ -1,10 +1,10 @@
 -- With one decision more a word is hopeless only for a reason that the decision gives.
-use Rattle.std.proofs.Common.{◌≡◌, ℕ, ◌⊎◌, inl, inr, List, [], ◌∷◌, ◌++◌, refl, sym, ◌∙◌, ap, subst}
+use Rattle.std.proofs.Common.{◌≡◌, ◌≢◌, ℕ, ◌⊎◌, inl, inr, List, [], ◌∷◌, ◌++◌, refl, sym, ◌∙◌, ap, subst}
 use Rattle.osgi_base.specs.declared.ids.RevisionId.{RevisionId}
 use Rattle.osgi_world.specs.Candidates.{IsProblem}
 use Rattle.osgi_world.specs.ChoiceWords.{made_by, make}
 use Rattle.osgi_world.specs.Consistency.{AreRivals}
-use Rattle.osgi_world.specs.Decisions.{Decision, Made, adds, wired}
+use Rattle.osgi_world.specs.Decisions.{Decision, Made, adds, host, wired}
 use Rattle.osgi_world.specs.DueDecisions.{members}
 use Rattle.osgi_world.specs.Hopeless as hopeless
 use Rattle.osgi_world.specs.Hopeless.{Hopeless, IsDecided, IsHopeless, IsSettled, ReachedFrom, Settles, first, more}
@@ -26,12 +26,13 @@ use Rattle.osgi_choice.proofs.Decide.{settled-dec}
 use Rattle.osgi_choice.proofs.Settled.{Grew, settled-sources, settled-sources_back}
 use Rattle.osgi_choice.proofs.States.{member-kept, member-new}
 use Rattle.osgi_choice.proofs.Restrict.{wire-holder}
+use Rattle.osgi_choice.proofs.Values.{rev-dec}
 use Rattle.osgi_choice.proofs.Views.{adder-host, in_force-cases}
 use Rattle.osgi_choice.proofs.Words.{made-more, word-state}
-use Rattle.osgi_onward.specs.Facts.{IsOnward, OnlyNewReasons, OnlyTheseSettle, OnlyTouchedAreStuck, QuietWhileUndecided}
+use Rattle.osgi_onward.specs.Facts.{ClashesLeadToHost, IsOnward, JoinedLack, OffersEndWithHost, OnlyNewReasons, OnlyTheseSettle, OnlyTouchedAreStuck, QuietWhileUndecided}
 use Rattle.osgi_onward.specs.Reasons as reason
-use Rattle.osgi_onward.specs.Reasons.{IsQuiet, Joined, Leads, NewAtOnce, NewBySettling, Newly, SettlesNow, Stuck, by_bundle, by_package}
-use Rattle.osgi_onward.proofs.Before.{OneMore, anew-use, growth, host-member, joined-no_force, joined-no_wire, stuck-member, stuck-touched, use-either, wire-added, wire-either}
+use Rattle.osgi_onward.specs.Reasons.{IsQuiet, Joined, Leads, LeadsTo, NewAtOnce, NewBySettling, Newly, Reaches, SettlesNow, SettlesWithHost, Stuck, by_bundle, by_package}
+use Rattle.osgi_onward.proofs.Before.{OneMore, anew-use, growth, host-member, joined-no_force, joined-no_wire, joined-stuck, part-before, stuck-member, stuck-touched, use-either, wire-added, wire-either}
 use Rattle.osgi_onward.proofs.Settling.{quiet-joined, quiet-part, settles-cases}
 
 -- ---- what a revision leads to
@@ -51,6 +52,11 @@ source-leads : {K : List Known} {W : List Wiring} {A : RevisionId → Type 0} {m
 source-leads s l (inl w) a = by_package l w a
 source-leads s l (inr (none, inl (c, b, g))) a = gives-leads s (by_bundle l b (s.reached c (first b))) (first b) g a
 source-leads {K = K} {W = W} {A = A} {m = m} s l (inr (none, inr (e, x))) a = subst (Leads K W A m) (sym e) l
+
+-- and so is what is reached from it
+reached-leads : {K : List Known} {W : List Wiring} {A : RevisionId → Type 0} {m r c : RevisionId} → Settles K W A r → Leads K W A m r → ReachedFrom K W r c → Leads K W A m c
+reached-leads s l (first b) = by_bundle l b (s.reached _ (first b))
+reached-leads s l (more f b) = by_bundle (reached-leads s l f) (reexport-is_bundle b) (s.reached _ (more f b))
 
 implied-end : {K : List Known} {W : List Wiring} {A : RevisionId → Type 0} {m e : RevisionId} {u : List ℕ} → Implied K W A m e u → A e
 implied-end (seen am s ae us) = ae
@@ -94,7 +100,7 @@ module _ (P : Problem) (D : Made) (d : Decision) (v : ℕ) (x : OneMore P D d v)
 
   -- an implied constraint of settled revisions was one before, or leads to a revision that settles
   pair-before : {m e : RevisionId} {u : List ℕ} → Implied P.world.known (partial P ((d, v) ∷ D)) (IsSettled P ((d, v) ∷ D)) m e u →
-      ((n : RevisionId) × SettlesNow P D d v n × Leads P.world.known (partial P ((d, v) ∷ D)) (IsDecided P ((d, v) ∷ D)) m n) ⊎ Implied P.world.known (partial P D) (IsSettled P D) m e u
+      ((n : RevisionId) × SettlesNow P D d v n × LeadsTo P ((d, v) ∷ D) m n) ⊎ Implied P.world.known (partial P D) (IsSettled P D) m e u
   pair-before {m = m} (seen {e = e} am s ae us) = elim (settled-dec P D m) [
     | inr fails ↦ inl (m, (am, fails), reason.itself am.own)
     | inl bm ↦ elim (settled-dec P D e) [
@@ -110,9 +116,10 @@ module _ (P : Problem) (D : Made) (d : Decision) (v : ℕ) (x : OneMore P D d v)
     ]
   ]
 
-  clash-new : ¬ Hopeless P D → (m e : RevisionId) (u : List ℕ) → In m (members P ((d, v) ∷ D)) → Implied P.world.known (partial P ((d, v) ∷ D)) (IsSettled P ((d, v) ∷ D)) m e u → Clash P.world.known (partial P ((d, v) ∷ D)) m e u → NewBySettling P D d v
-  clash-new hopeful m e u i pair c = elim (pair-before pair) [
-    | inl y ↦ reason.clashes m y.0 e u i y.1 y.2 pair c
+  clash-settles : ¬ Hopeless P D → (m e : RevisionId) (u : List ℕ) → Implied P.world.known (partial P ((d, v) ∷ D)) (IsSettled P ((d, v) ∷ D)) m e u → Clash P.world.known (partial P ((d, v) ∷ D)) m e u →
+      (n : RevisionId) × SettlesNow P D d v n × LeadsTo P ((d, v) ∷ D) m n
+  clash-settles hopeful m e u pair c = elim (pair-before pair) [
+    | inl y ↦ y
     | inr j ↦ absurd (hopeful (hopeless.clashes m e u j (clash-before (growth P D d v x) (implied-starts j) (implied-end j) c)))
   ]
 
@@ -152,7 +159,7 @@ module _ (P : Problem) (D : Made) (d : Decision) (v : ℕ) (x : OneMore P D d v)
   reason-new hopeful (check.two_versions m i t) = stuck-new hopeful m i (reason.two_versions t)
   reason-new hopeful (check.two_singletons r s a b e) = inl (rivals-new hopeful r s (new-present P ((d, v) ∷ D) r a) b e)
   reason-new hopeful (check.not_offered m w i h s off) = offer-new hopeful m w i h s off
-  reason-new hopeful (check.clashes m e u i pair c) = inr (clash-new hopeful m e u i pair c)
+  reason-new hopeful (check.clashes m e u i pair c) = let y = clash-settles hopeful m e u pair c in inr (reason.clashes m y.0 e u i y.1 y.2 pair c)
 
   -- ---- and a new reason is one
 
@@ -176,8 +183,11 @@ module _ (P : Problem) (D : Made) (d : Decision) (v : ℕ) (x : OneMore P D d v)
   joined-apart : (r n : RevisionId) (w : Wire) → Joined P D d v n → HasWire (partial P D) r w → w.capability.provider ≡ n → ⊥
   joined-apart r n w j h e = joined-no_force P D d v x n j (subst (InForce (partial P D)) e (provider-in_force P x.problem D r w h))
 
+  joined-no_clash : (m : RevisionId) → Joined P D d v m → {e : RevisionId} {u : List ℕ} → Implied P.world.known (partial P ((d, v) ∷ D)) (IsSettled P ((d, v) ∷ D)) m e u → ¬ Clash P.world.known (partial P ((d, v) ∷ D)) m e u
+  joined-no_clash m j pair c = alone-no_clash (joined-no_wire P D d v x m j) pair c
+
   -- nothing that is decided leads to it but itself
-  joined-leads : IsQuiet P D d v → {m n : RevisionId} → Joined P D d v n → Leads P.world.known (partial P ((d, v) ∷ D)) (IsDecided P ((d, v) ∷ D)) m n → m ≡ n
+  joined-leads : IsQuiet P D d v → {m n : RevisionId} → Joined P D d v n → LeadsTo P ((d, v) ∷ D) m n → m ≡ n
   joined-leads q j (reason.itself a) = refl
   joined-leads q {n = n} j (by_bundle {r = r} l b a) = let old = bundle-part (quiet-part P D d v x q r (leads-end l)) b in absurd (joined-apart r n old.wire j old.has old.provider)
   joined-leads q {n = n} j (by_package {r = r} l w a) = let old = package-part (quiet-part P D d v x q r (leads-end l)) w in absurd (joined-apart r n old.wire j old.has old.provider)
@@ -188,16 +198,63 @@ module _ (P : Problem) (D : Made) (d : Decision) (v : ℕ) (x : OneMore P D d v)
     | inl old ↦ absurd (joined-apart m w.capability.provider w (quiet-joined P D d v x q w.capability.provider s) old refl)
   ]
 
+  quiet-no_clash : IsQuiet P D d v → {m n e : RevisionId} {u : List ℕ} → SettlesNow P D d v n → LeadsTo P ((d, v) ∷ D) m n →
+      Implied P.world.known (partial P ((d, v) ∷ D)) (IsSettled P ((d, v) ∷ D)) m e u → ¬ Clash P.world.known (partial P ((d, v) ∷ D)) m e u
+  quiet-no_clash q {m = m} {n = n} s l pair c =
+      let j = quiet-joined P D d v x q n s in
+      joined-no_clash m (subst (Joined P D d v) (sym (joined-leads q j l)) j) pair c
+
   quiet-reason : IsQuiet P D d v → NewBySettling P D d v → NewAtOnce P D d v
   quiet-reason q (reason.not_offered m w i h s off) = reason.wire_not_offered m w (quiet-offer q m w h s) s.0 off
-  quiet-reason q (reason.clashes m n e u i s l pair c) =
-      let j = quiet-joined P D d v x q n s in
-      let here : Joined P D d v m = subst (Joined P D d v) (sym (joined-leads q j l)) j in
-      absurd (alone-no_clash (joined-no_wire P D d v x m here) pair c)
+  quiet-reason q (reason.clashes m n e u i s l pair c) = absurd (quiet-no_clash q s l pair c)
 
   pub quiet-new : IsQuiet P D d v → Newly P D d v → NewAtOnce P D d v
   quiet-new q (inl a) = a
   quiet-new q (inr b) = quiet-reason q b
+
+  -- ---- otherwise what is new hangs on the host
+
+  from-host : {m r : RevisionId} → LeadsTo P ((d, v) ∷ D) m r → (r ≢ host d → ⊥) → LeadsTo P ((d, v) ∷ D) m (host d)
+  from-host {m = m} {r = r} l same = elim (rev-dec r (host d)) [
+    | inl e ↦ subst (LeadsTo P ((d, v) ∷ D) m) e l
+    | inr other ↦ absurd (same other)
+  ]
+
+  -- what leads to one that joins leads to the host, or is itself that one
+  joined-host : {m n : RevisionId} → Joined P D d v n → LeadsTo P ((d, v) ∷ D) m n →
+      (m ≡ n) ⊎ LeadsTo P ((d, v) ∷ D) m (host d)
+  joined-host j (reason.itself a) = inl refl
+  joined-host {n = n} j (by_bundle {r = r} l b a) = inr (from-host l (λ other. let old = bundle-part (part-before P D d v x r other) b in joined-apart r n old.wire j old.has old.provider))
+  joined-host {n = n} j (by_package {r = r} l w a) = inr (from-host l (λ other. let old = package-part (part-before P D d v x r other) w in joined-apart r n old.wire j old.has old.provider))
+
+  with-host : {m n : RevisionId} → IsSettled P ((d, v) ∷ D) n → LeadsTo P ((d, v) ∷ D) m n → Reaches P.world.known (partial P ((d, v) ∷ D)) n (host d) →
+      LeadsTo P ((d, v) ∷ D) m (host d)
+  with-host {m = m} s l (inl e) = subst (LeadsTo P ((d, v) ∷ D) m) e l
+  with-host s l (inr f) = reached-leads s l f
+
+  clash-host : {m n e : RevisionId} {u : List ℕ} → SettlesNow P D d v n → LeadsTo P ((d, v) ∷ D) m n →
+      Implied P.world.known (partial P ((d, v) ∷ D)) (IsSettled P ((d, v) ∷ D)) m e u → Clash P.world.known (partial P ((d, v) ∷ D)) m e u → LeadsTo P ((d, v) ∷ D) m (host d)
+  clash-host {m = m} {n = n} s l pair c = elim (settles-cases P D d v x n s) [
+    | inr h ↦ with-host s.0 l h.2
+    | inl j ↦ elim (joined-host j l) [ inl e ↦ absurd (joined-no_clash m (subst (Joined P D d v) (sym e) j) pair c) | inr f ↦ f ]
+  ]
+
+  pub clash-leads : ¬ Hopeless P D → (m e : RevisionId) (u : List ℕ) → Implied P.world.known (partial P ((d, v) ∷ D)) (IsSettled P ((d, v) ∷ D)) m e u → Clash P.world.known (partial P ((d, v) ∷ D)) m e u →
+      (¬ IsDecided P D (host d)) × IsDecided P ((d, v) ∷ D) (host d) × LeadsTo P ((d, v) ∷ D) m (host d)
+  clash-leads hopeful m e u pair c =
+      let y = clash-settles hopeful m e u pair c in
+      let l = clash-host y.1 y.2 pair c in
+      (λ k. quiet-no_clash (inr k) y.1 y.2 pair c, leads-end l, l)
+
+  offer-joined : (m : RevisionId) (w : Wire) → HasWire (partial P D) m w → SettlesNow P D d v w.capability.provider → SettlesWithHost P D d v w.capability.provider
+  offer-joined m w h s = elim (settles-cases P D d v x w.capability.provider s) [ inl j ↦ absurd (joined-apart m w.capability.provider w j h refl) | inr y ↦ y ]
+
+  pub offer-host : ¬ Hopeless P D → (m : RevisionId) (w : Wire) → In m (members P ((d, v) ∷ D)) → HasWire (partial P ((d, v) ∷ D)) m w → IsSettled P ((d, v) ∷ D) w.capability.provider → ¬ OnOffer P.world.known (partial P ((d, v) ∷ D)) w.capability →
+      In (wired m w) (adds P d v) ⊎ SettlesNow P D d v w.capability.provider × SettlesWithHost P D d v w.capability.provider
+  offer-host hopeful m w i h s off = elim (wire-either P D d v x m w h) [
+    | inr a ↦ inl a
+    | inl old ↦ let now : SettlesNow P D d v w.capability.provider = (s, offer-before hopeful m w (holder-member m w i old) old off) in inr (now, offer-joined m w old now)
+  ]
 
 -- ---- words
 
@@ -224,3 +281,12 @@ settles_anew P L w d v r o s = settles-cases P (made_by P w) d v (one-more P L w
 
 pub quiet_while_undecided : (P : Problem) → IsProblem P → QuietWhileUndecided P
 quiet_while_undecided P L w d v o hopeful q = (λ h. quiet-new P (made_by P w) d v (one-more P L w d v o) q (hopeless-new P L w d v o hopeful h), λ a. new-word P L w d v o (inl a))
+
+pub clashes_lead_to_host : (P : Problem) → IsProblem P → ClashesLeadToHost P
+clashes_lead_to_host P L w d v m e u o hopeful pair c = clash-leads P (made_by P w) d v (one-more P L w d v o) hopeful m e u pair c
+
+pub offers_end_with_host : (P : Problem) → IsProblem P → OffersEndWithHost P
+offers_end_with_host P L w d v m x o hopeful i h s off = offer-host P (made_by P w) d v (one-more P L w d v o) hopeful m x i h s off
+
+pub joined_lack : (P : Problem) → IsProblem P → JoinedLack P
+joined_lack P L w d v m o j t = joined-stuck P (made_by P w) d v (one-more P L w d v o) m j t

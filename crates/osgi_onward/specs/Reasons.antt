@@ -56,6 +56,10 @@ pub data Leads (K : List Known) (W : List Wiring) (A : RevisionId → Type 0) (m
   by_bundle : {r n : RevisionId} → Leads K W A m r → BundleWire K W r n → A n → Leads K W A m n
   by_package : {r n : RevisionId} {p : List ℕ} → Leads K W A m r → PackageWire K W r p n → A n → Leads K W A m n
 
+-- m leads to n through decided revisions
+abbrev pub LeadsTo : Problem → Made → RevisionId → RevisionId → Type 0
+LeadsTo P D m n = Leads P.world.known (partial P D) (IsDecided P D) m n
+
 -- ---- reasons
 
 -- what makes a word hopeless of the member m alone, with its fragments, its requirements and its wires
@@ -87,7 +91,7 @@ pub data NewBySettling (P : Problem) (D : Made) (d : Decision) (v : ℕ) : Type 
       ¬ OnOffer P.world.known (partial P ((d, v) ∷ D)) w.capability → NewBySettling P D d v
   -- an implied constraint of m that comes from settled revisions alone clashes, and m leads to a revision that settles,
   -- through revisions that are decided
-  clashes : (m n e : RevisionId) (u : List ℕ) → In m (members P ((d, v) ∷ D)) → SettlesNow P D d v n → Leads P.world.known (partial P ((d, v) ∷ D)) (IsDecided P ((d, v) ∷ D)) m n →
+  clashes : (m n e : RevisionId) (u : List ℕ) → In m (members P ((d, v) ∷ D)) → SettlesNow P D d v n → LeadsTo P ((d, v) ∷ D) m n →
       Implied P.world.known (partial P ((d, v) ∷ D)) (IsSettled P ((d, v) ∷ D)) m e u → Clash P.world.known (partial P ((d, v) ∷ D)) m e u → NewBySettling P D d v
 
 -- all reasons that the decision can give

@@ -4,7 +4,7 @@
 
 ghost use Rattle.osgi_world.specs.Candidates.{IsProblem};
 ghost use Rattle.osgi_world.specs.declared.problem.Problem.{Problem};
-ghost use Rattle.osgi_onward.specs.Facts.{OnlyNewReasons, OnlyTheseSettle, OnlyTouchedAreStuck, QuietWhileUndecided};
+ghost use Rattle.osgi_onward.specs.Facts.{ClashesLeadToHost, JoinedLack, OffersEndWithHost, OnlyNewReasons, OnlyTheseSettle, OnlyTouchedAreStuck, QuietWhileUndecided};
 
 /// A word that is not hopeless is so with one decision more exactly for one of the reasons that the decision can give.
 pub fn only_new_reasons()
@@ -24,4 +24,19 @@ pub fn settles_anew()
 /// While the host of the decisions is not decided, and once it was decided before, nothing that settles is a reason.
 pub fn quiet_while_undecided()
     ensures { (P : Problem) → IsProblem P → QuietWhileUndecided P }
+{}
+
+/// A new clash is at a revision that leads to the decision's host, which is decided now and was not before.
+pub fn clashes_lead_to_host()
+    ensures { (P : Problem) → IsProblem P → ClashesLeadToHost P }
+{}
+
+/// A wire that is newly not on offer is one that the decision adds, or goes to what settles with the decision's host.
+pub fn offers_end_with_host()
+    ensures { (P : Problem) → IsProblem P → OffersEndWithHost P }
+{}
+
+/// What joins by a decision is stuck only where a requirement of its own has no candidate.
+pub fn joined_lack()
+    ensures { (P : Problem) → IsProblem P → JoinedLack P }
 {}
