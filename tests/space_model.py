@@ -6,6 +6,7 @@ give nothing new. A world is what is known of revisions and how some of them are
 not known nothing holds: it has no capabilities and no requirements, is no fragment, is not current, and its name is empty.
 """
 from dataclasses import dataclass
+from functools import wraps
 from typing import Optional
 
 BUNDLE = "osgi.wiring.bundle"
@@ -16,26 +17,36 @@ PACKAGE = "osgi.wiring.package"
 
 @dataclass(frozen=True)
 class Capability:
-    """What a revision offers; `uses` lists packages."""
+    """What a revision offers; `uses` lists packages. The attribute `version` is a version, or a tuple of several; the others
+    are pairs of a name and a text, and `mandatory` names those that an import has to give."""
     namespace: str
     name: str
     uses: tuple = ()
+    version: object = None
+    attributes: tuple = ()
+    mandatory: tuple = ()
 
 
 @dataclass(frozen=True)
 class Requirement:
-    """What a revision needs."""
+    """What a revision needs: one of these versions; an import may ask for an exporter and its versions, and for attributes,
+    and what is neither an import nor a required bundle may have a filter."""
     namespace: str
     name: str
     optional: bool = False
     multiple: bool = False
     reexport: bool = False
     effective: bool = True
+    range: str = "0"
+    from_name: Optional[str] = None
+    from_range: str = "0"
+    equal: tuple = ()
+    filter: str = ""
 
 
 @dataclass(frozen=True)
 class Host:
-    """The host that a fragment asks for. The range is `FLOOR`, `[FLOOR,CEILING)` or the like, of whole numbers."""
+    """The host that a fragment asks for. The range is `FLOOR`, `[FLOOR,CEILING)` or the like."""
     name: str
     range: str = "0"
 
@@ -47,7 +58,7 @@ class Revision:
     bundle: int
     name: str
     current: bool = True
-    version: int = 0
+    version: object = 0
     singleton: bool = False
     attach: bool = True
     host: Optional[Host] = None
@@ -86,13 +97,32 @@ def has_two(relation, items):
     return any(relation(items[i], items[j]) for j in range(len(items)) for i in range(j))
 
 
+def parts(version):
+    """The three numbers of a version, which is a whole number or a text such as `1.8`."""
+    numbers = [int(word) for word in str(version).split(".")]
+    return tuple(numbers + [0] * (3 - len(numbers)))
+
+
 def is_within(text, version):
     """Whether the range contains the version."""
+    version = parts(version)
     if text[0] not in "[(":
-        return version >= int(text)
-    floor, ceiling = (int(word) for word in text[1:-1].split(","))
+        return version >= parts(text)
+    floor, ceiling = map(parts, text[1:-1].split(","))
     above = version >= floor if text[0] == "[" else version > floor
     return above and (version <= ceiling if text[-1] == "]" else version < ceiling)
+
+
+def kept(method):
+    """The method, of an object that does not change: what it has answered once is not worked out again."""
+    @wraps(method)
+    def answer(self, *words):
+        answers = self.__dict__.setdefault("answers", {})
+        question = (method.__name__, *words)
+        if question not in answers:
+            answers[question] = method(self, *words)
+        return answers[question]
+    return answer
 
 
 # ---------------------------------------------------------------- the class space
@@ -104,7 +134,6 @@ class Space:
         self.world = world
         self.wirings = world.wirings
         self.by_id = {known.id: known for known in reversed(world.known)}  # the first of each id
-        self.gives = self.least_gives()
 
     # ---- what is known
 
@@ -121,6 +150,7 @@ class Space:
     def name(self, r):
         return self.known(r).name if self.known(r) is not None else ""
 
+    @kept
     def is_host_of(self, fragment, host):
         """The fragment matches the host by name and range, and the host, which is no fragment, permits fragments."""
         f, h = self.known(fragment), self.known(host)
@@ -137,9 +167,11 @@ class Space:
     def requirement_count(self, r):
         return len(self.known(r).requirements) if self.known(r) is not None else 0
 
+    @kept
     def requirement(self, owner, index):
         """The requirement or dynamic import at the place, or None."""
-        all_of_them = self.known(owner).requirements + self.known(owner).dynamics if self.known(owner) is not None else ()
+        known = self.known(owner)
+        all_of_them = known.requirements + known.dynamics if known is not None else ()
         return all_of_them[index] if index < len(all_of_them) else None
 
     def is_dynamic(self, owner, index):
@@ -172,15 +204,19 @@ class Space:
 
     # ---- wirings
 
+    @kept
     def in_force(self):
         return {wiring.revision for wiring in self.wirings}
 
+    @kept
     def wires(self, r):
         return {wire for wiring in self.wirings if wiring.revision == r for wire in wiring.wires}
 
+    @kept
     def fragments(self, r):
         return {fragment for wiring in self.wirings if wiring.revision == r for fragment in wiring.fragments}
 
+    @kept
     def in_use(self):
         """Those that are in force or attached."""
         return self.in_force() | {fragment for r in self.in_force() for fragment in self.fragments(r)}
@@ -189,14 +225,17 @@ class Space:
         """Those whose capabilities and requirements are in the payload of r."""
         return {r} | self.fragments(r)
 
+    @kept
     def exports(self, r):
         """The exports in the payload of r."""
         return {capability for owner in self.owners(r) for capability in self.capabilities(owner) if capability.namespace == PACKAGE}
 
+    @kept
     def exported(self, r):
         """The packages that the payload of r exports."""
         return {export.name for export in self.exports(r)}
 
+    @kept
     def used(self, r, p):
         """What the exports of p in the payload of r list in their `uses`."""
         return {u for export in self.exports(r) if export.name == p for u in export.uses}
@@ -208,26 +247,31 @@ class Space:
         capability = self.capability(wire.owner, wire.given)
         return capability.namespace if capability is not None else ""
 
+    @kept
     def package_wires(self, r):
         """Pairs of a package and a provider."""
         return {(self.capability(wire.owner, wire.given).name, wire.provider) for wire in self.wires(r)
                 if self.namespace_given(wire) == PACKAGE}
 
+    @kept
     def bundle_wires(self, r):
         """The revisions that r has a bundle wire to."""
         return {wire.provider for wire in self.wires(r) if self.namespace_given(wire) == BUNDLE}
 
+    @kept
     def reexports(self, r):
         """Those of them that r requires with reexport."""
         return {wire.provider for wire in self.wires(r)
                 if self.namespace_given(wire) == BUNDLE and self.is_reexport(wire.asker, wire.asked)}
 
+    @kept
     def providers(self, r, p):
         return {provider for package, provider in self.package_wires(r) if package == p}
 
     def imports_elsewhere(self, r, p):
         return any(provider != r for provider in self.providers(r, p))
 
+    @kept
     def is_on_offer(self, provider, owner, index):
         """The capability is in the provider's payload, and is no export of a package that it imports from elsewhere."""
         capability = self.capability(owner, index)
@@ -235,6 +279,7 @@ class Space:
             return False
         return capability.namespace != PACKAGE or not self.imports_elsewhere(provider, capability.name)
 
+    @kept
     def exports_on_offer(self, r):
         return {p for p in self.exported(r) if not self.imports_elsewhere(r, p)}
 
@@ -245,7 +290,8 @@ class Space:
         named = {r for wiring in self.wirings for wire in wiring.wires for r in (wire.provider, wire.asker, wire.owner)}
         return {known.id for known in self.world.known} | self.in_use() | named
 
-    def least_gives(self):
+    @kept
+    def gives(self):
         """All (p, b, x) such that b gives p from x to those that require b."""
         gives = set()
         reexports = {b: self.reexports(b) for b in self.everyone()}
@@ -261,15 +307,17 @@ class Space:
                 return gives
             gives = gives | more
 
+    @kept
     def sources(self, r, p):
         """The sources of p for r."""
         if self.providers(r, p):
             return self.providers(r, p)
-        from_bundles = {x for c in self.bundle_wires(r) for package, given, x in self.gives if package == p and given == c}
+        from_bundles = {x for c in self.bundle_wires(r) for package, given, x in self.gives() if package == p and given == c}
         return from_bundles | ({r} if p in self.exports_on_offer(r) else set())
 
     # ---- constraints
 
+    @kept
     def packages(self):
         """All names of exports: no other name has a source."""
         return {capability.name for known in self.world.known for capability in known.capabilities if capability.namespace == PACKAGE}

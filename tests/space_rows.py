@@ -8,14 +8,28 @@ GIVEN = {"exports": PACKAGE, "bundle": BUNDLE, "provides": None}
 ASKED = {"imports": PACKAGE, "requires": BUNDLE, "needs": None, "dynamic": PACKAGE}
 
 
+def read_attributes(text):
+    return tuple(part.lstrip("!").partition("=")[::2] for part in text.rstrip("}").split(",") if part)
+
+
 def read_capability(key, value):
-    name, _, uses = value.rstrip(")").partition("(")
-    return Capability(GIVEN[key] or name, name, tuple(uses.split(",")) if uses else ())
+    value, _, uses = value.rstrip(")").partition("(")
+    value, _, others = value.partition("{")
+    name, _, version = value.partition(":")
+    mandatory = [part[1:].partition("=")[0] for part in others.rstrip("}").split(",") if part.startswith("!")]
+    return Capability(GIVEN[key] or name, name, tuple(uses.split(",")) if uses else (), version or None, read_attributes(others),
+                      tuple(mandatory))
 
 
 def read_requirement(key, value):
-    name, _, flags = value.partition("/")
-    return Requirement(ASKED[key] or name, name, "o" in flags, "m" in flags, "r" in flags, "i" not in flags)
+    value, _, filter = value.partition("?")
+    value, _, flags = value.partition("/")
+    value, _, others = value.partition("{")
+    value, _, exporter = value.partition("@")
+    name, _, span = value.partition(":")
+    from_name, _, from_span = exporter.partition(":")
+    return Requirement(ASKED[key] or name, name, "o" in flags, "m" in flags, "r" in flags, "i" not in flags, span or "0",
+                       from_name or None, from_span or "0", read_attributes(others), filter)
 
 
 def read_revision(text):
@@ -26,7 +40,7 @@ def read_revision(text):
     return Revision(
         int(number), int(bundle or number), name,
         current="old" not in words, singleton="single" in words, attach="shut" not in words,
-        version=next((int(value) for key, value in pairs if key == "version"), 0),
+        version=next((value for key, value in pairs if key == "version"), 0),
         host=next((Host(name, span or "0") for name, span in hosts), None),
         capabilities=tuple(read_capability(key, value) for key, value in pairs if key in GIVEN),
         requirements=tuple(read_requirement(key, value) for key, value in pairs if key in ASKED and key != "dynamic"),
@@ -58,15 +72,27 @@ def read_row(row):
 
 # ---------------------------------------------------------------- to text
 
+def spelled_attributes(attributes, mandatory=()):
+    return f"{{{','.join('!' * (name in mandatory) + f'{name}={text}' for name, text in attributes)}}}" if attributes else ""
+
+
+def spelled_range(mark, span):
+    return f"{mark}{span}" if span != "0" else ""
+
+
 def spelled_capability(capability):
     key = "exports" if capability.namespace == PACKAGE else "bundle" if capability.namespace == BUNDLE else "provides"
-    return f"{key}={capability.name}" + (f"({','.join(capability.uses)})" if capability.uses else "")
+    version = f":{capability.version}" if capability.version is not None else ""
+    uses = f"({','.join(capability.uses)})" if capability.uses else ""
+    return f"{key}={capability.name}{version}{spelled_attributes(capability.attributes, capability.mandatory)}{uses}"
 
 
 def spelled_requirement(asked, key=None):
     key = key or ("imports" if asked.namespace == PACKAGE else "requires" if asked.namespace == BUNDLE else "needs")
     flags = "o" * asked.optional + "m" * asked.multiple + "r" * asked.reexport + "i" * (not asked.effective)
-    return f"{key}={asked.name}" + (f"/{flags}" if flags else "")
+    exporter = f"@{asked.from_name}{spelled_range(':', asked.from_range)}" if asked.from_name is not None else ""
+    ends = (f"/{flags}" if flags else "") + (f"?{asked.filter}" if asked.filter else "")
+    return f"{key}={asked.name}{spelled_range(':', asked.range)}{exporter}{spelled_attributes(asked.equal)}{ends}"
 
 
 def spelled_revision(known):
@@ -74,7 +100,7 @@ def spelled_revision(known):
     words += ["old"] * (not known.current) + ["single"] * known.singleton + ["shut"] * (not known.attach)
     words += [f"version={known.version}"] * (known.version != 0)
     if known.host is not None:
-        words.append(f"host={known.host.name}" + (f":{known.host.range}" if known.host.range != "0" else ""))
+        words.append(f"host={known.host.name}{spelled_range(':', known.host.range)}")
     words += map(spelled_capability, known.capabilities)
     words += map(spelled_requirement, known.requirements)
     words += [spelled_requirement(asked, "dynamic") for asked in known.dynamics]
