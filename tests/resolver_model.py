@@ -458,7 +458,7 @@ class Walk:
         return self.found is not None or self.effort > self.budget
 
     def visit(self, word=(), made=()):
-        """The word, and then what follows it. Below a hopeless word all are hopeless, and none is good: there is no need to look."""
+        """The word, and then what follows it. Below a hopeless word all are hopeless and none is good, so nothing is looked at."""
         decided = Decided(self.problem, made)
         hope = Hope(decided)
         reasons = hope.reasons()

@@ -9,7 +9,7 @@ status is 1 where one is different."""
 import sys
 
 sys.dont_write_bytecode = True
-from resolver_model import FIRST, Found, NoWord, Problem, Spent, Walk, extended
+from resolver_model import FIRST, Found, Problem, Spent, Walk, extended
 from space_model import World
 from space_rows import parts, read_revision, spelled_wiring
 

@@ -8,16 +8,18 @@
 
 A row makes revisions known and resolves some of them, each with a budget that is one too small, and then with one that is just
 enough; so what is in force is what the model has found before, and is consistent. Where the effort is above MOST, the budget is
-that, and both have to say that it was spent. A row that the program answers in another way is printed, and then the status is 1.
+that, and both have to say that it was spent. A row that the program answers in another way is made as small as it can be, and
+printed, and then the status is 1.
 
 All revisions are current: the rows of osgi_resolver_cases have no step after which one is not."""
+import itertools
 import subprocess
 import sys
 from collections import Counter
 from dataclasses import replace
 
 sys.dont_write_bytecode = True
-from resolver_model import Found, NoWord, Problem, Spent, broken_laws, version_in
+from resolver_model import Found, Spent, broken_laws, version_in
 from resolver_rows import Teller
 from space_model import BUNDLE, PACKAGE, Capability, Host, Requirement, Revision, parts
 from space_rows import spelled_revision
@@ -30,17 +32,24 @@ PACKAGES = ["p", "q", "r", "s", "t"]
 NAMES = ["a", "b", "c", "d", "e", "f"]
 OTHERS = ["x", "y"]
 
+# What the framework itself offers, or nearly so.
+FRAMEWORK = [
+    Requirement(PACKAGE, "org.osgi.framework"), Requirement(PACKAGE, "org.osgi.framework", range="[1.8,2)"),
+    Requirement(BUNDLE, "system.bundle", reexport=True), Requirement(BUNDLE, "system.bundle", optional=True, range="[2,3)"),
+    Requirement("osgi.ee", "osgi.ee", filter="(&(osgi.ee=JavaSE)(version=1.8))"),
+    Requirement("osgi.ee", "osgi.ee", optional=True, filter="(&(osgi.ee=JavaSE)(version>=18))")]
+
 # In percent, how often something is drawn. A family has its own numbers for what it is about.
 MIXED = dict(
     fewest=4, most=8, names=5, packages=4, fragment=22, bundle=55, exports=3, other=25, version=65, uses=40, sees=75, again=12,
     attributes=8, required=30, reexport=50, imports=2, needs=25, own=18, optional=18, several=45, several_packages=4, idle=4,
-    range=35, exporter=6, missing=2, single=20, same=25, shut=4, dynamic=5, late=25, shuffled=50, roots=4, framework=2)
+    range=35, exporter=6, missing=2, single=20, same=25, shut=4, dynamic=5, late=25, shuffled=50, roots=4, framework=4)
 FAMILIES = {
     "mixed": {},
     "uses": dict(fragment=8, uses=75, sees=95, version=90, range=45, required=12, imports=3, other=5, needs=5, packages=3, single=5),
     "split": dict(fragment=10, bundle=95, required=75, reexport=65, uses=60, sees=40, imports=1, other=5, needs=5, packages=3, version=30),
-    "chains": dict(fragment=0, bundle=100, required=90, reexport=80, imports=1, exports=1, packages=3, uses=70, sees=30, other=0, needs=0,
-                   version=50, single=0, optional=25),
+    "chains": dict(late=15, roots=3),
+    "parts": dict(late=15, roots=3),
     "substitution": dict(own=65, fragment=20, range=50, packages=3, uses=35, exports=2, imports=2, version=85, bundle=80, required=50),
     "singletons": dict(single=80, same=70, names=3, fragment=30, bundle=80, required=50, version=70, imports=2, optional=25),
     "fragments": dict(fragment=50, names=4, shut=8, same=40, late=45, imports=2, exports=2, uses=45),
@@ -57,6 +66,7 @@ class Draws(Makers):
     def __init__(self, seed, family):
         super().__init__(seed)
         self.percent = {**MIXED, **FAMILIES[family]}
+        self.family = family
 
     def wants(self, what):
         return self.chance(self.percent[what])
@@ -129,8 +139,9 @@ class Draws(Makers):
                     reexport=self.wants("reexport") if namespace == BUNDLE else self.chance(2))
 
     def offers(self, made, namespace):
-        return [(known, given) for known in made for given in known.capabilities if given.namespace == namespace or namespace is None
-                and given.namespace not in (BUNDLE, PACKAGE)]
+        """Pairs of a revision and what it offers in this namespace, or, for None, in one that is not of bundles or packages."""
+        return [(known, given) for known in made for given in known.capabilities
+                if given.namespace == namespace or namespace is None and given.namespace not in (BUNDLE, PACKAGE)]
 
     def asked_for(self, known, given):
         """A requirement that the capability of the revision satisfies, mostly."""
@@ -175,7 +186,7 @@ class Draws(Makers):
             if offers and used not in {given.name for given in exports} and self.wants("sees"):
                 asked.append(self.asked_for(*self.one_of(offers)))
         if self.wants("framework"):
-            asked.append(Requirement(PACKAGE, "org.osgi.framework", range=self.one_of(["0", "[1.8,2)"])))
+            asked.append(self.one_of(FRAMEWORK))
         # not two imports of one package, mostly
         kept = []
         for one in asked:
@@ -183,7 +194,67 @@ class Draws(Makers):
                 kept.append(one)
         return tuple(self.shuffled(kept))
 
+    def chain(self):
+        """A package that comes through bundles of which each requires the one before, with reexport or not; a user of what comes
+        so, and a revision that sees both and may get the package from elsewhere."""
+        length = 2 + self.below(3)
+        made = []
+        for at in range(length):
+            asked = [Requirement(BUNDLE, NAMES[at - 1], reexport=self.chance(75), optional=self.chance(8))] if at > 0 else []
+            if self.chance(20):
+                asked.append(Requirement(BUNDLE, self.one_of(NAMES[:length]), reexport=self.chance(50), optional=self.chance(50)))
+            given = [Capability(PACKAGE, "p", (), self.version())] if at == 0 or self.chance(15) else []
+            given += [Capability(PACKAGE, "s", ("p",))] if self.chance(15) else []
+            made.append((NAMES[at], [Capability(BUNDLE, NAMES[at]), *given], asked))
+        if self.chance(65):
+            made.append(("u", [Capability(PACKAGE, "q", self.one_of([("p",), ("p",), ("p", "s")]))],
+                         [Requirement(BUNDLE, NAMES[length - 1])] + [Requirement(BUNDLE, self.one_of(NAMES[:length]))] * self.chance(20)))
+        else:
+            made.append(("u", [Capability(PACKAGE, "q", ("p",)), Capability(PACKAGE, "p")], []))
+        made.append(("k", [Capability(PACKAGE, "p", (), 2 if self.chance(60) else None)], []))
+        sees = [Requirement(PACKAGE, "q"), Requirement(PACKAGE, "p", optional=self.chance(30), range=self.one_of(["0", "0", "[0,2)", "2"]))]
+        sees += [Requirement(BUNDLE, self.one_of(NAMES[:length]), optional=self.chance(20))] * self.chance(50)
+        made.append(("v", [Capability(PACKAGE, "r", ("q",))] * self.chance(30), sees))
+        if self.chance(25):
+            made.append(("w", [], [Requirement(BUNDLE, self.one_of(NAMES[:length])), Requirement(PACKAGE, self.one_of("pqr"))]))
+        return self.numbered(made)
+
+    def required(self, least, names):
+        """Some bundles, each with reexport or not."""
+        chosen = self.shuffled(names)[:least + self.below(3)]
+        return [Requirement(BUNDLE, name, reexport=self.chance(60), optional=self.chance(12)) for name in chosen]
+
+    def sees_p(self, percent):
+        """An import of p, so often."""
+        return [Requirement(PACKAGE, "p", optional=self.chance(25), range=self.one_of(["0", "0", "[1,2)", "2"]))] * self.chance(percent)
+
+    def parts_of_package(self):
+        """A package that is split between several bundles, of which its users see different ones."""
+        count = 2 + self.below(2)
+        names = NAMES[:count]
+        made = [(name, [Capability(BUNDLE, name), Capability(PACKAGE, "p", (), self.version())],
+                 (self.required(0, names)[:1] if self.chance(20) else []) + self.sees_p(25)) for name in names]
+        made.append(("m", [Capability(BUNDLE, "m")] + [Capability(PACKAGE, "p")] * self.chance(20), self.required(1, names)))
+        for at, name in enumerate("uv"[:1 + self.below(2)]):
+            own = [Capability(PACKAGE, "p", (), self.version())] * self.chance(15)
+            made.append((name, [Capability(PACKAGE, "qs"[at], ("p",)), Capability(BUNDLE, name), *own],
+                         self.required(1, names + ["m"]) + self.sees_p(15)))
+        own = [Capability(PACKAGE, "p", (), self.version())] * self.chance(15)
+        asked = [Requirement(PACKAGE, "q"), *[Requirement(PACKAGE, "s")] * self.chance(25)]
+        made.append(("w", own, asked + self.sees_p(20) + self.required(1, names + ["m"])))
+        return self.numbered(made)
+
+    def numbered(self, made):
+        """The revisions that have these names, capabilities and requirements, in some order."""
+        bundles = self.shuffled(range(1, len(made) + 1))
+        return [Revision(at + 1, bundles[at], name, capabilities=tuple(given), requirements=tuple(self.shuffled(asked)))
+                for at, (name, given, asked) in enumerate(self.shuffled(made))]
+
     def known(self):
+        if self.family == "chains":
+            return self.chain()
+        if self.family == "parts":
+            return self.parts_of_package()
         made = self.draw_known()
         dynamics = [tuple(Requirement(PACKAGE, p) for p in PACKAGES[:2] if self.wants("dynamic")) for _ in made]
         return [replace(known, requirements=self.requirements(made, known), dynamics=dynamics[at]) for at, known in enumerate(made)]
@@ -221,6 +292,7 @@ class Row:
     def __init__(self, known, steps):
         self.teller = Teller(MOST)
         self.known = known
+        self.drawn = steps
         self.steps = []
         self.answers = []
         self.problems = []  # each a walk and its answer
@@ -291,10 +363,12 @@ def features(walk, answer):
     told |= {"several members"} if len(answer.added) > 1 else set()
     told |= {"a fragment attached"} if any(wiring.fragments for wiring in answer.added) else set()
     told |= {"two fragments attached"} if any(len(wiring.fragments) > 1 for wiring in answer.added) else set()
-    told |= {"a fragment left out"} if any(walk.problem.matching(wiring.revision) != list(wiring.fragments) for wiring in answer.added) else set()
+    left = any(walk.problem.matching(wiring.revision) != list(wiring.fragments) for wiring in answer.added)
+    told |= {"a fragment left out"} if left else set()
     told |= {"a wire to a fragment's capability"} if any(wire.owner != wire.provider for wire in wires) else set()
     told |= {"a wire to a provider in force"} if any(wire.provider in walk.problem.in_force for wire in wires) else set()
-    told |= {"a wire to itself"} if any(wire.provider == wiring.revision for wiring in answer.added for wire in wiring.wires) else set()
+    own = any(wire.provider == wiring.revision for wiring in answer.added for wire in wiring.wires)
+    told |= {"a wire to itself"} if own else set()
     told |= {"a bundle wire"} if any(space.capability(wire.owner, wire.given).namespace == BUNDLE for wire in wires) else set()
     told |= {"a reexport"} if any(space.is_reexport(wire.asker, wire.asked) for wire in wires) else set()
     told |= {"a requirement with several wires"} if len({(wire.asker, wire.asked) for wire in wires}) < len(wires) else set()
@@ -328,38 +402,80 @@ def stats(seed, count):
 
 # ---------------------------------------------------------------- comparing
 
-def differences(told, row):
-    """The places at which a printed row has another answer than the model's, with both answers."""
+def ask(program, asked):
+    """What the program prints for rows, a line each; nothing for those that it did not come to."""
+    ran = subprocess.run([program], input="".join(f"{row.text()}\n" for row in asked), stdout=subprocess.PIPE, universal_newlines=True)
+    told = ran.stdout.splitlines()
+    return told + [""] * (len(asked) - len(told))
+
+
+def difference(row, told):
+    """The first answer of the model, and of the program, that the other does not give; None where there is none."""
     answers = told.split(" => ")[-1].split("; ")
     pairs = zip(row.answers + [""] * len(answers), answers + [""] * len(row.answers))
-    return [(at, model, program) for at, (model, program) in enumerate(pairs) if model != program]
+    return next(((model, program) for model, program in pairs if model != program), None)
 
 
-def compare(program, seed, count, shown=10):
-    """Asks the program in batches, and prints the first rows that it answers in another way."""
+def without_revision(known, steps, r):
+    def renumbered(revision):
+        return replace(revision, id=revision.id - (revision.id > r))
+
+    kept = [(word, renumbered(what) if word == "add" else what - (what > r))
+            for word, what in steps if (what.id if word == "add" else what) != r]
+    return [renumbered(revision) for revision in known if revision.id != r], kept
+
+
+def with_revision(known, steps, changed):
+    """What is left where a revision is another one."""
+    return ([changed if revision.id == changed.id else revision for revision in known],
+            [(word, changed if word == "add" and what.id == changed.id else what) for word, what in steps])
+
+
+def smaller(known, steps):
+    """Rows that are smaller by a step, a revision, or a part of one."""
+    revisions = known + [what for word, what in steps if word == "add"]
+    for revision in revisions:
+        yield without_revision(known, steps, revision.id)
+    for at, (word, _) in enumerate(steps):
+        if word != "add":
+            yield known, steps[:at] + steps[at + 1:]
+    for revision in revisions:
+        for part in ("capabilities", "requirements", "dynamics"):
+            items = getattr(revision, part)
+            for at in range(len(items)):
+                yield with_revision(known, steps, replace(revision, **{part: items[:at] + items[at + 1:]}))
+        for at, given in enumerate(revision.capabilities):
+            if given.uses:
+                less = revision.capabilities[:at] + (replace(given, uses=()),) + revision.capabilities[at + 1:]
+                yield with_revision(known, steps, replace(revision, capabilities=less))
+
+
+def smallest(program, row):
+    """A row that the program answers in another way than the model, while it does so for none that is smaller by one thing."""
+    for known, steps in smaller(row.known, row.drawn):
+        other = Row(known, steps)
+        if difference(other, ask(program, [other])[0]) is not None:
+            return smallest(program, other)
+    return row
+
+
+def compare(program, seed, count, shown=3):
+    """Asks the program in batches, and prints the first rows that it answers in another way, made as small as they can be."""
+    drawn = rows(seed, count)
     problems = wrong = 0
-    batch = []
-
-    def ask():
-        nonlocal wrong
-        lines = "".join(f"{row.text()}\n" for _, row in batch)
-        told = subprocess.run([program], input=lines, stdout=subprocess.PIPE, universal_newlines=True).stdout.splitlines()
-        for (family, row), line in zip(batch, told + [""] * (len(batch) - len(told))):
-            found = differences(line, row)
-            wrong += bool(found)
-            if found and wrong <= shown:
-                print(f"{family}: {row.text()}")
-                print("".join(f"  answer {at + 1}\n    model:   {model}\n    program: {other}\n" for at, model, other in found[:1]), end="")
-        batch.clear()
+    while True:
+        batch = [row for _, row in itertools.islice(drawn, BATCH)]
+        if not batch:
+            return 1 if wrong else 0
+        for row, told in zip(batch, ask(program, batch)):
+            problems += len(row.problems)
+            if difference(row, told) is not None:
+                wrong += 1
+                if wrong <= shown:
+                    least = smallest(program, row)
+                    model, other = difference(least, ask(program, [least])[0])
+                    print(f"{least.text()}\n  model:   {model}\n  program: {other}", flush=True)
         print(f"{problems} problems; {wrong} rows have another answer", flush=True)
-
-    for family, row in rows(seed, count):
-        problems += len(row.problems)
-        batch.append((family, row))
-        if len(batch) == BATCH:
-            ask()
-    ask()
-    return 1 if wrong else 0
 
 
 def check_laws(seed, count):
