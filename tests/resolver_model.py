@@ -137,7 +137,6 @@ class Problem:
         """Effective and mandatory."""
         return self.before.is_effective(*place) and not self.before.is_optional(*place)
 
-    @kept
     def satisfies_at(self, place, given):
         """The capability at its place satisfies the requirement at its own. A dynamic import is asked for the package, if its
         name stands for it."""
@@ -170,10 +169,12 @@ class Problem:
         provider, owner, index = given
         return self.before.capability(owner, index).namespace != BUNDLE or provider != place[0]
 
-    def is_candidate(self, place, given):
-        provider = given[0]
-        return (self.satisfies_at(place, given) and self.before.is_current(provider) and not self.is_fragment(provider)
-                and self.not_owner(place, given) and self.stands(given))
+    @kept
+    def offered(self):
+        """What may be a candidate, if it satisfies what is asked: capabilities of current providers that are no fragments."""
+        places = [(provider.id, owner.id, index) for provider in self.world.known for owner in self.world.known
+                  for index in range(len(owner.capabilities)) if provider.current and provider.host is None]
+        return [given for given in places if self.stands(given)]
 
     def preference_version(self, given):
         """The version by which a capability is preferred: a bundle's is its provider's."""
@@ -196,9 +197,7 @@ class Problem:
     @kept
     def candidates(self, place):
         """The candidates of a requirement, the preferred first."""
-        places = [(provider.id, owner.id, index) for provider in self.world.known for owner in self.world.known
-                  for index in range(len(owner.capabilities))]
-        found = [given for given in places if self.is_candidate(place, given)]
+        found = [given for given in self.offered() if self.not_owner(place, given) and self.satisfies_at(place, given)]
         return sorted(found, key=lambda c: sum(self.is_preferred(d, c) for d in found))
 
     # ---- what is asked
