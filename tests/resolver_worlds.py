@@ -197,7 +197,7 @@ class Draws(Makers):
     def chain(self):
         """A package that comes through bundles of which each requires the one before, with reexport or not; a user of what comes
         so, and a revision that sees both and may get the package from elsewhere."""
-        length = 2 + self.below(3)
+        length = self.one_of([2, 3, 4, 4, 5])
         made = []
         for at in range(length):
             asked = [Requirement(BUNDLE, NAMES[at - 1], reexport=self.chance(75), optional=self.chance(8))] if at > 0 else []
@@ -213,7 +213,7 @@ class Draws(Makers):
             made.append(("u", [Capability(PACKAGE, "q", ("p",)), Capability(PACKAGE, "p")], []))
         made.append(("k", [Capability(PACKAGE, "p", (), 2 if self.chance(60) else None)], []))
         sees = [Requirement(PACKAGE, "q"), Requirement(PACKAGE, "p", optional=self.chance(30), range=self.one_of(["0", "0", "[0,2)", "2"]))]
-        sees += [Requirement(BUNDLE, self.one_of(NAMES[:length]), optional=self.chance(20))] * self.chance(50)
+        sees += [Requirement(BUNDLE, self.one_of(NAMES[:length] + [NAMES[length - 1]] * 3), optional=self.chance(20))] * self.chance(65)
         made.append(("v", [Capability(PACKAGE, "r", ("q",))] * self.chance(30), sees))
         if self.chance(25):
             made.append(("w", [], [Requirement(BUNDLE, self.one_of(NAMES[:length])), Requirement(PACKAGE, self.one_of("pqr"))]))
@@ -230,8 +230,7 @@ class Draws(Makers):
 
     def parts_of_package(self):
         """A package that is split between several bundles, of which its users see different ones."""
-        count = 2 + self.below(2)
-        names = NAMES[:count]
+        names = NAMES[:self.one_of([2, 3, 3])]
         made = [(name, [Capability(BUNDLE, name), Capability(PACKAGE, "p", (), self.version())],
                  (self.required(0, names)[:1] if self.chance(20) else []) + self.sees_p(25)) for name in names]
         made.append(("m", [Capability(BUNDLE, "m")] + [Capability(PACKAGE, "p")] * self.chance(20), self.required(1, names)))
@@ -279,8 +278,11 @@ class Draws(Makers):
         return first[:len(known) - late], steps
 
     def resolves(self, known):
+        """Resolves one that is no fragment, mostly; of a chain or of parts often one for which all the rest is there."""
         hosts = [revision.id for revision in known if revision.host is None]
+        last = [revision.id for revision in known if revision.name in ("v", "w")]
         root = self.one_of(hosts) if hosts and self.chance(97) else self.below(len(known) + 2)
+        root = self.one_of(last) if last and self.chance(50) else root
         return [("anew", root)] * self.chance(25) + [("resolve", root)]
 
 
@@ -326,15 +328,15 @@ class Row:
 
 def rows(seed, count):
     """Rows of all families in turn, so that there are this many problems, or a few more; each with its family."""
-    families = list(FAMILIES)
-    at = problems = 0
-    while problems < count:
-        family = families[at % len(families)]
-        row = Row(*Draws(seed * 1000003 + at * 7919 + 17, family).row())
-        at += 1
+    draws = [Draws(seed * 100 + at, family) for at, family in enumerate(FAMILIES)]
+    problems = 0
+    for drawn in itertools.cycle(draws):
+        if problems >= count:
+            return
+        row = Row(*drawn.row())
         problems += len(row.problems)
         if row.problems:
-            yield family, row
+            yield drawn.family, row
 
 
 # ---------------------------------------------------------------- what came up
