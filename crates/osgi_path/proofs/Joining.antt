@@ -23,7 +23,7 @@ true-or W r t = let a = any-in (λ (g : Wiring). g.revision.0 == r.0) W t in rec
 force-or : (W : List Wiring) (r : RevisionId) → InForce W r → IsTrue (is_in_force W r)
 force-or W r h = in-any (λ (g : Wiring). g.revision.0 == r.0) W h.wiring h.stands (rev-same h.wiring.revision r h.revision)
 
-both-ways : (a b : Bool) → (IsTrue a → IsTrue b) → (IsTrue b → IsTrue a) → a ≡ b
+pub both-ways : (a b : Bool) → (IsTrue a → IsTrue b) → (IsTrue b → IsTrue a) → a ≡ b
 both-ways true b f g = sym (f refl)
 both-ways false true f g = g refl
 both-ways false false f g = refl

@@ -2,6 +2,7 @@
 pub mod Asking
 pub mod Next
 pub mod Marks
+pub mod Valued
 pub mod Joining
 pub mod Grown
 pub mod Fresh
@@ -11,6 +12,7 @@ pub mod Longer
 pub mod OnWay
 pub mod Viewing
 pub mod Decided
+pub mod Placed
 pub mod Rows
 pub mod Payloads
 pub mod Owners

@@ -28,6 +28,7 @@ use Rattle.osgi_path.specs.Sure.{AreSure}
 use Rattle.osgi_path.specs.computed.Known.{AreRight, IsProblemIn, Knows}
 use Rattle.osgi_path.specs.computed.Moving.{IsLearnt, IsLonger, IsOnWay}
 use Rattle.osgi_path.specs.computed.Nexts.{IsSameCourse}
+use Rattle.osgi_path.specs.computed.Placed.{ArePlaces}
 use Rattle.osgi_path.specs.computed.Steps.{IsAsked, IsListed, steps_in}
 use Rattle.osgi_path.specs.computed.Views.{IsReady}
 use Rattle.osgi_path.specs.declared.course.Course.{Course}
@@ -38,6 +39,7 @@ use Rattle.osgi_path.specs.declared.lists.Lists.{Lists}
 use Rattle.osgi_path.proofs.Longer.{asked-of, last-mark, learnt-known, listed-next, next-of}
 use Rattle.osgi_path.proofs.Next.{next-there}
 use Rattle.osgi_path.proofs.Owners.{same-candidates}
+use Rattle.osgi_path.proofs.Placed.{placed-first}
 use Rattle.osgi_path.proofs.Rows.{rows-seen}
 
 pub along-right : (P : Problem) (F : CourseLists) (ms : List Mark) → IsAlong P F ms → IsRight P ms F
@@ -120,14 +122,15 @@ module _ (W : World) (root : RevisionId) (lists : Lists) (spaces : SpacesState) 
   last-within v has = (right-at has.problem has.of).last_in
 
   -- one decision longer
-  pub on-longer : (v : ℕ) → HasValue (standing_of W root c) v → (more : Lists) (new : Course) (t : SpacesState) → more.offers ≡ lists.offers → AreRight more → IsLearnt more new → IsLonger lists.offers c new spaces t v → IsOnWay W root more t new
-  on-longer v has more new t offers right learnt by =
+  pub on-longer : (v : ℕ) → HasValue (standing_of W root c) v → (more : Lists) (new : Course) (t : SpacesState) → more.offers ≡ lists.offers → AreRight more → IsLearnt more new → ArePlaces new.places new.ids.items → IsLonger lists.offers c new spaces t v → IsOnWay W root more t new
+  on-longer v has more new t offers right learnt placed by =
       let ms = reverse c.marks.items in
       let marks : reverse new.marks.items ≡ by.mark ∷ ms = last-mark c.marks.items by.mark new.marks.items by.marks in
       record {
         offers = offers ∙ on.offers;
         right = right;
         learnt = learnt;
+        placed = placed;
         spaces_are = by.steps ∙ ap (λ (s : SpacesState). record s { steps = steps_in by.mark.step ++ s.steps }) on.spaces_are ∙ ap (λ l. record { known = W.known; wirings = W.wirings; steps = steps_of l }) (sym marks);
         along = λ P in_it root-is.
             let of : IsProblemOf (standing_of W root c) P = record { world = in_it.world; root_is = root-is; is = in_it.is } in
@@ -139,18 +142,19 @@ module _ (W : World) (root : RevisionId) (lists : Lists) (spaces : SpacesState) 
   word-longer v more new t by = ap word_of (last-mark c.marks.items by.mark new.marks.items by.marks) ∙ ap (λ x. word_of (reverse c.marks.items) ++ x ∷ []) by.value_is
 
   -- nothing is changed of it
-  pub on-same : (more : Lists) (new : Course) (t : SpacesState) → more.offers ≡ lists.offers → AreRight more → IsLearnt more new → t ≡ spaces → IsSameCourse c new → IsOnWay W root more t new
-  on-same more new t offers right learnt spaces-are same = record {
+  pub on-same : (more : Lists) (new : Course) (t : SpacesState) → more.offers ≡ lists.offers → AreRight more → IsLearnt more new → ArePlaces new.places new.ids.items → t ≡ spaces → IsSameCourse c new → IsOnWay W root more t new
+  on-same more new t offers right learnt placed spaces-are same = record {
     offers = offers ∙ on.offers;
     right = right;
     learnt = learnt;
+    placed = placed;
     spaces_are = spaces-are ∙ on.spaces_are ∙ ap (λ l. record { known = W.known; wirings = W.wirings; steps = steps_of (reverse l) }) (sym same.marks);
     along = λ P in_it root-is. subst (λ l. IsAlong P (lists_of new) (reverse l)) (sym same.marks) (subst (λ (F : CourseLists). IsAlong P F (reverse c.marks.items)) (sym same.lists) (on.along P in_it root-is));
   }
 
   -- one decision shorter
-  pub on-shorter : (new : Course) (t : SpacesState) (m : Mark) → c.marks.items ≡ new.marks.items ++ m ∷ [] → lists_of new ≡ taken_back m (lists_of c) → t ≡ record spaces { steps = steps_of (reverse new.marks.items) } → IsOnWay W root lists t new
-  on-shorter new t m marks back steps =
+  pub on-shorter : (new : Course) (t : SpacesState) (m : Mark) → c.marks.items ≡ new.marks.items ++ m ∷ [] → new.places ≡ c.places → lists_of new ≡ taken_back m (lists_of c) → t ≡ record spaces { steps = steps_of (reverse new.marks.items) } → IsOnWay W root lists t new
+  on-shorter new t m marks places back steps =
       let ms : reverse c.marks.items ≡ m ∷ reverse new.marks.items = last-mark new.marks.items m c.marks.items marks in
       record {
         offers = on.offers;
@@ -159,6 +163,7 @@ module _ (W : World) (root : RevisionId) (lists : Lists) (spaces : SpacesState) 
           members = λ r i. on.learnt.members r (take-in m.ids c.ids.items r (subst (In r) (ap (λ (F : CourseLists). F.ids) back) i));
           fragments = λ k h f i e. on.learnt.fragments k h f (subst (In k) (sym ms) (inr i)) e;
         };
+        placed = subst (ArePlaces new.places) (sym (ap (λ (F : CourseLists). F.ids) back)) (placed-first new.places c.ids.items m.ids (subst (λ p. ArePlaces p c.ids.items) (sym places) on.placed));
         spaces_are = steps ∙ ap (λ (s : SpacesState). record s { steps = steps_of (reverse new.marks.items) }) on.spaces_are;
         along = λ P in_it root-is. subst (λ (F : CourseLists). IsAlong P F (reverse new.marks.items)) (sym back) (subst (IsAlong P (lists_of c)) ms (on.along P in_it root-is)).1;
       }
@@ -240,12 +245,13 @@ module _ (W : World) (root : RevisionId) (lists : Lists) (spaces : SpacesState) 
       subst (λ (D : Made). AreRowsIn rows (partial P D)) (sym (made-at P of)) (rows-seen P ms (lists_of c) (stands-at P of) rows known-is second)
 
 -- at the empty word
-pub on-first : (W : World) (root : RevisionId) (lists : Lists) (spaces : SpacesState) (c : Course) → lists.offers ≡ W → AreRight lists → IsLearnt lists c → spaces ≡ record { known = W.known; wirings = W.wirings; steps = [] } → c.marks.items ≡ [] →
+pub on-first : (W : World) (root : RevisionId) (lists : Lists) (spaces : SpacesState) (c : Course) → lists.offers ≡ W → AreRight lists → IsLearnt lists c → ArePlaces c.places c.ids.items → spaces ≡ record { known = W.known; wirings = W.wirings; steps = [] } → c.marks.items ≡ [] →
     ((P : Problem) → IsProblemIn W P → P.root ≡ root → IsRight P [] (lists_of c)) → IsOnWay W root lists spaces c
-on-first W root lists spaces c offers right learnt spaces-are none begins = record {
+on-first W root lists spaces c offers right learnt placed spaces-are none begins = record {
   offers = offers;
   right = right;
   learnt = learnt;
+  placed = placed;
   spaces_are = spaces-are ∙ ap (λ l. record { known = W.known; wirings = W.wirings; steps = steps_of (reverse l) }) (sym none);
   along = λ P in_it root-is. subst (λ l. IsAlong P (lists_of c) (reverse l)) (sym none) (begins P in_it root-is);
 }

@@ -5,6 +5,8 @@ pub mod Sureness
 pub mod Known
 pub mod Steps
 pub mod Courses
+pub mod Valued
+pub mod Placed
 pub mod Openings
 pub mod Afters
 pub mod Nexts

@@ -3,8 +3,8 @@
 ghost use Rattle.std.specs.Prelude.{◌≡◌, ◌++◌, ◌<◌, IfOk, OnOk, filter, flat_map, map};
 ghost use Rattle.std.specs.Option.{option_to_list};
 ghost use Rattle.osgi_base.specs.declared.ids.RevisionId.{RevisionId};
-ghost use Rattle.osgi_world.specs.Decisions.{choose, is_yes, pick, value_made};
-ghost use Rattle.osgi_world.specs.DueDecisions.{payload};
+ghost use Rattle.osgi_world.specs.Decisions.{attaching, choose, is_yes, pick};
+ghost use Rattle.osgi_world.specs.DueDecisions.{fragments_of, payload};
 ghost use Rattle.osgi_world.specs.Lists.{In};
 ghost use Rattle.osgi_world.specs.Lookups.{requirement_count};
 ghost use Rattle.osgi_world.specs.Partial as partial;
@@ -12,43 +12,45 @@ ghost use Rattle.osgi_world.specs.Partial.{wires_for, wiring};
 ghost use Rattle.osgi_world.specs.Payloads.{own_requirements, requirements_of};
 ghost use Rattle.osgi_world.specs.declared.problem.Problem.{Problem};
 ghost use Rattle.osgi_path.specs.computed.Known.{AreRight};
-ghost use Rattle.osgi_path.specs.computed.Views.{IsOwner, IsReady, by_value, decided_in, wire_to};
+ghost use Rattle.osgi_path.specs.computed.Valued.{value_in};
+ghost use Rattle.osgi_path.specs.computed.Views.{IsOwner, IsReady, IsReadyWith, by_value, decided_in, wire_to};
+ghost use Rattle.osgi_path.specs.declared.course.Course.{Course};
 
 use crate::course::Course;
 use crate::decision::Decision;
-use crate::growing::{is_first, value_of};
+use crate::growing::is_first;
 use crate::lists::Lists;
 use crate::step::candidate_at;
-use crate::views::fragments;
+use crate::values::Values;
 use osgi_base::ids::RevisionId;
 use osgi_base::list::List;
 use osgi_world::wiring::{CapRef, ReqRef, Wire, Wiring};
 use std::alloc::{AllocError, Global};
 
 /// Whether the requirement, which may have several wires, gets this one.
-fn is_picked(course: &Course, host: RevisionId, requirement: ReqRef, capability: CapRef) -> bool
-    ensures picked { result ≡ is_yes (value_made (decided_in course.now) (pick host requirement capability)) }
+fn is_picked(values: &Values, host: RevisionId, requirement: ReqRef, capability: CapRef) -> bool
+    ensures picked { result ≡ is_yes (value_in values.now (pick host requirement capability)) }
 {
     let decision = Decision::Pick {
         host,
         requirement,
         capability,
     };
-    is_first(value_of(course.marks.as_slice(), decision))
+    is_first(values.get(decision))
 }
 
 /// Adds a wire to each candidate that is picked.
 fn add_picked(
     wires: &mut List<Wire>,
-    course: &Course,
+    values: &Values,
     host: RevisionId,
     requirement: ReqRef,
     candidates: &[CapRef],
 ) -> Result<(), AllocError>
-    ensures added { OnOk result (wires.new ≡ wires.old ++ map (wire_to requirement) (filter (λ c. is_yes (value_made (decided_in course.now) (pick host requirement c))) candidates.now)) }
+    ensures added { OnOk result (wires.new ≡ wires.old ++ map (wire_to requirement) (filter (λ c. is_yes (value_in values.now (pick host requirement c))) candidates.now)) }
 {
     for capability in candidates {
-        if is_picked(course, host, requirement, *capability) {
+        if is_picked(values, host, requirement, *capability) {
             wires.push(Wire {
                 requirement,
                 capability: *capability,
@@ -60,15 +62,15 @@ fn add_picked(
 
 /// The candidate that the requirement gets, if it is decided and gets one.
 fn chosen(
-    course: &Course,
+    values: &Values,
     host: RevisionId,
     requirement: ReqRef,
     candidates: &[CapRef],
 ) -> Option<CapRef>
-    ensures chosen { option_to_list result ≡ by_value candidates.now (value_made (decided_in course.now) (choose host requirement)) }
+    ensures chosen { option_to_list result ≡ by_value candidates.now (value_in values.now (choose host requirement)) }
 {
     let decision = Decision::Choose { host, requirement };
-    match value_of(course.marks.as_slice(), decision) {
+    match values.get(decision) {
         Some(value) => candidate_at(candidates, value),
         None => None,
     }
@@ -77,14 +79,14 @@ fn chosen(
 /// Adds the wire to the candidate that is chosen, if there is one.
 fn add_chosen(
     wires: &mut List<Wire>,
-    course: &Course,
+    values: &Values,
     host: RevisionId,
     requirement: ReqRef,
     candidates: &[CapRef],
 ) -> Result<(), AllocError>
-    ensures added { OnOk result (wires.new ≡ wires.old ++ map (wire_to requirement) (by_value candidates.now (value_made (decided_in course.now) (choose host requirement)))) }
+    ensures added { OnOk result (wires.new ≡ wires.old ++ map (wire_to requirement) (by_value candidates.now (value_in values.now (choose host requirement)))) }
 {
-    match chosen(course, host, requirement, candidates) {
+    match chosen(values, host, requirement, candidates) {
         Some(capability) => {
             wires.push(Wire {
                 requirement,
@@ -100,21 +102,21 @@ fn add_chosen(
 fn add_requirement(
     wires: &mut List<Wire>,
     lists: &Lists,
-    course: &Course,
+    values: &Values,
     host: RevisionId,
     requirement: ReqRef,
 ) -> Result<(), AllocError>
     requires right { AreRight lists.now }
-    ensures added { OnOk result ((P : Problem) → IsReady P lists.now course.now → In host course.now.ids.items → In requirement (payload P (decided_in course.now) host) → wires.new ≡ wires.old ++ wires_for P (decided_in course.now) host requirement) }
+    ensures added { OnOk result ((P : Problem) (course : Course) → IsReadyWith P lists.now values.now course → In host course.ids.items → In requirement (payload P (decided_in course) host) → wires.new ≡ wires.old ++ wires_for P (decided_in course) host requirement) }
 {
     if !lists.offers.known().is_effective(requirement) {
         return Ok(());
     }
     let candidates = lists.candidates(requirement);
     if lists.offers.known().is_multiple(requirement) {
-        add_picked(wires, course, host, requirement, candidates)?;
+        add_picked(wires, values, host, requirement, candidates)?;
     } else {
-        add_chosen(wires, course, host, requirement, candidates)?;
+        add_chosen(wires, values, host, requirement, candidates)?;
     }
     Ok(())
 }
@@ -123,19 +125,19 @@ fn add_requirement(
 fn add_owner(
     wires: &mut List<Wire>,
     lists: &Lists,
-    course: &Course,
+    values: &Values,
     host: RevisionId,
     owner: RevisionId,
 ) -> Result<(), AllocError>
     requires right { AreRight lists.now }
-    ensures added { OnOk result ((P : Problem) → IsReady P lists.now course.now → In host course.now.ids.items → IsOwner P course.now host owner → wires.new ≡ wires.old ++ flat_map (wires_for P (decided_in course.now) host) (own_requirements P.world.known owner)) }
+    ensures added { OnOk result ((P : Problem) (course : Course) → IsReadyWith P lists.now values.now course → In host course.ids.items → IsOwner P course host owner → wires.new ≡ wires.old ++ flat_map (wires_for P (decided_in course) host) (own_requirements P.world.known owner)) }
 {
     for index in 0..lists.offers.known().requirement_count(owner) {
         let requirement = ReqRef {
             owner,
             index: index as u32,
         };
-        add_requirement(wires, lists, course, host, requirement)?;
+        add_requirement(wires, lists, values, host, requirement)?;
     }
     Ok(())
 }
@@ -144,33 +146,59 @@ fn add_owner(
 fn add_owners(
     wires: &mut List<Wire>,
     lists: &Lists,
-    course: &Course,
+    values: &Values,
     host: RevisionId,
     owners: &[RevisionId],
 ) -> Result<(), AllocError>
     requires right { AreRight lists.now }
-    ensures added { OnOk result ((P : Problem) → IsReady P lists.now course.now → In host course.now.ids.items → ((o : RevisionId) → In o owners.now → IsOwner P course.now host o) → wires.new ≡ wires.old ++ flat_map (wires_for P (decided_in course.now) host) (requirements_of P.world.known owners.now)) }
+    ensures added { OnOk result ((P : Problem) (course : Course) → IsReadyWith P lists.now values.now course → In host course.ids.items → ((o : RevisionId) → In o owners.now → IsOwner P course host o) → wires.new ≡ wires.old ++ flat_map (wires_for P (decided_in course) host) (requirements_of P.world.known owners.now)) }
 {
     for owner in owners {
-        add_owner(wires, lists, course, host, *owner)?;
+        add_owner(wires, lists, values, host, *owner)?;
     }
     Ok(())
+}
+
+/// Whether the fragment is attached to the host.
+fn is_attached(values: &Values, host: RevisionId, fragment: RevisionId) -> bool
+    ensures attached { result ≡ is_yes (value_in values.now (attaching host fragment)) }
+{
+    is_first(values.get(Decision::Attach { host, fragment }))
+}
+
+/// The fragments that are attached to a member, by bundle id.
+fn attached(
+    alloc: Global,
+    lists: &Lists,
+    values: &Values,
+    member: RevisionId,
+) -> Result<Vec<RevisionId>, AllocError>
+    requires right { AreRight lists.now }
+    ensures attached { IfOk result (λ list. (P : Problem) (course : Course) → IsReadyWith P lists.now values.now course → In member course.ids.items → list.items ≡ fragments_of P (decided_in course) member) }
+{
+    let mut fragments = Vec::new(alloc);
+    for fragment in lists.fragments_for(member) {
+        if is_attached(values, member, *fragment) {
+            fragments.push(*fragment)?;
+        }
+    }
+    Ok(fragments)
 }
 
 /// The wiring of a member, as far as decided.
 fn wiring_of(
     alloc: Global,
     lists: &Lists,
-    course: &Course,
+    values: &Values,
     member: RevisionId,
 ) -> Result<Wiring, AllocError>
     requires right { AreRight lists.now }
-    ensures wiring { IfOk result (λ made. (P : Problem) → IsReady P lists.now course.now → In member course.now.ids.items → made ≡ wiring P (decided_in course.now) member) }
+    ensures wiring { IfOk result (λ made. (P : Problem) (course : Course) → IsReadyWith P lists.now values.now course → In member course.ids.items → made ≡ wiring P (decided_in course) member) }
 {
-    let fragments = fragments(alloc, lists, course, member)?;
+    let fragments = attached(alloc, lists, values, member)?;
     let mut wires = List::new(alloc)?;
-    add_owner(&mut wires, lists, course, member, member)?;
-    add_owners(&mut wires, lists, course, member, fragments.as_slice())?;
+    add_owner(&mut wires, lists, values, member, member)?;
+    add_owners(&mut wires, lists, values, member, fragments.as_slice())?;
     Ok(Wiring {
         revision: member,
         wires,
@@ -183,9 +211,10 @@ pub fn added(alloc: Global, lists: &Lists, course: &Course) -> Result<List<Wirin
     requires right { AreRight lists.now }
     ensures added { IfOk result (λ list. (P : Problem) → IsReady P lists.now course.now → list ≡ partial.added P (decided_in course.now)) }
 {
+    let values = Values::of(alloc, course.marks.as_slice())?;
     let mut list = List::new(alloc)?;
     for member in &course.ids {
-        list.push(wiring_of(alloc, lists, course, *member)?)?;
+        list.push(wiring_of(alloc, lists, &values, *member)?)?;
     }
     Ok(list)
 }

@@ -1,10 +1,13 @@
 //! The decisions that are made and those that are due next.
 
-ghost use Rattle.std.specs.Prelude.{◌≡◌, ◌+◌, ◌<◌, ◌≤◌, length, slice_get};
+ghost use Rattle.std.specs.Prelude.{◌≡◌, ◌==◌, length, slice_get};
+ghost use Rattle.std.specs.List.{list_any};
+ghost use Rattle.osgi_path.specs.computed.Placed.{ArePlaces};
 
 use crate::decision::Decision;
 use crate::step::Step;
 use osgi_base::ids::RevisionId;
+use std::collections::BTreeMap;
 
 /// A decision with its value, what it added, and how far the course was before it.
 #[derive(Clone, Copy, Debug, PartialEq, Eq)]
@@ -18,10 +21,11 @@ pub struct Mark {
 }
 
 /// The members in order, the decisions of the first of them up to the one at place `last`, one member after another, and what
-/// was made of these decisions so far.
+/// was made of these decisions so far. Each member's place is found by its number; who is no member any more may still have one.
 #[derive(Drop)]
 pub struct Course {
     pub ids: Vec<RevisionId>,
+    pub places: BTreeMap<u32, usize>,
     pub queue: Vec<Decision>,
     pub last: usize,
     pub marks: Vec<Mark>,
@@ -33,5 +37,19 @@ impl Course {
         ensures next { result ≡ slice_get self.now.queue.items (length self.now.marks.items) }
     {
         self.queue.get(self.marks.len()).copied()
+    }
+
+    /// Whether the revision is a member.
+    pub fn has(&self, revision: RevisionId) -> bool
+        requires placed { ArePlaces self.now.places self.now.ids.items }
+        ensures has { result ≡ list_any (λ k. k.0 == revision.0) self.now.ids.items }
+    {
+        let Some(place) = self.places.get(&revision.0) else {
+            return false;
+        };
+        match self.ids.get(*place) {
+            Some(member) => member.0 == revision.0,
+            None => false,
+        }
     }
 }

@@ -12,23 +12,17 @@ ghost use Rattle.osgi_path.specs.Standing.{decision_of};
 ghost use Rattle.osgi_path.specs.computed.Asks.{decisions_in, first_due};
 ghost use Rattle.osgi_path.specs.computed.Courses.{made_of};
 ghost use Rattle.osgi_path.specs.computed.Known.{AreRight, IsProblemIn, Knows, KnowsAll};
+ghost use Rattle.osgi_path.specs.computed.Placed.{ArePlaces, IsNew};
 ghost use Rattle.osgi_path.specs.computed.Steps.{steps_in};
 
 use crate::asks::asks_of;
-use crate::course::Mark;
+use crate::course::{Course, Mark};
 use crate::decision::Decision;
 use crate::lists::Lists;
 use crate::step::Step;
 use osgi_base::ids::RevisionId;
 use osgi_candidates::Offers;
 use std::alloc::{AllocError, Global};
-
-/// Whether the revision is among these.
-fn has(ids: &[RevisionId], revision: RevisionId) -> bool
-    ensures has { result ≡ list_any (λ k. k.0 == revision.0) ids.now }
-{
-    ids.iter().any(|id| id.0 == revision.0)
-}
 
 /// Whether the revision has a wiring.
 fn is_in_force(offers: &Offers, revision: RevisionId) -> bool
@@ -38,21 +32,24 @@ fn is_in_force(offers: &Offers, revision: RevisionId) -> bool
 }
 
 /// Whether the revision does not join: it is in force, or a member.
-fn stays(offers: &Offers, ids: &[RevisionId], revision: RevisionId) -> bool
-    ensures stays { result ≡ is_in_force offers.now.wirings revision || list_any (λ k. k.0 == revision.0) ids.now }
+fn stays(offers: &Offers, course: &Course, revision: RevisionId) -> bool
+    requires placed { ArePlaces course.now.places course.now.ids.items }
+    ensures stays { result ≡ is_in_force offers.now.wirings revision || list_any (λ k. k.0 == revision.0) course.now.ids.items }
 {
-    is_in_force(offers, revision) || has(ids, revision)
+    is_in_force(offers, revision) || course.has(revision)
 }
 
 /// Who joins the members by a step: the provider of a wire, if it is neither in force nor a member.
-pub fn joining_of(offers: &Offers, ids: &[RevisionId], step: Option<Step>) -> Option<RevisionId>
-    ensures joining { (P : Problem) → IsProblemIn offers.now P → ids.now ++ option_to_list result ≡ pull_in P ids.now (flat_map provider_of (steps_in step)) }
+pub fn joining_of(offers: &Offers, course: &Course, step: Option<Step>) -> Option<RevisionId>
+    requires placed { ArePlaces course.now.places course.now.ids.items }
+    ensures joining { (P : Problem) → IsProblemIn offers.now P → course.now.ids.items ++ option_to_list result ≡ pull_in P course.now.ids.items (flat_map provider_of (steps_in step)) }
+    ensures new { IsNew result course.now.ids.items }
 {
     let Some(Step::Wired { wire, .. }) = step else {
         return None;
     };
     let provider = wire.capability.provider;
-    if stays(offers, ids, provider) {
+    if stays(offers, course, provider) {
         None
     } else {
         Some(provider)

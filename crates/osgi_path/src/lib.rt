@@ -14,6 +14,7 @@ mod opening;
 mod owned;
 mod path;
 mod step;
+mod values;
 mod views;
 mod wired;
 

@@ -11,6 +11,7 @@ ghost use Rattle.osgi_path.specs.computed.Asks.{asks_of, decisions_in};
 ghost use Rattle.osgi_path.specs.Standing.{decision_of};
 ghost use Rattle.osgi_path.specs.computed.Afters.{IsAskedAfter};
 ghost use Rattle.osgi_path.specs.computed.Courses.{IsRight, lists_of, made_of};
+ghost use Rattle.osgi_path.specs.computed.Placed.{ArePlaces, IsNew};
 ghost use Rattle.osgi_path.specs.computed.Nexts.{IsDecidedBy, IsDecidedWith, IsNextOf, IsOpenedBy, IsSameCourse};
 ghost use Rattle.osgi_path.specs.computed.Steps.{steps_in};
 ghost use Rattle.osgi_path.specs.computed.Known.{AreRight, IsProblemIn, Knows, KnowsAll};
@@ -149,6 +150,7 @@ fn commit(course: &mut Course, mark: Mark, more: More)
     requires marks { vec_len course.old.marks < vec_capacity course.old.marks }
     requires queue { vec_len course.old.queue + vec_len more.decisions ≤ vec_capacity course.old.queue }
     ensures marks { course.new.marks.items ≡ course.old.marks.items ++ mark ∷ [] }
+    ensures places { course.new.places ≡ course.old.places }
     ensures lists { lists_of course.new ≡ record { ids = course.old.ids.items; queue = course.old.queue.items ++ more.decisions.items; last = more.last } }
 {
     let More {
@@ -177,6 +179,7 @@ fn decide(
     ensures spaces { OnOk result (spaces.new ≡ record spaces.old { steps = steps_in mark.step ++ spaces.old.steps }) }
     ensures marks { OnOk result (course.new.marks.items ≡ course.old.marks.items ++ mark ∷ []) }
     ensures decided { OnOk result (IsDecidedBy lists.old.offers course.old course.new mark) }
+    ensures members { (course.new.ids.items ≡ course.old.ids.items) × (course.new.places ≡ course.old.places) }
     ensures spaces_unchanged { OnErr result (spaces.new ≡ spaces.old) }
     ensures unchanged { OnErr result (IsSameCourse course.old course.new) }
 {
@@ -190,11 +193,15 @@ fn decide(
 
 /// Lets a revision join the members, if one does.
 fn join(course: &mut Course, joining: Option<RevisionId>) -> Result<(), AllocError>
+    requires new { IsNew joining course.old.ids.items }
+    requires placed { ArePlaces course.old.places course.old.ids.items }
+    ensures placed { ArePlaces course.new.places course.new.ids.items }
     ensures joined { OnOk result (lists_of course.new ≡ record (lists_of course.old) { ids = course.old.ids.items ++ option_to_list joining }) }
     ensures marks { course.new.marks.items ≡ course.old.marks.items }
     ensures unchanged { OnErr result (IsSameCourse course.old course.new) }
 {
     if let Some(revision) = joining {
+        course.places.insert(revision.0, course.ids.len())?;
         course.ids.push(revision)?;
     }
     Ok(())
@@ -229,10 +236,13 @@ pub fn decide_with(
     joining: Option<RevisionId>,
 ) -> Result<(), AllocError>
     requires right { AreRight lists.old }
+    requires new { IsNew joining course.old.ids.items }
+    requires placed { ArePlaces course.old.places course.old.ids.items }
     requires last_in { course.old.last < length course.old.ids.items }
     ensures offers { lists.new.offers ≡ lists.old.offers }
     ensures right { AreRight lists.new }
     ensures kept { KnowsAll lists.old lists.new }
+    ensures placed { ArePlaces course.new.places course.new.ids.items }
     ensures spaces { OnOk result (spaces.new ≡ record spaces.old { steps = steps_in mark.step ++ spaces.old.steps }) }
     ensures marks { OnOk result (course.new.marks.items ≡ course.old.marks.items ++ mark ∷ []) }
     ensures decided { OnOk result (IsDecidedWith lists.old.offers course.old course.new mark joining) }

@@ -10,6 +10,7 @@ use Rattle.osgi_uses.specs.States.{SpacesState}
 use Rattle.osgi_path.specs.Standing.{decision_of}
 use Rattle.osgi_path.specs.computed.Courses.{IsAlong, IsRight, lists_of, made_of, steps_of, taken_back}
 use Rattle.osgi_path.specs.computed.Known.{AreRight, IsProblemIn, Knows}
+use Rattle.osgi_path.specs.computed.Placed.{ArePlaces}
 use Rattle.osgi_path.specs.computed.Steps.{IsListed, steps_in}
 use Rattle.osgi_path.specs.declared.course.Course.{Course}
 use Rattle.osgi_path.specs.declared.course.Mark.{Mark}
@@ -48,5 +49,6 @@ pub record IsOnWay (world : World) (root : RevisionId) (lists : Lists) (spaces :
   pub offers : lists.offers ≡ world
   pub right : AreRight lists
   pub learnt : IsLearnt lists c
+  pub placed : ArePlaces c.places c.ids.items
   pub spaces_are : spaces ≡ record { known = world.known; wirings = world.wirings; steps = steps_of (reverse c.marks.items) }
   pub along : (P : Problem) → IsProblemIn world P → P.root ≡ root → IsAlong P (lists_of c) (reverse c.marks.items)

@@ -15,11 +15,13 @@ use Rattle.osgi_path.specs.computed.Courses.{AreKnown, IsRight, lists_of, made_o
 use Rattle.osgi_path.specs.computed.Free.{is_of_space}
 use Rattle.osgi_path.specs.computed.Known.{IsProblemIn}
 use Rattle.osgi_path.specs.computed.Moving.{IsLearnt}
+use Rattle.osgi_path.specs.computed.Valued.{AreValues}
 use Rattle.osgi_path.specs.declared.course.Course.{Course}
 use Rattle.osgi_path.specs.declared.course.Mark.{Mark}
 use Rattle.osgi_path.specs.declared.lists.Lists.{Lists}
 use Rattle.osgi_path.specs.declared.step.Step.{Step}
 use Rattle.osgi_path.specs.declared.step.Step.TheVariants.{Attached, Wired as WiredStep}
+use Rattle.osgi_path.specs.declared.values.Values.{Values}
 use Rattle.osgi_path.specs.declared.wired.Wired.{Wired}
 
 -- the course is right for the problem
@@ -55,6 +57,11 @@ pub record IsReady (P : Problem) (lists : Lists) (course : Course) : Type 0 wher
   pub at : IsAt P course
   pub learnt : IsLearnt lists course
   pub known : AreKnown P lists (decided_in course) course.ids.items
+
+-- and these are the values of its decisions
+pub record IsReadyWith (P : Problem) (lists : Lists) (values : Values) (course : Course) : Type 0 where
+  pub ready : IsReady P lists course
+  pub values_are : AreValues values (decided_in course)
 
 -- an owner of a part of the host's payload
 abbrev pub IsOwner : Problem → Course → RevisionId → RevisionId → Type 0

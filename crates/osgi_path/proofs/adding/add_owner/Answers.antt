@@ -11,27 +11,27 @@ use Rattle.osgi_path.proofs.Payloads.{below-more}
 use Rattle.osgi_path.proofs.adding.add_owner.Goals as goal
 
 pub loop-index-preserved : goal.loop-index-preserved
-loop-index-preserved c P ready i o =
+loop-index-preserved c P course seen i o =
     let n = c.loop-index.index in
     let owner = c.args.owner in
     let h = c.args.host in
-    let D = decided_in c.args.course.now in
-    let w = ap (λ (W : World). requirement_count W.known owner) ready.in_it.world in
+    let D = decided_in course in
+    let w = ap (λ (W : World). requirement_count W.known owner) seen.ready.in_it.world in
     let all : c.requirement_count-index-end.result ≡ requirement_count P.world.known owner = cc in
     let within : n < requirement_count P.world.known owner = omega arith in
     let q : ReqRef = record { owner = owner; index = n } in
-    c.in_ok-add_requirement.ensures.added P ready i (in-payload P D h q o within)
-    ∙ ap (λ l. l ++ wires_for P D h q) (c.loop-index.invariant P ready i o)
+    c.in_ok-add_requirement.ensures.added P course seen i (in-payload P D h q o within)
+    ∙ ap (λ l. l ++ wires_for P D h q) (c.loop-index.invariant P course seen i o)
     ∙ append_assoc c.args.wires.now _ (wires_for P D h q)
     ∙ ap (λ l. c.args.wires.now ++ l) (sym (below-more P D h owner n))
 
 pub returns : goal.returns
 returns c = record {
-  added = λ P ready i o.
+  added = λ P course seen i o.
       let owner = c.args.owner in
-      let w = ap (λ (W : World). requirement_count W.known owner) ready.in_it.world in
+      let w = ap (λ (W : World). requirement_count W.known owner) seen.ready.in_it.world in
       let all : c.requirement_count-index-end.result ≡ requirement_count P.world.known owner = cc in
       let end : c.loop-index.index ≡ requirement_count P.world.known owner = omega arith in
-      c.loop-index.invariant P ready i o
-      ∙ ap (λ (k : ℕ). c.args.wires.now ++ flat_map (wires_for P (decided_in c.args.course.now) c.args.host) (map (λ (i : ℕ). let q : ReqRef = record { owner = owner; index = i } in q) (below k))) end;
+      c.loop-index.invariant P course seen i o
+      ∙ ap (λ (k : ℕ). c.args.wires.now ++ flat_map (wires_for P (decided_in course) c.args.host) (map (λ (i : ℕ). let q : ReqRef = record { owner = owner; index = i } in q) (below k))) end;
 }

@@ -38,9 +38,7 @@ returns-clause-longer c =
     let joining = c.joining_of-joining.result in
     let count : c.len.result ≡ length old.marks.items = omega arith in
     let there : slice_get old.queue.items (length old.marks.items) ≡ Rattle.std.proofs.Common.Some c.index-decision.result.now = ap (slice_get old.queue.items) (sym count) ∙ slice_get_read old.queue.items (length old.queue.items) c.len.result c.index-decision.result.now refl (subst (λ n. n < length old.queue.items) (sym count) c.requires.next) c.index-decision.ensures in
-    let joins : (P : Problem) → IsProblemIn lists.offers P → (old.ids.items ++ option_to_list joining) ≡ pull_in P old.ids.items (flat_map provider_of (steps_in mark.step))
-    = subst (λ (ids : List RevisionId). (P : Problem) → IsProblemIn lists.offers P → (ids ++ option_to_list joining) ≡ pull_in P ids (flat_map provider_of (steps_in mark.step))) c.as_slice.ensures.value c.joining_of-joining.ensures.joining in
     elim c.decide_with.result as (λ r. OnOk r (IsDecidedWith c.learn_new.new.lists.offers old new mark joining) → OnOk r (new.marks.items ≡ old.marks.items ++ mark ∷ []) → OnOk r (c.decide_with.new.spaces ≡ record c.args.spaces.now { steps = steps_in mark.step ++ c.args.spaces.now.steps }) → OnOk r (IsLonger lists.offers old new c.args.spaces.now c.decide_with.new.spaces c.args.value)) [
-      | Ok x ↦ λ by marks steps. is-longer lists c.learn_new.new.lists.offers old new c.args.spaces.now c.decide_with.new.spaces c.index-decision.result.now c.args.value mark joining c.requires.learnt c.learn_new.ensures.offers there c.mark_of-mark.ensures.mark joins steps marks by
+      | Ok x ↦ λ by marks steps. is-longer lists c.learn_new.new.lists.offers old new c.args.spaces.now c.decide_with.new.spaces c.index-decision.result.now c.args.value mark joining c.requires.learnt c.learn_new.ensures.offers there c.mark_of-mark.ensures.mark c.joining_of-joining.ensures.joining steps marks by
       | Err e ↦ λ by marks steps. steps
     ] c.decide_with.ensures.decided c.decide_with.ensures.marks c.decide_with.ensures.spaces
