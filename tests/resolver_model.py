@@ -497,6 +497,6 @@ def broken_laws(problem, most):
         is_hopeless, decision = bool(hope.reasons()), decided.next()
         if below and not is_hopeless or decision is None and hope.extends() == is_hopeless:
             broken.append(word)
-        for value in range(len(problem.values(decision)) if decision is not None else 0):
+        for value in reversed(range(len(problem.values(decision)) if decision is not None else 0)):
             left.append((word + (value,), made + ((decision, value),), is_hopeless))
     return broken

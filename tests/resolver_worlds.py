@@ -3,7 +3,7 @@
 
     tests/resolver_worlds.py SEED COUNT             prints rows for osgi_resolver_cases
     tests/resolver_worlds.py SEED COUNT --stats     says how often each answer and each feature came up
-    tests/resolver_worlds.py SEED COUNT --laws      looks at words below hopeless ones too, as far as there are few
+    tests/resolver_worlds.py SEED COUNT --laws      looks at the first words of each problem, at those below hopeless ones too
     tests/resolver_worlds.py SEED COUNT PROGRAM     asks the program, built from osgi_resolver_cases, and compares
 
 A row makes revisions known and resolves some of them, each with a budget that is one too small, and then with one that is just
