@@ -1,4 +1,4 @@
-//! Values by numbers, most of which are small, found in the same time however many there are.
+//! Values by numbers. Most numbers are small, and these are found in the same time however many there are.
 #![tactic(auto)]
 
 pub mod number_map;

@@ -36,12 +36,12 @@ abbrev pub OnlyTheseSettle : Problem → Type 0
 OnlyTheseSettle P = (w : List ℕ) (d : Decision) (v : ℕ) (r : RevisionId) → IsOnward P w d v → SettlesNow P (made_by P w) d v r →
     Joined P (made_by P w) d v r ⊎ SettlesWithHost P (made_by P w) d v r
 
--- where the host is not decided yet, or was decided before, only the reasons count for which nothing needs to settle: there is no
--- new clash, and no earlier wire counts
+-- where the host is not decided yet, or was decided before, only what the decision touches, newly uses or adds is a reason: there
+-- is no new clash that comes from settled revisions alone, and no earlier wire counts
 abbrev pub QuietWhileUndecided : Problem → Type 0
 QuietWhileUndecided P = (w : List ℕ) (d : Decision) (v : ℕ) → IsOnward P w d v → ¬ IsHopeless P w → IsQuiet P (made_by P w) d v → IsHopeless P (w ++ v ∷ []) ↔ NewAtOnce P (made_by P w) d v
 
--- and otherwise a new clash is at a revision that leads to the host through decided revisions
+-- and otherwise a new clash that comes from settled revisions alone is at a revision that leads to the host through decided ones
 abbrev pub ClashesLeadToHost : Problem → Type 0
 ClashesLeadToHost P = (w : List ℕ) (d : Decision) (v : ℕ) (m e : RevisionId) (u : List ℕ) → IsOnward P w d v → ¬ IsHopeless P w →
     Implied P.world.known (partial P ((d, v) ∷ made_by P w)) (IsSettled P ((d, v) ∷ made_by P w)) m e u → Clash P.world.known (partial P ((d, v) ∷ made_by P w)) m e u →

@@ -37,7 +37,7 @@ IsAnew P D d v r = Joined P D d v r ⊎ In (attached (host d) r) (adds P d v)
 abbrev pub SettlesNow : Problem → Made → Decision → ℕ → RevisionId → Type 0
 SettlesNow P D d v r = IsSettled P ((d, v) ∷ D) r × ¬ IsSettled P D r
 
--- r is h, or h is reached from it along bundle wires
+-- r is h, or h is reached from it along a bundle wire, and after it along those with reexport
 abbrev pub Reaches : List Known → List Wiring → RevisionId → RevisionId → Type 0
 Reaches K W r h = (r ≡ h) ⊎ ReachedFrom K W r h
 
@@ -74,7 +74,7 @@ pub data Stuck (P : Problem) (D : Made) (m : RevisionId) : Type 0 where
   -- it has two fragments of one symbolic name
   two_versions : Two (λ e f. symbolic_name P.world.known e ≡ symbolic_name P.world.known f) (fragments_of P D m) → Stuck P D m
 
--- a reason that the decision gives whether or not anything settles by it
+-- a reason that the decision gives by what it touches, newly uses or adds
 pub data NewAtOnce (P : Problem) (D : Made) (d : Decision) (v : ℕ) : Type 0 where
   -- a member that it touches is stuck
   touched : (m : RevisionId) → In m (members P ((d, v) ∷ D)) → IsTouched P D d v m → Stuck P ((d, v) ∷ D) m → NewAtOnce P D d v

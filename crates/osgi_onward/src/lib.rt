@@ -1,5 +1,5 @@
-//! What one decision more can make hopeless: for a search that stands at a word that is not hopeless, and has to test only
-//! what its next decision can have changed. Each function here is a fact of the theory of choice words; it does nothing.
+//! What one decision more can make hopeless, where a word is not hopeless. A search could rest on it and test only what its next
+//! decision can have changed; none does yet. Each function here is a fact of the theory of choice words; it does nothing.
 #![tactic(auto)]
 
 ghost use Rattle.osgi_world.specs.Candidates.{IsProblem};
@@ -11,7 +11,7 @@ pub fn only_new_reasons()
     ensures { (P : Problem) → IsProblem P → OnlyNewReasons P }
 {}
 
-/// A member that is stuck with one decision more is the host of the decision, or has joined by it.
+/// A member that is newly stuck with one decision more is the host of the decision, or has joined by it.
 pub fn only_touched_are_stuck()
     ensures { (P : Problem) → IsProblem P → OnlyTouchedAreStuck P }
 {}
@@ -21,17 +21,19 @@ pub fn settles_anew()
     ensures { (P : Problem) → IsProblem P → OnlyTheseSettle P }
 {}
 
-/// While the host of the decisions is not decided, and once it was decided before, nothing that settles is a reason.
+/// While the host of the decision is not decided, or where it was decided before, nothing that settles is a reason.
 pub fn quiet_while_undecided()
     ensures { (P : Problem) → IsProblem P → QuietWhileUndecided P }
 {}
 
-/// A new clash is at a revision that leads to the decision's host, which is decided now and was not before.
+/// A new clash of a constraint that comes from settled revisions alone is at a revision that leads to the decision's host, which
+/// is decided now and was not before.
 pub fn clashes_lead_to_host()
     ensures { (P : Problem) → IsProblem P → ClashesLeadToHost P }
 {}
 
-/// A wire that is newly not on offer is one that the decision adds, or goes to what settles with the decision's host.
+/// A member's wire to a settled provider that newly does not have the capability on offer is one that the decision adds, or its
+/// provider settles with the decision's host.
 pub fn offers_end_with_host()
     ensures { (P : Problem) → IsProblem P → OffersEndWithHost P }
 {}

@@ -1,4 +1,4 @@
--- Owners whose requirements can always be met, whatever is decided.
+-- Owners none of whose requirements can come to have no candidate, or to be refused by all of its decisions.
 use Rattle.std.specs.Prelude.{◌≡◌, ◌<◌, IsTrue, []}
 use Rattle.osgi_base.specs.declared.ids.RevisionId.{RevisionId}
 use Rattle.osgi_world.specs.Candidates.{candidates}
@@ -11,6 +11,6 @@ pub record IsSure (P : Problem) (q : ReqRef) : Type 0 where
   pub single : ¬ IsTrue (is_multiple P.world.known q)
   pub some : ¬ (candidates P q ≡ [])
 
--- each requirement of the owner that is needed does and may
+-- it is so with each requirement of the owner that is needed
 abbrev pub AreSure : Problem → RevisionId → Type 0
 AreSure P owner = (q : ReqRef) → q.owner ≡ owner → q.index < requirement_count P.world.known owner → IsNeeded P.world.known q → IsSure P q

@@ -63,7 +63,8 @@ fn lists_of(
     Ok(lists)
 }
 
-/// Whether a requirement that is needed has a candidate in its list, and may have one wire alone.
+/// Whether a requirement that is needed has a candidate in its list, and may have one wire alone. Where the answer is false, that
+/// need not be so.
 fn is_sure(offers: &Offers, lists: &[Vec<CapRef>], requirement: ReqRef) -> bool
     ensures sure { IsTrue result → IsNeeded offers.now.known requirement → IsSureBy offers.now.known (list_at lists.now requirement.index) requirement }
 {
@@ -80,7 +81,7 @@ fn is_sure(offers: &Offers, lists: &[Vec<CapRef>], requirement: ReqRef) -> bool
     }
 }
 
-/// Whether it is so with each requirement of the owner.
+/// Whether it is so with each requirement of the owner. Where the answer is false, that need not be so.
 fn are_sure(offers: &Offers, lists: &[Vec<CapRef>], owner: RevisionId) -> bool
     ensures sure { IsTrue result → (q : ReqRef) → q.owner ≡ owner → q.index < requirement_count offers.now.known owner → IsNeeded offers.now.known q → IsSureBy offers.now.known (list_at lists.now q.index) q }
 {

@@ -1,4 +1,4 @@
--- What an operation on services does to the registry, and answers by it, where who asks may.
+-- What an operation on services does to the registry, and answers by it, whoever asks.
 use Rattle.std.specs.Prelude.{◌<◌, List}
 use Rattle.osgi_base.specs.Verdict.{Gives}
 use Rattle.osgi_base.specs.declared.ids.BundleId.{BundleId}
@@ -21,7 +21,7 @@ pub record IsServed (op : Op) (old new : RegistryRows) (reply : Reply) : Type 0 
 abbrev pub StillStands : RegistryRows → RegistryRows → Type 0
 StillStands old new = (history : List Entry) → StandsFor history old → StandsFor history new
 
--- ids are left to be given, and each user's uses can be counted on
+-- ids are left to be given, and one more use of each user can be counted
 pub record HasRoom (registry : RegistryRows) : Type 0 where
   pub ids : registry.issued < 4294967295
   pub uses : (user : BundleId) (service : ServiceId) → use_count user service registry.rows < 18446744073709551615

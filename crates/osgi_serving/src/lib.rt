@@ -1,4 +1,4 @@
-//! What operations on services do to the registry, and answer by it, where who asks may ask.
+//! What operations on services do to the registry, and answer by it. Whether who asks may ask is not looked at here.
 #![tactic(auto)]
 
 pub mod services;

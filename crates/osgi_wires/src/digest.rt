@@ -5,7 +5,7 @@ ghost use Rattle.osgi_wires.specs.computed.Digests.{digest_of};
 
 use osgi_base::text::Text;
 
-/// An odd number whose bits are spread, so that nearby bytes change the whole digest.
+/// The digest is multiplied by this before each byte is added. The number is odd, so no byte is lost by it.
 const SPREAD: u64 = 1_099_511_628_211;
 
 /// The digest of the bytes.

@@ -1,4 +1,4 @@
-//! Values by a number, found in the same time however many there are.
+//! Values by a number. Under a small number they are found in the same time however many there are.
 
 ghost use Rattle.std.specs.Prelude.{◌≡◌, ℕ, [], OnOk, OnErr};
 ghost use Rattle.osgi_wires.specs.computed.NumberGroups.{Adds, HoldsSame, TakesLast, values_at};

@@ -1,4 +1,4 @@
--- Requirements that can always be met, by the lists of their candidates.
+-- Requirements that have a candidate and may have one wire alone, by the lists of their candidates.
 use Rattle.std.specs.Prelude.{◌≡◌, ℕ, IsTrue, List, [], Option, None, Some, slice_get}
 use Rattle.std.specs.Global.{Vec}
 use Rattle.osgi_world.specs.Lookups.{is_multiple}
