@@ -29,3 +29,12 @@ no n = (λ t. absurd (false≢true t), λ a. absurd (n a))
 -- what the problem knows is what the world knows
 pub known-is : (s : Standing) (P : Problem) → IsProblemOf s P → (K : List Known) → K ≡ s.world.known → K ≡ P.world.known
 known-is s P L K e = e ∙ sym (ap (λ (w : World). w.known) L.world)
+
+-- an answer is turned, and what it says is not so, or is
+pub denied : (b : Bool) {A : Type 0} → IsTrue b ↔ A → IsTrue (not b) → ¬ A
+denied true is t a = false≢true t
+denied false is t a = false≢true (is.1 a)
+
+pub granted : (b : Bool) {A : Type 0} → IsTrue b ↔ A → ¬ IsTrue (not b) → A
+granted true is n = is.0 refl
+granted false is n = absurd (n refl)

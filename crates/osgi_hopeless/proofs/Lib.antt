@@ -10,3 +10,4 @@ pub mod Settling
 pub mod Offering
 pub mod Clashes
 pub mod Reasons
+pub mod Tested

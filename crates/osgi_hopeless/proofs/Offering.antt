@@ -1,9 +1,11 @@
 -- What a provider has on offer, by rows, and wires to what is not on offer.
-use Rattle.std.proofs.Common.{◌≡◌, ◌↔◌, ℕ, ◌<◌, List, [], subst, Any}
+use Rattle.std.proofs.Common.{◌≡◌, ◌↔◌, inl, inr, ℕ, ◌<◌, List, [], ap, subst, Any}
 use Rattle.std.specs.BTreeSet.{BTreeSet}
 use Rattle.osgi_choice.proofs.Complete.{provider-in_force}
-use Rattle.osgi_hopeless.proofs.Settling.{away-settled, settled-away}
-use Rattle.osgi_hopeless.specs.computed.Clashing.{HasLost, IsLost}
+use Rattle.osgi_base.specs.declared.ids.RevisionId.{RevisionId}
+use Rattle.osgi_onward.specs.Reasons.{Reaches}
+use Rattle.osgi_hopeless.proofs.Settling.{away-settled, reach-first, reach-from, settled-away}
+use Rattle.osgi_hopeless.specs.computed.Clashing.{HasLost, IsLost, IsLostBy, MayReach}
 use Rattle.osgi_hopeless.specs.computed.Open.{AreUnsettled}
 use Rattle.osgi_path.specs.declared.wired.Wired.{Wired}
 use Rattle.osgi_sources.specs.laws.Adding.{any-none}
@@ -65,3 +67,11 @@ module _ (P : Problem) (L : IsProblem P) (D : Made) (set : BTreeSet ℕ) (are : 
   lost-from h =
       let w : Wired = record { revision = h.member; wire = h.wire } in
       (w, (is w).1 (h.is_member, h.has), (settled-away P L D set are h.wire.capability.provider h.settled, h.lost))
+
+-- who reaches the host has a bundle wire
+pub may-reach : (K : List Known) (W : List Wiring) (N : ℕ → List ℕ) (R : RowLists) → AreRowsOf K W N R → (w : Wired) (h : RevisionId) → Reaches K W w.wire.capability.provider h → MayReach R w h
+may-reach K W N R is w h (inl e) = inl (ap (λ (r : RevisionId). r.0) e)
+may-reach K W N R is w h (inr l) = inr (reach-first R (reach-from K W N R is w.wire.capability.provider.0 l))
+
+pub lost-there : (P : Problem) (D : Made) (w : Wired) → In w.revision (members P D) × HasWire (partial P D) w.revision w.wire → IsLostBy P D w.wire → HasLost P D
+lost-there P D w there lost = record { member = w.revision; wire = w.wire; is_member = there.0; has = there.1; settled = lost.0; lost = lost.1 }

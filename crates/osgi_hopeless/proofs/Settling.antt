@@ -1,17 +1,25 @@
 -- A member is settled where it reaches no member that is not decided.
-use Rattle.std.proofs.Common.{◌≡◌, ◌↔◌, inl, inr, ℕ, List, sym, subst}
-use Rattle.std.specs.BTreeSet.{BTreeSet, contains}
+use Rattle.std.proofs.Common.{◌≡◌, inl, inr, ℕ, Bool, true, false, List, [], ◌∷◌, refl, subst, Contains, ◌↔◌, ◌⊎◌, ◌+◌, ◌<◌, ◌≤◌, take, length, get_or, ap, sym}
+use Rattle.std.specs.Bool.{Decides}
+use Rattle.std.specs.BTreeSet.{BTreeSet, Updates, contains}
 use Rattle.std.specs.Ordering.{nat_cmp}
 use Rattle.osgi_base.specs.declared.ids.RevisionId.{RevisionId}
 use Rattle.osgi_choice.proofs.Closure.{true-dec}
 use Rattle.osgi_choice.proofs.Complete.{old-settled, reached-in_force}
-use Rattle.osgi_choice.proofs.Decide.{closed-dec, settled-dec}
+use Rattle.osgi_choice.proofs.Decide.{settled-dec}
 use Rattle.osgi_choice.proofs.Twos.{stable}
-use Rattle.osgi_choice.proofs.Views.{in_force-cases, in_force-member}
+use Rattle.osgi_choice.proofs.Views.{in_force-cases}
 use Rattle.osgi_sources.specs.computed.Reach.{Reach, starts, steps}
-use Rattle.osgi_hopeless.specs.computed.Open.{AreUnsettled, Has, ReachesOne}
+use Rattle.osgi_coherence.proofs.Grow.{in_more}
+use Rattle.osgi_sources.proofs.Rows.{in-required}
+use Rattle.osgi_sources.specs.computed.Exact.{exact_number}
+use Rattle.osgi_sources.specs.laws.Sets.{set_put}
+use Rattle.std.proofs.lemmas.List.{take_all}
+use Rattle.osgi_space.proofs.Ids.{contains-in, in-contains}
+use Rattle.osgi_hopeless.specs.computed.Open.{AreUnsettled, Has}
 use Rattle.osgi_wires.specs.Agree.{AreRowsOf, id}
-use Rattle.osgi_wires.specs.Rows.{Reexports, Requires, RowLists}
+use Rattle.osgi_wires.specs.Rows.{Reexports, Requires, RowLists, required_by}
+use Rattle.osgi_wires.specs.declared.rows.Required.{Required}
 use Rattle.osgi_world.specs.Candidates.{IsProblem}
 use Rattle.osgi_world.specs.Decisions.{Made}
 use Rattle.osgi_world.specs.DueDecisions.{members}
@@ -42,39 +50,49 @@ pub reach-first : (R : RowLists) {r x : ℕ} → Reach (Requires R r) (Reexports
 reach-first R (starts {x = x} at) = (x, at)
 reach-first R (steps l at) = reach-first R l
 
--- ---- the members that are not settled
+-- ---- decided, and settled
 
-module _ (P : Problem) (L : IsProblem P) (D : Made) (N : ℕ → List ℕ) (R : RowLists) (is : AreRowsOf P.world.known (partial P D) N R)
-    (ms listed : List RevisionId) (open_ones set : BTreeSet ℕ) (are : ms ≡ members P D)
-    (listed-is : (r : RevisionId) → In r listed ↔ (In r (members P D) × ¬ IsDecided P D r))
-    (open-is : (n : ℕ) → Has open_ones n ↔ In (id n) listed)
-    (set-is : (n : ℕ) → Has set n ↔ (In (id n) ms × ReachesOne R open_ones n)) where
-  not-decided : (n : ℕ) → Has open_ones n → ¬ IsDecided P D (id n)
-  not-decided n has = ((listed-is (id n)).0 ((open-is n).0 has)).1
+-- one that is in force in the world is decided, and another one is a member
+module _ (P : Problem) (L : IsProblem P) (D : Made) (r : RevisionId) (i : InForce (partial P D) r) (own : Bool) (own-is : In r (members P D) → Decides own (IsDecided P D r)) where
+  pub decided-own : own ≡ true → IsDecided P D r
+  decided-own t = elim (in_force-cases P D r i) [ inl o ↦ inl o | inr m ↦ (own-is m).0 t ]
 
-  is-decided : (r : RevisionId) → In r (members P D) → ¬ Has open_ones r.0 → IsDecided P D r
-  is-decided r i away = stable (closed-dec P D r) (λ n. away ((open-is r.0).1 ((listed-is r).1 (i, n))))
+  pub decided-old : own ≡ false → IsDecided P D r → InForce P.world.wirings r
+  decided-old f (inl o) = o
+  decided-old f (inr m) = let t = (own-is m.0).1 (inr m) in cc
 
-  reached-decided : (r c : RevisionId) → In r (members P D) → ReachedFrom P.world.known (partial P D) r c → ¬ Has open_ones c.0 → IsDecided P D c
-  reached-decided r c i l away = elim (in_force-cases P D c (reached-in_force P L D (in_force-member P D r i) l)) [
-    | inl old ↦ inl old
-    | inr m ↦ is-decided c m away
-  ]
+module _ (P : Problem) (L : IsProblem P) (D : Made) (N : ℕ → List ℕ) (R : RowLists) (is : AreRowsOf P.world.known (partial P D) N R) (r : RevisionId) where
+  pub reached-there : InForce (partial P D) r → (n : ℕ) → Reach (Requires R r.0) (Reexports R) n → InForce (partial P D) (id n)
+  reached-there i n l = reached-in_force P L D i (reach-to P.world.known (partial P D) N R is r.0 l)
 
-  reaching-unsettled : (n : ℕ) → ReachesOne R open_ones n → ¬ IsSettled P D (id n)
-  reaching-unsettled n (inl has) s = not-decided n has s.own
-  reaching-unsettled n (inr (x, l, has)) s = not-decided x has (s.reached (id x) (reach-to P.world.known (partial P D) N R is n l))
+  -- what it reaches is reached by rows
+  pub settled-by : IsDecided P D r → ((n : ℕ) → Reach (Requires R r.0) (Reexports R) n → IsDecided P D (id n)) → IsSettled P D r
+  settled-by own all = record { own = own; reached = λ c l. all c.0 (reach-from P.world.known (partial P D) N R is r.0 l) }
 
-  pub are-unsettled : AreUnsettled P D set
-  are-unsettled n = (
-    λ has. let b = (set-is n).0 has in (subst (In (id n)) are b.0, reaching-unsettled n b.1),
-    λ both. has-stable set n (λ away.
-        let none : ¬ ReachesOne R open_ones n = λ reaches. away ((set-is n).1 (subst (In (id n)) (sym are) both.0, reaches)) in
-        both.1 (record {
-          own = is-decided (id n) both.0 (λ has. none (inl has));
-          reached = λ c l. reached-decided (id n) c both.0 l (λ has. none (inr (c.0, reach-from P.world.known (partial P D) N R is n l, has)));
-        })),
-  )
+  pub settled-all : IsSettled P D r → (n : ℕ) → Reach (Requires R r.0) (Reexports R) n → IsDecided P D (id n)
+  settled-all s n l = s.reached (id n) (reach-to P.world.known (partial P D) N R is r.0 l)
+
+-- a bundle wire has a row
+pub row-there : (R : RowLists) (r x : ℕ) → Requires R r x → ¬ (required_by R r ≡ [])
+row-there R r x has none =
+    let row : Required = record { revision = r; provider = x; reexport = has.0 } in
+    let i : In row [] = subst (In row) none (contains-in (required_by R r) row ((in-required R r row).1 (has.1, refl))) in
+    elim i [ ]
+
+some-row : (rows : List Required) → ¬ (rows ≡ []) → (row : Required) × In row rows
+some-row [] some = absurd (some refl)
+some-row (row ∷ rows) some = (row, inl refl)
+
+-- and a row is one
+pub wire-there : (R : RowLists) (r : ℕ) → ¬ (required_by R r ≡ []) → (x : ℕ) × Requires R r x
+wire-there R r some =
+    let row = some-row (required_by R r) some in
+    let s = (in-required R r row.0).0 (in-contains (required_by R r) row.0 row.1) in
+    (row.0.provider, (row.0.reexport, subst (Contains R.required) (λ i. record { revision = s.1 i; provider = row.0.provider; reexport = row.0.reexport }) s.0))
+
+-- without a bundle wire nothing is reached
+pub none-reached : (R : RowLists) (r : ℕ) → required_by R r ≡ [] → (n : ℕ) → ¬ Reach (Requires R r) (Reexports R) n
+none-reached R r none n l = let first = reach-first R l in row-there R r first.0 first.1 none
 
 -- ---- what the set says of revisions in force
 
@@ -87,3 +105,49 @@ module _ (P : Problem) (L : IsProblem P) (D : Made) (set : BTreeSet ℕ) (are : 
     | inl old ↦ old-settled P L D r old
     | inr m ↦ stable (settled-dec P D r) (λ n. away ((are r.0).1 (m, n)))
   ]
+
+-- ---- gathering the members that are not settled
+
+-- the set has only such, all that are not decided, and those of this list
+pub record Covers (P : Problem) (D : Made) (set : BTreeSet ℕ) (seen : List RevisionId) : Type 0 where
+  pub only : (n : ℕ) → Has set n → In (id n) (members P D) × ¬ IsSettled P D (id n)
+  pub undecided : (r : RevisionId) → In r (members P D) → ¬ IsDecided P D r → Has set r.0
+  pub all : (r : RevisionId) → In r seen → ¬ IsSettled P D r → Has set r.0
+
+module _ (P : Problem) (D : Made) where
+  pub covers-first : (listed : List RevisionId) (set : BTreeSet ℕ) → ((r : RevisionId) → In r listed ↔ (In r (members P D) × ¬ IsDecided P D r)) → ((n : ℕ) → Has set n ↔ In (id n) listed) → (ms : List RevisionId) → Covers P D set (take 0 ms)
+  covers-first listed set is has ms = record {
+    only = λ n h. let b = (is (id n)).0 ((has n).0 h) in (b.0, λ s. b.1 s.own);
+    undecided = λ r i n. (has r.0).1 ((is r).1 (i, n));
+    all = λ r here. elim here [ ];
+  }
+
+  pub covers-done : (set : BTreeSet ℕ) (ms : List RevisionId) (i : ℕ) → ms ≡ members P D → length ms ≤ i → Covers P D set (take i ms) → AreUnsettled P D set
+  covers-done set ms i are past c n =
+      (c.only n, λ both. c.all (id n) (subst (In (id n)) (sym (take_all i ms past)) (subst (In (id n)) (sym are) both.0)) both.1)
+
+  module _ (ms : List RevisionId) (i : ℕ) (m : RevisionId) (within : i < length ms) (at : m ≡ get_or ms i m) (there : In m (members P D)) where
+    pub covers-put : (old new : BTreeSet ℕ) → Updates nat_cmp old new m.0 true → ¬ IsSettled P D m → Covers P D old (take i ms) → Covers P D new (take (i + 1) ms)
+    covers-put old new updates open-one c =
+        let put : (n : ℕ) → Has new n ↔ (Has old n ⊎ (m.0 ≡ n)) = λ n. set_put nat_cmp exact_number old new m.0 updates n in
+        record {
+          only = λ n has. elim ((put n).0 has) [
+            | inl o ↦ c.only n o
+            | inr e ↦ subst (λ k. In (id k) (members P D) × ¬ IsSettled P D (id k)) e (there, open-one)
+          ];
+          undecided = λ r j n. (put r.0).1 (inl (c.undecided r j n));
+          all = λ r j n. elim ((in_more ms i m within at r).0 j) [
+            | inl o ↦ (put r.0).1 (inl (c.all r o n))
+            | inr e ↦ (put r.0).1 (inr (sym (ap (λ (x : RevisionId). x.0) e)))
+          ];
+        }
+
+    pub covers-skip : (set : BTreeSet ℕ) → (IsDecided P D m → IsSettled P D m) → Covers P D set (take i ms) → Covers P D set (take (i + 1) ms)
+    covers-skip set settles c = record {
+      only = c.only;
+      undecided = c.undecided;
+      all = λ r j n. elim ((in_more ms i m within at r).0 j) [
+        | inl o ↦ c.all r o n
+        | inr e ↦ let open-one : ¬ IsSettled P D m = subst (λ x. ¬ IsSettled P D x) e n in subst (λ (x : RevisionId). Has set x.0) (sym e) (c.undecided m there (λ d. open-one (settles d)))
+      ];
+    }

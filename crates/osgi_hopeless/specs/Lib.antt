@@ -1,2 +1,3 @@
--- What the test for hopeless words computes.
+-- What the test for hopeless words presupposes, and what it computes.
+pub mod Before
 pub mod computed

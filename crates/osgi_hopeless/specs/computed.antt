@@ -4,3 +4,5 @@ pub mod Providers
 pub mod Rivals
 pub mod Open
 pub mod Clashing
+pub mod Reasons
+pub mod Onward

@@ -2,14 +2,14 @@
 
 ghost use Rattle.std.specs.Prelude.{◌↔◌, IfOk, IsTrue};
 ghost use Rattle.osgi_base.specs.declared.ids.RevisionId.{RevisionId};
-ghost use Rattle.osgi_sources.specs.computed.Clashes.{KeepsUsesAmong};
 ghost use Rattle.osgi_sources.specs.computed.Disputes.{AreDisputed};
-ghost use Rattle.osgi_hopeless.specs.computed.Clashing.{HasClash};
-ghost use Rattle.osgi_hopeless.specs.computed.Open.{AreUnsettled, Has};
+ghost use Rattle.osgi_hopeless.specs.computed.Clashing.{HasClash, IsBroken, IsWired};
+ghost use Rattle.osgi_hopeless.specs.computed.Open.{AreUnsettled};
 ghost use Rattle.osgi_path.specs.Standing.{IsProblemOf, made};
 ghost use Rattle.osgi_world.specs.Lists.{In};
 ghost use Rattle.osgi_world.specs.declared.problem.Problem.{Problem};
 
+use crate::settled::unsettled;
 use osgi_base::ids::RevisionId;
 use osgi_path::Path;
 use osgi_sources::among::Among;
@@ -18,7 +18,35 @@ use osgi_wires::rows::Rows;
 use std::alloc::{AllocError, Global};
 use std::collections::BTreeSet;
 
-/// Whether one of the members has a violated constraint that comes from other revisions than these alone.
+/// Whether the revision has a wire for a package or for a required bundle.
+fn is_wired(rows: &Rows, revision: u32) -> bool
+    ensures wired { IsTrue result ↔ IsWired rows.now revision }
+{
+    if !rows.imports_of(revision).is_empty() {
+        return true;
+    }
+    !rows.required_by(revision).is_empty()
+}
+
+/// Whether the revision has such a wire, and a violated constraint that comes from other revisions than these alone.
+fn is_broken(
+    alloc: Global,
+    rows: &Rows,
+    disputed: &BTreeSet<u32>,
+    unsettled: &BTreeSet<u32>,
+    revision: u32,
+) -> Result<bool, AllocError>
+    requires disputed { AreDisputed rows.now disputed.now }
+    ensures broken { IfOk result (λ answer. IsTrue answer ↔ IsBroken rows.now unsettled.now revision) }
+{
+    if !is_wired(rows, revision) {
+        return Ok(false);
+    }
+    let among = Among::AllBut(unsettled);
+    Ok(!keeps_uses(alloc, rows, disputed, among, revision)?)
+}
+
+/// Whether it is so with one of the members.
 fn is_one_broken(
     alloc: Global,
     rows: &Rows,
@@ -27,11 +55,10 @@ fn is_one_broken(
     members: &[RevisionId],
 ) -> Result<bool, AllocError>
     requires disputed { AreDisputed rows.now disputed.now }
-    ensures broken { IfOk result (λ answer. IsTrue answer ↔ ((m : RevisionId) × In m members.now × ¬ KeepsUsesAmong rows.now (λ x. ¬ Has unsettled.now x) m.0)) }
+    ensures broken { IfOk result (λ answer. IsTrue answer ↔ ((m : RevisionId) × In m members.now × IsBroken rows.now unsettled.now m.0)) }
 {
     for member in members {
-        let among = Among::AllBut(unsettled);
-        if !keeps_uses(alloc, rows, disputed, among, member.0)? {
+        if is_broken(alloc, rows, disputed, unsettled, member.0)? {
             return Ok(true);
         }
     }
@@ -51,4 +78,16 @@ pub fn has_clash(alloc: Global, path: &Path, unsettled: &BTreeSet<u32>) -> Resul
         unsettled,
         path.members(),
     )?)
+}
+
+/// Whether a member's implied constraint that comes from settled revisions alone clashes. It is looked for only where a package may
+/// have several sources.
+pub fn has_settled_clash(alloc: Global, path: &Path) -> Result<bool, AllocError>
+    ensures clash { IfOk result (λ answer. (P : Problem) → IsProblemOf path.now P → IsTrue answer ↔ HasClash P (made P path.now)) }
+{
+    if path.disputed_rows().disputed().is_empty() {
+        return Ok(false);
+    }
+    let unsettled = unsettled(alloc, path)?;
+    Ok(has_clash(alloc, path, &unsettled)?)
 }

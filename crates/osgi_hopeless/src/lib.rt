@@ -4,6 +4,7 @@
 mod clashing;
 mod hopeless;
 mod offer;
+mod onward;
 mod place;
 mod providers;
 mod rivals;
@@ -12,3 +13,4 @@ mod stuck;
 mod unmet;
 
 pub use hopeless::is_hopeless;
+pub use onward::has_become_hopeless;

@@ -1,17 +1,20 @@
 //! Whether wires go to what is not on offer any more.
 
-ghost use Rattle.std.specs.Prelude.{◌↔◌, ℕ, List, IfOk, IsTrue};
+ghost use Rattle.std.specs.Prelude.{◌≡◌, ◌↔◌, ℕ, List, IfOk, IsTrue, Some};
 ghost use Rattle.osgi_sources.specs.computed.RowSources.{Owns};
-ghost use Rattle.osgi_hopeless.specs.computed.Clashing.{HasLost, IsLost};
+ghost use Rattle.osgi_hopeless.specs.computed.Clashing.{AreWires, HasLost, HasLostAt, IsLost, IsLostAt, IsLostBy, MayReach};
 ghost use Rattle.osgi_hopeless.specs.computed.Open.{AreUnsettled};
 ghost use Rattle.osgi_path.specs.Standing.{IsProblemOf, made};
 ghost use Rattle.osgi_path.specs.declared.wired.Wired.{Wired};
 ghost use Rattle.osgi_wires.specs.Worlds.{AreRowsIn};
 ghost use Rattle.osgi_world.specs.Lists.{In};
-ghost use Rattle.osgi_world.specs.Wirings.{ImportsElsewhere, IsExport, OnOffer};
+ghost use Rattle.osgi_world.specs.Partial.{partial};
+ghost use Rattle.osgi_world.specs.Wirings.{HasWire, ImportsElsewhere, IsExport, OnOffer};
 ghost use Rattle.osgi_world.specs.declared.problem.Problem.{Problem};
 ghost use Rattle.osgi_world.specs.declared.wiring.Wiring.{Wiring};
 
+use crate::settled::is_settled;
+use osgi_base::ids::RevisionId;
 use osgi_path::{Path, Wired};
 use osgi_sources::package_sources::imports_elsewhere;
 use osgi_wires::rows::Rows;
@@ -98,4 +101,83 @@ pub fn has_lost(alloc: Global, path: &Path, unsettled: &BTreeSet<u32>) -> Result
 {
     let wires = path.wires(alloc)?;
     Ok(is_one_lost(path.rows(), unsettled, wires.as_slice()))
+}
+
+// ---- after one decision more
+
+/// Whether the wire's provider is settled, and does not have the capability on offer.
+fn is_lost_now(alloc: Global, path: &Path, wired: Wired) -> Result<bool, AllocError>
+    ensures lost { IfOk result (λ answer. (P : Problem) → IsProblemOf path.now P → HasWire (partial P (made P path.now)) wired.revision wired.wire → IsTrue answer ↔ IsLostBy P (made P path.now) wired.wire) }
+{
+    if is_on_offer(path.rows(), wired.wire.capability) {
+        return Ok(false);
+    }
+    Ok(is_settled(alloc, path, wired.wire.capability.provider)?)
+}
+
+/// Whether it is so with the wire that a decision made, if it made one.
+pub fn is_new_lost(alloc: Global, path: &Path, wired: Option<Wired>) -> Result<bool, AllocError>
+    ensures lost { IfOk result (λ answer. (P : Problem) → IsProblemOf path.now P → ((w : Wired) → wired ≡ Some w → HasWire (partial P (made P path.now)) w.revision w.wire)
+        → IsTrue answer ↔ ((w : Wired) × (wired ≡ Some w) × IsLostBy P (made P path.now) w.wire)) }
+{
+    match wired {
+        Some(wired) => Ok(is_lost_now(alloc, path, wired)?),
+        None => Ok(false),
+    }
+}
+
+/// Whether the wire's provider is the host, or has bundle wires, along which it may reach the host.
+fn may_reach(rows: &Rows, wired: Wired, host: RevisionId) -> bool
+    ensures may { IsTrue result ↔ MayReach rows.now wired host }
+{
+    let provider = wired.wire.capability.provider;
+    if provider.0 == host.0 {
+        return true;
+    }
+    !rows.required_by(provider.0).is_empty()
+}
+
+/// Whether the wire's provider is settled, and does not have the capability on offer. True only where it is so, and true wherever the
+/// provider is the host or reaches it, too.
+fn is_lost_at(
+    alloc: Global,
+    path: &Path,
+    wired: Wired,
+    host: RevisionId,
+) -> Result<bool, AllocError>
+    ensures lost { IfOk result (λ answer. (P : Problem) → IsProblemOf path.now P → HasWire (partial P (made P path.now)) wired.revision wired.wire → IsTrue answer → IsLostBy P (made P path.now) wired.wire) }
+    ensures all { IfOk result (λ answer. (P : Problem) → IsProblemOf path.now P → HasWire (partial P (made P path.now)) wired.revision wired.wire → IsLostAt P (made P path.now) host wired.wire → IsTrue answer) }
+{
+    if !may_reach(path.rows().rows(), wired, host) {
+        return Ok(false);
+    }
+    Ok(is_lost_now(alloc, path, wired)?)
+}
+
+/// Whether the provider of one of these wires is settled, and does not have the capability on offer. True only where it is so, and
+/// true wherever such a provider is the host or reaches it.
+fn is_one_lost_at(
+    alloc: Global,
+    path: &Path,
+    wires: &[Wired],
+    host: RevisionId,
+) -> Result<bool, AllocError>
+    ensures lost { IfOk result (λ answer. (P : Problem) → IsProblemOf path.now P → AreWires P (made P path.now) wires.now → IsTrue answer → HasLost P (made P path.now)) }
+    ensures all { IfOk result (λ answer. (P : Problem) → IsProblemOf path.now P → AreWires P (made P path.now) wires.now → HasLostAt P (made P path.now) host → IsTrue answer) }
+{
+    for wired in wires {
+        if is_lost_at(alloc, path, *wired, host)? {
+            return Ok(true);
+        }
+    }
+    Ok(false)
+}
+
+/// The same of all wires that are decided.
+pub fn has_lost_at(alloc: Global, path: &Path, host: RevisionId) -> Result<bool, AllocError>
+    ensures lost { IfOk result (λ answer. (P : Problem) → IsProblemOf path.now P → IsTrue answer → HasLost P (made P path.now)) }
+    ensures all { IfOk result (λ answer. (P : Problem) → IsProblemOf path.now P → HasLostAt P (made P path.now) host → IsTrue answer) }
+{
+    let wires = path.wires(alloc)?;
+    Ok(is_one_lost_at(alloc, path, wires.as_slice(), host)?)
 }

@@ -20,7 +20,7 @@ use osgi_path::Path;
 use osgi_sources::found::Found;
 use std::alloc::{AllocError, Global};
 
-fn is_current_singleton(known: &KnownIndex, revision: RevisionId) -> bool
+pub fn is_current_singleton(known: &KnownIndex, revision: RevisionId) -> bool
     ensures singleton { IsTrue result ↔ IsCurrentSingleton known.now revision }
 {
     known.is_current(revision) && known.is_singleton(revision)

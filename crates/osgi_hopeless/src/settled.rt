@@ -1,18 +1,72 @@
-//! Which members are not settled.
+//! Which revisions are settled.
 
 ghost use Rattle.std.specs.Prelude.{◌↔◌, ℕ, IfOk, IsTrue};
-ghost use Rattle.osgi_hopeless.specs.computed.Open.{AreUnsettled, Has, ReachesOne};
+ghost use Rattle.std.specs.Bool.{Decides};
+ghost use Rattle.osgi_hopeless.specs.computed.Open.{AreUnsettled, Has};
 ghost use Rattle.osgi_path.specs.Standing.{IsProblemOf, made};
 ghost use Rattle.osgi_wires.specs.Agree.{id};
+ghost use Rattle.osgi_world.specs.DueDecisions.{members};
+ghost use Rattle.osgi_world.specs.Hopeless.{IsDecided, IsSettled};
 ghost use Rattle.osgi_world.specs.Lists.{In};
+ghost use Rattle.osgi_world.specs.Partial.{partial};
+ghost use Rattle.osgi_world.specs.Wirings.{InForce};
 ghost use Rattle.osgi_world.specs.declared.problem.Problem.{Problem};
 
 use osgi_base::ids::RevisionId;
 use osgi_path::Path;
 use osgi_sources::bundles::reached_bundles;
-use osgi_wires::rows::Rows;
 use std::alloc::{AllocError, Global};
 use std::collections::BTreeSet;
+
+/// Whether the revision, which is in force or a member, has no attachment, bundle requirement or import left to decide.
+fn is_decided(path: &Path, revision: RevisionId) -> bool
+    ensures decided { (P : Problem) → IsProblemOf path.now P → InForce (partial P (made P path.now)) revision → Decides result (IsDecided P (made P path.now) revision) }
+{
+    if path.is_decided(revision) {
+        return true;
+    }
+    path.offers().is_in_force(revision)
+}
+
+/// Whether it is so with all of these.
+fn are_decided(path: &Path, revisions: &[u32]) -> bool
+    ensures decided { (P : Problem) → IsProblemOf path.now P → ((n : ℕ) → In n revisions.now → InForce (partial P (made P path.now)) (id n))
+        → IsTrue result ↔ ((n : ℕ) → In n revisions.now → IsDecided P (made P path.now) (id n)) }
+{
+    for revision in revisions {
+        if !is_decided(path, RevisionId(*revision)) {
+            return false;
+        }
+    }
+    true
+}
+
+/// Whether it is so with the revision, and with all bundles that it reaches along a bundle wire, and after it along those with
+/// reexport.
+pub fn is_settled(alloc: Global, path: &Path, revision: RevisionId) -> Result<bool, AllocError>
+    ensures settled { IfOk result (λ answer. (P : Problem) → IsProblemOf path.now P → InForce (partial P (made P path.now)) revision → IsTrue answer ↔ IsSettled P (made P path.now) revision) }
+{
+    if !is_decided(path, revision) {
+        return Ok(false);
+    }
+    let rows = path.rows().rows();
+    if rows.required_by(revision.0).is_empty() {
+        return Ok(true);
+    }
+    let reached = reached_bundles(alloc, rows, revision.0)?;
+    Ok(are_decided(path, reached.items.as_slice()))
+}
+
+/// Whether the member has a bundle wire, and is not settled.
+fn is_unsettled_by_wire(alloc: Global, path: &Path, member: RevisionId) -> Result<bool, AllocError>
+    ensures unsettled { IfOk result (λ answer. (P : Problem) → IsProblemOf path.now P → In member (members P (made P path.now)) → IsTrue answer → ¬ IsSettled P (made P path.now) member) }
+    ensures decided { IfOk result (λ answer. (P : Problem) → IsProblemOf path.now P → In member (members P (made P path.now)) → IsDecided P (made P path.now) member → ¬ IsTrue answer → IsSettled P (made P path.now) member) }
+{
+    if path.rows().rows().required_by(member.0).is_empty() {
+        return Ok(false);
+    }
+    Ok(!is_settled(alloc, path, member)?)
+}
 
 fn numbers(alloc: Global, revisions: &[RevisionId]) -> Result<BTreeSet<u32>, AllocError>
     ensures numbers { IfOk result (λ set. (n : ℕ) → Has set n ↔ In (id n) revisions.now) }
@@ -24,59 +78,16 @@ fn numbers(alloc: Global, revisions: &[RevisionId]) -> Result<BTreeSet<u32>, All
     Ok(set)
 }
 
-fn has_one(set: &BTreeSet<u32>, numbers: &[u32]) -> bool
-    ensures one { IsTrue result ↔ ((n : ℕ) × In n numbers.now × Has set.now n) }
+/// The members that are not settled: those that are not decided, and those that reach such along bundle wires.
+pub fn unsettled(alloc: Global, path: &Path) -> Result<BTreeSet<u32>, AllocError>
+    ensures unsettled { IfOk result (λ set. (P : Problem) → IsProblemOf path.now P → AreUnsettled P (made P path.now) set) }
 {
-    for number in numbers {
-        if set.contains(number) {
-            return true;
-        }
-    }
-    false
-}
-
-/// Whether the revision, or a bundle that it reaches along bundle wires, is in the set.
-fn reaches_one(
-    alloc: Global,
-    rows: &Rows,
-    set: &BTreeSet<u32>,
-    revision: u32,
-) -> Result<bool, AllocError>
-    ensures reaches { IfOk result (λ answer. IsTrue answer ↔ ReachesOne rows.now set.now revision) }
-{
-    if set.contains(&revision) {
-        return Ok(true);
-    }
-    if rows.required_by(revision).is_empty() {
-        return Ok(false);
-    }
-    let reached = reached_bundles(alloc, rows, revision)?;
-    Ok(has_one(set, reached.items.as_slice()))
-}
-
-/// The members of which this holds.
-fn reaching_one(
-    alloc: Global,
-    rows: &Rows,
-    members: &[RevisionId],
-    undecided: &BTreeSet<u32>,
-) -> Result<BTreeSet<u32>, AllocError>
-    ensures reaching { IfOk result (λ set. (n : ℕ) → Has set n ↔ (In (id n) members.now × ReachesOne rows.now undecided.now n)) }
-{
-    let mut set = BTreeSet::new(alloc);
-    for member in members {
-        if reaches_one(alloc, rows, undecided, member.0)? {
+    let undecided = path.undecided(alloc)?;
+    let mut set = numbers(alloc, undecided.as_slice())?;
+    for member in path.members() {
+        if is_unsettled_by_wire(alloc, path, *member)? {
             set.insert(member.0)?;
         }
     }
     Ok(set)
-}
-
-/// The members that are not settled.
-pub fn unsettled(alloc: Global, path: &Path) -> Result<BTreeSet<u32>, AllocError>
-    ensures unsettled { IfOk result (λ set. (P : Problem) → IsProblemOf path.now P → AreUnsettled P (made P path.now) set) }
-{
-    let listed = path.undecided(alloc)?;
-    let undecided = numbers(alloc, listed.as_slice())?;
-    Ok(reaching_one(alloc, path.rows().rows(), path.members(), &undecided)?)
 }

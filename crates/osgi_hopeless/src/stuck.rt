@@ -29,7 +29,7 @@ fn has_two_versions(
 
 /// Whether the member has a requirement that can get no wire any more, two providers of one package, or two fragments of one
 /// symbolic name.
-fn is_stuck(alloc: Global, path: &Path, member: RevisionId) -> Result<bool, AllocError>
+pub fn is_stuck(alloc: Global, path: &Path, member: RevisionId) -> Result<bool, AllocError>
     ensures stuck { IfOk result (λ answer. (P : Problem) → IsMemberOf path.now P member → IsTrue answer ↔ IsStuck P (made P path.now) member) }
 {
     let fragments = path.fragments(alloc, member)?;

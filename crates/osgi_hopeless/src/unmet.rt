@@ -9,8 +9,8 @@ ghost use Rattle.osgi_world.specs.declared.problem.Problem.{Problem};
 
 use crate::place::known_at;
 use osgi_base::ids::RevisionId;
+use osgi_owners::decision::Decision;
 use osgi_path::Path;
-use osgi_path::decision::Decision;
 use osgi_world::wiring::{CapRef, ReqRef};
 
 /// Whether the requirement's decision on this capability is made, and is no.

@@ -12,7 +12,7 @@ use Rattle.osgi_world.specs.Lists.{In}
 use Rattle.osgi_world.specs.Partial.{partial}
 use Rattle.osgi_world.specs.Sources.{Clash, GivesPackage, Implied, Sources, follows, reexported, seen, substituted}
 use Rattle.osgi_world.specs.Sources as source
-use Rattle.osgi_world.specs.Wirings.{HasWire, InForce, InUse, OnOffer}
+use Rattle.osgi_world.specs.Wirings.{BundleWire, HasWire, InForce, InUse, OnOffer, PackageWire}
 use Rattle.osgi_world.specs.declared.problem.Problem.{Problem}
 use Rattle.osgi_world.specs.declared.wiring.Wire.{Wire}
 use Rattle.osgi_world.specs.declared.wiring.Wiring.{Wiring}
@@ -79,18 +79,19 @@ clash-before g sr se c = record {
   theirs_out = λ s. c.theirs_out (settled-sources g sr s);
 }
 
-source-alone : {K : List Known} {W : List Wiring} {m y : RevisionId} {p : List ℕ} → ((w : Wire) → ¬ HasWire W m w) → Sources K W m p y → y ≡ m
-source-alone none (inl w) = absurd (none w.wire w.has)
-source-alone none (inr (fails, inl (c, b, g))) = absurd (none b.wire b.has)
-source-alone none (inr (fails, inr (e, x))) = e
+module _ {K : List Known} {W : List Wiring} {m : RevisionId} (no_import : (p : List ℕ) (y : RevisionId) → ¬ PackageWire K W m p y) (no_bundle : (c : RevisionId) → ¬ BundleWire K W m c) where
+  source-alone : {y : RevisionId} {p : List ℕ} → Sources K W m p y → y ≡ m
+  source-alone (inl w) = absurd (no_import _ _ w)
+  source-alone (inr (fails, inl (c, b, g))) = absurd (no_bundle c b)
+  source-alone (inr (fails, inr (e, x))) = e
 
-implied-alone : {K : List Known} {W : List Wiring} {A : RevisionId → Type 0} {m e : RevisionId} {u : List ℕ} → ((w : Wire) → ¬ HasWire W m w) → Implied K W A m e u → e ≡ m
-implied-alone none (seen am s ae us) = source-alone none s
-implied-alone {K = K} {W = W} none (follows {d = y} {u = u} i s ad us) = source-alone none (subst (λ z. Sources K W z u y) (implied-alone none i) s)
+  implied-alone : {A : RevisionId → Type 0} {e : RevisionId} {u : List ℕ} → Implied K W A m e u → e ≡ m
+  implied-alone (seen am s ae us) = source-alone s
+  implied-alone (follows {d = y} {u = u} i s ad us) = source-alone (subst (λ z. Sources K W z u y) (implied-alone i) s)
 
--- a revision without wires clashes with nothing
-alone-no_clash : {K : List Known} {W : List Wiring} {A : RevisionId → Type 0} {m e : RevisionId} {u : List ℕ} → ((w : Wire) → ¬ HasWire W m w) → Implied K W A m e u → ¬ Clash K W m e u
-alone-no_clash {K = K} {W = W} {u = u} none i c = c.ours_out (subst (λ z. Sources K W z u c.ours) (sym (implied-alone none i)) c.ours_in)
+  -- a revision without wires for packages and bundles clashes with nothing
+  pub alone-no_clash : {A : RevisionId → Type 0} {e : RevisionId} {u : List ℕ} → Implied K W A m e u → ¬ Clash K W m e u
+  alone-no_clash {u = u} i c = c.ours_out (subst (λ z. Sources K W z u c.ours) (sym (implied-alone i)) c.ours_in)
 
 rivals-sym : (P : Problem) (r s : RevisionId) → AreRivals P.world.known r s → AreRivals P.world.known s r
 rivals-sym P r s d = record { different = λ e. d.different (sym e); name = sym d.name; current = (d.current.1, d.current.0); singletons = (d.singletons.1, d.singletons.0) }
@@ -184,7 +185,7 @@ module _ (P : Problem) (D : Made) (d : Decision) (v : ℕ) (x : OneMore P D d v)
   joined-apart r n w j h e = joined-no_force P D d v x n j (subst (InForce (partial P D)) e (provider-in_force P x.problem D r w h))
 
   joined-no_clash : (m : RevisionId) → Joined P D d v m → {e : RevisionId} {u : List ℕ} → Implied P.world.known (partial P ((d, v) ∷ D)) (IsSettled P ((d, v) ∷ D)) m e u → ¬ Clash P.world.known (partial P ((d, v) ∷ D)) m e u
-  joined-no_clash m j pair c = alone-no_clash (joined-no_wire P D d v x m j) pair c
+  joined-no_clash m j pair c = alone-no_clash (λ p y w. joined-no_wire P D d v x m j w.wire w.has) (λ y b. joined-no_wire P D d v x m j b.wire b.has) pair c
 
   -- nothing that is decided leads to it but itself
   joined-leads : IsQuiet P D d v → {m n : RevisionId} → Joined P D d v n → LeadsTo P ((d, v) ∷ D) m n → m ≡ n

@@ -16,15 +16,15 @@ use Rattle.osgi_choice.proofs.Laws.{laws}
 use Rattle.osgi_choice.proofs.Lists.{filter-in}
 use Rattle.osgi_choice.proofs.States.{due-host, member-current, next-due}
 use Rattle.osgi_choice.specs.States.{State, step}
-use Rattle.osgi_path.specs.Standing.{decision_of}
+use Rattle.osgi_owners.specs.DecisionOf.{decision_of}
 use Rattle.osgi_path.specs.computed.Afters.{IsAskedAfter, owners_with}
-use Rattle.osgi_path.specs.computed.Asks.{decisions_in}
+use Rattle.osgi_owners.specs.computed.Asks.{decisions_in}
 use Rattle.osgi_path.specs.computed.Courses.{CourseLists, IsRight, lists_of, made_of}
 use Rattle.osgi_path.specs.computed.Nexts.{IsNextOf, IsOpenedBy}
 use Rattle.osgi_path.specs.computed.Openings.{IsOpened, Waits}
 use Rattle.osgi_path.specs.declared.course.Course.{Course}
 use Rattle.osgi_path.specs.declared.course.Mark.{Mark}
-use Rattle.osgi_path.specs.declared.decision.Decision.{Decision}
+use Rattle.osgi_owners.specs.declared.decision.Decision.{Decision}
 use Rattle.osgi_path.specs.declared.opening.More.{More}
 use Rattle.osgi_path.proofs.Grown.{asked, opened-ask, opened-last, opened-some}
 use Rattle.osgi_path.proofs.Next.{length-made_of, next-there, right-state}

@@ -1,6 +1,6 @@
--- Which members are decided: those before the last that is opened, this one where nothing of space is left, and those after it that
+-- Which members are decided: those before the last that is opened, this one where the next decision is not of space, and those after it that
 -- have nothing of space to decide.
-use Rattle.std.proofs.Common.{◌≡◌, ℕ, ◌+◌, ◌<◌, ◌≤◌, ◌⊎◌, ◌↔◌, get_or, inl, inr, zero, suc, add-one, Bool, true, false, ◌&&◌, ◌||◌, IsTrue, List, [], ◌∷◌, ◌++◌, flat_map, take, drop, length, Some, None, refl, sym, ◌∙◌, ap, subst, arith}
+use Rattle.std.proofs.Common.{◌≡◌, ℕ, ◌+◌, ◌<◌, ◌≤◌, ◌⊎◌, ◌↔◌, get_or, inl, inr, zero, suc, add-one, Bool, true, false, ◌&&◌, IsTrue, List, [], ◌∷◌, ◌++◌, flat_map, take, drop, length, Some, None, refl, sym, ◌∙◌, ap, subst, arith}
 use Rattle.std.specs.Prelude.{not, slice_get}
 use Rattle.std.specs.Bool.{Decides}
 use Rattle.std.specs.List.{list_any}
@@ -16,21 +16,20 @@ use Rattle.osgi_world.specs.Payloads.{own_requirements}
 use Rattle.osgi_world.specs.declared.problem.Problem.{Problem}
 use Rattle.osgi_world.specs.declared.wiring.CapRef.{CapRef}
 use Rattle.osgi_world.specs.declared.wiring.ReqRef.{ReqRef}
-use Rattle.osgi_world.specs.declared.world.Known.{Known}
 use Rattle.osgi_choice.proofs.Lists.{and-cases, any-in, flat_map-in, in-any, in-append_cases, in-append_left, in-append_right, in-flat_map}
 use Rattle.osgi_choice.proofs.Queue.{in_order-made, queued}
 use Rattle.osgi_choice.proofs.States.{AllAttached, IsDue, attaches, chooses, due-in, fragments-in, in-due_attach, in-due_choose, in-due_pick, in-own, in-payload, member-new, own-in, payload-in, picks}
 use Rattle.osgi_choice.proofs.Values.{some-inj}
 use Rattle.osgi_choice.specs.Queue.{in_order}
-use Rattle.osgi_path.proofs.Grown.{cut}
-use Rattle.osgi_path.proofs.Next.{length-in_order, length-made_of, queue-parts, right-state}
-use Rattle.osgi_path.specs.Standing.{decision_of}
-use Rattle.osgi_path.specs.computed.Asks.{decisions_in}
+use Rattle.osgi_path.proofs.Grown.{cut, one-more}
+use Rattle.osgi_path.proofs.Next.{get-append_at, length-in_order, length-made_of, queue-parts, right-state}
+use Rattle.osgi_path.proofs.Turns.{InTurn, due-turn, first-turn, later-turn, next-passes, passes}
+use Rattle.osgi_owners.specs.DecisionOf.{decision_of}
+use Rattle.osgi_owners.specs.computed.Asks.{decisions_in}
 use Rattle.osgi_path.specs.computed.Courses.{CourseLists, IsRight, made_of}
-use Rattle.osgi_path.specs.computed.Free.{asks_space, is_free, is_lone, is_none_of, is_of_space}
-use Rattle.osgi_path.specs.computed.Views.{is_spatial}
+use Rattle.osgi_owners.specs.computed.Free.{asks_space, is_free, is_lone, is_none_of, is_of_space}
+use Rattle.osgi_path.specs.computed.Views.{is_spatial, is_spatial_next}
 use Rattle.osgi_path.specs.declared.course.Mark.{Mark}
-use Rattle.osgi_path.specs.declared.decision.Decision as code
 
 -- ---- places
 
@@ -97,16 +96,6 @@ more-left T xs list n m there so none x = rw (add-one n) (
     | inr e ↦ absurd (none (subst T e h.1))
   ],
 )
-
-drop-front : {X : Type 0} (xs ys : List X) → drop (length xs) (xs ++ ys) ≡ ys
-drop-front [] ys = refl
-drop-front (x ∷ xs) ys = drop-front xs ys
-
-any-dropped : (K : List Known) (n : ℕ) (ds : List code.Decision) → list_any (λ d. is_spatial K (decision_of d)) (drop n ds) ≡ list_any (is_spatial K) (drop n (decisions_in ds))
-any-dropped K zero [] = refl
-any-dropped K (suc n) [] = refl
-any-dropped K zero (d ∷ ds) = ap (λ b. is_spatial K (decision_of d) || b) (any-dropped K zero ds)
-any-dropped K (suc n) (d ∷ ds) = any-dropped K n ds
 
 -- ---- the queue
 
@@ -207,16 +196,29 @@ module _ (P : Problem) (L : IsProblem P) (ms : List Mark) (F : CourseLists) (r :
         no-made (made_of ms) a.0 (p.left_open a.0 a.1) (decided-own P L (made_of ms) m member decided a.0 (last-left p h a.0 a.1) (true-spatial P a.0 a.2))),
   )
 
-  -- at the last one that is opened: nothing of space is left of the queue
-  pub decided-last : (n : ℕ) → n ≡ length ms → place ≡ F.last → Decides (not (list_any (λ d. is_spatial P.world.known (decision_of d)) (drop n F.queue))) (IsDecided P (made_of ms) m)
+  -- what is left of the queue is what is left of its decisions
+  left-turn : (p : IsParted P (made_of ms) F) → place ≡ F.last → InTurn (is_spatial P.world.known) p.left
+  left-turn p h =
+      let D = made_of ms in
+      let before = flat_map (due P D) (take F.last F.ids) in
+      let at_last : slice_get F.ids F.last ≡ Some m = ap (slice_get F.ids) (sym h) ∙ stands in
+      let is : m ≡ get_or F.ids F.last m = sym (some-inj (get_or F.ids F.last m) m (sym (get-some F.ids F.last m r.last_in) ∙ at_last)) in
+      let whole : (before ++ due P D m) ≡ (in_order D ++ p.left) = sym (r.queue ∙ one-more (due P D) F.ids F.last m r.last_in is) ∙ p.queue_is in
+      let c = cut before (due P D m) (in_order D) p.left whole (let a = length-in_order D in let b = length-made_of ms in let e = r.done in omega (arith, a, b, e)) in
+      later-turn (is_spatial P.world.known) c.0 p.left (subst (InTurn (is_spatial P.world.known)) c.2 (due-turn P m D))
+
+  -- at the last one that is opened: the next decision is not of space
+  pub decided-last : (n : ℕ) → n ≡ length ms → place ≡ F.last → Decides (not (is_spatial_next P.world.known (slice_get F.queue n))) (IsDecided P (made_of ms) m)
   decided-last n size h =
       let p = parted P L ms F r in
       let D = made_of ms in
-      let all : list_any (λ d. is_spatial P.world.known (decision_of d)) (drop n F.queue) ≡ list_any (is_spatial P.world.known) p.left =
-      any-dropped P.world.known n F.queue
-      ∙ ap (λ l. list_any (is_spatial P.world.known) (drop n l)) p.queue_is
-      ∙ ap (λ k. list_any (is_spatial P.world.known) (drop k (in_order D ++ p.left))) (size ∙ sym (length-made_of ms) ∙ sym (length-in_order D))
-      ∙ ap (list_any (is_spatial P.world.known)) (drop-front (in_order D) p.left) in
+      let spatial = is_spatial P.world.known in
+      let all : is_spatial_next P.world.known (slice_get F.queue n) ≡ list_any spatial p.left =
+      next-passes P.world.known F.queue n
+      ∙ ap (λ l. passes spatial (slice_get l n)) p.queue_is
+      ∙ ap (λ k. passes spatial (slice_get (in_order D ++ p.left) k)) (size ∙ sym (length-made_of ms) ∙ sym (length-in_order D))
+      ∙ ap (passes spatial) (get-append_at (in_order D) p.left)
+      ∙ first-turn spatial p.left (left-turn p h) in
       subst (λ b. Decides (not b) (IsDecided P D m)) (sym all) (last-decides p h)
 
   later-open : F.last < place → (d : Decision) → In d (due P (made_of ms) m) → value_made (made_of ms) d ≡ None

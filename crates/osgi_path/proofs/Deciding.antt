@@ -7,14 +7,14 @@ use Rattle.osgi_world.specs.Decisions.{arity}
 use Rattle.osgi_world.specs.DueDecisions.{members}
 use Rattle.osgi_world.specs.declared.problem.Problem.{Problem}
 use Rattle.osgi_world.specs.declared.world.World.{World}
-use Rattle.osgi_path.specs.Standing.{decision_of}
-use Rattle.osgi_path.specs.computed.Asks.{decisions_in}
+use Rattle.osgi_owners.specs.DecisionOf.{decision_of}
+use Rattle.osgi_owners.specs.computed.Asks.{decisions_in}
 use Rattle.osgi_path.specs.computed.Courses.{CourseLists, IsRight, lists_of}
 use Rattle.osgi_path.specs.computed.Nexts.{IsDecidedBy, IsDecidedWith, made_with}
 use Rattle.osgi_path.specs.computed.Openings.{IsOpened}
 use Rattle.osgi_path.specs.declared.course.Course.{Course}
 use Rattle.osgi_path.specs.declared.course.Mark.{Mark}
-use Rattle.osgi_path.specs.declared.decision.Decision.{Decision}
+use Rattle.osgi_owners.specs.declared.decision.Decision.{Decision}
 
 -- what is so of a problem, where the marks, the queue and the last opened member were these
 abbrev Says : Problem → Course → Mark → List RevisionId → List Mark → List Decision → ℕ → Type 0

@@ -14,7 +14,7 @@ use Rattle.osgi_choice.proofs.Queue.{made-in_order, queued}
 use Rattle.osgi_choice.proofs.States.{due-host, due-in}
 use Rattle.osgi_choice.specs.Queue.{in_order}
 use Rattle.osgi_choice.specs.States.{State}
-use Rattle.osgi_path.specs.computed.Asks.{first_among, first_due}
+use Rattle.osgi_owners.specs.computed.Asks.{first_among, first_due}
 use Rattle.osgi_path.specs.computed.Openings.{IsOpened}
 use Rattle.osgi_path.proofs.Grown.{asked, made-due, one-more, open-due, same-front}
 use Rattle.osgi_path.proofs.Next.{length-in_order, queue-parts}

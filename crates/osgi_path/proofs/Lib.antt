@@ -1,5 +1,5 @@
 -- Lemmas on decisions.
-pub mod Asking
+pub mod Entries
 pub mod Next
 pub mod Marks
 pub mod Valued
@@ -15,4 +15,5 @@ pub mod Decided
 pub mod Placed
 pub mod Rows
 pub mod Payloads
-pub mod Owners
+pub mod Turns
+pub mod Lasts

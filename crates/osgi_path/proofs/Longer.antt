@@ -20,18 +20,18 @@ use Rattle.osgi_choice.proofs.Lists.{in-append_cases}
 use Rattle.osgi_choice.proofs.States.{IsDue, attaches, chooses, fragments-in, member-current, next-due, payload-asked, payload-in, picks}
 use Rattle.osgi_choice.proofs.Values.{value-cases}
 use Rattle.osgi_choice.proofs.Words.{made-more, word-more}
-use Rattle.osgi_path.specs.Standing.{decision_of}
-use Rattle.osgi_path.specs.computed.Asks.{decisions_in}
+use Rattle.osgi_owners.specs.DecisionOf.{decision_of}
+use Rattle.osgi_owners.specs.computed.Asks.{decisions_in}
 use Rattle.osgi_path.specs.computed.Courses.{AreKnown, AreSteps, CourseLists, IsRight, lists_of, made_of, taken_back, word_of}
-use Rattle.osgi_path.specs.computed.Known.{IsProblemIn, Knows, KnowsAll}
+use Rattle.osgi_owners.specs.computed.Known.{IsProblemIn, Knows, KnowsAll}
 use Rattle.osgi_path.specs.computed.Moving.{AreLearnt, IsLearnt, IsLonger, IsMarkOf}
 use Rattle.osgi_path.specs.computed.Nexts.{IsDecidedWith, IsSameCourse}
 use Rattle.osgi_path.specs.computed.Steps.{IsAsked, IsListed, steps_in}
 use Rattle.osgi_path.specs.declared.course.Course.{Course}
 use Rattle.osgi_path.specs.declared.course.Mark.{Mark}
-use Rattle.osgi_path.specs.declared.decision.Decision.{Decision}
-use Rattle.osgi_path.specs.declared.decision.Decision.TheVariants.{Attach, Choose, Pick}
-use Rattle.osgi_path.specs.declared.lists.Lists.{Lists}
+use Rattle.osgi_owners.specs.declared.decision.Decision.{Decision}
+use Rattle.osgi_owners.specs.declared.decision.Decision.TheVariants.{Attach, Choose, Pick}
+use Rattle.osgi_owners.specs.declared.lists.Lists.{Lists}
 use Rattle.osgi_path.proofs.After.{get-map}
 use Rattle.osgi_path.proofs.Next.{length-made_of, next-there, right-state}
 

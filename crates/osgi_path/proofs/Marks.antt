@@ -2,7 +2,7 @@
 use Rattle.std.proofs.Common.{◌≡◌, ℕ, ◌+◌, ◌<◌, length, get_or, take, if◌then◌else◌, List, [], ◌∷◌, ◌++◌, Some, map, reverse, refl, sym, ◌∙◌, ap}
 use Rattle.std.proofs.lemmas.List.{reverse-append, take_more}
 use Rattle.osgi_world.specs.Decisions.{Decision, same_decision, value_made}
-use Rattle.osgi_path.specs.Standing.{decision_of}
+use Rattle.osgi_owners.specs.DecisionOf.{decision_of}
 use Rattle.osgi_path.specs.computed.Courses.{made_of, word_of}
 use Rattle.osgi_path.specs.declared.course.Mark.{Mark}
 

@@ -14,14 +14,14 @@ use Rattle.osgi_choice.proofs.Queue.{next-queued, queued}
 use Rattle.osgi_choice.proofs.Words.{word-state}
 use Rattle.osgi_choice.specs.Queue.{in_order}
 use Rattle.osgi_choice.specs.States.{State}
-use Rattle.osgi_path.specs.Standing.{decision_of}
-use Rattle.osgi_path.specs.computed.Asks.{decisions_in}
+use Rattle.osgi_owners.specs.DecisionOf.{decision_of}
+use Rattle.osgi_owners.specs.computed.Asks.{decisions_in}
 use Rattle.osgi_path.specs.computed.Courses.{CourseLists, IsRight, made_of, word_of}
 use Rattle.osgi_path.specs.declared.course.Mark.{Mark}
 
 -- ---- lists
 
-get-append_at : {X : Type 0} (xs ys : List X) → slice_get (xs ++ ys) (length xs) ≡ slice_get ys 0
+pub get-append_at : {X : Type 0} (xs ys : List X) → slice_get (xs ++ ys) (length xs) ≡ slice_get ys 0
 get-append_at [] ys = refl
 get-append_at (x ∷ xs) ys = get-append_at xs ys
 

@@ -21,11 +21,12 @@ use Rattle.osgi_wires.specs.Steps.{with_steps}
 use Rattle.osgi_wires.specs.Worlds.{AreRowsIn, WorldLists}
 use Rattle.osgi_uses.specs.States.{SpacesState, wirings_of}
 use Rattle.osgi_choice.proofs.States.{in-payload}
-use Rattle.osgi_path.specs.Standing.{HasValue, IsProblemOf, Standing, decision_of, made}
-use Rattle.osgi_path.specs.computed.Asks.{decisions_in}
+use Rattle.osgi_owners.specs.DecisionOf.{decision_of}
+use Rattle.osgi_path.specs.Standing.{HasValue, IsProblemOf, Standing, made}
+use Rattle.osgi_owners.specs.computed.Asks.{decisions_in}
 use Rattle.osgi_path.specs.computed.Courses.{CourseLists, IsAlong, IsRight, lists_of, made_of, steps_of, taken_back, word_of}
-use Rattle.osgi_path.specs.Sure.{AreSure}
-use Rattle.osgi_path.specs.computed.Known.{AreRight, IsProblemIn, Knows}
+use Rattle.osgi_owners.specs.Sure.{AreSure}
+use Rattle.osgi_owners.specs.computed.Known.{AreRight, IsProblemIn, Knows}
 use Rattle.osgi_path.specs.computed.Moving.{IsLearnt, IsLonger, IsOnWay}
 use Rattle.osgi_path.specs.computed.Nexts.{IsSameCourse}
 use Rattle.osgi_path.specs.computed.Placed.{ArePlaces}
@@ -33,12 +34,12 @@ use Rattle.osgi_path.specs.computed.Steps.{IsAsked, IsListed, steps_in}
 use Rattle.osgi_path.specs.computed.Views.{IsReady}
 use Rattle.osgi_path.specs.declared.course.Course.{Course}
 use Rattle.osgi_path.specs.declared.course.Mark.{Mark}
-use Rattle.osgi_path.specs.declared.decision.Decision.{Decision}
-use Rattle.osgi_path.specs.declared.decision.Decision.TheVariants.{Attach, Choose, Pick}
-use Rattle.osgi_path.specs.declared.lists.Lists.{Lists}
+use Rattle.osgi_owners.specs.declared.decision.Decision.{Decision}
+use Rattle.osgi_owners.specs.declared.decision.Decision.TheVariants.{Attach, Choose, Pick}
+use Rattle.osgi_owners.specs.declared.lists.Lists.{Lists}
 use Rattle.osgi_path.proofs.Longer.{asked-of, last-mark, learnt-known, listed-next, next-of}
 use Rattle.osgi_path.proofs.Next.{next-there}
-use Rattle.osgi_path.proofs.Owners.{same-candidates}
+use Rattle.osgi_owners.proofs.Owners.{same-candidates}
 use Rattle.osgi_path.proofs.Placed.{placed-first}
 use Rattle.osgi_path.proofs.Rows.{rows-seen}
 

@@ -22,7 +22,7 @@ use Rattle.osgi_path.proofs.Next.{right-state}
 use Rattle.osgi_path.specs.computed.Courses.{lists_of}
 use Rattle.osgi_path.specs.computed.Views.{IsReady, by_value, decided_in, wire_to}
 use Rattle.osgi_path.specs.declared.course.Course.{Course}
-use Rattle.osgi_path.specs.declared.lists.Lists.{Lists}
+use Rattle.osgi_owners.specs.declared.lists.Lists.{Lists}
 
 pub item-listed : {X : Type 0} (xs : List X) (n : ℕ) → option_to_list (slice_get xs n) ≡ item_at xs n
 item-listed [] n = refl

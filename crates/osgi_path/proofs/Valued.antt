@@ -1,6 +1,6 @@
 -- Values by the keys of their decisions.
 use Rattle.std.proofs.Common.{◌≡◌, ℕ, ◌<◌, ◌∷◌, refl, sym, ◌∙◌, ap, arith}
-use Rattle.std.specs.Prelude.{Bool, true, false, cond, Option, Some, ◌==◌, ◌&&◌}
+use Rattle.std.specs.Prelude.{Bool, true, false, cond, Some, ◌==◌, ◌&&◌}
 use Rattle.std.specs.BTreeMap.{BTreeMap, Updates, get}
 use Rattle.std.specs.Map.{lookup}
 use Rattle.std.specs.Ordering.{is_eq, nat_cmp, ordering_then}
@@ -8,7 +8,6 @@ use Rattle.std.specs.declared.cmp.Ordering.{Ordering}
 use Rattle.std.specs.declared.cmp.Ordering.TheVariants.{Less, Equal, Greater}
 use Rattle.std.proofs.lemmas.Bool.{ne_eqb}
 use Rattle.std.proofs.lemmas.Cmp.{by_ranked, ranked}
-use Rattle.osgi_base.specs.declared.ids.RevisionId.{RevisionId}
 use Rattle.osgi_choice.proofs.Values.{nat-same}
 use Rattle.osgi_world.specs.Decisions as decisions
 use Rattle.osgi_world.specs.Decisions.{Made, attaching, choose, pick, same_decision, value_made}

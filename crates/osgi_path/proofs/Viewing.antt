@@ -57,7 +57,7 @@ in-steps (n ∷ ms) x i = elim (in-append_cases (steps_in n.step) (steps_of ms) 
 
 -- ---- wires
 
-wired-step : (s : Option Step) (w : Wired) → In w (wired_by s) → In (wired w.revision w.wire) (steps_in s)
+pub wired-step : (s : Option Step) (w : Wired) → In w (wired_by s) → In (wired w.revision w.wire) (steps_in s)
 wired-step None w i = elim i [ ]
 wired-step (Some (Attached h f)) w i = elim i [ ]
 wired-step (Some (WiredStep r x)) w (inl e) = inl (ap (λ (v : Wired). wired v.revision v.wire) e)
@@ -66,7 +66,7 @@ wired-step (Some (WiredStep r x)) w (inr i) = elim i [ ]
 same-wired : (w : Wired) (r : RevisionId) (x : Wire) → w.revision ≡ r → w.wire ≡ x → w ≡ record { revision = r; wire = x }
 same-wired w r x e f = ap₂ (λ (a : RevisionId) (b : Wire). let v : Wired = record { revision = a; wire = b } in v) e f
 
-step-wired : (s : Option Step) (w : Wired) → In (wired w.revision w.wire) (steps_in s) → In w (wired_by s)
+pub step-wired : (s : Option Step) (w : Wired) → In (wired w.revision w.wire) (steps_in s) → In w (wired_by s)
 step-wired None w i = elim i [ ]
 step-wired (Some (Attached h f)) w (inl e) = cc
 step-wired (Some (Attached h f)) w (inr i) = elim i [ ]

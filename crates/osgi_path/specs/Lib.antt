@@ -1,4 +1,4 @@
 -- How far a search has come, as contracts see it; and what the code computes.
 pub mod Standing
-pub mod Sure
+pub mod Last
 pub mod computed

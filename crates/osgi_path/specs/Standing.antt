@@ -4,12 +4,9 @@ use Rattle.std.specs.Prelude.{◌≡◌, ◌<◌, ℕ, List}
 use Rattle.osgi_base.specs.declared.ids.RevisionId.{RevisionId}
 use Rattle.osgi_world.specs.Candidates.{IsProblem}
 use Rattle.osgi_world.specs.ChoiceWords.{made_by, width}
-use Rattle.osgi_world.specs.Decisions as decisions
-use Rattle.osgi_world.specs.Decisions.{Made, attaching, choose, pick}
+use Rattle.osgi_world.specs.Decisions.{Made}
 use Rattle.osgi_world.specs.declared.problem.Problem.{Problem}
 use Rattle.osgi_world.specs.declared.world.World.{World}
-use Rattle.osgi_path.specs.declared.decision.Decision.{Decision}
-use Rattle.osgi_path.specs.declared.decision.Decision.TheVariants.{Attach, Choose, Pick}
 
 pub record Standing : Type 0 where
   pub world : World
@@ -32,8 +29,3 @@ pub record HasValue (s : Standing) (value : ℕ) : Type 0 where
   pub problem : Problem
   pub of : IsProblemOf s problem
   pub fits : value < width problem (made problem s)
-
-abbrev pub decision_of : Decision → decisions.Decision
-decision_of (Attach host fragment) = attaching host fragment
-decision_of (Choose host requirement) = choose host requirement
-decision_of (Pick host requirement capability) = pick host requirement capability

@@ -1,8 +1,4 @@
 -- What private functions and proofs cite. No public promise cites these.
-pub mod Asks
-pub mod Free
-pub mod Sureness
-pub mod Known
 pub mod Steps
 pub mod Courses
 pub mod Valued
@@ -12,3 +8,4 @@ pub mod Afters
 pub mod Nexts
 pub mod Moving
 pub mod Views
+pub mod Lasts

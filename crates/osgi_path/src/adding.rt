@@ -11,19 +11,19 @@ ghost use Rattle.osgi_world.specs.Partial as partial;
 ghost use Rattle.osgi_world.specs.Partial.{wires_for, wiring};
 ghost use Rattle.osgi_world.specs.Payloads.{own_requirements, requirements_of};
 ghost use Rattle.osgi_world.specs.declared.problem.Problem.{Problem};
-ghost use Rattle.osgi_path.specs.computed.Known.{AreRight};
+ghost use Rattle.osgi_owners.specs.computed.Known.{AreRight};
 ghost use Rattle.osgi_path.specs.computed.Valued.{value_in};
 ghost use Rattle.osgi_path.specs.computed.Views.{IsOwner, IsReady, IsReadyWith, by_value, decided_in, wire_to};
 ghost use Rattle.osgi_path.specs.declared.course.Course.{Course};
 
 use crate::course::Course;
-use crate::decision::Decision;
 use crate::growing::is_first;
-use crate::lists::Lists;
 use crate::step::candidate_at;
 use crate::values::Values;
 use osgi_base::ids::RevisionId;
 use osgi_base::list::List;
+use osgi_owners::decision::Decision;
+use osgi_owners::lists::Lists;
 use osgi_world::wiring::{CapRef, ReqRef, Wire, Wiring};
 use std::alloc::{AllocError, Global};
 

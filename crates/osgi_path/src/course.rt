@@ -4,10 +4,10 @@ ghost use Rattle.std.specs.Prelude.{◌≡◌, ◌==◌, length, slice_get};
 ghost use Rattle.std.specs.List.{list_any};
 ghost use Rattle.osgi_path.specs.computed.Placed.{ArePlaces};
 
-use crate::decision::Decision;
 use crate::step::Step;
 use osgi_base::ids::RevisionId;
-use std::collections::BTreeMap;
+use osgi_numbered::number_map::NumberMap;
+use osgi_owners::decision::Decision;
 
 /// A decision with its value, what it added, and how far the course was before it.
 #[derive(Clone, Copy, Debug, PartialEq, Eq)]
@@ -25,7 +25,7 @@ pub struct Mark {
 #[derive(Drop)]
 pub struct Course {
     pub ids: Vec<RevisionId>,
-    pub places: BTreeMap<u32, usize>,
+    pub places: NumberMap<usize>,
     pub queue: Vec<Decision>,
     pub last: usize,
     pub marks: Vec<Mark>,
@@ -44,7 +44,7 @@ impl Course {
         requires placed { ArePlaces self.now.places self.now.ids.items }
         ensures has { result ≡ list_any (λ k. k.0 == revision.0) self.now.ids.items }
     {
-        let Some(place) = self.places.get(&revision.0) else {
+        let Some(place) = self.places.get(revision.0) else {
             return false;
         };
         match self.ids.get(*place) {

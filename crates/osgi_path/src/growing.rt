@@ -1,6 +1,6 @@
 //! One decision more: who joins, and which decisions are due then.
 
-ghost use Rattle.std.specs.Prelude.{◌≡◌, ◌==◌, ◌||◌, ◌∷◌, ◌++◌, All, IfOk, IsTrue, OnOk, flat_map, map, reverse};
+ghost use Rattle.std.specs.Prelude.{◌≡◌, ◌==◌, ◌||◌, ◌∷◌, ◌++◌, All, IfOk, IsTrue, OnOk, flat_map, reverse};
 ghost use Rattle.osgi_world.specs.Lookups.{is_current};
 ghost use Rattle.std.specs.List.{list_any};
 ghost use Rattle.std.specs.Option.{option_to_list};
@@ -8,20 +8,19 @@ ghost use Rattle.osgi_base.specs.declared.ids.RevisionId.{RevisionId};
 ghost use Rattle.osgi_world.specs.Decisions.{attaching, is_yes, value_made};
 ghost use Rattle.osgi_world.specs.DueDecisions.{fragments_of, is_in_force, provider_of, pull_in};
 ghost use Rattle.osgi_world.specs.declared.problem.Problem.{Problem};
-ghost use Rattle.osgi_path.specs.Standing.{decision_of};
-ghost use Rattle.osgi_path.specs.computed.Asks.{decisions_in, first_due};
+ghost use Rattle.osgi_owners.specs.DecisionOf.{decision_of};
+ghost use Rattle.osgi_owners.specs.computed.Asks.{decisions_in, first_due};
 ghost use Rattle.osgi_path.specs.computed.Courses.{made_of};
-ghost use Rattle.osgi_path.specs.computed.Known.{AreRight, IsProblemIn, Knows, KnowsAll};
+ghost use Rattle.osgi_owners.specs.computed.Known.{AreRight, IsProblemIn, Knows, KnowsAll};
 ghost use Rattle.osgi_path.specs.computed.Placed.{ArePlaces, IsNew};
 ghost use Rattle.osgi_path.specs.computed.Steps.{steps_in};
 
-use crate::asks::asks_of;
 use crate::course::{Course, Mark};
-use crate::decision::Decision;
-use crate::lists::Lists;
 use crate::step::Step;
 use osgi_base::ids::RevisionId;
 use osgi_candidates::Offers;
+use osgi_owners::decision::Decision;
+use osgi_owners::lists::Lists;
 use std::alloc::{AllocError, Global};
 
 /// Whether the revision has a wiring.
@@ -138,24 +137,6 @@ pub fn learn_all(alloc: Global, lists: &mut Lists, owners: &[RevisionId]) -> Res
     Ok(())
 }
 
-/// The decisions on a host's fragments.
-fn attachments_of(
-    alloc: Global,
-    host: RevisionId,
-    fragments: &[RevisionId],
-) -> Result<Vec<Decision>, AllocError>
-    ensures attachments { IfOk result (λ list. decisions_in list.items ≡ map (attaching host) fragments.now) }
-{
-    let mut attachments = Vec::new(alloc);
-    for fragment in fragments {
-        attachments.push(Decision::Attach {
-            host,
-            fragment: *fragment,
-        })?;
-    }
-    Ok(attachments)
-}
-
 /// The decisions of a member of which nothing is decided yet: on its fragments, or where there are none on its requirements.
 pub fn first_of(
     alloc: Global,
@@ -169,9 +150,5 @@ pub fn first_of(
     ensures first { IfOk result (λ list. (P : Problem) → IsProblemIn lists.old.offers P → IsTrue (is_current P.world.known member) → decisions_in list.items ≡ first_due P member) }
 {
     lists.learn(alloc, member)?;
-    let fragments = lists.fragments_for(member);
-    if !fragments.is_empty() {
-        return Ok(attachments_of(alloc, member, fragments)?);
-    }
-    Ok(asks_of(alloc, lists, member, &[member])?)
+    Ok(Vec::from_slice(alloc, lists.first_of(member))?)
 }

@@ -2,21 +2,18 @@
 #![tactic(auto)]
 
 mod adding;
-mod asks;
 mod course;
-pub mod decision;
 mod growing;
-mod kind;
-mod lists;
+mod last;
 mod moves;
 mod moving;
 mod opening;
-mod owned;
 mod path;
 mod step;
 mod values;
 mod views;
 mod wired;
 
+pub use last::Last;
 pub use path::Path;
 pub use wired::Wired;

@@ -4,22 +4,22 @@ ghost use Rattle.std.specs.Prelude.{◌≡◌, ◌<◌, ◌∷◌, [], ◌++◌,
 ghost use Rattle.osgi_base.specs.declared.ids.RevisionId.{RevisionId};
 ghost use Rattle.osgi_world.specs.declared.problem.Problem.{Problem};
 ghost use Rattle.osgi_path.specs.computed.Courses.{IsRight, lists_of, steps_of, taken_back};
-ghost use Rattle.osgi_path.specs.computed.Known.{AreRight, IsProblemIn};
+ghost use Rattle.osgi_owners.specs.computed.Known.{AreRight, IsProblemIn};
 ghost use Rattle.osgi_path.specs.computed.Moving.{IsLearnt, IsLonger, IsMarkOf};
 ghost use Rattle.osgi_path.specs.computed.Nexts.{IsSameCourse};
 ghost use Rattle.osgi_path.specs.computed.Placed.{ArePlaces};
 ghost use Rattle.osgi_path.specs.declared.course.Mark.{Mark};
 
 use crate::course::{Course, Mark};
-use crate::decision::Decision;
 use crate::growing::{first_of, joining_of};
-use crate::lists::Lists;
 use crate::moves::{decide_with, learn_new};
 use crate::step::step_of;
 use osgi_base::ids::RevisionId;
+use osgi_numbered::number_map::NumberMap;
+use osgi_owners::decision::Decision;
+use osgi_owners::lists::Lists;
 use osgi_uses::spaces::Spaces;
 use std::alloc::{AllocError, Global};
-use std::collections::BTreeMap;
 
 /// The mark of a decision that is made now.
 fn mark_of(lists: &Lists, course: &Course, decision: Decision, value: u64) -> Mark
@@ -95,7 +95,7 @@ pub fn begin(alloc: Global, lists: &mut Lists, root: RevisionId) -> Result<Cours
 {
     lists.learn(alloc, root)?;
     let queue = first_of(alloc, lists, root)?;
-    let mut places = BTreeMap::new(alloc);
+    let mut places = NumberMap::new(alloc);
     places.insert(root.0, 0)?;
     let mut ids = Vec::new(alloc);
     ids.push(root)?;

@@ -6,14 +6,14 @@ ghost use Rattle.osgi_world.specs.Decisions.{Made};
 ghost use Rattle.osgi_world.specs.DueDecisions.{members};
 ghost use Rattle.osgi_world.specs.declared.problem.Problem.{Problem};
 ghost use Rattle.osgi_choice.specs.States.{State};
-ghost use Rattle.osgi_path.specs.computed.Asks.{decisions_in};
-ghost use Rattle.osgi_path.specs.computed.Known.{AreRight, IsProblemIn, KnowsAll};
+ghost use Rattle.osgi_owners.specs.computed.Asks.{decisions_in};
+ghost use Rattle.osgi_owners.specs.computed.Known.{AreRight, IsProblemIn, KnowsAll};
 ghost use Rattle.osgi_path.specs.computed.Openings.{IsOpened, Waits};
 
-use crate::decision::Decision;
 use crate::growing::first_of;
-use crate::lists::Lists;
 use osgi_base::ids::RevisionId;
+use osgi_owners::decision::Decision;
+use osgi_owners::lists::Lists;
 use std::alloc::{AllocError, Global};
 
 /// Decisions that become due, and the place of the last member whose decisions are in the queue then.

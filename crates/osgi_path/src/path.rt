@@ -14,18 +14,21 @@ ghost use Rattle.osgi_world.specs.Partial as partial;
 ghost use Rattle.osgi_world.specs.Wirings.{HasWire};
 ghost use Rattle.osgi_world.specs.declared.problem.Problem.{Problem};
 ghost use Rattle.osgi_wires.specs.Worlds.{AreRowsIn};
-ghost use Rattle.osgi_path.specs.Sure.{AreSure};
-ghost use Rattle.osgi_path.specs.Standing.{HasValue, IsProblemOf, decision_of, made};
+ghost use Rattle.osgi_path.specs.Last.{IsLast};
+ghost use Rattle.osgi_owners.specs.Sure.{AreSure};
+ghost use Rattle.osgi_owners.specs.DecisionOf.{decision_of};
+ghost use Rattle.osgi_path.specs.Standing.{HasValue, IsProblemOf, made};
 ghost use Rattle.osgi_path.specs.declared.wired.Wired.{Wired};
 
 use crate::course::Course;
-use crate::decision::Decision;
-use crate::lists::Lists;
+use crate::last::Last;
 use crate::wired::Wired;
-use crate::{adding, growing, moving, step, views};
+use crate::{adding, growing, last, moving, step, views};
 use osgi_base::ids::RevisionId;
 use osgi_base::list::List;
 use osgi_candidates::Offers;
+use osgi_owners::decision::Decision;
+use osgi_owners::lists::Lists;
 use osgi_space::disputed_rows::DisputedRows;
 use osgi_uses::spaces::Spaces;
 use osgi_wires::world_rows::WorldRows;
@@ -191,6 +194,13 @@ impl<'w> Path<'w> {
         views::undecided(alloc, &self.lists, &self.course)
     }
 
+    /// Whether the member has no attachment, bundle requirement or import left to decide.
+    pub fn is_decided(&self, member: RevisionId) -> bool
+        ensures decided { (P : Problem) → IsProblemOf self.now P → In member (members P (made P self.now)) → Decides result (IsDecided P (made P self.now) member) }
+    {
+        views::is_decided(&self.lists, &self.course, member)
+    }
+
     /// The fragments that are attached to a member, as far as decided, by bundle id.
     pub fn fragments(
         &self,
@@ -229,6 +239,13 @@ impl<'w> Path<'w> {
         ensures word { IfOk result (λ list. list ≡ self.now.word) }
     {
         views::word(alloc, self.course.marks.as_slice())
+    }
+
+    /// The last decision that was made; None where none is made.
+    pub fn last(&self) -> Option<Last>
+        ensures last { MatchOption result (self.now.word ≡ []) (λ last. (P : Problem) → IsProblemOf self.now P → IsLast P self.now last) }
+    {
+        last::last_of(&self.course)
     }
 
     /// The value with which a decision was made, if it was made.

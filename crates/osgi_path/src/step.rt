@@ -5,13 +5,13 @@ ghost use Rattle.osgi_world.specs.Lists.{entry, item_at};
 ghost use Rattle.osgi_world.specs.Decisions as decisions;
 ghost use Rattle.osgi_world.specs.Decisions.{adds, wired_to};
 ghost use Rattle.osgi_world.specs.declared.problem.Problem.{Problem};
-ghost use Rattle.osgi_path.specs.Standing.{decision_of};
-ghost use Rattle.osgi_path.specs.computed.Known.{AreRight, IsProblemIn};
+ghost use Rattle.osgi_owners.specs.DecisionOf.{decision_of};
+ghost use Rattle.osgi_owners.specs.computed.Known.{AreRight, IsProblemIn};
 ghost use Rattle.osgi_path.specs.computed.Steps.{IsListed, step_in, steps_in};
 
-use crate::decision::Decision;
-use crate::lists::Lists;
 use osgi_base::ids::RevisionId;
+use osgi_owners::decision::Decision;
+use osgi_owners::lists::Lists;
 use osgi_world::wiring::{CapRef, ReqRef, Wire};
 
 /// A fragment to a host, or a wire to a revision.

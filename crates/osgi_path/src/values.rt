@@ -1,13 +1,13 @@
 //! The values of decisions, found by the decision.
 
 ghost use Rattle.std.specs.Prelude.{◌≡◌, IfOk, reverse};
-ghost use Rattle.osgi_path.specs.Standing.{decision_of};
+ghost use Rattle.osgi_owners.specs.DecisionOf.{decision_of};
 ghost use Rattle.osgi_path.specs.computed.Courses.{made_of};
 ghost use Rattle.osgi_path.specs.computed.Valued.{AreValues, decision_at, value_in};
 
 use crate::course::Mark;
-use crate::decision::Decision;
 use osgi_base::ids::RevisionId;
+use osgi_owners::decision::Decision;
 use std::alloc::{AllocError, Global};
 use std::collections::BTreeMap;
 

@@ -1,8 +1,7 @@
 //! What is seen of a course: fragments, decided members and wires.
 
-ghost use Rattle.std.specs.Prelude.{◌≡◌, ◌↔◌, IfOk, Some, drop, length, reverse, slice_get};
+ghost use Rattle.std.specs.Prelude.{◌≡◌, ◌↔◌, ℕ, IfOk, Some, length, reverse, slice_get};
 ghost use Rattle.std.specs.Bool.{Decides};
-ghost use Rattle.std.specs.List.{list_any};
 ghost use Rattle.std.specs.Option.{option_to_list};
 ghost use Rattle.osgi_base.specs.declared.ids.RevisionId.{RevisionId};
 ghost use Rattle.osgi_world.specs.Candidates.{IsProblem};
@@ -13,23 +12,24 @@ ghost use Rattle.osgi_world.specs.Lists.{In};
 ghost use Rattle.osgi_world.specs.Partial.{partial};
 ghost use Rattle.osgi_world.specs.Wirings.{HasWire};
 ghost use Rattle.osgi_world.specs.declared.problem.Problem.{Problem};
-ghost use Rattle.osgi_path.specs.Standing.{decision_of};
+ghost use Rattle.osgi_owners.specs.DecisionOf.{decision_of};
 ghost use Rattle.osgi_path.specs.computed.Courses.{word_of};
-ghost use Rattle.osgi_path.specs.computed.Known.{AreRight, IsProblemIn, Knows};
+ghost use Rattle.osgi_owners.specs.computed.Known.{AreRight, IsProblemIn, Knows};
 ghost use Rattle.osgi_path.specs.computed.Moving.{IsLearnt};
-ghost use Rattle.osgi_path.specs.computed.Views.{IsAt, decided_in, is_spatial, wired_by};
+ghost use Rattle.osgi_path.specs.computed.Placed.{ArePlaces};
+ghost use Rattle.osgi_path.specs.computed.Views.{IsAt, decided_in, is_spatial, is_spatial_next, wired_by};
 ghost use Rattle.osgi_path.specs.declared.wired.Wired.{Wired};
 
 use crate::course::{Course, Mark};
-use crate::decision::Decision;
 use crate::growing::{is_first, value_of};
-use crate::lists::Lists;
-use crate::owned::is_of_space;
 use crate::step::Step;
 use crate::wired::Wired;
 use osgi_base::ids::RevisionId;
 use osgi_base::list::List;
 use osgi_candidates::Offers;
+use osgi_owners::decision::Decision;
+use osgi_owners::lists::Lists;
+use osgi_owners::owned::is_of_space;
 use std::alloc::{AllocError, Global};
 
 // ---- fragments
@@ -74,15 +74,15 @@ fn is_spatial(offers: &Offers, decision: Decision) -> bool
     }
 }
 
-/// Whether such a decision of the queue is left to make.
-fn is_spatial_left(offers: &Offers, course: &Course) -> bool
-    ensures left { result ≡ list_any (λ d. is_spatial offers.now.known (decision_of d)) (drop (length course.now.marks.items) course.now.queue.items) }
+/// Whether the next decision is such a one. Such decisions come first among a member's: where the next one is none, the member has
+/// none left.
+fn is_spatial_next(offers: &Offers, course: &Course) -> bool
+    ensures spatial { result ≡ is_spatial_next offers.now.known (slice_get course.now.queue.items (length course.now.marks.items)) }
 {
-    course
-        .queue
-        .iter()
-        .skip(course.marks.len())
-        .any(|decision| is_spatial(offers, *decision))
+    match course.next() {
+        Some(decision) => is_spatial(offers, decision),
+        None => false,
+    }
 }
 
 /// Whether the member at this place is decided.
@@ -94,9 +94,29 @@ fn is_decided_at(lists: &Lists, course: &Course, place: usize, member: RevisionI
         return true;
     }
     if place == course.last {
-        return !is_spatial_left(&lists.offers, course);
+        return !is_spatial_next(&lists.offers, course);
     }
     lists.is_free(member)
+}
+
+/// The place of a member.
+fn place_of(course: &Course, member: RevisionId) -> Option<usize>
+    requires placed { ArePlaces course.now.places course.now.ids.items }
+    ensures place { (n : ℕ) → slice_get course.now.ids.items n ≡ Some member → result ≡ Some n }
+{
+    course.places.get(member.0).copied()
+}
+
+/// Whether the member is decided, which is found by its place.
+pub fn is_decided(lists: &Lists, course: &Course, member: RevisionId) -> bool
+    requires right { AreRight lists.now }
+    requires placed { ArePlaces course.now.places course.now.ids.items }
+    ensures decided { (P : Problem) → IsProblemIn lists.now.offers P → Knows lists.now member → IsAt P course.now → In member course.now.ids.items → Decides result (IsDecided P (decided_in course.now) member) }
+{
+    match place_of(course, member) {
+        Some(place) => is_decided_at(lists, course, place, member),
+        None => false,
+    }
 }
 
 /// The members that have an attachment, a bundle requirement or an import left to decide.
@@ -120,7 +140,7 @@ pub fn undecided(
 // ---- wires
 
 /// The wire of a step, if it is one.
-fn wired_by(step: Option<Step>) -> Option<Wired>
+pub fn wired_by(step: Option<Step>) -> Option<Wired>
     ensures wired { option_to_list result ≡ wired_by step }
 {
     match step {

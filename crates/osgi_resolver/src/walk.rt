@@ -3,7 +3,7 @@
 ghost use Rattle.std.specs.Prelude.{◌≡◌};
 ghost use Rattle.osgi_problem.specs.WorldProblems.{the_problem};
 
-use osgi_hopeless::is_hopeless;
+use osgi_hopeless::{has_become_hopeless, is_hopeless};
 use osgi_path::Path;
 use osgi_search::Walker;
 use std::alloc::{AllocError, Global};
@@ -40,6 +40,10 @@ impl<'w> Walker for Walk<'w> {
 
     fn is_hopeless(&self) -> Result<bool, AllocError> {
         is_hopeless(self.alloc, &self.path)
+    }
+
+    fn has_become_hopeless(&self) -> Result<bool, AllocError> {
+        has_become_hopeless(self.alloc, &self.path)
     }
 
     fn is_complete(&self) -> bool {

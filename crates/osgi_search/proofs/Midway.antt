@@ -7,14 +7,16 @@ use Rattle.osgi_world.specs.ChoiceWords.{width, IsWord, made_by, IsGood}
 use Rattle.osgi_world.specs.Hopeless.{IsHopeless}
 use Rattle.osgi_world.specs.Effort.{IsEffort}
 use Rattle.osgi_choice.specs.Search.{IsAt, HasTried}
-use Rattle.osgi_choice.proofs.Words.{word-prefix, word-next}
+use Rattle.osgi_choice.proofs.Words.{hopeless-more, word-prefix, word-next}
 use Rattle.osgi_choice.proofs.Search.{tried-hopeless, tried-all, at-value, ended-none, ended-effort}
 use Rattle.osgi_choice.proofs.Left.{left, left-shorter, front-same}
 
--- the walker, whose problem is Q, stands at w, and the values of w below v are tried, if those of `start` were tried as far
+-- the walker, whose problem is Q, stands at w, which is not hopeless, and the values of w below v are tried, if those of `start`
+-- were tried as far
 pub record IsMidway (P Q : Problem) (start w : List ℕ) (v values : ℕ) : Type 0 where
   pub same : Q ≡ P
   pub word : IsWord P w
+  pub hopeful : ¬ IsHopeless P w
   pub range : v ≤ values
   pub width_is : values ≡ width P (made_by P w)
   pub tried : (n : ℕ) → HasTried P start 0 n → HasTried P w v n
@@ -26,6 +28,11 @@ hopeful-of P Q w x b e f no' d h =
 
 hopeless-of : (P Q : Problem) (w x : List ℕ) (b : Bool) → Q ≡ P → w ≡ x → b ≡ true → Decides b (IsHopeless Q w) → IsHopeless P x
 hopeless-of P Q w x b e f t d = subst (IsHopeless P) f (subst (λ (X : Problem). IsHopeless X w) e (d.0 t))
+
+-- with one value more, the word without its last value is the one before, which is not hopeless
+pub midway-before : (P Q R : Problem) (start w x : List ℕ) (v k : ℕ) → IsMidway P Q start w v k → R ≡ Q → x ≡ w ++ v ∷ [] → (u : List ℕ) (j : ℕ) → x ≡ u ++ j ∷ [] → ¬ IsHopeless R u
+midway-before P Q R start w x v k m same x-is u j u-is h =
+    m.hopeful (subst (IsHopeless P) (front-same u w j v (sym u-is ∙ x-is)) (subst (λ (X : Problem). IsHopeless X u) (same ∙ m.same) h))
 
 -- a value whose word is not hopeless
 pub midway-at : (P Q R : Problem) (start w x : List ℕ) (v k : ℕ) (b : Bool) → IsProblem P → IsMidway P Q start w v k → v < k → R ≡ Q → x ≡ w ++ v ∷ [] → b ≡ false → Decides b (IsHopeless R x) → (n : ℕ) → HasTried P start 0 n → IsAt P x n
@@ -50,6 +57,7 @@ midway-next P Q R T start w x y v k b r L m less same x-is t d same' out =
     record {
       same = same' ∙ same ∙ m.same;
       word = subst (IsWord P) (sym back) m.word;
+      hopeful = subst (λ u. ¬ IsHopeless P u) (sym back) m.hopeful;
       range = omega (arith, less);
       width_is = subst (λ u. k ≡ width P (made_by P u)) (sym back) m.width_is;
       tried = λ n h. subst (λ u. HasTried P u (v + 1) n) (sym back) (tried-hopeless P L w v n (m.tried n h) (hopeless-of P R x (w ++ v ∷ []) b (same ∙ m.same) x-is t d));
@@ -73,6 +81,7 @@ midway-back P Q R start w y v k u j L m all same w-is j-is =
     record {
       same = same ∙ m.same;
       word = word-prefix P y (u ∷ []) word;
+      hopeful = λ h. m.hopeful (subst (IsHopeless P) (sym w-is) (hopeless-more P L y u word h));
       range = omega (arith, less, size);
       width_is = size;
       tried = λ n h. tried-all P L y u v n (subst (λ x. HasTried P x v n) w-is (m.tried n h)) (last ∙ subst (λ x. k ≡ width P (made_by P x)) w-is m.width_is);

@@ -1,8 +1,6 @@
 -- A search that stands at a word that is not hopeless: how it goes on, and what it answers.
 use Rattle.std.proofs.Common.{◌≡◌, ℕ, ◌+◌, ◌<◌, ◌≤◌, Bool, true, false, Option, None, Some, MatchOption, List, [], refl, sym, ◌∙◌, subst, arith}
 use Rattle.std.specs.Bool.{Decides}
-use Rattle.std.specs.Ordering.{nat_cmp, ord_min}
-use Rattle.std.proofs.lemmas.Bool.Decides.{nat_tests}
 use Rattle.osgi_world.specs.declared.wiring.Wiring.{Wiring}
 use Rattle.osgi_world.specs.Consistency.{Extends}
 use Rattle.osgi_world.specs.Candidates.{IsProblem}
@@ -28,6 +26,9 @@ pub hopeless-answer : (P : Problem) (w : List ℕ) (b : Bool) (budget : ℕ) →
 hopeless-answer P w b budget L e t d =
     let h : IsHopeless P [] = subst (IsHopeless P) e (d.0 t) in
     (none-extends P L (hopeless-none P L h), (0, omega arith, hopeless-effort P L h))
+
+pub standing-hopeful : (P Q : Problem) (w : List ℕ) (n : ℕ) → IsStanding P Q w n → ¬ IsHopeless Q w
+standing-hopeful P Q w n s h = s.there.hopeful (subst (λ (X : Problem). IsHopeless X w) s.same h)
 
 complete-of : (P Q : Problem) (w : List ℕ) (n : ℕ) (b : Bool) → IsStanding P Q w n → b ≡ true → Decides b (IsComplete Q w) → IsComplete P w
 complete-of P Q w n b s t d = subst (λ (X : Problem). IsComplete X w) s.same (d.0 t)
@@ -64,9 +65,6 @@ none-answer P Q w x n budget b r L s h f d is go =
 -- by how many words it goes on, at most
 pub gone-most : (r : Option ℕ) (most k : ℕ) → r ≡ Some k → MatchOption r (Unit {0}) (λ k. (0 < k) × (k ≤ most)) → k ≤ most
 gone-most r most k is h = (subst (λ o. MatchOption o (Unit {0}) (λ k. (0 < k) × (k ≤ most))) is h).1
-
-pub least-second : (m a b : ℕ) → m ≡ ord_min nat_cmp a b → m ≤ b
-least-second m a b e = grind (arith, nat_tests)
 
 pub spent-answer : (P Q : Problem) (w : List ℕ) (n budget : ℕ) (b : Bool) → IsProblem P → IsStanding P Q w n → n ≡ budget → b ≡ false → Decides b (IsComplete Q w) → IsEffortAbove P budget
 spent-answer P Q w n budget b L s e f d = subst (λ m. IsEffortAbove P m) e (spent-above P L w n s.there (partial-of P Q w n b s f d))

@@ -88,6 +88,10 @@ strode-to P L x y n k a zeros word hopeful = subst (λ u. IsAt P u (n + k)) (sym
 stayed : (x y : List ℕ) (k : ℕ) → y ≡ x ++ replicate k 0 → k ≤ 0 → y ≡ x
 stayed x y k zeros none = zeros ∙ ap (λ j. x ++ replicate j 0) (let e : k ≡ 0 = omega (arith, none) in e) ∙ append-nil x
 
+-- where no zeros are made, the word is not hopeless, as before
+pub stayed-hopeful : (P Q : Problem) (x y : List ℕ) (k : ℕ) → ¬ IsHopeless P x → Q ≡ P → y ≡ x ++ replicate k 0 → k ≤ 0 → ¬ IsHopeless Q y
+stayed-hopeful P Q x y k hopeful same zeros none h = hopeful (subst (IsHopeless P) (stayed x y k zeros none) (subst (λ (X : Problem). IsHopeless X y) same h))
+
 -- where no zeros are made, the values of the word are tried from 0
 pub stepped-to : (P Q : Problem) (x y z : List ℕ) (n k : ℕ) (more : Bool) → IsProblem P → IsAt P x n → ¬ IsComplete P x → Q ≡ P → y ≡ x ++ replicate k 0 → k ≤ 0 →
     ((j : ℕ) → HasTried Q y 0 j → MatchBool more (IsAt Q z j) (((u : List ℕ) → ¬ IsGood Q u) × IsEffort Q j)) → MatchBool more (IsAt P z (n + 1)) (((u : List ℕ) → ¬ IsGood P u) × IsEffort P (n + 1))

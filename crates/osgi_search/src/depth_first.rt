@@ -1,12 +1,14 @@
 //! The search, depth first.
 
-ghost use Rattle.std.specs.Prelude.{◌≡◌, ◌+◌, ◌-◌, ◌*◌, ◌^◌, ◌<◌, ◌≤◌, ℕ, List, [], IfOk, OnOk, MatchOption};
+ghost use Rattle.std.specs.Prelude.{◌≡◌, ◌+◌, ◌-◌, ◌^◌, ◌<◌, ◌≤◌, ℕ, List, [], IfOk, OnOk, MatchOption};
 ghost use Rattle.osgi_world.specs.Candidates.{IsProblem};
 ghost use Rattle.osgi_world.specs.ChoiceWords.{IsComplete, IsGood, IsWord};
 ghost use Rattle.osgi_world.specs.Effort.{IsEffort};
+ghost use Rattle.osgi_world.specs.Hopeless.{IsHopeless};
 ghost use Rattle.osgi_choice.specs.Search.{IsAt};
 ghost use Rattle.osgi_search.specs.Outcomes.{IsOutcome};
 
+use crate::pace::Pace;
 use crate::steps::advance;
 use crate::strides::leap;
 use crate::walker::Walker;
@@ -20,13 +22,11 @@ pub enum Outcome {
     Spent { visited: u64 },
 }
 
-/// How many decisions are made at once, at most.
-const LONGEST_STRIDE: u64 = 4096;
-
 /// Goes on by at most this many words that are not hopeless. Gives by how many; None where no good word is ahead.
 fn go_on<W: Walker>(walker: &mut W, most: u64) -> Result<Option<u64>, AllocError>
     requires problem { IsProblem (W.problem walker.old) }
     requires word { IsWord (W.problem walker.old) (W.word walker.old) }
+    requires hopeful { ¬ IsHopeless (W.problem walker.old) (W.word walker.old) }
     requires most { 0 < most }
     ensures problem { OnOk result (W.problem walker.new ≡ W.problem walker.old) }
     ensures most { IfOk result (λ visited. MatchOption visited (Unit {0}) (λ k. (0 < k) × (k ≤ most))) }
@@ -44,17 +44,6 @@ fn go_on<W: Walker>(walker: &mut W, most: u64) -> Result<Option<u64>, AllocError
     }
 }
 
-/// Twice as long a stride after one that was gone whole, and else a single step.
-fn next_stride(stride: u64, gone: u64) -> u64
-    requires { stride ≤ 4096 }
-    ensures { (0 < result) × (result ≤ 4096) }
-{
-    if gone < stride {
-        return 1;
-    }
-    (2 * stride).clamp(1, LONGEST_STRIDE)
-}
-
 /// Searches from the empty word. Where it finds the first good word, the walker stands there.
 pub fn search<W: Walker>(walker: &mut W, budget: u64) -> Result<Outcome, AllocError>
     requires problem { IsProblem (W.problem walker.old) }
@@ -67,15 +56,15 @@ pub fn search<W: Walker>(walker: &mut W, budget: u64) -> Result<Outcome, AllocEr
         return Ok(Outcome::NoWord);
     }
     let mut visited = 0;
-    let mut stride = 1;
+    let mut pace = Pace::new();
     while visited < budget {
         if walker.is_complete() {
             return Ok(Outcome::Found);
         }
-        match go_on(walker, stride.min(budget - visited))? {
+        match go_on(walker, pace.most().min(budget - visited))? {
             None => return Ok(Outcome::NoWord),
             Some(gone) => {
-                stride = next_stride(stride, gone);
+                pace = pace.after(gone);
                 visited += gone;
             }
         }

@@ -2,6 +2,7 @@
 #![tactic(auto)]
 
 mod depth_first;
+mod pace;
 mod steps;
 mod strides;
 mod walker;

@@ -4,6 +4,7 @@ ghost use Rattle.std.specs.Prelude.{◌≡◌, ◌+◌, ◌^◌, ◌<◌, ℕ, L
 ghost use Rattle.osgi_world.specs.Candidates.{IsProblem};
 ghost use Rattle.osgi_world.specs.ChoiceWords.{IsGood, IsWord};
 ghost use Rattle.osgi_world.specs.Effort.{IsEffort};
+ghost use Rattle.osgi_world.specs.Hopeless.{IsHopeless};
 ghost use Rattle.osgi_choice.specs.Search.{HasTried, IsAt};
 
 use crate::walker::Walker;
@@ -13,6 +14,7 @@ use std::alloc::AllocError;
 pub fn advance<W: Walker>(walker: &mut W) -> Result<bool, AllocError>
     requires problem { IsProblem (W.problem walker.old) }
     requires word { IsWord (W.problem walker.old) (W.word walker.old) }
+    requires hopeful { ¬ IsHopeless (W.problem walker.old) (W.word walker.old) }
     ensures problem { OnOk result (W.problem walker.new ≡ W.problem walker.old) }
     ensures word { IfOk result (λ more. (n : ℕ) → HasTried (W.problem walker.old) (W.word walker.old) 0 n →
         MatchBool more (IsAt (W.problem walker.old) (W.word walker.new) n) (((w : List ℕ) → ¬ IsGood (W.problem walker.old) w) × IsEffort (W.problem walker.old) n)) }
@@ -22,7 +24,7 @@ pub fn advance<W: Walker>(walker: &mut W) -> Result<bool, AllocError>
     loop {
         if value < values {
             walker.longer(value)?;
-            if !walker.is_hopeless()? {
+            if !walker.has_become_hopeless()? {
                 return Ok(true);
             }
             walker.shorter();

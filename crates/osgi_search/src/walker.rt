@@ -14,8 +14,13 @@ pub trait Walker {
 
     ghost word: { Self → List ℕ };
 
-    /// Whether no extension of the word is good.
+    /// Whether the word is hopeless: what is settled shows that no extension of it is good.
     fn is_hopeless(&self) -> Result<bool, AllocError>
+        ensures hopeless { IfOk result (λ hopeless. Decides hopeless (IsHopeless (problem self.now) (word self.now))) };
+
+    /// The same, where the word without its last decision, if it has one, is not hopeless.
+    fn has_become_hopeless(&self) -> Result<bool, AllocError>
+        requires before { (w : List ℕ) (v : ℕ) → word self.now ≡ w ++ v ∷ [] → ¬ IsHopeless (problem self.now) w }
         ensures hopeless { IfOk result (λ hopeless. Decides hopeless (IsHopeless (problem self.now) (word self.now))) };
 
     /// Whether no decision is left.

@@ -6,6 +6,8 @@ use Rattle.osgi_sources.specs.computed.Clashes.{HasWires, KeepsUsesAmong}
 use Rattle.osgi_sources.specs.laws.Adding.{any-none, any-of}
 use Rattle.osgi_sources.specs.laws.Members.{here}
 use Rattle.osgi_sources.proofs.Rows.{in-required, some-imported}
+use Rattle.osgi_sources.specs.computed.Givens.{IsReached}
+use Rattle.osgi_sources.specs.computed.Reach.{starts, steps}
 use Rattle.osgi_sources.specs.computed.RowSources.{Clash, Implied, Sources, follows, seen}
 
 module _ (R : RowLists) (r : ℕ) (none : ¬ HasWires R r) where
@@ -48,3 +50,9 @@ module _ (R : RowLists) (r : ℕ) where
   pub wires-there : HasWires R r → ¬ (imports_of R r ≡ []) ⊎ ¬ (required_by R r ≡ [])
   wires-there (inl i) = inl (λ none. any-none (λ (row : Import). Unit {0}) (subst (λ xs. Any (λ (row : Import). Unit {0}) xs) none ((some-imported R (λ p x. Unit {0}) r).1 (i.0, i.1, i.2, tt))))
   wires-there (inr b) = inr (not-there (required_by R r) (record { revision = r; provider = b.0; reexport = b.1.0 }) ((in-required R r (record { revision = r; provider = b.0; reexport = b.1.0 })).1 (b.1.1, refl)))
+
+  -- without a required bundle no bundle is reached
+  pub none-reached : required_by R r ≡ [] → (b : ℕ) → ¬ IsReached R r b
+  none-reached none b (starts (reexport, at)) =
+      not-there (required_by R r) (record { revision = r; provider = b; reexport = reexport }) ((in-required R r (record { revision = r; provider = b; reexport = reexport })).1 (at, refl)) none
+  none-reached none b (steps {x = from} before s) = none-reached none from before

@@ -1,10 +1,11 @@
 -- What is given is given directly by a bundle that is reached along reexports.
-use Rattle.std.proofs.Common.{◌↔◌, inl, inr, ℕ, refl, sym, subst}
-use Rattle.osgi_wires.specs.Rows.{RowLists, Imports, Reexports}
-use Rattle.osgi_sources.specs.computed.Givens.{IsGivenTo, IsImported, IsSourceOf}
+use Rattle.std.proofs.Common.{◌≡◌, ◌↔◌, ◌⊎◌, inl, inr, ℕ, ap, refl, sym, subst}
+use Rattle.osgi_wires.specs.Rows.{RowLists, Imports, Reexports, imports_for}
+use Rattle.osgi_sources.specs.computed.Givens.{IsGivenTo, IsImported, IsProvider, IsSeen, IsSourceOf, IsUnwired, IsWired}
 use Rattle.osgi_sources.specs.computed.Reach.{Reach, starts, steps}
 use Rattle.osgi_sources.specs.computed.RowSources.{Gives, substituted, itself, reexported, GivesDirectly, NotImported}
 use Rattle.osgi_sources.specs.declared.given.Given.{Given}
+use Rattle.osgi_sources.proofs.Rows.{some-import}
 
 module _ (R : RowLists) (p : ℕ) where
   gives-direct : (b x : ℕ) → GivesDirectly R p b x → Gives R p b x
@@ -43,3 +44,31 @@ module _ (R : RowLists) (p : ℕ) where
       λ (named, at). (named, inl at),
       λ (named, source). (named, elim source [ inl at ↦ at | inr (none, rest) ↦ absurd (none some) ]),
     )
+
+-- the providers of the wires that are looked up are the sources that r is wired to
+pub provider-imported : (R : RowLists) (r p : ℕ) (g : Given) → IsProvider (imports_for R r p) p g ↔ IsImported R r p g
+provider-imported R r p g =
+    let some = some-import R (λ x. g ≡ record { «package» = p; source = x }) r p in (
+      λ any. let s = some.0 any in
+          (ap (λ (h : Given). h.package) s.2, subst (λ x. Imports R r p x) (sym (ap (λ (h : Given). h.source) s.2)) s.1),
+      λ (named, at). some.1 (g.source, at, λ i. record { «package» = named i; source = g.source }),
+    )
+
+-- what a revision sees, by its wires and without them
+pub seen-parts : (R : RowLists) (r : ℕ) (g : Given) → (IsWired R r g ⊎ IsUnwired R r g) ↔ IsSeen R r g
+seen-parts R r g = (
+  λ either. elim either [
+    | inl wired ↦ inl wired
+    | inr unwired ↦ elim unwired [
+      | inl (b, reached, given) ↦ ((given-sources R g.package r g given.0).0 (inl (b, reached, given.1))).1
+      | inr own ↦ ((given-sources R g.package r g own.0).0 (inr own.1)).1
+    ]
+  ],
+  λ source. elim source [
+    | inl wired ↦ inl wired
+    | inr rest ↦ elim ((given-sources R g.package r g rest.0).1 (refl, inr rest)) [
+      | inl w ↦ inr (inl (w.0, w.1, (rest.0, w.2)))
+      | inr own ↦ inr (inr (rest.0, own))
+    ]
+  ],
+)

@@ -2,7 +2,9 @@
 pub mod Lengths
 pub mod Rows
 mod Givers
-mod Agreeing
+pub mod Agreeing
 mod Clashing
 mod Worklist
 mod Alone
+mod Carried
+mod Using

@@ -68,6 +68,19 @@ module _ (R : RowLists) where
         (contains-filter (is_import r p) R.imports _ at (and-both (r == r) (p == p) (eq-eqb r r refl) (eq-eqb p p refl))) q,
   )
 
+  pub some-wire : (P : ℕ → ℕ → Type 0) (r p : ℕ) → Any (λ (row : Import). P row.imported row.provider) (imports_for R r p) ↔ ((x : ℕ) × Imports R r p x × P p x)
+  some-wire P r p = (
+    λ any.
+        let row = any.1 in
+        let f = filter-contains (is_import r p) R.imports row (any-in (λ (i : Import). P i.imported i.provider) (imports_for R r p) any) in
+        let b = and-cases (row.revision == r) (row.imported == p) f.1 in
+        let e = eqb-true row.revision r b.0 in
+        let k = eqb-true row.imported p b.1 in
+        (row.provider, subst (Contains R.imports) (λ i. record { revision = e i; imported = k i; provider = row.provider }) f.0, subst (λ q. P q row.provider) k any.4),
+    λ (x, at, q). any-of (λ (i : Import). P i.imported i.provider) (imports_for R r p) (record { revision = r; imported = p; provider = x })
+        (contains-filter (is_import r p) R.imports _ at (and-both (r == r) (p == p) (eq-eqb r r refl) (eq-eqb p p refl))) q,
+  )
+
   pub some-imported : (P : ℕ → ℕ → Type 0) (r : ℕ) → Any (λ (row : Import). P row.imported row.provider) (imports_of R r) ↔ ((p x : ℕ) × Imports R r p x × P p x)
   some-imported P r = (
     λ any.

@@ -1,12 +1,13 @@
 //! Whether two revisions have different sources of a package.
 
-ghost use Rattle.std.specs.Prelude.{◌↔◌, Contains, IfOk, IsTrue};
+ghost use Rattle.std.specs.Prelude.{◌↔◌, ◌≢◌, length, Contains, IfOk, IsTrue, MatchOption};
 ghost use Rattle.osgi_sources.specs.computed.Collected.{IsCollected};
-ghost use Rattle.osgi_sources.specs.computed.Clashes.{IsClash, Lacks};
+ghost use Rattle.osgi_sources.specs.computed.Clashes.{IsClash, IsOnlySource, Lacks};
 ghost use Rattle.osgi_sources.specs.computed.Exact.{given_cmp};
 ghost use Rattle.osgi_sources.specs.declared.given.Given.{Given};
+ghost use Rattle.osgi_wires.specs.Rows.{imports_for};
 
-use crate::found::Found;
+use crate::found::{FEW, Found, is_listed};
 use crate::given::Given;
 use crate::package_sources::sources_of;
 use osgi_wires::rows::Rows;
@@ -23,10 +24,25 @@ fn collect(alloc: Global, givens: &[Given]) -> Result<Found<Given>, AllocError>
     Ok(found)
 }
 
+/// Whether one of the inner ones is not among the outer ones, which are looked through for each.
+fn lacks_listed(outer: &[Given], inner: &[Given]) -> bool
+    ensures lacks { IsTrue result ↔ Lacks outer.now inner.now }
+{
+    for given in inner {
+        if !is_listed(outer, *given) {
+            return true;
+        }
+    }
+    false
+}
+
 /// Whether one of the inner ones is not among the outer ones.
 fn lacks(alloc: Global, outer: &[Given], inner: &[Given]) -> Result<bool, AllocError>
     ensures lacks { IfOk result (λ answer. IsTrue answer ↔ Lacks outer.now inner.now) }
 {
+    if outer.len() <= FEW {
+        return Ok(lacks_listed(outer, inner));
+    }
     let found = collect(alloc, outer)?;
     for given in inner {
         if !found.has(*given) {
@@ -36,8 +52,8 @@ fn lacks(alloc: Global, outer: &[Given], inner: &[Given]) -> Result<bool, AllocE
     Ok(false)
 }
 
-/// Whether each of the revision, and the one that sees the package, has a source of it that the other lacks.
-pub fn clashes(alloc: Global, rows: &Rows, revision: u32, pair: Given) -> Result<bool, AllocError>
+/// Whether each of the two has a source that the other lacks, of all the sources that they have.
+fn lists_clash(alloc: Global, rows: &Rows, revision: u32, pair: Given) -> Result<bool, AllocError>
     ensures clash { IfOk result (λ answer. IsTrue answer ↔ IsClash rows.now revision pair) }
 {
     let ours = sources_of(alloc, rows, revision, pair.package)?;
@@ -46,4 +62,28 @@ pub fn clashes(alloc: Global, rows: &Rows, revision: u32, pair: Given) -> Result
         return Ok(false);
     }
     Ok(lacks(alloc, ours.as_slice(), theirs.as_slice())?)
+}
+
+/// The only source of the package for a revision that has a single wire for it.
+fn only_source(rows: &Rows, revision: u32, package: u32) -> Option<u32>
+    ensures only { MatchOption result (length (imports_for rows.now revision «package») ≢ 1) (IsOnlySource rows.now revision «package») }
+{
+    let imports = rows.imports_for(revision, package);
+    if imports.len() != 1 {
+        return None;
+    }
+    Some(imports[0].provider)
+}
+
+/// Whether each of the revision, and the one that sees the package, has a source of it that the other lacks.
+pub fn clashes(alloc: Global, rows: &Rows, revision: u32, pair: Given) -> Result<bool, AllocError>
+    ensures clash { IfOk result (λ answer. IsTrue answer ↔ IsClash rows.now revision pair) }
+{
+    let Some(ours) = only_source(rows, revision, pair.package) else {
+        return Ok(lists_clash(alloc, rows, revision, pair)?);
+    };
+    let Some(theirs) = only_source(rows, pair.source, pair.package) else {
+        return Ok(lists_clash(alloc, rows, revision, pair)?);
+    };
+    Ok(ours != theirs)
 }

@@ -4,12 +4,12 @@ ghost use Rattle.std.specs.Prelude.{◌↔◌, Contains, IfOk, IsTrue};
 ghost use Rattle.osgi_sources.specs.computed.Adds.{Adds};
 ghost use Rattle.osgi_sources.specs.declared.given.Given.{Given};
 ghost use Rattle.osgi_sources.specs.computed.RowSources.{HasExport, ImportsElsewhere};
-ghost use Rattle.osgi_sources.specs.computed.Givens.{AttachedExports, IsDirect, IsElsewhere, IsGivenTo, IsImported, IsSourceOf};
+ghost use Rattle.osgi_sources.specs.computed.Givens.{AttachedExports, IsDirect, IsElsewhere, IsGivenTo, IsProvider, IsSourceOf};
 ghost use Rattle.osgi_wires.specs.Rows.{OwnExport};
 
 use crate::bundles::reached_bundles;
 use crate::given::Given;
-use osgi_wires::rows::Rows;
+use osgi_wires::rows::{Import, Rows};
 use std::alloc::{AllocError, Global};
 
 fn owns_export(rows: &Rows, owner: u32, package: u32) -> bool
@@ -105,16 +105,11 @@ fn add_direct(
     Ok(())
 }
 
-/// Adds the providers of the revision's wires for the package.
-fn add_imported(
-    givens: &mut Vec<Given>,
-    rows: &Rows,
-    revision: u32,
-    package: u32,
-) -> Result<(), AllocError>
-    ensures added { IfOk result (λ _. Adds (IsImported rows.now revision «package») givens.old.items givens.new.items) }
+/// Adds the providers of these wires as sources of the package.
+fn add_imported(givens: &mut Vec<Given>, imports: &[Import], package: u32) -> Result<(), AllocError>
+    ensures added { IfOk result (λ _. Adds (IsProvider imports.now «package») givens.old.items givens.new.items) }
 {
-    for row in rows.imports_for(revision, package) {
+    for row in imports {
         givens.push(Given {
             package,
             source: row.provider,
@@ -150,11 +145,12 @@ pub fn sources_of(
 ) -> Result<Vec<Given>, AllocError>
     ensures sources { IfOk result (λ givens. (g : Given) → Contains givens.items g ↔ IsSourceOf rows.now revision «package» g) }
 {
-    let mut givens = Vec::new(alloc);
-    if rows.imports_for(revision, package).is_empty() {
+    let imports = rows.imports_for(revision, package);
+    let mut givens = Vec::with_capacity(alloc, imports.len())?;
+    if imports.is_empty() {
         add_given(alloc, &mut givens, rows, revision, package)?;
     } else {
-        add_imported(&mut givens, rows, revision, package)?;
+        add_imported(&mut givens, imports, package)?;
     }
     Ok(givens)
 }

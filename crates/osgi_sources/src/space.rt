@@ -2,7 +2,7 @@
 
 ghost use Rattle.std.specs.Prelude.{◌↔◌, Contains, IfOk};
 ghost use Rattle.osgi_sources.specs.computed.Adds.{Adds};
-ghost use Rattle.osgi_sources.specs.computed.Givens.{IsGivenBy, IsGivenByOwner, IsGivenOf, IsSeen, IsWired};
+ghost use Rattle.osgi_sources.specs.computed.Givens.{IsGivenBy, IsGivenByOwner, IsGivenByReached, IsGivenOf, IsSeen, IsUnwired, IsWired};
 ghost use Rattle.osgi_sources.specs.computed.RowSources.{HasExport, Owns};
 ghost use Rattle.osgi_sources.specs.declared.given.Given.{Given};
 
@@ -75,16 +75,46 @@ fn add_imports(givens: &mut Vec<Given>, rows: &Rows, revision: u32) -> Result<()
     Ok(())
 }
 
+/// Adds what the bundles that the revision reaches give of the packages for which the revision has no wire.
+fn add_reached(
+    alloc: Global,
+    givens: &mut Vec<Given>,
+    rows: &Rows,
+    revision: u32,
+) -> Result<(), AllocError>
+    ensures added { IfOk result (λ _. Adds (IsGivenByReached rows.now revision) givens.old.items givens.new.items) }
+{
+    if rows.required_by(revision).is_empty() {
+        return Ok(());
+    }
+    let reached = reached_bundles(alloc, rows, revision)?;
+    for bundle in &reached.items {
+        add_bundle(givens, rows, revision, *bundle)?;
+    }
+    Ok(())
+}
+
+/// What the revision sees of the packages for which it has no wire, with their sources.
+pub(crate) fn unwired_of(
+    alloc: Global,
+    rows: &Rows,
+    revision: u32,
+) -> Result<Vec<Given>, AllocError>
+    ensures sources { IfOk result (λ givens. (g : Given) → Contains givens.items g ↔ IsUnwired rows.now revision g) }
+{
+    let mut givens = Vec::new(alloc);
+    add_reached(alloc, &mut givens, rows, revision)?;
+    add_bundle(&mut givens, rows, revision, revision)?;
+    Ok(givens)
+}
+
 /// The packages that the revision sees, with their sources.
 pub fn space_of(alloc: Global, rows: &Rows, revision: u32) -> Result<Vec<Given>, AllocError>
     ensures sources { IfOk result (λ givens. (g : Given) → Contains givens.items g ↔ IsSeen rows.now revision g) }
 {
-    let reached = reached_bundles(alloc, rows, revision)?;
-    let mut givens = Vec::new(alloc);
+    let mut givens = Vec::with_capacity(alloc, rows.imports_of(revision).len())?;
     add_imports(&mut givens, rows, revision)?;
-    for bundle in &reached.items {
-        add_bundle(&mut givens, rows, revision, *bundle)?;
-    }
+    add_reached(alloc, &mut givens, rows, revision)?;
     add_bundle(&mut givens, rows, revision, revision)?;
     Ok(givens)
 }

@@ -1,6 +1,6 @@
 //! Whether the sources of used packages agree.
 
-ghost use Rattle.std.specs.Prelude.{◌↔◌, Any, All, IfOk, IsTrue};
+ghost use Rattle.std.specs.Prelude.{◌↔◌, ◌⊎◌, Any, All, IfOk, IsTrue};
 ghost use Rattle.std.specs.BTreeSet.{contains};
 ghost use Rattle.std.specs.Ordering.{nat_cmp};
 ghost use Rattle.osgi_sources.specs.computed.Amongst.{IsAmong};
@@ -11,11 +11,11 @@ ghost use Rattle.osgi_world.specs.declared.wiring.Wiring.{Wiring};
 
 use crate::among::Among;
 use crate::clash::clashes;
-use crate::constraints::constraints_of;
+use crate::constraints::constraints_from;
 use crate::disputed::disputed_packages;
 use crate::given::Given;
-use crate::space::space_of;
-use osgi_wires::rows::Rows;
+use crate::space::unwired_of;
+use osgi_wires::rows::{Import, Rows};
 use osgi_world::wiring::Wiring;
 use std::alloc::{AllocError, Global};
 use std::collections::BTreeSet;
@@ -30,6 +30,30 @@ fn has_disputed(givens: &[Given], disputed: &BTreeSet<u32>) -> bool
         }
     }
     false
+}
+
+/// Whether one of the wires is for a disputed package.
+fn has_disputed_import(imports: &[Import], disputed: &BTreeSet<u32>) -> bool
+    ensures disputed { IsTrue result ↔ Any (λ (row : Import). IsTrue (contains nat_cmp disputed.now row.imported)) imports.now }
+{
+    for row in imports {
+        if disputed.contains(&row.imported) {
+            return true;
+        }
+    }
+    false
+}
+
+/// Whether one of the wires is for a disputed package, or one of the packages is disputed.
+fn sees_disputed(imports: &[Import], givens: &[Given], disputed: &BTreeSet<u32>) -> bool
+    ensures disputed { IsTrue result
+        ↔ (Any (λ (row : Import). IsTrue (contains nat_cmp disputed.now row.imported)) imports.now
+        ⊎ Any (λ (g : Given). IsTrue (contains nat_cmp disputed.now g.package)) givens.now) }
+{
+    if has_disputed_import(imports, disputed) {
+        return true;
+    }
+    has_disputed(givens, disputed)
 }
 
 /// Whether the constraint is violated. Only disputed packages are looked at, since of others all have the same source.
@@ -99,11 +123,12 @@ pub fn keeps_uses(
     if !has_wires(rows, revision) {
         return Ok(true);
     }
-    let space = space_of(alloc, rows, revision)?;
-    if !has_disputed(space.as_slice(), disputed) {
+    let imports = rows.imports_of(revision);
+    let givens = unwired_of(alloc, rows, revision)?;
+    if !sees_disputed(imports, givens.as_slice(), disputed) {
         return Ok(true);
     }
-    let found = constraints_of(alloc, rows, among, revision)?;
+    let found = constraints_from(alloc, rows, among, imports, givens.as_slice())?;
     Ok(are_kept(alloc, rows, disputed, revision, found.items.as_slice())?)
 }
 

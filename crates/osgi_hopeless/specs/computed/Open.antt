@@ -1,10 +1,8 @@
 -- Members that are not settled.
-use Rattle.std.specs.Prelude.{◌↔◌, ℕ, ◌⊎◌, IsTrue}
+use Rattle.std.specs.Prelude.{◌↔◌, ℕ, IsTrue}
 use Rattle.std.specs.BTreeSet.{BTreeSet, contains}
 use Rattle.std.specs.Ordering.{nat_cmp}
-use Rattle.osgi_sources.specs.computed.Reach.{Reach}
 use Rattle.osgi_wires.specs.Agree.{id}
-use Rattle.osgi_wires.specs.Rows.{RowLists, Reexports, Requires}
 use Rattle.osgi_world.specs.Decisions.{Made}
 use Rattle.osgi_world.specs.DueDecisions.{members}
 use Rattle.osgi_world.specs.Hopeless.{IsSettled}
@@ -13,10 +11,6 @@ use Rattle.osgi_world.specs.declared.problem.Problem.{Problem}
 
 abbrev pub Has : BTreeSet ℕ → ℕ → Type 0
 Has set n = IsTrue (contains nat_cmp set n)
-
--- r, or a bundle that it reaches, is in the set
-abbrev pub ReachesOne : RowLists → BTreeSet ℕ → ℕ → Type 0
-ReachesOne R set r = Has set r ⊎ ((x : ℕ) × Reach (Requires R r) (Reexports R) x × Has set x)
 
 -- the set has exactly the members that are not settled
 abbrev pub AreUnsettled : Problem → Made → BTreeSet ℕ → Type 0

@@ -5,7 +5,7 @@ use Rattle.osgi_world.specs.Decisions.{Decision, Made, attaching, choose, pick}
 use Rattle.osgi_world.specs.DueDecisions.{fragments_of}
 use Rattle.osgi_world.specs.Lookups.{is_current}
 use Rattle.osgi_world.specs.declared.problem.Problem.{Problem}
-use Rattle.osgi_path.specs.computed.Asks.{asks_of}
+use Rattle.osgi_owners.specs.computed.Asks.{asks_of}
 
 -- the host, and the fragments that are attached to it once the one on this fragment has this value
 abbrev pub owners_with : Problem → Made → RevisionId → RevisionId → ℕ → List RevisionId

@@ -8,14 +8,14 @@ use Rattle.osgi_world.specs.DueDecisions.{due, members, payload}
 use Rattle.osgi_world.specs.Lists.{In}
 use Rattle.osgi_world.specs.declared.problem.Problem.{Problem}
 use Rattle.osgi_world.specs.declared.wiring.ReqRef.{ReqRef}
-use Rattle.osgi_path.specs.Standing.{decision_of}
-use Rattle.osgi_path.specs.computed.Asks.{decisions_in}
-use Rattle.osgi_path.specs.computed.Known.{Knows}
+use Rattle.osgi_owners.specs.DecisionOf.{decision_of}
+use Rattle.osgi_owners.specs.computed.Asks.{decisions_in}
+use Rattle.osgi_owners.specs.computed.Known.{Knows}
 use Rattle.osgi_path.specs.computed.Steps.{steps_in}
 use Rattle.osgi_path.specs.declared.course.Course.{Course}
 use Rattle.osgi_path.specs.declared.course.Mark.{Mark}
-use Rattle.osgi_path.specs.declared.decision.Decision.{Decision}
-use Rattle.osgi_path.specs.declared.lists.Lists.{Lists}
+use Rattle.osgi_owners.specs.declared.decision.Decision.{Decision}
+use Rattle.osgi_owners.specs.declared.lists.Lists.{Lists}
 
 pub record CourseLists : Type 0 where
   pub ids : List RevisionId

@@ -7,15 +7,15 @@ use Rattle.osgi_world.specs.Lists.{In}
 use Rattle.osgi_world.specs.declared.problem.Problem.{Problem}
 use Rattle.osgi_world.specs.declared.world.World.{World}
 use Rattle.osgi_uses.specs.States.{SpacesState}
-use Rattle.osgi_path.specs.Standing.{decision_of}
+use Rattle.osgi_owners.specs.DecisionOf.{decision_of}
 use Rattle.osgi_path.specs.computed.Courses.{IsAlong, IsRight, lists_of, made_of, steps_of, taken_back}
-use Rattle.osgi_path.specs.computed.Known.{AreRight, IsProblemIn, Knows}
+use Rattle.osgi_owners.specs.computed.Known.{AreRight, IsProblemIn, Knows}
 use Rattle.osgi_path.specs.computed.Placed.{ArePlaces}
 use Rattle.osgi_path.specs.computed.Steps.{IsListed, steps_in}
 use Rattle.osgi_path.specs.declared.course.Course.{Course}
 use Rattle.osgi_path.specs.declared.course.Mark.{Mark}
-use Rattle.osgi_path.specs.declared.decision.Decision.{Decision}
-use Rattle.osgi_path.specs.declared.lists.Lists.{Lists}
+use Rattle.osgi_owners.specs.declared.decision.Decision.{Decision}
+use Rattle.osgi_owners.specs.declared.lists.Lists.{Lists}
 
 -- the lists know the members, and the fragments that are attached
 pub record AreLearnt (lists : Lists) (ids : List RevisionId) (ms : List Mark) : Type 0 where

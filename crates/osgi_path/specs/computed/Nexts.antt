@@ -6,14 +6,14 @@ use Rattle.osgi_world.specs.Decisions.{Made, arity}
 use Rattle.osgi_world.specs.DueDecisions.{members}
 use Rattle.osgi_world.specs.declared.problem.Problem.{Problem}
 use Rattle.osgi_world.specs.declared.world.World.{World}
-use Rattle.osgi_path.specs.Standing.{decision_of}
-use Rattle.osgi_path.specs.computed.Asks.{decisions_in}
+use Rattle.osgi_owners.specs.DecisionOf.{decision_of}
+use Rattle.osgi_owners.specs.computed.Asks.{decisions_in}
 use Rattle.osgi_path.specs.computed.Courses.{IsRight, lists_of, made_of}
-use Rattle.osgi_path.specs.computed.Known.{IsProblemIn}
+use Rattle.osgi_owners.specs.computed.Known.{IsProblemIn}
 use Rattle.osgi_path.specs.computed.Openings.{IsOpened}
 use Rattle.osgi_path.specs.declared.course.Course.{Course}
 use Rattle.osgi_path.specs.declared.course.Mark.{Mark}
-use Rattle.osgi_path.specs.declared.decision.Decision.{Decision}
+use Rattle.osgi_owners.specs.declared.decision.Decision.{Decision}
 use Rattle.osgi_path.specs.declared.opening.More.{More}
 
 -- what is decided then

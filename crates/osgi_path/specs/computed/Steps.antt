@@ -5,10 +5,10 @@ use Rattle.osgi_world.specs.Decisions as steps
 use Rattle.osgi_world.specs.Decisions.{attached, wired}
 use Rattle.osgi_world.specs.declared.problem.Problem.{Problem}
 use Rattle.osgi_world.specs.declared.wiring.ReqRef.{ReqRef}
-use Rattle.osgi_path.specs.computed.Known.{Knows}
-use Rattle.osgi_path.specs.declared.decision.Decision.{Decision}
-use Rattle.osgi_path.specs.declared.decision.Decision.TheVariants.{Attach, Choose, Pick}
-use Rattle.osgi_path.specs.declared.lists.Lists.{Lists}
+use Rattle.osgi_owners.specs.computed.Known.{Knows}
+use Rattle.osgi_owners.specs.declared.decision.Decision.{Decision}
+use Rattle.osgi_owners.specs.declared.decision.Decision.TheVariants.{Attach, Choose, Pick}
+use Rattle.osgi_owners.specs.declared.lists.Lists.{Lists}
 use Rattle.osgi_path.specs.declared.step.Step.{Step}
 use Rattle.osgi_path.specs.declared.step.Step.TheVariants.{Attached, Wired}
 

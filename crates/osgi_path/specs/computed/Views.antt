@@ -1,5 +1,5 @@
 -- What is seen of a course: which decisions are of packages and bundles, and the wires that marks made.
-use Rattle.std.specs.Prelude.{◌≡◌, ◌⊎◌, ℕ, Bool, true, List, [], ◌∷◌, Option, None, Some, flat_map, reverse}
+use Rattle.std.specs.Prelude.{◌≡◌, ◌⊎◌, ℕ, Bool, true, false, List, [], ◌∷◌, Option, None, Some, flat_map, reverse}
 use Rattle.osgi_base.specs.declared.ids.RevisionId.{RevisionId}
 use Rattle.osgi_world.specs.Decisions as decisions
 use Rattle.osgi_world.specs.Decisions.{Made, attaching, choose, pick}
@@ -11,14 +11,16 @@ use Rattle.osgi_world.specs.declared.wiring.CapRef.{CapRef}
 use Rattle.osgi_world.specs.declared.wiring.ReqRef.{ReqRef}
 use Rattle.osgi_world.specs.declared.wiring.Wire.{Wire}
 use Rattle.osgi_world.specs.declared.world.Known.{Known}
+use Rattle.osgi_owners.specs.DecisionOf.{decision_of}
 use Rattle.osgi_path.specs.computed.Courses.{AreKnown, IsRight, lists_of, made_of}
-use Rattle.osgi_path.specs.computed.Free.{is_of_space}
-use Rattle.osgi_path.specs.computed.Known.{IsProblemIn}
+use Rattle.osgi_owners.specs.computed.Free.{is_of_space}
+use Rattle.osgi_owners.specs.computed.Known.{IsProblemIn}
 use Rattle.osgi_path.specs.computed.Moving.{IsLearnt}
 use Rattle.osgi_path.specs.computed.Valued.{AreValues}
 use Rattle.osgi_path.specs.declared.course.Course.{Course}
 use Rattle.osgi_path.specs.declared.course.Mark.{Mark}
-use Rattle.osgi_path.specs.declared.lists.Lists.{Lists}
+use Rattle.osgi_owners.specs.declared.decision.Decision.{Decision}
+use Rattle.osgi_owners.specs.declared.lists.Lists.{Lists}
 use Rattle.osgi_path.specs.declared.step.Step.{Step}
 use Rattle.osgi_path.specs.declared.step.Step.TheVariants.{Attached, Wired as WiredStep}
 use Rattle.osgi_path.specs.declared.values.Values.{Values}
@@ -38,6 +40,11 @@ abbrev pub is_spatial : List Known → decisions.Decision → Bool
 is_spatial K (attaching h f) = true
 is_spatial K (choose h q) = is_of_space (requirement_namespace K q)
 is_spatial K (pick h q c) = is_of_space (requirement_namespace K q)
+
+-- the next decision is one of these, where one is left
+abbrev pub is_spatial_next : List Known → Option Decision → Bool
+is_spatial_next K None = false
+is_spatial_next K (Some d) = is_spatial K (decision_of d)
 
 -- ---- wires
 

@@ -1,12 +1,16 @@
 -- Clashes, as the code looks for them.
-use Rattle.std.specs.Prelude.{ℕ, ◌⊎◌, List, Contains}
+use Rattle.std.specs.Prelude.{◌≡◌, ◌↔◌, ℕ, ◌⊎◌, List, Contains}
 use Rattle.osgi_wires.specs.Rows.{Imports, Requires, RowLists}
-use Rattle.osgi_sources.specs.computed.RowSources.{Clash, Implied}
+use Rattle.osgi_sources.specs.computed.RowSources.{Clash, Implied, Sources}
 use Rattle.osgi_sources.specs.declared.given.Given.{Given}
 
 -- one of the inner ones is not among the outer ones
 abbrev pub Lacks : List Given → List Given → Type 0
 Lacks outer inner = (g : Given) × Contains inner g × ¬ Contains outer g
+
+-- r has p from x alone
+abbrev pub IsOnlySource : RowLists → ℕ → ℕ → ℕ → Type 0
+IsOnlySource R r p x = (y : ℕ) → Sources R r p y ↔ (y ≡ x)
 
 -- r and the revision that sees the package have different sources of it
 abbrev pub IsClash : RowLists → ℕ → Given → Type 0

@@ -1,6 +1,7 @@
 -- Packages with their sources, as the code collects them.
-use Rattle.std.specs.Prelude.{◌≡◌, ◌≢◌, ℕ, ◌⊎◌}
+use Rattle.std.specs.Prelude.{◌≡◌, ◌≢◌, ℕ, ◌⊎◌, List, Any}
 use Rattle.osgi_wires.specs.Rows.{RowLists, Attaches, Imports, OwnExport, Requires, Reexports}
+use Rattle.osgi_wires.specs.declared.rows.Import.{Import}
 use Rattle.osgi_sources.specs.computed.Reach.{Reach}
 use Rattle.osgi_sources.specs.computed.RowSources.{GivesDirectly, NotImported, Sources}
 use Rattle.osgi_sources.specs.declared.given.Given.{Given}
@@ -8,6 +9,10 @@ use Rattle.osgi_sources.specs.declared.given.Given.{Given}
 -- a fragment of r exports p
 abbrev pub AttachedExports : RowLists → ℕ → ℕ → Type 0
 AttachedExports R r p = (f : ℕ) × Attaches R r f × OwnExport R f p
+
+-- the source of p is the provider of one of these wires
+abbrev pub IsProvider : List Import → ℕ → Given → Type 0
+IsProvider imports p g = Any (λ (row : Import). g ≡ record { «package» = p; source = row.provider }) imports
 
 -- r is wired to the source for p
 abbrev pub IsImported : RowLists → ℕ → ℕ → Given → Type 0
@@ -43,6 +48,14 @@ IsGivenByOwner R r b o g = (p : ℕ) × OwnExport R o p × IsGivenOf R r b p g
 -- and of all packages
 abbrev pub IsGivenBy : RowLists → ℕ → ℕ → Given → Type 0
 IsGivenBy R r b g = IsGivenOf R r b g.package g
+
+-- a bundle that r reaches gives it so
+abbrev pub IsGivenByReached : RowLists → ℕ → Given → Type 0
+IsGivenByReached R r g = (b : ℕ) × IsReached R r b × IsGivenBy R r b g
+
+-- r sees it without a wire for the package
+abbrev pub IsUnwired : RowLists → ℕ → Given → Type 0
+IsUnwired R r g = IsGivenByReached R r g ⊎ IsGivenBy R r r g
 
 -- r is wired to the source for the package
 abbrev pub IsWired : RowLists → ℕ → Given → Type 0

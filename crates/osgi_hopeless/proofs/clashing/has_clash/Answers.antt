@@ -1,11 +1,10 @@
 -- The constraints by rows are those of the wirings that are decided.
 use Rattle.std.proofs.Common.{◌≡◌, ◌∙◌, ◌↔◌, List, ap, subst, sym, IsTrue}
 use Rattle.osgi_base.specs.declared.ids.RevisionId.{RevisionId}
-use Rattle.osgi_sources.specs.computed.Clashes.{KeepsUsesAmong}
 use Rattle.osgi_sources.specs.computed.Disputes.{AreDisputed}
 use Rattle.osgi_hopeless.proofs.Answering.{known-is}
-use Rattle.osgi_hopeless.proofs.Clashes.{clash-breaks, clash-of}
-use Rattle.osgi_hopeless.specs.computed.Open.{Has}
+use Rattle.osgi_hopeless.proofs.Clashes.{clash-breaks, clash-of, clash-wired}
+use Rattle.osgi_hopeless.specs.computed.Clashing.{IsBroken}
 use Rattle.osgi_path.specs.Standing.{made}
 use Rattle.osgi_wires.specs.Agree.{AreRowsOf}
 use Rattle.osgi_wires.specs.Names.{name_of}
@@ -37,11 +36,11 @@ returns c = record {
       let N = name_of rows.names in
       let is : AreRowsOf P.world.known (partial P D) N rows.rows = subst (λ K. AreRowsOf K (partial P D) N rows.rows) (known-is c.args.path.now P L rows.known c.disputed_rows-rows.ensures.known) (c.disputed_rows-rows.ensures.rows P L) in
       let answer = c.in_ok-is_one_broken.field-0 in
-      let one : IsTrue answer ↔ ((m : RevisionId) × In m (members P D) × ¬ KeepsUsesAmong rows.rows (λ x. ¬ Has set x) m.0) =
-      subst (λ (ms : List RevisionId). IsTrue answer ↔ ((m : RevisionId) × In m ms × ¬ KeepsUsesAmong rows.rows (λ x. ¬ Has set x) m.0)) (c.members.ensures.members P L)
-      (subst (λ (R : RowLists). IsTrue answer ↔ ((m : RevisionId) × In m c.members.result.now × ¬ KeepsUsesAmong R (λ x. ¬ Has set x) m.0)) (rows-are c) c.in_ok-is_one_broken.ensures.broken) in
+      let one : IsTrue answer ↔ ((m : RevisionId) × In m (members P D) × IsBroken rows.rows set m.0) =
+      subst (λ (ms : List RevisionId). IsTrue answer ↔ ((m : RevisionId) × In m ms × IsBroken rows.rows set m.0)) (c.members.ensures.members P L)
+      (subst (λ (R : RowLists). IsTrue answer ↔ ((m : RevisionId) × In m c.members.result.now × IsBroken R set m.0)) (rows-are c) c.in_ok-is_one_broken.ensures.broken) in
       let are = c.requires.unsettled P L in (
-        λ t. let some = one.0 t in clash-of P L.is D set are N rows.rows is some.0 some.1 some.2,
-        λ h. one.1 (h.member, h.is_member, clash-breaks P L.is D set are N rows.rows is h),
+        λ t. let some = one.0 t in clash-of P L.is D set are N rows.rows is some.0 some.1 some.2.1,
+        λ h. one.1 (h.member, h.is_member, (clash-wired P D N rows.rows is h, clash-breaks P L.is D set are N rows.rows is h)),
       );
 }

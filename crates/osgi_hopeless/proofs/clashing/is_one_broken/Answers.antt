@@ -1,12 +1,11 @@
--- The next member, and the first with a violated constraint.
+-- The next member, and the first that is broken.
 use Rattle.std.proofs.Common.{get_or}
 use Rattle.osgi_base.specs.declared.ids.RevisionId.{RevisionId}
 use Rattle.osgi_coherence.proofs.Grow.{at_in, each_done, each_step}
 use Rattle.osgi_coherence.proofs.Items.{no_revision, there}
 use Rattle.osgi_coherence.proofs.OneValue.{not_true}
-use Rattle.osgi_sources.specs.computed.Clashes.{KeepsUsesAmong}
 use Rattle.osgi_hopeless.proofs.Answering.{no, yes}
-use Rattle.osgi_hopeless.specs.computed.Open.{Has}
+use Rattle.osgi_hopeless.specs.computed.Clashing.{IsBroken}
 use Rattle.osgi_hopeless.proofs.clashing.is_one_broken.Goals as goal
 
 pub loop-member-init : goal.loop-member-init
@@ -17,18 +16,18 @@ loop-member-preserved c =
     let members = c.args.members.now in
     let i = c.loop-member.member-index in
     let within = c.loop-member-test.true in
-    each_step (λ (m : RevisionId). KeepsUsesAmong c.args.rows.now (λ x. ¬ Has c.args.unsettled.now x) m.0) members i (get_or members i no_revision) within (there members i no_revision within) c.loop-member.invariant
-    (c.in_ok-keeps_uses.ensures.kept.0 c.if-not-branch.false)
+    each_step (λ (m : RevisionId). ¬ IsBroken c.args.rows.now c.args.unsettled.now m.0) members i (get_or members i no_revision) within (there members i no_revision within) c.loop-member.invariant
+    (λ b. not_true _ c.if-branch.false (c.in_ok-is_broken.ensures.broken.1 b))
 
-pub returns-then-not-branch : goal.returns-then-not-branch
-returns-then-not-branch c =
+pub returns-then-branch : goal.returns-then-branch
+returns-then-branch c =
     let members = c.args.members.now in
     let i = c.loop-member.member-index in
     let within = c.loop-member-test.true in
     let m = get_or members i no_revision in
-    record { broken = yes (m, at_in members i m within (there members i no_revision within), λ keeps. not_true _ c.if-not-branch.true (c.in_ok-keeps_uses.ensures.kept.1 keeps)) }
+    record { broken = yes (m, at_in members i m within (there members i no_revision within), c.in_ok-is_broken.ensures.broken.0 c.if-branch.true) }
 
 pub returns : goal.returns
 returns c =
-    let kept = each_done (λ (m : RevisionId). KeepsUsesAmong c.args.rows.now (λ x. ¬ Has c.args.unsettled.now x) m.0) c.args.members.now c.loop-member.member-index c.loop-member-test.false c.loop-member.invariant in
-    record { broken = no (λ some. some.2 (kept some.0 some.1)) }
+    let none = each_done (λ (m : RevisionId). ¬ IsBroken c.args.rows.now c.args.unsettled.now m.0) c.args.members.now c.loop-member.member-index c.loop-member-test.false c.loop-member.invariant in
+    record { broken = no (λ some. none some.0 some.1 some.2) }

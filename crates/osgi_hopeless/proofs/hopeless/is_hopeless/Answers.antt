@@ -1,7 +1,8 @@
 -- One reason after the other; without any of them it is not hopeless.
 use Rattle.osgi_coherence.proofs.OneValue.{not_true}
 use Rattle.osgi_hopeless.proofs.Answering.{yes}
-use Rattle.osgi_hopeless.proofs.Reasons.{clash, hopeless-reason, lost, reason-hopeless, rivals, stuck}
+use Rattle.osgi_hopeless.proofs.Reasons.{hopeless-reason, reason-hopeless}
+use Rattle.osgi_hopeless.specs.computed.Reasons.{clash, lost, rivals, stuck}
 use Rattle.osgi_path.specs.Standing.{made}
 use Rattle.osgi_hopeless.proofs.hopeless.is_hopeless.Goals as goal
 

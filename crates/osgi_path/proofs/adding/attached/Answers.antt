@@ -1,7 +1,6 @@
 -- All of them.
-use Rattle.std.proofs.Common.{◌≡◌, ℕ, List, Option, filter, take, ap, ◌∙◌}
+use Rattle.std.proofs.Common.{◌≡◌, ℕ, Option, filter, ap, ◌∙◌}
 use Rattle.std.proofs.lemmas.List.{take_all}
-use Rattle.osgi_base.specs.declared.ids.RevisionId.{RevisionId}
 use Rattle.osgi_world.specs.Candidates.{matching}
 use Rattle.osgi_world.specs.Decisions.{Decision, attaching, is_yes, value_made}
 use Rattle.osgi_path.specs.computed.Valued.{value_in}

@@ -2,7 +2,7 @@
 use Rattle.std.proofs.Common.{◌∙◌}
 use Rattle.std.proofs.lemmas.List.Elements.{All-more}
 use Rattle.osgi_base.specs.declared.ids.RevisionId.{RevisionId}
-use Rattle.osgi_path.specs.computed.Known.{Knows}
+use Rattle.osgi_owners.specs.computed.Known.{Knows}
 use Rattle.osgi_path.proofs.growing.learn_all.Goals as goal
 
 pub loop-owner-preserved : goal.loop-owner-preserved

@@ -1,7 +1,7 @@
 -- The owners so far are known.
 use Rattle.std.proofs.Common.{◌≡◌, take}
 use Rattle.std.specs.Prelude.{All}
-use Rattle.osgi_path.specs.computed.Known.{AreRight, Knows, KnowsAll}
+use Rattle.osgi_owners.specs.computed.Known.{AreRight, Knows, KnowsAll}
 use Rattle.osgi_path.proofs.growing.learn_all.Given as goal
 
 abbrev pub invariant-loop-owner : goal.invariant-loop-owner

@@ -1,7 +1,7 @@
 -- The marks after these are of other decisions.
 use Rattle.std.proofs.Common.{◌≡◌, ◌≤◌, length, take, reverse}
 use Rattle.osgi_world.specs.Decisions.{value_made}
-use Rattle.osgi_path.specs.Standing.{decision_of}
+use Rattle.osgi_owners.specs.DecisionOf.{decision_of}
 use Rattle.osgi_path.specs.computed.Courses.{made_of}
 use Rattle.osgi_path.proofs.growing.value_of.Given as goal
 

@@ -3,8 +3,8 @@ use Rattle.std.proofs.Common.{◌≡◌, IsTrue, List, sym, subst, ◌∙◌}
 use Rattle.std.specs.Prelude.{All}
 use Rattle.osgi_base.specs.declared.ids.RevisionId.{RevisionId}
 use Rattle.osgi_world.specs.Lookups.{is_current}
-use Rattle.osgi_path.specs.computed.Asks.{asks_of, decisions_in}
-use Rattle.osgi_path.specs.computed.Known.{IsProblemIn}
+use Rattle.osgi_owners.specs.computed.Asks.{asks_of, decisions_in}
+use Rattle.osgi_owners.specs.computed.Known.{IsProblemIn}
 use Rattle.osgi_path.proofs.moves.asks_with.Goals as goal
 
 pub returns-clause-asks : goal.returns-clause-asks

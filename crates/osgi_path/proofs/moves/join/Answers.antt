@@ -1,7 +1,6 @@
 -- Who joins gets a place.
-use Rattle.std.proofs.Common.{◌≡◌, ℕ, Some, length, sym, subst, arith}
-use Rattle.std.specs.BTreeMap.{Updates}
-use Rattle.std.specs.Ordering.{nat_cmp}
+use Rattle.std.proofs.Common.{◌≡◌, ℕ, length, sym, subst, arith}
+use Rattle.osgi_numbered.specs.NumberMaps.{Puts}
 use Rattle.osgi_path.specs.computed.Placed.{ArePlaces, IsNew}
 use Rattle.osgi_path.proofs.Placed.{placed-more, placed-still}
 use Rattle.osgi_path.proofs.moves.join.Goals as goal
@@ -11,13 +10,13 @@ returns-in_err-push-clause-placed c =
     let old = c.args.course.now in
     let r = c.in-Some.revision in
     let count : c.len.result ≡ length old.ids.items = omega arith in
-    let updates = subst (λ (n : ℕ). Updates nat_cmp old.places c.insert.new.self r.0 (Some n)) count c.in_ok-insert.ensures.updates in
-    subst (ArePlaces c.insert.new.self) (sym c.in_err-push.ensures.items) (placed-still old.places c.insert.new.self old.ids.items r (subst (λ o. IsNew o old.ids.items) c.in-Some.is c.requires.new) updates c.requires.placed)
+    let puts = subst (λ (n : ℕ). Puts old.places c.insert.new.self r.0 n) count c.in_ok-insert.ensures.put in
+    subst (ArePlaces c.insert.new.self) (sym c.in_err-push.ensures.items) (placed-still old.places c.insert.new.self old.ids.items r (subst (λ o. IsNew o old.ids.items) c.in-Some.is c.requires.new) puts c.requires.placed)
 
 pub returns-in_ok-push-clause-placed : goal.returns-in_ok-push-clause-placed
 returns-in_ok-push-clause-placed c =
     let old = c.args.course.now in
     let r = c.in-Some.revision in
     let count : c.len.result ≡ length old.ids.items = omega arith in
-    let updates = subst (λ (n : ℕ). Updates nat_cmp old.places c.insert.new.self r.0 (Some n)) count c.in_ok-insert.ensures.updates in
-    subst (ArePlaces c.insert.new.self) (sym c.in_ok-push.ensures.items) (placed-more old.places c.insert.new.self old.ids.items r (subst (λ o. IsNew o old.ids.items) c.in-Some.is c.requires.new) updates c.requires.placed)
+    let puts = subst (λ (n : ℕ). Puts old.places c.insert.new.self r.0 n) count c.in_ok-insert.ensures.put in
+    subst (ArePlaces c.insert.new.self) (sym c.in_ok-push.ensures.items) (placed-more old.places c.insert.new.self old.ids.items r (subst (λ o. IsNew o old.ids.items) c.in-Some.is c.requires.new) puts c.requires.placed)

@@ -5,11 +5,11 @@ use Rattle.std.proofs.lemmas.Option.{slice_get_within}
 use Rattle.osgi_base.specs.declared.ids.RevisionId.{RevisionId}
 use Rattle.osgi_world.specs.Decisions.{Made}
 use Rattle.osgi_world.specs.DueDecisions.{members}
-use Rattle.osgi_path.specs.Standing.{decision_of}
+use Rattle.osgi_owners.specs.DecisionOf.{decision_of}
 use Rattle.osgi_path.specs.computed.Afters.{IsAskedAfter}
-use Rattle.osgi_path.specs.computed.Asks.{decisions_in}
+use Rattle.osgi_owners.specs.computed.Asks.{decisions_in}
 use Rattle.osgi_path.specs.computed.Courses.{made_of}
-use Rattle.osgi_path.specs.computed.Known.{IsProblemIn}
+use Rattle.osgi_owners.specs.computed.Known.{IsProblemIn}
 use Rattle.osgi_path.specs.computed.Openings.{IsOpened, Waits}
 use Rattle.osgi_path.specs.declared.course.Mark.{Mark}
 use Rattle.osgi_path.proofs.After.{all-then, opened-then, size, state-then, waiting-then}

@@ -2,11 +2,6 @@
 use Rattle.std.proofs.Common.{◌≡◌, ◌<◌, ◌∷◌, [], ◌++◌, Ok, Err, List, length, flat_map, refl, sym, ◌∙◌, ap, subst, arith}
 use Rattle.std.proofs.lemmas.Option.{slice_get_read}
 use Rattle.std.specs.Prelude.{OnErr, OnOk, slice_get}
-use Rattle.std.specs.Option.{option_to_list}
-use Rattle.osgi_base.specs.declared.ids.RevisionId.{RevisionId}
-use Rattle.osgi_world.specs.DueDecisions.{provider_of, pull_in}
-use Rattle.osgi_world.specs.declared.problem.Problem.{Problem}
-use Rattle.osgi_path.specs.computed.Known.{IsProblemIn}
 use Rattle.osgi_path.specs.computed.Moving.{IsLearnt, IsLonger}
 use Rattle.osgi_path.specs.computed.Nexts.{IsDecidedWith, IsSameCourse}
 use Rattle.osgi_path.specs.computed.Steps.{steps_in}

@@ -4,10 +4,10 @@ use Rattle.std.proofs.lemmas.Grind.{common_steps}
 use Rattle.osgi_base.specs.declared.ids.RevisionId.{RevisionId}
 use Rattle.osgi_world.specs.Lists.{In}
 use Rattle.osgi_choice.proofs.States.{member-current}
-use Rattle.osgi_path.specs.computed.Asks.{decisions_in}
-use Rattle.osgi_path.specs.computed.Known.{IsProblemIn}
+use Rattle.osgi_owners.specs.computed.Asks.{decisions_in}
+use Rattle.osgi_owners.specs.computed.Known.{IsProblemIn}
 use Rattle.osgi_path.specs.computed.Openings.{IsOpened}
-use Rattle.osgi_path.specs.declared.decision.Decision.{Decision}
+use Rattle.osgi_owners.specs.declared.decision.Decision.{Decision}
 use Rattle.osgi_path.proofs.Fresh.{get-in, opened-next}
 use Rattle.osgi_path.proofs.opening.open.Goals as goal
 

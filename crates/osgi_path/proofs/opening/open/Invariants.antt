@@ -5,8 +5,8 @@ use Rattle.osgi_world.specs.Decisions.{Made}
 use Rattle.osgi_world.specs.DueDecisions.{members}
 use Rattle.osgi_world.specs.declared.problem.Problem.{Problem}
 use Rattle.osgi_choice.specs.States.{State}
-use Rattle.osgi_path.specs.computed.Asks.{decisions_in}
-use Rattle.osgi_path.specs.computed.Known.{AreRight, IsProblemIn, KnowsAll}
+use Rattle.osgi_owners.specs.computed.Asks.{decisions_in}
+use Rattle.osgi_owners.specs.computed.Known.{AreRight, IsProblemIn, KnowsAll}
 use Rattle.osgi_path.specs.computed.Openings.{IsOpened}
 use Rattle.osgi_path.proofs.opening.open.Given as goal
 

@@ -1,7 +1,7 @@
 -- The candidate at the place.
 use Rattle.std.proofs.Common.{◌∷◌, [], map, sym, ap, ◌∙◌}
 use Rattle.osgi_world.specs.Decisions.{wired_to}
-use Rattle.osgi_path.proofs.Asking.{item-none, item-some}
+use Rattle.osgi_path.proofs.Entries.{item-none, item-some}
 use Rattle.osgi_path.proofs.step.chosen.Goals as goal
 
 pub returns-in-Some : goal.returns-in-Some

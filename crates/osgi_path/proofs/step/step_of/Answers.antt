@@ -5,11 +5,11 @@ use Rattle.osgi_world.specs.Decisions.{adds, wired_to}
 use Rattle.osgi_world.specs.Lists.{item_at}
 use Rattle.osgi_world.specs.Lookups.{is_optional}
 use Rattle.osgi_world.specs.declared.problem.Problem.{Problem}
-use Rattle.osgi_path.specs.Standing.{decision_of}
-use Rattle.osgi_path.specs.computed.Known.{IsProblemIn}
+use Rattle.osgi_owners.specs.DecisionOf.{decision_of}
+use Rattle.osgi_owners.specs.computed.Known.{IsProblemIn}
 use Rattle.osgi_path.specs.computed.Steps.{IsListed, steps_in}
-use Rattle.osgi_path.specs.declared.decision.Decision.{Decision}
-use Rattle.osgi_path.proofs.Asking.{entry-chosen}
+use Rattle.osgi_owners.specs.declared.decision.Decision.{Decision}
+use Rattle.osgi_path.proofs.Entries.{entry-chosen}
 use Rattle.osgi_path.proofs.step.step_of.Goals as goal
 
 pub returns-in-Choose : goal.returns-in-Choose

@@ -1,15 +1,13 @@
 -- By the place of the member.
-use Rattle.std.proofs.Common.{◌∙◌, ap, sym, subst, arith, drop, length, reverse, refl}
-use Rattle.std.specs.Prelude.{not}
+use Rattle.std.proofs.Common.{◌∙◌, ap, sym, subst, arith, length, reverse, refl}
+use Rattle.std.specs.Prelude.{not, slice_get}
 use Rattle.std.specs.Bool.{Decides}
-use Rattle.std.specs.List.{list_any}
 use Rattle.std.proofs.lemmas.List.{length-reverse}
 use Rattle.osgi_world.specs.Hopeless.{IsDecided}
 use Rattle.osgi_world.specs.declared.world.World.{World}
 use Rattle.osgi_choice.proofs.States.{member-current}
-use Rattle.osgi_path.specs.Standing.{decision_of}
 use Rattle.osgi_path.specs.computed.Courses.{lists_of}
-use Rattle.osgi_path.specs.computed.Views.{decided_in, is_spatial}
+use Rattle.osgi_path.specs.computed.Views.{decided_in, is_spatial_next}
 use Rattle.osgi_path.proofs.Decided.{decided-before, decided-last, decided-later, get-in}
 use Rattle.osgi_path.proofs.Next.{right-state}
 use Rattle.osgi_path.proofs.views.is_decided_at.Goals as goal
@@ -23,8 +21,8 @@ pub returns-then-place-course-2 : goal.returns-then-place-course-2
 returns-then-place-course-2 c = record {
   decided = λ P in_it knows at there.
       let course = c.args.course.now in
-      let left = c.is_spatial_left.ensures.left ∙ ap (λ (W : World). list_any (λ d. is_spatial W.known (decision_of d)) (drop (length course.marks.items) course.queue.items)) (sym in_it.world) in
-      subst (λ b. Decides (not b) (IsDecided P (decided_in course) c.args.member)) (sym left)
+      let next = c.is_spatial_next.ensures.spatial ∙ ap (λ (W : World). is_spatial_next W.known (slice_get course.queue.items (length course.marks.items))) (sym in_it.world) in
+      subst (λ b. Decides (not b) (IsDecided P (decided_in course) c.args.member)) (sym next)
       (decided-last P in_it.is (reverse course.marks.items) (lists_of course) at c.args.place c.args.member there (length course.marks.items) (sym (length-reverse course.marks.items)) (omega arith));
 }
 

@@ -3,12 +3,15 @@ use Rattle.std.proofs.Common.{◌+◌, ℕ, MatchBool, List, subst}
 use Rattle.osgi_world.specs.ChoiceWords.{IsGood}
 use Rattle.osgi_world.specs.Effort.{IsEffort}
 use Rattle.osgi_choice.specs.Search.{IsAt}
-use Rattle.osgi_search.proofs.Zeros.{stepped-to, strode-to}
+use Rattle.osgi_search.proofs.Zeros.{stayed-hopeful, stepped-to, strode-to}
 use Rattle.osgi_search.proofs.depth_first.go_on.Goals as goal
 
 pub returns-then-made-gt0-clause-word : goal.returns-then-made-gt0-clause-word
 returns-then-made-gt0-clause-word g c n t o =
     strode-to _ c.requires.problem _ _ n c.in_ok-made.made t c.in_ok-made.ensures.first c.in_ok-made.ensures.word (c.in_ok-made.ensures.hopeful c.if-made-gt0.true)
+
+pub advance-requires-clause-hopeful : goal.advance-requires-clause-hopeful
+advance-requires-clause-hopeful g c = stayed-hopeful _ _ _ _ c.in_ok-made.made c.requires.hopeful c.in_ok-made.ensures.problem c.in_ok-made.ensures.first c.if-made-gt0.false
 
 pub returns-then-branch-clause-word : goal.returns-then-branch-clause-word
 returns-then-branch-clause-word g c n t o =

@@ -1,6 +1,6 @@
 -- What each way to end answers, from where the search stands.
 use Rattle.std.proofs.Common.{◌≡◌, ◌≤◌, ◌-◌, refl, arith}
-use Rattle.osgi_search.proofs.Stands.{standing-init, hopeless-answer, found-answer, standing-next, none-answer, spent-answer, gone-most, least-second}
+use Rattle.osgi_search.proofs.Stands.{standing-init, hopeless-answer, standing-hopeful, found-answer, standing-next, none-answer, spent-answer, gone-most}
 use Rattle.osgi_search.proofs.depth_first.search.Goals as goal
 
 pub returns-then-branch-clause-outcome : goal.returns-then-branch-clause-outcome
@@ -10,13 +10,14 @@ pub loop-visited-init : goal.loop-visited-init
 loop-visited-init g c = record {
   standing = standing-init _ _ c.in_ok-is_hopeless.field-0 c.requires.problem c.requires.empty c.if-branch.false c.in_ok-is_hopeless.ensures.hopeless;
   within = omega arith;
-  low = omega arith;
-  high = omega arith;
 }
 
 pub returns-then-is_complete-clause-outcome : goal.returns-then-is_complete-clause-outcome
 returns-then-is_complete-clause-outcome g c =
     found-answer _ _ _ c.loop-visited.visited c.args.budget c.is_complete.result c.requires.problem c.loop-visited.invariant.standing c.loop-visited.invariant.within c.if-is_complete.true c.is_complete.ensures.complete
+
+pub go_on-requires-clause-hopeful : goal.go_on-requires-clause-hopeful
+go_on-requires-clause-hopeful g c = standing-hopeful _ _ _ c.loop-visited.visited c.loop-visited.invariant.standing
 
 pub returns-in-None-clause-outcome : goal.returns-in-None-clause-outcome
 returns-in-None-clause-outcome g c =
@@ -25,13 +26,12 @@ returns-in-None-clause-outcome g c =
 
 pub loop-visited-preserved : goal.loop-visited-preserved
 loop-visited-preserved g c =
-    let within : c.in-Some.gone ≤ c.args.budget - c.loop-visited.visited = (let most = gone-most c.in_ok-go_on.field-0 c.min.result c.in-Some.gone c.in-Some.is c.in_ok-go_on.ensures.most in let least = least-second c.min.result c.loop-visited.stride (c.args.budget - c.loop-visited.visited) c.min.ensures in omega (arith, most, least)) in
+    let most = gone-most c.in_ok-go_on.field-0 c.min.result c.in-Some.gone c.in-Some.is c.in_ok-go_on.ensures.most in
+    let within : c.in-Some.gone ≤ c.args.budget - c.loop-visited.visited = omega (arith, most, c.min.ensures) in
     record {
       standing = standing-next _ _ _ _ _ c.loop-visited.visited c.in-Some.gone c.is_complete.result c.in_ok-go_on.field-0 c.loop-visited.invariant.standing c.if-is_complete.false c.is_complete.ensures.complete
           c.in_ok-go_on.ensures.problem c.in-Some.is c.in_ok-go_on.ensures.word;
       within = (let before = c.loop-visited-test.true in omega (arith, within, before));
-      low = c.next_stride-stride.ensures.0;
-      high = c.next_stride-stride.ensures.1;
     }
 
 pub returns-then-is_complete-2-clause-outcome : goal.returns-then-is_complete-2-clause-outcome

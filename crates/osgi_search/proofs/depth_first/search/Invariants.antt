@@ -1,5 +1,5 @@
 -- The search stands behind as many words as it has visited; those of the budget that are left get fewer.
-use Rattle.std.proofs.Common.{◌-◌, ◌<◌, ◌≤◌}
+use Rattle.std.proofs.Common.{◌-◌, ◌≤◌}
 use Rattle.osgi_search.proofs.Stands.{IsStanding}
 use Rattle.osgi_search.proofs.depth_first.search.Given as goal
 
@@ -7,8 +7,6 @@ abbrev pub invariant-loop-visited : goal.invariant-loop-visited
 invariant-loop-visited g l = record {
   standing : IsStanding (g.W.Walker.problem l.fn.walker) (g.W.Walker.problem l.walker) (g.W.Walker.word l.walker) l.visited;
   within : l.visited ≤ l.budget;
-  low : 0 < l.stride;
-  high : l.stride ≤ 4096;
 }
 
 abbrev pub decreases-loop-visited : goal.decreases-loop-visited

@@ -1,17 +1,22 @@
 -- Each move keeps what is known between two words, and the measure falls.
 use Rattle.std.proofs.Common.{arith}
-use Rattle.osgi_search.proofs.Midway.{midway-at, midway-next, midway-ended, midway-back, back-range, back-less}
+use Rattle.osgi_search.proofs.Midway.{midway-at, midway-before, midway-next, midway-ended, midway-back, back-range, back-less}
 use Rattle.osgi_search.proofs.steps.advance.Goals as goal
+
+pub has_become_hopeless-requires : goal.has_become_hopeless-requires
+has_become_hopeless-requires g c = record {
+  before = midway-before _ _ _ _ _ _ c.loop-value.value c.loop-value.values c.loop-value.invariant.midway c.in_ok-longer.ensures.problem c.in_ok-longer.ensures.word;
+}
 
 pub returns-then-not-branch-clause-word : goal.returns-then-not-branch-clause-word
 returns-then-not-branch-clause-word g c n t =
-    midway-at _ _ _ _ _ _ c.loop-value.value c.loop-value.values c.in_ok-is_hopeless.field-0 c.requires.problem c.loop-value.invariant.midway (omega (arith, c.if-value-values.true))
-    c.in_ok-longer.ensures.problem c.in_ok-longer.ensures.word c.if-not-branch.true c.in_ok-is_hopeless.ensures.hopeless n t
+    midway-at _ _ _ _ _ _ c.loop-value.value c.loop-value.values c.in_ok-has_become_hopeless.field-0 c.requires.problem c.loop-value.invariant.midway (omega (arith, c.if-value-values.true))
+    c.in_ok-longer.ensures.problem c.in_ok-longer.ensures.word c.if-not-branch.true c.in_ok-has_become_hopeless.ensures.hopeless n t
 
 pub loop-value-preserved-then-value-values : goal.loop-value-preserved-then-value-values
 loop-value-preserved-then-value-values g c = record {
-  midway = midway-next _ _ _ _ _ _ _ _ c.loop-value.value c.loop-value.values c.in_ok-is_hopeless.field-0 c.shorter.result c.requires.problem c.loop-value.invariant.midway (omega (arith, c.if-value-values.true))
-      c.in_ok-longer.ensures.problem c.in_ok-longer.ensures.word c.if-not-branch.false c.in_ok-is_hopeless.ensures.hopeless c.shorter.ensures.problem c.shorter.ensures.word;
+  midway = midway-next _ _ _ _ _ _ _ _ c.loop-value.value c.loop-value.values c.in_ok-has_become_hopeless.field-0 c.shorter.result c.requires.problem c.loop-value.invariant.midway (omega (arith, c.if-value-values.true))
+      c.in_ok-longer.ensures.problem c.in_ok-longer.ensures.word c.if-not-branch.false c.in_ok-has_become_hopeless.ensures.hopeless c.shorter.ensures.problem c.shorter.ensures.word;
   fits = c.loop-value.invariant.fits;
 }
 

@@ -4,13 +4,12 @@ use Rattle.osgi_sources.specs.computed.Adds.{Adds}
 use Rattle.osgi_sources.specs.computed.Amongst.{IsAmong}
 use Rattle.osgi_sources.specs.computed.Collected.{IsCollected}
 use Rattle.osgi_sources.specs.computed.Exact.{given_cmp}
-use Rattle.osgi_sources.specs.computed.Pairs.{IsUse}
-use Rattle.osgi_sources.specs.declared.given.Given.{Given}
+use Rattle.osgi_sources.specs.computed.Pairs.{IsUseAmong}
 use Rattle.osgi_sources.specs.laws.Adding.{Each}
 use Rattle.osgi_sources.proofs.constraints.add_uses_of_all.Given as goal
 
 abbrev pub invariant-loop-given : goal.invariant-loop-given
 invariant-loop-given l = record {
   collected : IsCollected given_cmp l.found;
-  added : Adds (Each (λ (h : Given) (g : Given). IsAmong l.among h.source × IsUse l.rows h.source h.package g) (take l.given-index l.givens)) l.fn.found.items.items l.found.items.items;
+  added : Adds (Each (IsUseAmong l.rows (IsAmong l.among)) (take l.given-index l.givens)) l.fn.found.items.items l.found.items.items;
 }

@@ -7,4 +7,4 @@ use Rattle.osgi_wires.specs.declared.rows.Import.{Import}
 use Rattle.osgi_sources.proofs.package_sources.add_imported.Given as goal
 
 abbrev pub invariant-loop-row : goal.invariant-loop-row
-invariant-loop-row l = Adds (Each (λ (row : Import) (g : Given). g ≡ record { «package» = l.«package»; source = row.provider }) (take l.row-index l.row-items)) l.fn.givens.items l.givens.items
+invariant-loop-row l = Adds (Each (λ (row : Import) (g : Given). g ≡ record { «package» = l.«package»; source = row.provider }) (take l.row-index l.imports)) l.fn.givens.items l.givens.items

@@ -5,7 +5,7 @@ use Rattle.osgi_world.specs.DueDecisions.{fragments_of, members}
 use Rattle.osgi_world.specs.Lists.{In}
 use Rattle.osgi_world.specs.declared.problem.Problem.{Problem}
 use Rattle.osgi_path.specs.Standing.{IsProblemOf, made}
-use Rattle.osgi_path.specs.computed.Known.{IsProblemIn, Knows}
+use Rattle.osgi_owners.specs.computed.Known.{IsProblemIn, Knows}
 use Rattle.osgi_path.specs.computed.Views.{decided_in}
 use Rattle.osgi_path.proofs.OnWay.{knows-at, lists-at, made-at}
 use Rattle.osgi_path.proofs.path.Path.fragments.Goals as goal

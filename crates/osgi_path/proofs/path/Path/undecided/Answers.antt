@@ -8,7 +8,7 @@ use Rattle.osgi_world.specs.Hopeless.{IsDecided}
 use Rattle.osgi_world.specs.Lists.{In}
 use Rattle.osgi_world.specs.declared.problem.Problem.{Problem}
 use Rattle.osgi_path.specs.Standing.{IsProblemOf, made}
-use Rattle.osgi_path.specs.computed.Known.{IsProblemIn}
+use Rattle.osgi_owners.specs.computed.Known.{IsProblemIn}
 use Rattle.osgi_path.specs.computed.Moving.{IsLearnt}
 use Rattle.osgi_path.specs.computed.Views.{IsAt, decided_in}
 use Rattle.osgi_path.proofs.OnWay.{lists-at, made-at, stands-at}

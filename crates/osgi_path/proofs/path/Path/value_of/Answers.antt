@@ -1,7 +1,7 @@
 -- The value of its mark.
 use Rattle.std.proofs.Common.{◌∙◌, reverse, ap, sym}
 use Rattle.osgi_world.specs.Decisions.{value_made}
-use Rattle.osgi_path.specs.Standing.{decision_of}
+use Rattle.osgi_owners.specs.DecisionOf.{decision_of}
 use Rattle.osgi_path.specs.computed.Courses.{made_of}
 use Rattle.osgi_path.proofs.OnWay.{made-at}
 use Rattle.osgi_path.proofs.path.Path.value_of.Goals as goal

@@ -1,0 +1,3 @@
+-- Lemmas on what is found out of owners.
+mod Asking
+pub mod Owners

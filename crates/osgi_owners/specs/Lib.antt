@@ -1,0 +1,4 @@
+-- Decisions, and what is found out of owners of requirements, as contracts see them.
+pub mod DecisionOf
+pub mod Sure
+pub mod computed
