@@ -37,7 +37,7 @@ clash-dec P D = map-dec
     (λ h. (h.member, h.is_member, (h.seen_by, h.used, h.implied, h.clash)))
     (clashes-dec P D)
 
-module _ (P : Problem) (L : IsProblem P) (D : Made) (set : BTreeSet ℕ) (are : AreUnsettled P D set) where
+module _ (P : Problem) (L : IsProblem P) (D : Made) (set : List ℕ) (are : AreUnsettled P D set) where
   abbrev IsAway : RevisionId → Type 0
   IsAway r = ¬ Has set r.0
 

@@ -1,6 +1,6 @@
 -- What a provider has on offer, by rows, and wires to what is not on offer.
-use Rattle.std.proofs.Common.{◌≡◌, ◌↔◌, inl, inr, ℕ, ◌<◌, List, [], ap, subst, Any}
-use Rattle.std.specs.BTreeSet.{BTreeSet}
+use Rattle.std.proofs.Common.{◌≡◌, ◌↔◌, inl, inr, ℕ, ◌<◌, List, [], ◌∙◌, Option, None, Some, refl, sym, ap, subst, Any}
+use Rattle.std.specs.Option.{option_to_list}
 use Rattle.osgi_choice.proofs.Complete.{provider-in_force}
 use Rattle.osgi_base.specs.declared.ids.RevisionId.{RevisionId}
 use Rattle.osgi_onward.specs.Reasons.{Reaches}
@@ -49,7 +49,7 @@ module _ (K : List Known) (W : List Wiring) (N : ℕ → List ℕ) (R : RowLists
   offer-not_replaced o r = o.stays r.0 r.1 r.2
 
 -- of the wires of members
-module _ (P : Problem) (L : IsProblem P) (D : Made) (set : BTreeSet ℕ) (are : AreUnsettled P D set) (wires : List Wired)
+module _ (P : Problem) (L : IsProblem P) (D : Made) (set : List ℕ) (are : AreUnsettled P D set) (wires : List Wired)
     (is : (w : Wired) → In w wires ↔ (In w.revision (members P D) × HasWire (partial P D) w.revision w.wire)) where
   pub lost-of : (w : Wired) → In w wires → IsLost P.world.known (partial P D) set w → HasLost P D
   lost-of w i lost =
@@ -75,3 +75,12 @@ may-reach K W N R is w h (inr l) = inr (reach-first R (reach-from K W N R is w.w
 
 pub lost-there : (P : Problem) (D : Made) (w : Wired) → In w.revision (members P D) × HasWire (partial P D) w.revision w.wire → IsLostBy P D w.wire → HasLost P D
 lost-there P D w there lost = record { member = w.revision; wire = w.wire; is_member = there.0; has = there.1; settled = lost.0; lost = lost.1 }
+
+-- ---- the wire of a mark, as a list
+
+pub listed-some : (o : Option Wired) (ws : List Wired) → option_to_list o ≡ ws → (w : Wired) → In w ws → o ≡ Some w
+listed-some None ws e w i = elim (subst (In w) (sym e) i) [ ]
+listed-some (Some x) ws e w i = elim (subst (In w) (sym e) i) [ inl same ↦ ap (λ (y : Wired). Some y) (sym same) | inr none ↦ elim none [ ] ]
+
+pub some-listed : (o : Option Wired) (ws : List Wired) → option_to_list o ≡ ws → (w : Wired) → o ≡ Some w → In w ws
+some-listed o ws e w is = subst (In w) (sym (ap option_to_list is) ∙ e) (inl refl)

@@ -1,10 +1,7 @@
 -- A member is settled where it reaches no member that is not decided.
-use Rattle.std.proofs.Common.{◌≡◌, inl, inr, ℕ, Bool, true, false, List, [], ◌∷◌, refl, subst, Contains, ◌↔◌, ◌⊎◌, ◌+◌, ◌<◌, ◌≤◌, take, length, get_or, ap, sym}
+use Rattle.std.proofs.Common.{◌≡◌, inl, inr, ℕ, Bool, true, false, List, [], ◌∷◌, refl, subst, Contains, ◌↔◌, ◌⊎◌, ◌+◌, ◌<◌, ◌≤◌, take, length, get_or, ap, sym, filter, ◌==◌}
 use Rattle.std.specs.Bool.{Decides}
-use Rattle.std.specs.BTreeSet.{BTreeSet, Updates, contains}
-use Rattle.std.specs.Ordering.{nat_cmp}
 use Rattle.osgi_base.specs.declared.ids.RevisionId.{RevisionId}
-use Rattle.osgi_choice.proofs.Closure.{true-dec}
 use Rattle.osgi_choice.proofs.Complete.{old-settled, reached-in_force}
 use Rattle.osgi_choice.proofs.Decide.{settled-dec}
 use Rattle.osgi_choice.proofs.Twos.{stable}
@@ -12,11 +9,10 @@ use Rattle.osgi_choice.proofs.Views.{in_force-cases}
 use Rattle.osgi_sources.specs.computed.Reach.{Reach, starts, steps}
 use Rattle.osgi_coherence.proofs.Grow.{in_more}
 use Rattle.osgi_sources.proofs.Rows.{in-required}
-use Rattle.osgi_sources.specs.computed.Exact.{exact_number}
-use Rattle.osgi_sources.specs.laws.Sets.{set_put}
+use Rattle.osgi_sources.specs.computed.Adds.{Adds}
 use Rattle.std.proofs.lemmas.List.{take_all}
 use Rattle.osgi_space.proofs.Ids.{contains-in, in-contains}
-use Rattle.osgi_hopeless.specs.computed.Open.{AreUnsettled, Has}
+use Rattle.osgi_hopeless.specs.computed.Open.{AreUndecided, AreUnsettled, Has}
 use Rattle.osgi_wires.specs.Agree.{AreRowsOf, id}
 use Rattle.osgi_wires.specs.Rows.{Reexports, Requires, RowLists, required_by}
 use Rattle.osgi_wires.specs.declared.rows.Required.{Required}
@@ -30,9 +26,6 @@ use Rattle.osgi_world.specs.Wirings.{InForce}
 use Rattle.osgi_world.specs.declared.problem.Problem.{Problem}
 use Rattle.osgi_world.specs.declared.wiring.Wiring.{Wiring}
 use Rattle.osgi_world.specs.declared.world.Known.{Known}
-
-pub has-stable : (set : BTreeSet ℕ) (n : ℕ) → ¬ ¬ Has set n → Has set n
-has-stable set n = stable (true-dec (contains nat_cmp set n))
 
 -- ---- what is reached
 
@@ -96,7 +89,7 @@ none-reached R r none n l = let first = reach-first R l in row-there R r first.0
 
 -- ---- what the set says of revisions in force
 
-module _ (P : Problem) (L : IsProblem P) (D : Made) (set : BTreeSet ℕ) (are : AreUnsettled P D set) where
+module _ (P : Problem) (L : IsProblem P) (D : Made) (set : List ℕ) (are : AreUnsettled P D set) where
   pub settled-away : (r : RevisionId) → IsSettled P D r → ¬ Has set r.0
   settled-away r s has = ((are r.0).0 has).1 s
 
@@ -106,43 +99,52 @@ module _ (P : Problem) (L : IsProblem P) (D : Made) (set : BTreeSet ℕ) (are : 
     | inr m ↦ stable (settled-dec P D r) (λ n. away ((are r.0).1 (m, n)))
   ]
 
+-- without any bundle wire what is decided is settled
+pub alone-unsettled : (P : Problem) → IsProblem P → (D : Made) (N : ℕ → List ℕ) (R : RowLists) → AreRowsOf P.world.known (partial P D) N R → R.required ≡ [] → (set : List ℕ) → AreUndecided P D set → AreUnsettled P D set
+alone-unsettled P L D N R is none set are n =
+    let nowhere : required_by R n ≡ [] = ap (λ rows. filter (λ (row : Required). row.revision == n) rows) none in
+    let settles : IsDecided P D (id n) → IsSettled P D (id n) = λ d. settled-by P L D N R is (id n) d (λ x l. absurd (none-reached R n nowhere x l)) in (
+      λ h. let b = (are n).0 h in (b.0, λ s. b.1 s.own),
+      λ both. (are n).1 (both.0, λ d. both.1 (settles d)),
+    )
+
 -- ---- gathering the members that are not settled
 
 -- the set has only such, all that are not decided, and those of this list
-pub record Covers (P : Problem) (D : Made) (set : BTreeSet ℕ) (seen : List RevisionId) : Type 0 where
+pub record Covers (P : Problem) (D : Made) (set : List ℕ) (seen : List RevisionId) : Type 0 where
   pub only : (n : ℕ) → Has set n → In (id n) (members P D) × ¬ IsSettled P D (id n)
   pub undecided : (r : RevisionId) → In r (members P D) → ¬ IsDecided P D r → Has set r.0
   pub all : (r : RevisionId) → In r seen → ¬ IsSettled P D r → Has set r.0
 
 module _ (P : Problem) (D : Made) where
-  pub covers-first : (listed : List RevisionId) (set : BTreeSet ℕ) → ((r : RevisionId) → In r listed ↔ (In r (members P D) × ¬ IsDecided P D r)) → ((n : ℕ) → Has set n ↔ In (id n) listed) → (ms : List RevisionId) → Covers P D set (take 0 ms)
-  covers-first listed set is has ms = record {
-    only = λ n h. let b = (is (id n)).0 ((has n).0 h) in (b.0, λ s. b.1 s.own);
-    undecided = λ r i n. (has r.0).1 ((is r).1 (i, n));
+  pub covers-first : (set : List ℕ) → AreUndecided P D set → (ms : List RevisionId) → Covers P D set (take 0 ms)
+  covers-first set are ms = record {
+    only = λ n h. let b = (are n).0 h in (b.0, λ s. b.1 s.own);
+    undecided = λ r i n. (are r.0).1 (i, n);
     all = λ r here. elim here [ ];
   }
 
-  pub covers-done : (set : BTreeSet ℕ) (ms : List RevisionId) (i : ℕ) → ms ≡ members P D → length ms ≤ i → Covers P D set (take i ms) → AreUnsettled P D set
+  pub covers-done : (set : List ℕ) (ms : List RevisionId) (i : ℕ) → ms ≡ members P D → length ms ≤ i → Covers P D set (take i ms) → AreUnsettled P D set
   covers-done set ms i are past c n =
       (c.only n, λ both. c.all (id n) (subst (In (id n)) (sym (take_all i ms past)) (subst (In (id n)) (sym are) both.0)) both.1)
 
   module _ (ms : List RevisionId) (i : ℕ) (m : RevisionId) (within : i < length ms) (at : m ≡ get_or ms i m) (there : In m (members P D)) where
-    pub covers-put : (old new : BTreeSet ℕ) → Updates nat_cmp old new m.0 true → ¬ IsSettled P D m → Covers P D old (take i ms) → Covers P D new (take (i + 1) ms)
-    covers-put old new updates open-one c =
-        let put : (n : ℕ) → Has new n ↔ (Has old n ⊎ (m.0 ≡ n)) = λ n. set_put nat_cmp exact_number old new m.0 updates n in
+    pub covers-put : (old new : List ℕ) → Adds (λ x. x ≡ m.0) old new → ¬ IsSettled P D m → Covers P D old (take i ms) → Covers P D new (take (i + 1) ms)
+    covers-put old new adds open-one c =
+        let put : (n : ℕ) → Has new n ↔ (Has old n ⊎ (n ≡ m.0)) = adds.exact in
         record {
           only = λ n has. elim ((put n).0 has) [
             | inl o ↦ c.only n o
-            | inr e ↦ subst (λ k. In (id k) (members P D) × ¬ IsSettled P D (id k)) e (there, open-one)
+            | inr e ↦ subst (λ k. In (id k) (members P D) × ¬ IsSettled P D (id k)) (sym e) (there, open-one)
           ];
           undecided = λ r j n. (put r.0).1 (inl (c.undecided r j n));
           all = λ r j n. elim ((in_more ms i m within at r).0 j) [
             | inl o ↦ (put r.0).1 (inl (c.all r o n))
-            | inr e ↦ (put r.0).1 (inr (sym (ap (λ (x : RevisionId). x.0) e)))
+            | inr e ↦ (put r.0).1 (inr (ap (λ (x : RevisionId). x.0) e))
           ];
         }
 
-    pub covers-skip : (set : BTreeSet ℕ) → (IsDecided P D m → IsSettled P D m) → Covers P D set (take i ms) → Covers P D set (take (i + 1) ms)
+    pub covers-skip : (set : List ℕ) → (IsDecided P D m → IsSettled P D m) → Covers P D set (take i ms) → Covers P D set (take (i + 1) ms)
     covers-skip set settles c = record {
       only = c.only;
       undecided = c.undecided;

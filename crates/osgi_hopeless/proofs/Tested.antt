@@ -1,10 +1,10 @@
 -- What is hopeless with one decision more, and was not before, is so for one of the reasons that are tested then.
-use Rattle.std.proofs.Common.{◌≡◌, ℕ, ◌⊎◌, inl, inr, ◌∷◌, Option, None, Some, refl, sym, ◌∙◌, ap, subst}
+use Rattle.std.proofs.Common.{◌≡◌, ◌≢◌, ℕ, ◌⊎◌, inl, inr, List, ◌∷◌, Option, None, Some, refl, sym, ◌∙◌, ap, subst}
 use Rattle.osgi_base.specs.declared.ids.RevisionId.{RevisionId}
 use Rattle.osgi_choice.proofs.Checks.{new-present}
 use Rattle.osgi_choice.proofs.States.{member-kept}
 use Rattle.osgi_choice.proofs.Views.{adder-host}
-use Rattle.osgi_onward.proofs.Before.{OneMore, host-member, stuck-touched, use-either, wire-added}
+use Rattle.osgi_onward.proofs.Before.{OneMore, host-member, stuck-touched, use-either, wire-added, wire-either}
 use Rattle.osgi_onward.proofs.Reasons.{clash-leads, made-onward, offer-host, one-more}
 use Rattle.osgi_onward.specs.Facts.{IsOnward}
 use Rattle.osgi_onward.specs.Reasons as reason
@@ -19,7 +19,7 @@ use Rattle.osgi_hopeless.specs.computed.Onward.{HasNewRivals, IsAtOnce, IsNewBy,
 use Rattle.osgi_hopeless.specs.computed.Reasons as reasons
 use Rattle.osgi_hopeless.specs.computed.Reasons.{Reason}
 use Rattle.osgi_hopeless.specs.computed.Rivals.{HasRivals, IsCurrentSingleton}
-use Rattle.osgi_hopeless.specs.computed.Stuck.{IsMemberOf, IsStuck, two_providers, two_versions, unmet}
+use Rattle.osgi_hopeless.specs.computed.Stuck.{IsAmiss, IsMemberOf, IsStuck, IsStuckBy, OtherProvider, amiss, by_itself, by_wire, two_providers}
 use Rattle.osgi_path.specs.declared.last.Last.{Last}
 use Rattle.osgi_owners.specs.DecisionOf.{decision_of}
 use Rattle.osgi_path.specs.Standing.{IsProblemOf, Standing, made}
@@ -31,27 +31,66 @@ use Rattle.osgi_world.specs.Hopeless as hopeless
 use Rattle.osgi_world.specs.Hopeless.{Hopeless, IsDecided, IsHopeless}
 use Rattle.osgi_world.specs.Lists.{In}
 use Rattle.osgi_world.specs.Partial.{partial}
-use Rattle.osgi_world.specs.Wirings.{HasWire}
+use Rattle.osgi_world.specs.Wirings.{HasWire, PackageWire}
 use Rattle.osgi_world.specs.declared.problem.Problem.{Problem}
 use Rattle.osgi_world.specs.declared.wiring.Wire.{Wire}
 
 stuck-of : (P : Problem) (D : Made) (m : RevisionId) → IsStuck P D m → Stuck P D m
-stuck-of P D m (unmet u) = elim u.2.no_wire [
+stuck-of P D m (amiss (inl u)) = elim u.2.no_wire [
   | inl none ↦ reason.no_candidate u.0 u.1 u.2.needed none
   | inr refused ↦ reason.all_refused u.0 u.1 u.2.needed refused.0 refused.1
 ]
 stuck-of P D m (two_providers t) = reason.two_providers t.one t.other t.name t.one_wire t.other_wire t.differ
-stuck-of P D m (two_versions t) = reason.two_versions t
+stuck-of P D m (amiss (inr t)) = reason.two_versions t
+
+-- where the wire goes to one of two providers, there are two
+pub by-stuck : (P : Problem) (D : Made) (m : RevisionId) (by : Option Wired) → IsStuckBy P D m by → IsStuck P D m
+by-stuck P D m by (by_itself a) = amiss a
+by-stuck P D m by (by_wire w e o) =
+    two_providers (record { name = o.name; one = w.wire.capability.provider; other = o.other; one_wire = o.one_wire; other_wire = o.other_wire; differ = o.differ })
+
+-- m is stuck, and if it is so by two providers, the decision adds the wire to one of them
+pub data StuckNow (P : Problem) (d : Decision) (v : ℕ) (E : Made) (m : RevisionId) : Type 0 where
+  itself : IsAmiss P E m → StuckNow P d v E m
+  wire : (w : Wire) → In (wired m w) (adds P d v) → OtherProvider P.world.known (partial P E) m w.capability.provider → StuckNow P d v E m
 
 -- what one decision more can give, of E, which is what is decided then
 pub data Given (P : Problem) (D : Made) (d : Decision) (v : ℕ) (E : Made) : Type 0 where
-  stuck : (m : RevisionId) → In m (members P E) → (m ≡ host d) ⊎ In m (members P E) × ¬ In m (members P D) → IsStuck P E m → Given P D d v E
+  stuck : (m : RevisionId) → In m (members P E) → (m ≡ host d) ⊎ In m (members P E) × ¬ In m (members P D) → StuckNow P d v E m → Given P D d v E
   rivals : (r : HasRivals P E) (n : RevisionId) → (n ≡ r.new) ⊎ (n ≡ r.other) → (In n (members P E) × ¬ In n (members P D)) ⊎ In (attached (host d) n) (adds P d v) → Given P D d v E
   added : (m : RevisionId) (w : Wire) → In (wired m w) (adds P d v) → IsLostBy P E w → Given P D d v E
   lost : HasLostAt P E (host d) → IsDecided P E (host d) → Given P D d v E
   clash : HasClash P E → IsDecided P E (host d) → Given P D d v E
 
 module _ (P : Problem) (D : Made) (d : Decision) (v : ℕ) (x : OneMore P D d v) (hopeful : ¬ Hopeless P D) where
+  package-either : (m y : RevisionId) (p : List ℕ) → PackageWire P.world.known (partial P ((d, v) ∷ D)) m p y →
+      PackageWire P.world.known (partial P D) m p y ⊎ ((w : Wire) × In (wired m w) (adds P d v) × (w.capability.provider ≡ y))
+  package-either m y p a = elim (wire-either P D d v x m a.wire a.has) [
+    | inl old ↦ inl (record { wire = a.wire; has = old; export = a.export; provider = a.provider })
+    | inr new ↦ inr (a.wire, new, a.provider)
+  ]
+
+  -- the wire that the decision adds goes to one of the two providers
+  added-one : (m y z : RevisionId) (p : List ℕ) → ((w : Wire) × In (wired m w) (adds P d v) × (w.capability.provider ≡ y)) → PackageWire P.world.known (partial P ((d, v) ∷ D)) m p y →
+      PackageWire P.world.known (partial P ((d, v) ∷ D)) m p z → y ≢ z → StuckNow P d v ((d, v) ∷ D) m
+  added-one m y z p new a b apart = wire new.0 new.1 (record {
+    name = p;
+    other = z;
+    one_wire = subst (PackageWire P.world.known (partial P ((d, v) ∷ D)) m p) (sym new.2) a;
+    other_wire = b;
+    differ = λ e. apart (sym new.2 ∙ e);
+  })
+
+  stuck-now : (m : RevisionId) → IsStuck P ((d, v) ∷ D) m → StuckNow P d v ((d, v) ∷ D) m
+  stuck-now m (amiss a) = itself a
+  stuck-now m (two_providers t) = elim (package-either m t.one t.name t.one_wire) [
+    | inr new ↦ added-one m t.one t.other t.name new t.one_wire t.other_wire t.differ
+    | inl a ↦ elim (package-either m t.other t.name t.other_wire) [
+      | inr new ↦ added-one m t.other t.one t.name new t.other_wire t.one_wire (λ e. t.differ (sym e))
+      | inl b ↦ absurd (hopeful (hopeless.two_providers m t.one t.other t.name a b t.differ))
+    ]
+  ]
+
   rivals-given : HasRivals P ((d, v) ∷ D) → Given P D d v ((d, v) ∷ D)
   rivals-given r = elim (use-either P D d v x r.new (new-present P ((d, v) ∷ D) r.new r.is_new)) [
     | inr new ↦ rivals r r.new (inl refl) new
@@ -68,7 +107,7 @@ module _ (P : Problem) (D : Made) (d : Decision) (v : ℕ) (x : OneMore P D d v)
   ]
 
   given-reason : Reason P ((d, v) ∷ D) → Given P D d v ((d, v) ∷ D)
-  given-reason (reasons.stuck s) = stuck s.0 s.1 (stuck-touched P D d v x hopeful s.0 s.1 (stuck-of P ((d, v) ∷ D) s.0 s.2)) s.2
+  given-reason (reasons.stuck s) = stuck s.0 s.1 (stuck-touched P D d v x hopeful s.0 s.1 (stuck-of P ((d, v) ∷ D) s.0 s.2)) (stuck-now s.0 s.2)
   given-reason (reasons.rivals r) = rivals-given r
   given-reason (reasons.lost l) = lost-given l
   given-reason (reasons.clash c) = clash c (clash-leads P D d v x hopeful c.member c.seen_by c.used c.implied c.clash).1
@@ -119,11 +158,16 @@ module _ (s : Standing) (P : Problem) (L : IsProblemOf s P) (last : Last) (x : I
   newly-one r n (inl e) b = inl (subst (IsNewBy last) e b)
   newly-one r n (inr e) b = inr (subst (IsNewBy last) e b)
 
+  -- the wire that it adds is the one that it made
+  stuck-by : (m : RevisionId) → StuckNow P (decision_of last.decision) last.value (made P s) m → IsStuckBy P (made P s) m last.wired
+  stuck-by m (itself a) = by_itself a
+  stuck-by m (wire w i o) = by_wire (record { revision = m; wire = w }) ((x.wired m w).0 i) o
+
   -- what is given is at once a reason, or settles with the host
   sorted : Given P (made_by P x.before) (decision_of last.decision) last.value (made P s) →
       IsAtOnce P s last ⊎ HasSettledReason P s (host (decision_of last.decision)) × IsDecided P (made P s) (host (decision_of last.decision))
-  sorted (stuck m i (inl e) t) = inl (onward.stuck (record { member = m; is_member = i; touched = inl e; stuck = t }))
-  sorted (stuck m i (inr j) t) = inl (onward.stuck (record { member = m; is_member = i; touched = inr ((x.joined m).1 j); stuck = t }))
+  sorted (stuck m i (inl e) t) = inl (onward.stuck (record { member = m; is_member = i; touched = inl e; stuck = stuck-by m t }))
+  sorted (stuck m i (inr j) t) = inl (onward.stuck (record { member = m; is_member = i; touched = inr ((x.joined m).1 j); stuck = stuck-by m t }))
   sorted (rivals r n one new) = inl (onward.rivals (record { rivals = r; newly = newly-one r n one (newly n new) }))
   sorted (added m w a l) = inl (onward.lost (record { revision = m; wire = w }, (x.wired m w).0 a, l))
   sorted (lost l h) = inr (onward.lost l, h)

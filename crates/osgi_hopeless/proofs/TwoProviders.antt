@@ -2,8 +2,8 @@
 use Rattle.std.proofs.Common.{◌≡◌, ◌≢◌, ◌<◌, ◌↔◌, inl, inr, ℕ, List, [], ◌∷◌, length, refl, sym, ◌∙◌, ap, subst, arith, Any, Contains}
 use Rattle.osgi_base.specs.declared.ids.RevisionId.{RevisionId}
 use Rattle.osgi_choice.proofs.Values.{nat-dec}
-use Rattle.osgi_hopeless.specs.computed.Providers.{FirstDiffers, HasTwoProviders}
-use Rattle.osgi_hopeless.specs.computed.Stuck.{TwoProviders}
+use Rattle.osgi_hopeless.specs.computed.Providers.{FirstDiffers, HasOtherProvider, HasTwoProviders, IsContested}
+use Rattle.osgi_hopeless.specs.computed.Stuck.{OtherProvider, TwoProviders}
 use Rattle.osgi_sources.specs.laws.Adding.{any-in, any-none, any-of}
 use Rattle.osgi_space.proofs.Bridge.{imports-to}
 use Rattle.osgi_space.proofs.Ids.{contains-in}
@@ -61,6 +61,19 @@ module _ (R : RowLists) (r : ℕ) where
       two.5 (sym a.1 ∙ b.1)
   few-same (row ∷ other ∷ rows) e few two = absurd (omega (arith, few))
 
+  -- ---- a provider and another one
+
+  pub some-contested : (x : ℕ) → Any (IsContested R r x) (imports_of R r) ↔ HasOtherProvider R r x
+  some-contested x =
+      let some = some-imported R (λ p z. (z ≡ x) × Any (λ (i : Import). i.provider ≢ x) (imports_for R r p)) r in
+      let others : (p : ℕ) → Any (λ (i : Import). i.provider ≢ x) (imports_for R r p) ↔ ((y : ℕ) × Imports R r p y × (y ≢ x)) = λ p. some-import R (λ y. y ≢ x) r p in (
+        λ any.
+            let at = some.0 any in
+            let y = (others at.0).0 at.3.1 in
+            (at.0, y.0, subst (Imports R r at.0) at.3.0 at.2, y.1, λ e. y.2 (sym e)),
+        λ o. some.1 (o.0, x, o.2, (refl, (others o.0).1 (o.1, o.3, λ e. o.4 (sym e)))),
+      )
+
 -- the same of the wirings whose rows these are
 module _ (K : List Known) (W : List Wiring) (N : ℕ → List ℕ) (R : RowLists) (is : AreRowsOf K W N R) (m : RevisionId) where
   pub two-providers : HasTwoProviders R m.0 ↔ TwoProviders K W m
@@ -78,4 +91,20 @@ module _ (K : List Known) (W : List Wiring) (N : ℕ → List ℕ) (R : RowLists
         let b = is.imports_from m.0 t.other.0 t.name t.other_wire in
         let same = is.names b.0 a.0 (b.1 ∙ sym a.1) in
         (a.0, t.one.0, t.other.0, a.2, subst (λ i. Imports R m.0 i t.other.0) same b.2, λ e. t.differ (ap id e)),
+  )
+
+  pub other-provider : (x : RevisionId) → HasOtherProvider R m.0 x.0 ↔ OtherProvider K W m x
+  other-provider x = (
+    λ two. record {
+      name = N two.0;
+      other = id two.1;
+      one_wire = imports-to K W N R is m.0 two.0 x.0 two.2;
+      other_wire = imports-to K W N R is m.0 two.0 two.1 two.3;
+      differ = λ e. two.4 (ap (λ (i : RevisionId). i.0) e);
+    },
+    λ t.
+        let a = is.imports_from m.0 x.0 t.name t.one_wire in
+        let b = is.imports_from m.0 t.other.0 t.name t.other_wire in
+        let same = is.names b.0 a.0 (b.1 ∙ sym a.1) in
+        (a.0, t.other.0, a.2, subst (λ i. Imports R m.0 i t.other.0) same b.2, λ e. t.differ (ap id e)),
   )

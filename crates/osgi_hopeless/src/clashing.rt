@@ -13,6 +13,7 @@ use crate::settled::unsettled;
 use osgi_base::ids::RevisionId;
 use osgi_path::Path;
 use osgi_sources::among::Among;
+use osgi_sources::revision_set::RevisionSet;
 use osgi_sources::uses::keeps_uses;
 use osgi_wires::rows::Rows;
 use std::alloc::{AllocError, Global};
@@ -33,7 +34,7 @@ fn is_broken(
     alloc: Global,
     rows: &Rows,
     disputed: &BTreeSet<u32>,
-    unsettled: &BTreeSet<u32>,
+    unsettled: &RevisionSet,
     revision: u32,
 ) -> Result<bool, AllocError>
     requires disputed { AreDisputed rows.now disputed.now }
@@ -51,7 +52,7 @@ fn is_one_broken(
     alloc: Global,
     rows: &Rows,
     disputed: &BTreeSet<u32>,
-    unsettled: &BTreeSet<u32>,
+    unsettled: &RevisionSet,
     members: &[RevisionId],
 ) -> Result<bool, AllocError>
     requires disputed { AreDisputed rows.now disputed.now }
@@ -66,7 +67,7 @@ fn is_one_broken(
 }
 
 /// Whether a member's implied constraint that comes from settled revisions alone clashes.
-pub fn has_clash(alloc: Global, path: &Path, unsettled: &BTreeSet<u32>) -> Result<bool, AllocError>
+pub fn has_clash(alloc: Global, path: &Path, unsettled: &RevisionSet) -> Result<bool, AllocError>
     requires unsettled { (P : Problem) → IsProblemOf path.now P → AreUnsettled P (made P path.now) unsettled.now }
     ensures clash { IfOk result (λ answer. (P : Problem) → IsProblemOf path.now P → IsTrue answer ↔ HasClash P (made P path.now)) }
 {

@@ -25,7 +25,7 @@ pub fn is_hopeless(alloc: Global, path: &Path) -> Result<bool, AllocError>
         return Ok(true);
     }
     let unsettled = unsettled(alloc, path)?;
-    if has_lost(alloc, path, &unsettled)? {
+    if has_lost(path, &unsettled) {
         return Ok(true);
     }
     Ok(has_clash(alloc, path, &unsettled)?)

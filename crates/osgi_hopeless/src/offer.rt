@@ -5,6 +5,7 @@ ghost use Rattle.osgi_sources.specs.computed.RowSources.{Owns};
 ghost use Rattle.osgi_hopeless.specs.computed.Clashing.{AreWires, HasLost, HasLostAt, IsLost, IsLostAt, IsLostBy, MayReach};
 ghost use Rattle.osgi_hopeless.specs.computed.Open.{AreUnsettled};
 ghost use Rattle.osgi_path.specs.Standing.{IsProblemOf, made};
+ghost use Rattle.osgi_path.specs.Wires.{wired_in};
 ghost use Rattle.osgi_path.specs.declared.wired.Wired.{Wired};
 ghost use Rattle.osgi_wires.specs.Worlds.{AreRowsIn};
 ghost use Rattle.osgi_world.specs.Lists.{In};
@@ -15,13 +16,13 @@ ghost use Rattle.osgi_world.specs.declared.wiring.Wiring.{Wiring};
 
 use crate::settled::is_settled;
 use osgi_base::ids::RevisionId;
-use osgi_path::{Path, Wired};
+use osgi_path::{Mark, Path, Wired};
 use osgi_sources::package_sources::imports_elsewhere;
+use osgi_sources::revision_set::RevisionSet;
 use osgi_wires::rows::Rows;
 use osgi_wires::world_rows::WorldRows;
 use osgi_world::wiring::CapRef;
 use std::alloc::{AllocError, Global};
-use std::collections::BTreeSet;
 
 /// Whether what the owner has is in the payload of the revision.
 fn owns(rows: &Rows, revision: u32, owner: u32) -> bool
@@ -72,22 +73,32 @@ fn is_on_offer(rows: &WorldRows, capability: CapRef) -> bool
 }
 
 /// Whether the wire goes to a provider that is not in the set, and does not have the capability on offer.
-fn is_lost(rows: &WorldRows, unsettled: &BTreeSet<u32>, wired: Wired) -> bool
+fn is_lost(rows: &WorldRows, unsettled: &RevisionSet, wired: Wired) -> bool
     ensures lost { (W : List Wiring) → AreRowsIn rows.now W → IsTrue result ↔ IsLost rows.now.known W unsettled.now wired }
 {
     let capability = wired.wire.capability;
-    if unsettled.contains(&capability.provider.0) {
+    if unsettled.has(capability.provider.0) {
         return false;
     }
     !is_on_offer(rows, capability)
 }
 
-/// Whether one of the wires goes to a provider that is not in the set, and does not have the capability on offer.
-fn is_one_lost(rows: &WorldRows, unsettled: &BTreeSet<u32>, wires: &[Wired]) -> bool
-    ensures lost { (W : List Wiring) → AreRowsIn rows.now W → IsTrue result ↔ ((w : Wired) × In w wires.now × IsLost rows.now.known W unsettled.now w) }
+/// Whether it is so with the wire of a decision, if it made one.
+fn is_made_lost(rows: &WorldRows, unsettled: &RevisionSet, wired: Option<Wired>) -> bool
+    ensures lost { (W : List Wiring) → AreRowsIn rows.now W → IsTrue result ↔ ((w : Wired) × (wired ≡ Some w) × IsLost rows.now.known W unsettled.now w) }
 {
-    for wired in wires {
-        if is_lost(rows, unsettled, *wired) {
+    match wired {
+        Some(wired) => is_lost(rows, unsettled, wired),
+        None => false,
+    }
+}
+
+/// Whether it is so with the wire of one of the decisions.
+fn is_one_lost(rows: &WorldRows, unsettled: &RevisionSet, marks: &[Mark]) -> bool
+    ensures lost { (W : List Wiring) → AreRowsIn rows.now W → IsTrue result ↔ ((w : Wired) × In w (wired_in marks.now) × IsLost rows.now.known W unsettled.now w) }
+{
+    for mark in marks {
+        if is_made_lost(rows, unsettled, mark.wired()) {
             return true;
         }
     }
@@ -95,12 +106,11 @@ fn is_one_lost(rows: &WorldRows, unsettled: &BTreeSet<u32>, wires: &[Wired]) -> 
 }
 
 /// Whether the provider of a member's wire is settled, and does not have the capability on offer.
-pub fn has_lost(alloc: Global, path: &Path, unsettled: &BTreeSet<u32>) -> Result<bool, AllocError>
+pub fn has_lost(path: &Path, unsettled: &RevisionSet) -> bool
     requires unsettled { (P : Problem) → IsProblemOf path.now P → AreUnsettled P (made P path.now) unsettled.now }
-    ensures lost { IfOk result (λ answer. (P : Problem) → IsProblemOf path.now P → IsTrue answer ↔ HasLost P (made P path.now)) }
+    ensures lost { (P : Problem) → IsProblemOf path.now P → IsTrue result ↔ HasLost P (made P path.now) }
 {
-    let wires = path.wires(alloc)?;
-    Ok(is_one_lost(path.rows(), unsettled, wires.as_slice()))
+    is_one_lost(path.rows(), unsettled, path.marks())
 }
 
 // ---- after one decision more
@@ -154,19 +164,36 @@ fn is_lost_at(
     Ok(is_lost_now(alloc, path, wired)?)
 }
 
-/// Whether the provider of one of these wires is settled, and does not have the capability on offer. True only where it is so, and
-/// true wherever such a provider is the host or reaches it.
+/// The same of the wire of a decision, if it made one.
+fn is_made_lost_at(
+    alloc: Global,
+    path: &Path,
+    wired: Option<Wired>,
+    host: RevisionId,
+) -> Result<bool, AllocError>
+    ensures lost { IfOk result (λ answer. (P : Problem) → IsProblemOf path.now P → (w : Wired) → wired ≡ Some w → HasWire (partial P (made P path.now)) w.revision w.wire → IsTrue answer → IsLostBy P (made P path.now) w.wire) }
+    ensures made { IfOk result (λ answer. IsTrue answer → (w : Wired) × (wired ≡ Some w)) }
+    ensures all { IfOk result (λ answer. (P : Problem) → IsProblemOf path.now P → (w : Wired) → wired ≡ Some w → HasWire (partial P (made P path.now)) w.revision w.wire → IsLostAt P (made P path.now) host w.wire → IsTrue answer) }
+{
+    match wired {
+        Some(wired) => Ok(is_lost_at(alloc, path, wired, host)?),
+        None => Ok(false),
+    }
+}
+
+/// Whether the provider of the wire of one of these decisions is settled, and does not have the capability on offer. True only where
+/// it is so, and true wherever such a provider is the host or reaches it.
 fn is_one_lost_at(
     alloc: Global,
     path: &Path,
-    wires: &[Wired],
+    marks: &[Mark],
     host: RevisionId,
 ) -> Result<bool, AllocError>
-    ensures lost { IfOk result (λ answer. (P : Problem) → IsProblemOf path.now P → AreWires P (made P path.now) wires.now → IsTrue answer → HasLost P (made P path.now)) }
-    ensures all { IfOk result (λ answer. (P : Problem) → IsProblemOf path.now P → AreWires P (made P path.now) wires.now → HasLostAt P (made P path.now) host → IsTrue answer) }
+    ensures lost { IfOk result (λ answer. (P : Problem) → IsProblemOf path.now P → AreWires P (made P path.now) (wired_in marks.now) → IsTrue answer → HasLost P (made P path.now)) }
+    ensures all { IfOk result (λ answer. (P : Problem) → IsProblemOf path.now P → AreWires P (made P path.now) (wired_in marks.now) → HasLostAt P (made P path.now) host → IsTrue answer) }
 {
-    for wired in wires {
-        if is_lost_at(alloc, path, *wired, host)? {
+    for mark in marks {
+        if is_made_lost_at(alloc, path, mark.wired(), host)? {
             return Ok(true);
         }
     }
@@ -178,6 +205,5 @@ pub fn has_lost_at(alloc: Global, path: &Path, host: RevisionId) -> Result<bool,
     ensures lost { IfOk result (λ answer. (P : Problem) → IsProblemOf path.now P → IsTrue answer → HasLost P (made P path.now)) }
     ensures all { IfOk result (λ answer. (P : Problem) → IsProblemOf path.now P → HasLostAt P (made P path.now) host → IsTrue answer) }
 {
-    let wires = path.wires(alloc)?;
-    Ok(is_one_lost_at(alloc, path, wires.as_slice(), host)?)
+    Ok(is_one_lost_at(alloc, path, path.marks(), host)?)
 }

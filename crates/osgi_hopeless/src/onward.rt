@@ -17,20 +17,21 @@ use crate::hopeless::is_hopeless;
 use crate::offer::{has_lost_at, is_new_lost};
 use crate::place::known_at;
 use crate::rivals::{has_rivals, is_current_singleton};
-use crate::stuck::is_stuck;
+use crate::stuck::is_stuck_by;
 use osgi_base::ids::RevisionId;
 use osgi_path::{Last, Path};
 use std::alloc::{AllocError, Global};
 
-/// Whether the host of the last decision, or who joined by it, is stuck.
+/// Whether the host of the last decision, or who joined by it, is stuck. Of two providers of one package one has to be that of the
+/// wire that the decision made, since there were no two before.
 fn is_touched_stuck(alloc: Global, path: &Path, last: Last) -> Result<bool, AllocError>
     ensures stuck { IfOk result (λ answer. (P : Problem) → IsProblemOf path.now P → IsLast P path.now last → IsTrue answer ↔ HasTouchedStuck P path.now last) }
 {
-    if is_stuck(alloc, path, last.decision.host())? {
+    if is_stuck_by(alloc, path, last.decision.host(), last.wired)? {
         return Ok(true);
     }
     match last.joined {
-        Some(member) => Ok(is_stuck(alloc, path, member)?),
+        Some(member) => Ok(is_stuck_by(alloc, path, member, last.wired)?),
         None => Ok(false),
     }
 }

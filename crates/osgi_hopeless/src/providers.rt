@@ -1,10 +1,11 @@
 //! Whether a revision has two providers of one package.
 
-ghost use Rattle.std.specs.Prelude.{◌↔◌, IsTrue};
-ghost use Rattle.osgi_hopeless.specs.computed.Providers.{FirstDiffers, HasTwoProviders};
+ghost use Rattle.std.specs.Prelude.{◌≢◌, ◌↔◌, Any, IsTrue};
+ghost use Rattle.osgi_hopeless.specs.computed.Providers.{FirstDiffers, HasOtherProvider, HasTwoProviders, IsContested};
 ghost use Rattle.osgi_wires.specs.Rows.{imports_for};
+ghost use Rattle.osgi_wires.specs.declared.rows.Import.{Import};
 
-use osgi_wires::rows::Rows;
+use osgi_wires::rows::{Import, Rows};
 
 /// Whether the first of the revision's wires for the package goes to another provider.
 fn first_differs(rows: &Rows, revision: u32, package: u32, provider: u32) -> bool
@@ -26,6 +27,43 @@ pub fn has_two_providers(rows: &Rows, revision: u32) -> bool
     }
     for row in imports {
         if first_differs(rows, revision, row.imported, row.provider) {
+            return true;
+        }
+    }
+    false
+}
+
+// ---- to a provider and another one
+
+/// Whether one of the wires goes to another provider.
+fn has_another(imports: &[Import], provider: u32) -> bool
+    ensures another { IsTrue result ↔ Any (λ (row : Import). row.provider ≢ provider) imports.now }
+{
+    for row in imports {
+        if row.provider != provider {
+            return true;
+        }
+    }
+    false
+}
+
+/// Whether the wire goes to the provider, and one for its package to another one.
+fn is_contested(rows: &Rows, revision: u32, provider: u32, row: Import) -> bool
+    ensures contested { IsTrue result ↔ IsContested rows.now revision provider row }
+{
+    if row.provider != provider {
+        return false;
+    }
+    has_another(rows.imports_for(revision, row.imported), provider)
+}
+
+/// Whether the revision has wires for one package to the provider and to another one.
+pub fn has_other_provider(rows: &Rows, revision: u32, provider: u32) -> bool
+    ensures other { IsTrue result ↔ HasOtherProvider rows.now revision provider }
+{
+    let imports = rows.imports_of(revision);
+    for row in imports {
+        if is_contested(rows, revision, provider, *row) {
             return true;
         }
     }

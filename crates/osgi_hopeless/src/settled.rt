@@ -1,8 +1,8 @@
 //! Which revisions are settled.
 
-ghost use Rattle.std.specs.Prelude.{◌↔◌, ℕ, IfOk, IsTrue};
+ghost use Rattle.std.specs.Prelude.{◌↔◌, ℕ, Contains, IfOk, IsTrue};
 ghost use Rattle.std.specs.Bool.{Decides};
-ghost use Rattle.osgi_hopeless.specs.computed.Open.{AreUnsettled, Has};
+ghost use Rattle.osgi_hopeless.specs.computed.Open.{AreUndecided, AreUnsettled};
 ghost use Rattle.osgi_path.specs.Standing.{IsProblemOf, made};
 ghost use Rattle.osgi_wires.specs.Agree.{id};
 ghost use Rattle.osgi_world.specs.DueDecisions.{members};
@@ -15,8 +15,8 @@ ghost use Rattle.osgi_world.specs.declared.problem.Problem.{Problem};
 use osgi_base::ids::RevisionId;
 use osgi_path::Path;
 use osgi_sources::bundles::reached_bundles;
+use osgi_sources::revision_set::RevisionSet;
 use std::alloc::{AllocError, Global};
-use std::collections::BTreeSet;
 
 /// Whether the revision, which is in force or a member, has no attachment, bundle requirement or import left to decide.
 fn is_decided(path: &Path, revision: RevisionId) -> bool
@@ -68,25 +68,36 @@ fn is_unsettled_by_wire(alloc: Global, path: &Path, member: RevisionId) -> Resul
     Ok(!is_settled(alloc, path, member)?)
 }
 
-fn numbers(alloc: Global, revisions: &[RevisionId]) -> Result<BTreeSet<u32>, AllocError>
-    ensures numbers { IfOk result (λ set. (n : ℕ) → Has set n ↔ In (id n) revisions.now) }
+fn numbers(alloc: Global, revisions: &[RevisionId]) -> Result<Vec<u32>, AllocError>
+    ensures numbers { IfOk result (λ list. (n : ℕ) → Contains list.items n ↔ In (id n) revisions.now) }
 {
-    let mut set = BTreeSet::new(alloc);
+    let mut numbers = Vec::with_capacity(alloc, revisions.len())?;
     for revision in revisions {
-        set.insert(revision.0)?;
+        numbers.push(revision.0)?;
     }
-    Ok(set)
+    Ok(numbers)
+}
+
+/// The members that are not decided.
+fn undecided(alloc: Global, path: &Path) -> Result<RevisionSet, AllocError>
+    ensures undecided { IfOk result (λ set. (P : Problem) → IsProblemOf path.now P → AreUndecided P (made P path.now) set) }
+{
+    let undecided = path.undecided(alloc)?;
+    let numbers = numbers(alloc, undecided.as_slice())?;
+    Ok(RevisionSet::of(alloc, numbers)?)
 }
 
 /// The members that are not settled: those that are not decided, and those that reach such along bundle wires.
-pub fn unsettled(alloc: Global, path: &Path) -> Result<BTreeSet<u32>, AllocError>
+pub fn unsettled(alloc: Global, path: &Path) -> Result<RevisionSet, AllocError>
     ensures unsettled { IfOk result (λ set. (P : Problem) → IsProblemOf path.now P → AreUnsettled P (made P path.now) set) }
 {
-    let undecided = path.undecided(alloc)?;
-    let mut set = numbers(alloc, undecided.as_slice())?;
+    let mut set = undecided(alloc, path)?;
+    if path.rows().rows().required().is_empty() {
+        return Ok(set);
+    }
     for member in path.members() {
         if is_unsettled_by_wire(alloc, path, *member)? {
-            set.insert(member.0)?;
+            set = set.with(member.0)?;
         }
     }
     Ok(set)

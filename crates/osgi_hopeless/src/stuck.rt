@@ -1,19 +1,21 @@
 //! Whether a member makes what is decided hopeless by itself.
 
-ghost use Rattle.std.specs.Prelude.{◌↔◌, IfOk, IsTrue};
-ghost use Rattle.osgi_hopeless.specs.computed.Stuck.{IsMemberOf, IsStuck, SameName};
+ghost use Rattle.std.specs.Prelude.{◌≡◌, ◌↔◌, IfOk, IsTrue, Some};
+ghost use Rattle.osgi_hopeless.specs.computed.Stuck.{IsAmiss, IsMemberOf, IsStuck, IsStuckBy, OtherProvider, SameName};
 ghost use Rattle.osgi_path.specs.Standing.{IsProblemOf, made};
+ghost use Rattle.osgi_path.specs.declared.wired.Wired.{Wired};
+ghost use Rattle.osgi_world.specs.Partial.{partial};
 ghost use Rattle.osgi_world.specs.DueDecisions.{members};
 ghost use Rattle.osgi_world.specs.Lists.{In, Two};
 ghost use Rattle.osgi_base.specs.declared.ids.RevisionId.{RevisionId};
 ghost use Rattle.osgi_world.specs.declared.problem.Problem.{Problem};
 
 use crate::place::known_at;
-use crate::providers::has_two_providers;
+use crate::providers::{has_other_provider, has_two_providers};
 use crate::unmet::is_unmet;
 use osgi_base::ids::RevisionId;
 use osgi_coherence::are_names_single;
-use osgi_path::Path;
+use osgi_path::{Path, Wired};
 use std::alloc::{AllocError, Global};
 
 /// Whether two of the fragments have one symbolic name.
@@ -27,19 +29,55 @@ fn has_two_versions(
     Ok(!are_names_single(alloc, known_at(path), fragments)?)
 }
 
-/// Whether the member has a requirement that can get no wire any more, two providers of one package, or two fragments of one
-/// symbolic name.
-pub fn is_stuck(alloc: Global, path: &Path, member: RevisionId) -> Result<bool, AllocError>
-    ensures stuck { IfOk result (λ answer. (P : Problem) → IsMemberOf path.now P member → IsTrue answer ↔ IsStuck P (made P path.now) member) }
+/// Whether the member has a requirement that can get no wire any more, or two fragments of one symbolic name.
+fn is_amiss(alloc: Global, path: &Path, member: RevisionId) -> Result<bool, AllocError>
+    ensures amiss { IfOk result (λ answer. (P : Problem) → IsMemberOf path.now P member → IsTrue answer ↔ IsAmiss P (made P path.now) member) }
 {
     let fragments = path.fragments(alloc, member)?;
     if is_unmet(path, member, fragments.as_slice()) {
         return Ok(true);
     }
-    if has_two_providers(path.rows().rows(), member.0) {
+    Ok(has_two_versions(alloc, path, fragments.as_slice())?)
+}
+
+/// Whether the member has a requirement that can get no wire any more, two fragments of one symbolic name, or two providers of one
+/// package.
+fn is_stuck(alloc: Global, path: &Path, member: RevisionId) -> Result<bool, AllocError>
+    ensures stuck { IfOk result (λ answer. (P : Problem) → IsMemberOf path.now P member → IsTrue answer ↔ IsStuck P (made P path.now) member) }
+{
+    if is_amiss(alloc, path, member)? {
         return Ok(true);
     }
-    Ok(has_two_versions(alloc, path, fragments.as_slice())?)
+    Ok(has_two_providers(path.rows().rows(), member.0))
+}
+
+/// Whether the member has wires for one package to the provider of this wire, if there is one, and to another one.
+fn has_new_provider(path: &Path, member: RevisionId, wired: Option<Wired>) -> bool
+    ensures other { (P : Problem) → IsProblemOf path.now P → IsTrue result
+        ↔ ((w : Wired) × (wired ≡ Some w) × OtherProvider P.world.known (partial P (made P path.now)) member w.wire.capability.provider) }
+{
+    match wired {
+        Some(wired) => {
+            let provider = wired.wire.capability.provider;
+            has_other_provider(path.rows().rows(), member.0, provider.0)
+        }
+        None => false,
+    }
+}
+
+/// Whether the member is stuck. By two providers of one package only where this wire, if there is one, goes to one of them.
+pub fn is_stuck_by(
+    alloc: Global,
+    path: &Path,
+    member: RevisionId,
+    wired: Option<Wired>,
+) -> Result<bool, AllocError>
+    ensures stuck { IfOk result (λ answer. (P : Problem) → IsMemberOf path.now P member → IsTrue answer ↔ IsStuckBy P (made P path.now) member wired) }
+{
+    if is_amiss(alloc, path, member)? {
+        return Ok(true);
+    }
+    Ok(has_new_provider(path, member, wired))
 }
 
 /// Whether one of the members is so.

@@ -26,7 +26,7 @@ use Rattle.osgi_path.specs.computed.Courses.{IsAlong, IsRight, lists_of, made_of
 use Rattle.osgi_path.specs.computed.Lasts.{IsLastOf, fragment_by}
 use Rattle.osgi_path.specs.computed.Moving.{IsOnWay}
 use Rattle.osgi_path.specs.computed.Steps.{steps_in}
-use Rattle.osgi_path.specs.computed.Views.{wired_by}
+use Rattle.osgi_path.specs.Wires.{wired_by}
 use Rattle.osgi_path.specs.declared.course.Course.{Course}
 use Rattle.osgi_path.specs.declared.course.Mark.{Mark}
 use Rattle.osgi_path.specs.declared.last.Last.{Last}

@@ -20,7 +20,7 @@ use Rattle.osgi_choice.specs.Steps.{all_steps}
 use Rattle.osgi_path.proofs.Next.{right-state}
 use Rattle.osgi_path.specs.computed.Courses.{AreSteps, CourseLists, IsRight, made_of, steps_of}
 use Rattle.osgi_path.specs.computed.Steps.{steps_in}
-use Rattle.osgi_path.specs.computed.Views.{wired_by, wired_in}
+use Rattle.osgi_path.specs.Wires.{wired_by, wired_in}
 use Rattle.osgi_path.specs.declared.course.Mark.{Mark}
 use Rattle.osgi_path.specs.declared.step.Step.{Step}
 use Rattle.osgi_path.specs.declared.step.Step.TheVariants.{Attached, Wired as WiredStep}

@@ -14,6 +14,7 @@ mod values;
 mod views;
 mod wired;
 
+pub use course::Mark;
 pub use last::Last;
 pub use path::Path;
 pub use wired::Wired;

@@ -18,11 +18,11 @@ ghost use Rattle.osgi_path.specs.Last.{IsLast};
 ghost use Rattle.osgi_owners.specs.Sure.{AreSure};
 ghost use Rattle.osgi_owners.specs.DecisionOf.{decision_of};
 ghost use Rattle.osgi_path.specs.Standing.{HasValue, IsProblemOf, made};
+ghost use Rattle.osgi_path.specs.Wires.{wired_in};
 ghost use Rattle.osgi_path.specs.declared.wired.Wired.{Wired};
 
-use crate::course::Course;
+use crate::course::{Course, Mark};
 use crate::last::Last;
-use crate::wired::Wired;
 use crate::{adding, growing, last, moving, step, views};
 use osgi_base::ids::RevisionId;
 use osgi_base::list::List;
@@ -227,11 +227,11 @@ impl<'w> Path<'w> {
         self.lists.is_sure(owner)
     }
 
-    /// The wires that the decisions made.
-    pub fn wires(&self, alloc: Global) -> Result<Vec<Wired>, AllocError>
-        ensures wires { IfOk result (λ list. (P : Problem) → IsProblemOf self.now P → (w : Wired) → In w list.items ↔ In w.revision (members P (made P self.now)) × HasWire (partial.partial P (made P self.now)) w.revision w.wire) }
+    /// The decisions that are made, in their order, with the wires that they made.
+    pub fn marks(&self) -> &[Mark]
+        ensures wires { (P : Problem) → IsProblemOf self.now P → (w : Wired) → In w (wired_in result.now) ↔ In w.revision (members P (made P self.now)) × HasWire (partial.partial P (made P self.now)) w.revision w.wire }
     {
-        views::wires(alloc, &self.course)
+        self.course.marks.as_slice()
     }
 
     /// The values of the decisions, in their order.

@@ -4,21 +4,18 @@ ghost use Rattle.std.specs.Prelude.{◌≡◌, ◌↔◌, ℕ, IfOk, Some, lengt
 ghost use Rattle.std.specs.Bool.{Decides};
 ghost use Rattle.std.specs.Option.{option_to_list};
 ghost use Rattle.osgi_base.specs.declared.ids.RevisionId.{RevisionId};
-ghost use Rattle.osgi_world.specs.Candidates.{IsProblem};
 ghost use Rattle.osgi_world.specs.Decisions.{attaching, is_yes, value_made};
 ghost use Rattle.osgi_world.specs.DueDecisions.{fragments_of, members};
 ghost use Rattle.osgi_world.specs.Hopeless.{IsDecided};
 ghost use Rattle.osgi_world.specs.Lists.{In};
-ghost use Rattle.osgi_world.specs.Partial.{partial};
-ghost use Rattle.osgi_world.specs.Wirings.{HasWire};
 ghost use Rattle.osgi_world.specs.declared.problem.Problem.{Problem};
 ghost use Rattle.osgi_owners.specs.DecisionOf.{decision_of};
 ghost use Rattle.osgi_path.specs.computed.Courses.{word_of};
 ghost use Rattle.osgi_owners.specs.computed.Known.{AreRight, IsProblemIn, Knows};
 ghost use Rattle.osgi_path.specs.computed.Moving.{IsLearnt};
 ghost use Rattle.osgi_path.specs.computed.Placed.{ArePlaces};
-ghost use Rattle.osgi_path.specs.computed.Views.{IsAt, decided_in, is_spatial, is_spatial_next, wired_by};
-ghost use Rattle.osgi_path.specs.declared.wired.Wired.{Wired};
+ghost use Rattle.osgi_path.specs.computed.Views.{IsAt, decided_in, is_spatial, is_spatial_next};
+ghost use Rattle.osgi_path.specs.Wires.{wired_by};
 
 use crate::course::{Course, Mark};
 use crate::growing::{is_first, value_of};
@@ -149,18 +146,16 @@ pub fn wired_by(step: Option<Step>) -> Option<Wired>
     }
 }
 
-/// The wires that the decisions made.
-pub fn wires(alloc: Global, course: &Course) -> Result<Vec<Wired>, AllocError>
-    ensures wires { IfOk result (λ list. (P : Problem) → IsProblem P → IsAt P course.now → (w : Wired) → In w list.items ↔ In w.revision (members P (decided_in course.now)) × HasWire (partial P (decided_in course.now)) w.revision w.wire) }
-{
-    let mut list = Vec::with_capacity(alloc, course.marks.len())?;
-    for mark in &course.marks {
-        if let Some(wired) = wired_by(mark.step) {
-            list.push(wired)?;
-        }
+impl Mark {
+    /// The wire that the decision made, if it made one.
+    pub fn wired(&self) -> Option<Wired>
+        ensures wired { option_to_list result ≡ wired_by self.now.step }
+    {
+        wired_by(self.step)
     }
-    Ok(list)
 }
+
+// ---- the word
 
 /// The values of the marks.
 pub fn word(alloc: Global, marks: &[Mark]) -> Result<List<u64>, AllocError>

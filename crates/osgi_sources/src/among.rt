@@ -3,6 +3,7 @@
 ghost use Rattle.std.specs.Prelude.{◌↔◌, IsTrue};
 ghost use Rattle.osgi_sources.specs.computed.Amongst.{IsAmong};
 
+use crate::revision_set::RevisionSet;
 use std::collections::BTreeSet;
 
 /// All revisions, those that are listed, or all but those that are listed.
@@ -10,7 +11,7 @@ use std::collections::BTreeSet;
 pub enum Among<'a> {
     All,
     Listed(&'a BTreeSet<u32>),
-    AllBut(&'a BTreeSet<u32>),
+    AllBut(&'a RevisionSet),
 }
 
 impl Among<'_> {
@@ -20,7 +21,7 @@ impl Among<'_> {
         match self {
             Among::All => true,
             Among::Listed(listed) => listed.contains(&revision),
-            Among::AllBut(others) => !others.contains(&revision),
+            Among::AllBut(others) => !others.has(revision),
         }
     }
 }

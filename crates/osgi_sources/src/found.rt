@@ -36,6 +36,18 @@ impl<T: Node> Found<T> {
         }
     }
 
+    /// These values.
+    pub fn of(alloc: Global, items: Vec<T>) -> Result<Found<T>, AllocError>
+        ensures items { IfOk result (λ found. found.items ≡ items) }
+        ensures collected { IfOk result (λ found. IsCollected T.cmp found) }
+    {
+        let mut set = BTreeSet::new(alloc);
+        if items.len() > FEW {
+            put_all(&mut set, items.as_slice())?;
+        }
+        Ok(Found { items, set })
+    }
+
     pub fn has(&self, node: T) -> bool
         requires collected { IsCollected T.cmp self.now }
         ensures has { IsTrue result ↔ Contains self.now.items.items node }

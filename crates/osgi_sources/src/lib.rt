@@ -9,5 +9,6 @@ pub mod disputed;
 pub mod found;
 pub mod given;
 pub mod package_sources;
+pub mod revision_set;
 pub mod space;
 pub mod uses;

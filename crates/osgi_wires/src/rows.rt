@@ -153,6 +153,13 @@ impl Rows {
         self.imports.all()
     }
 
+    /// All wires for required bundles.
+    pub fn required(&self) -> &[Required]
+        ensures rows { result.now ≡ self.now.required }
+    {
+        self.required.all()
+    }
+
     /// All attachments.
     pub fn attached(&self) -> &[Attachment]
         ensures rows { result.now ≡ self.now.attached }

@@ -1,6 +1,5 @@
 -- What is settled and wrong: wires to what is not on offer, and constraints that clash.
 use Rattle.std.specs.Prelude.{◌≡◌, ◌↔◌, ℕ, ◌⊎◌, List, []}
-use Rattle.std.specs.BTreeSet.{BTreeSet}
 use Rattle.osgi_base.specs.declared.ids.RevisionId.{RevisionId}
 use Rattle.osgi_path.specs.declared.wired.Wired.{Wired}
 use Rattle.osgi_world.specs.Decisions.{Made}
@@ -20,7 +19,7 @@ use Rattle.osgi_wires.specs.Rows.{RowLists, Requires, imports_of, required_by}
 use Rattle.osgi_hopeless.specs.computed.Open.{Has}
 
 -- the provider is not in the set, and does not have the capability on offer
-abbrev pub IsLost : List Known → List Wiring → BTreeSet ℕ → Wired → Type 0
+abbrev pub IsLost : List Known → List Wiring → List ℕ → Wired → Type 0
 IsLost K W unsettled w = (¬ Has unsettled w.wire.capability.provider.0) × ¬ OnOffer K W w.wire.capability
 
 -- the provider is settled, and does not have the capability on offer
@@ -67,5 +66,5 @@ abbrev pub IsWired : RowLists → ℕ → Type 0
 IsWired R r = (¬ (imports_of R r ≡ [])) ⊎ ¬ (required_by R r ≡ [])
 
 -- it has one, and a violated constraint that comes from revisions outside the set alone
-abbrev pub IsBroken : RowLists → BTreeSet ℕ → ℕ → Type 0
+abbrev pub IsBroken : RowLists → List ℕ → ℕ → Type 0
 IsBroken R unsettled r = IsWired R r × ¬ KeepsUsesAmong R (λ x. ¬ Has unsettled x) r

@@ -10,15 +10,15 @@ use Rattle.osgi_world.specs.Lists.{In}
 use Rattle.osgi_world.specs.declared.problem.Problem.{Problem}
 use Rattle.osgi_hopeless.specs.computed.Clashing.{HasClash, HasLostAt, IsLostBy}
 use Rattle.osgi_hopeless.specs.computed.Rivals.{HasRivals}
-use Rattle.osgi_hopeless.specs.computed.Stuck.{IsStuck}
+use Rattle.osgi_hopeless.specs.computed.Stuck.{IsStuckBy}
 use Rattle.osgi_path.specs.declared.last.Last.{Last}
 
--- the host of the decision, or who joined by it, is stuck
+-- the host of the decision, or who joined by it, is stuck; by two providers only where the wire that it made goes to one of them
 pub record HasTouchedStuck (P : Problem) (s : Standing) (last : Last) : Type 0 where
   pub member : RevisionId
   pub is_member : In member (members P (made P s))
   pub touched : (member ≡ host (decision_of last.decision)) ⊎ (last.joined ≡ Some member)
-  pub stuck : IsStuck P (made P s) member
+  pub stuck : IsStuckBy P (made P s) member last.wired
 
 -- r joined by the decision, or is the fragment that it attached
 abbrev pub IsNewBy : Last → RevisionId → Type 0

@@ -1,7 +1,8 @@
 -- Members that make what is decided hopeless by themselves.
-use Rattle.std.specs.Prelude.{◌≡◌, ◌≢◌, ℕ, ◌<◌, ◌⊎◌, IsTrue, List, [], Some}
+use Rattle.std.specs.Prelude.{◌≡◌, ◌≢◌, ℕ, ◌<◌, ◌⊎◌, IsTrue, List, [], Option, Some}
 use Rattle.osgi_base.specs.declared.ids.RevisionId.{RevisionId}
 use Rattle.osgi_path.specs.Standing.{IsProblemOf, Standing, made}
+use Rattle.osgi_path.specs.declared.wired.Wired.{Wired}
 use Rattle.osgi_world.specs.Candidates.{candidates}
 use Rattle.osgi_world.specs.Decisions.{Made, pick, value_made}
 use Rattle.osgi_world.specs.DueDecisions.{fragments_of, members, payload}
@@ -65,7 +66,25 @@ pub record TwoProviders (K : List Known) (W : List Wiring) (r : RevisionId) : Ty
 abbrev pub SameName : List Known → RevisionId → RevisionId → Type 0
 SameName K e f = symbolic_name K e ≡ symbolic_name K f
 
+-- a requirement of the payload of m cannot be met, or two of its fragments have one symbolic name
+abbrev pub IsAmiss : Problem → Made → RevisionId → Type 0
+IsAmiss P D m = IsUnmet P D m ⊎ Two (SameName P.world.known) (fragments_of P D m)
+
 pub data IsStuck (P : Problem) (D : Made) (m : RevisionId) : Type 0 where
-  unmet : IsUnmet P D m → IsStuck P D m
+  amiss : IsAmiss P D m → IsStuck P D m
   two_providers : TwoProviders P.world.known (partial P D) m → IsStuck P D m
-  two_versions : Two (SameName P.world.known) (fragments_of P D m) → IsStuck P D m
+
+-- ---- those that a wire can have given
+
+-- r has wires for one package to x and to another provider
+pub record OtherProvider (K : List Known) (W : List Wiring) (r x : RevisionId) : Type 0 where
+  pub name : List ℕ
+  pub other : RevisionId
+  pub one_wire : PackageWire K W r name x
+  pub other_wire : PackageWire K W r name other
+  pub differ : x ≢ other
+
+-- m is stuck; where it is so by two providers of one package, the wire, if there is one, goes to one of them
+pub data IsStuckBy (P : Problem) (D : Made) (m : RevisionId) (wired : Option Wired) : Type 0 where
+  by_itself : IsAmiss P D m → IsStuckBy P D m wired
+  by_wire : (w : Wired) → wired ≡ Some w → OtherProvider P.world.known (partial P D) m w.wire.capability.provider → IsStuckBy P D m wired

@@ -1,4 +1,4 @@
--- What is seen of a course: which decisions are of packages and bundles, and the wires that marks made.
+-- What is seen of a course: which decisions are of packages and bundles, and what they add.
 use Rattle.std.specs.Prelude.{◌≡◌, ◌⊎◌, ℕ, Bool, true, false, List, [], ◌∷◌, Option, None, Some, flat_map, reverse}
 use Rattle.osgi_base.specs.declared.ids.RevisionId.{RevisionId}
 use Rattle.osgi_world.specs.Decisions as decisions
@@ -45,16 +45,6 @@ is_spatial K (pick h q c) = is_of_space (requirement_namespace K q)
 abbrev pub is_spatial_next : List Known → Option Decision → Bool
 is_spatial_next K None = false
 is_spatial_next K (Some d) = is_spatial K (decision_of d)
-
--- ---- wires
-
-abbrev pub wired_by : Option Step → List Wired
-wired_by None = []
-wired_by (Some (Attached host fragment)) = []
-wired_by (Some (WiredStep revision wire)) = record { revision = revision; wire = wire } ∷ []
-
-abbrev pub wired_in : List Mark → List Wired
-wired_in ms = flat_map (λ (m : Mark). wired_by m.step) ms
 
 -- ---- what is added
 

@@ -1,5 +1,5 @@
 -- The revisions from which constraints may come.
-use Rattle.std.specs.Prelude.{ℕ, IsTrue}
+use Rattle.std.specs.Prelude.{ℕ, Contains, IsTrue}
 use Rattle.std.specs.BTreeSet.{contains}
 use Rattle.std.specs.Ordering.{nat_cmp}
 use Rattle.osgi_sources.specs.declared.among.Among.{Among}
@@ -8,4 +8,4 @@ use Rattle.osgi_sources.specs.declared.among.Among.TheVariants.{All, AllBut, Lis
 abbrev pub IsAmong : Among → ℕ → Type 0
 IsAmong All r = Unit {0}
 IsAmong (Listed listed) r = IsTrue (contains nat_cmp listed.now r)
-IsAmong (AllBut others) r = ¬ IsTrue (contains nat_cmp others.now r)
+IsAmong (AllBut others) r = ¬ Contains others.now r

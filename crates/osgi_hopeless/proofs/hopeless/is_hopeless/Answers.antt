@@ -18,8 +18,8 @@ has_lost-requires c = record { unsettled = c.in_ok-unsettled.ensures.unsettled }
 pub has_clash-requires : goal.has_clash-requires
 has_clash-requires c = record { unsettled = c.in_ok-unsettled.ensures.unsettled }
 
-pub returns-then-branch-3 : goal.returns-then-branch-3
-returns-then-branch-3 c = record { hopeless = λ P L. yes (reason-hopeless P (made P c.args.path.now) L.is (lost ((c.in_ok-has_lost.ensures.lost P L).0 c.if-branch-3.true))) }
+pub returns-then-has_lost : goal.returns-then-has_lost
+returns-then-has_lost c = record { hopeless = λ P L. yes (reason-hopeless P (made P c.args.path.now) L.is (lost ((c.has_lost.ensures.lost P L).0 c.if-has_lost.true))) }
 
 pub returns : goal.returns
 returns c = record {
@@ -28,7 +28,7 @@ returns c = record {
     λ h. elim (hopeless-reason P (made P c.args.path.now) L.is h) [
       | stuck s ↦ absurd (not_true _ c.if-branch.false ((c.in_ok-has_stuck_member.ensures.stuck P L).1 s))
       | rivals r ↦ absurd (not_true _ c.if-branch-2.false ((c.in_ok-has_rivals.ensures.rivals P L).1 r))
-      | lost l ↦ absurd (not_true _ c.if-branch-3.false ((c.in_ok-has_lost.ensures.lost P L).1 l))
+      | lost l ↦ absurd (not_true _ c.if-has_lost.false ((c.has_lost.ensures.lost P L).1 l))
       | clash k ↦ (c.in_ok-has_clash.ensures.clash P L).1 k
     ],
   );

@@ -1,14 +1,15 @@
 -- One reason after the other.
 use Rattle.std.proofs.Common.{refl}
 use Rattle.osgi_coherence.proofs.OneValue.{not_true}
-use Rattle.osgi_hopeless.proofs.Tested.{made-holder, made-wire}
+use Rattle.osgi_hopeless.proofs.Tested.{by-stuck, made-holder, made-wire}
 use Rattle.osgi_hopeless.specs.computed.Onward as onward
 use Rattle.osgi_hopeless.specs.computed.Reasons.{lost, rivals, stuck}
+use Rattle.osgi_path.specs.Standing.{made}
 use Rattle.osgi_hopeless.proofs.onward.is_at_once.Goals as goal
 
 pub returns-then-branch : goal.returns-then-branch
 returns-then-branch c = record {
-  reason = λ P L x t. let s = (c.in_ok-is_touched_stuck.ensures.stuck P L x).0 c.if-branch.true in stuck (s.member, s.is_member, s.stuck);
+  reason = λ P L x t. let s = (c.in_ok-is_touched_stuck.ensures.stuck P L x).0 c.if-branch.true in stuck (s.member, s.is_member, by-stuck P (made P c.args.path.now) s.member c.args.last.wired s.stuck);
   all = λ P L x h. refl;
 }
 
