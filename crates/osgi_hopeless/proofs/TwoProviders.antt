@@ -1,4 +1,4 @@
--- A revision has two providers of a package where a row of it differs from the first one for that package.
+-- A revision has two providers of a package where a row of it differs from the first one for that package, or from one that is given.
 use Rattle.std.proofs.Common.{◌≡◌, ◌≢◌, ◌<◌, ◌↔◌, inl, inr, ℕ, List, [], ◌∷◌, length, refl, sym, ◌∙◌, ap, subst, arith, Any, Contains}
 use Rattle.osgi_base.specs.declared.ids.RevisionId.{RevisionId}
 use Rattle.osgi_choice.proofs.Values.{nat-dec}

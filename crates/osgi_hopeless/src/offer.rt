@@ -84,7 +84,7 @@ fn is_lost(rows: &WorldRows, unsettled: &RevisionSet, wired: Wired) -> bool
 }
 
 /// Whether it is so with the wire of a decision, if it made one.
-fn is_made_lost(rows: &WorldRows, unsettled: &RevisionSet, wired: Option<Wired>) -> bool
+fn is_wire_lost(rows: &WorldRows, unsettled: &RevisionSet, wired: Option<Wired>) -> bool
     ensures lost { (W : List Wiring) → AreRowsIn rows.now W → IsTrue result ↔ ((w : Wired) × (wired ≡ Some w) × IsLost rows.now.known W unsettled.now w) }
 {
     match wired {
@@ -98,7 +98,7 @@ fn is_one_lost(rows: &WorldRows, unsettled: &RevisionSet, marks: &[Mark]) -> boo
     ensures lost { (W : List Wiring) → AreRowsIn rows.now W → IsTrue result ↔ ((w : Wired) × In w (wired_in marks.now) × IsLost rows.now.known W unsettled.now w) }
 {
     for mark in marks {
-        if is_made_lost(rows, unsettled, mark.wired()) {
+        if is_wire_lost(rows, unsettled, mark.wired()) {
             return true;
         }
     }
@@ -165,7 +165,7 @@ fn is_lost_at(
 }
 
 /// The same of the wire of a decision, if it made one.
-fn is_made_lost_at(
+fn is_wire_lost_at(
     alloc: Global,
     path: &Path,
     wired: Option<Wired>,
@@ -193,7 +193,7 @@ fn is_one_lost_at(
     ensures all { IfOk result (λ answer. (P : Problem) → IsProblemOf path.now P → AreWires P (made P path.now) (wired_in marks.now) → HasLostAt P (made P path.now) host → IsTrue answer) }
 {
     for mark in marks {
-        if is_made_lost_at(alloc, path, mark.wired(), host)? {
+        if is_wire_lost_at(alloc, path, mark.wired(), host)? {
             return Ok(true);
         }
     }

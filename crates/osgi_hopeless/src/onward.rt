@@ -22,8 +22,8 @@ use osgi_base::ids::RevisionId;
 use osgi_path::{Last, Path};
 use std::alloc::{AllocError, Global};
 
-/// Whether the host of the last decision, or who joined by it, is stuck. Of two providers of one package one has to be that of the
-/// wire that the decision made, since there were no two before.
+/// Whether the host of the last decision, or who joined by it, is stuck. Two providers of one package count only where one is that of
+/// the wire that the decision made: there were no two before, where the word before was not hopeless.
 fn is_touched_stuck(alloc: Global, path: &Path, last: Last) -> Result<bool, AllocError>
     ensures stuck { IfOk result (λ answer. (P : Problem) → IsProblemOf path.now P → IsLast P path.now last → IsTrue answer ↔ HasTouchedStuck P path.now last) }
 {

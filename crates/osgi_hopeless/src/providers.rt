@@ -33,7 +33,7 @@ pub fn has_two_providers(rows: &Rows, revision: u32) -> bool
     false
 }
 
-// ---- to a provider and another one
+// ---- where one provider is given
 
 /// Whether one of the wires goes to another provider.
 fn has_another(imports: &[Import], provider: u32) -> bool
@@ -47,7 +47,7 @@ fn has_another(imports: &[Import], provider: u32) -> bool
     false
 }
 
-/// Whether the wire goes to the provider, and one for its package to another one.
+/// Whether this wire goes to the provider, and another wire of the revision for the same package does not.
 fn is_contested(rows: &Rows, revision: u32, provider: u32, row: Import) -> bool
     ensures contested { IsTrue result ↔ IsContested rows.now revision provider row }
 {

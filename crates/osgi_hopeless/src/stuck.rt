@@ -52,7 +52,7 @@ fn is_stuck(alloc: Global, path: &Path, member: RevisionId) -> Result<bool, Allo
 }
 
 /// Whether the member has wires for one package to the provider of this wire, if there is one, and to another one.
-fn has_new_provider(path: &Path, member: RevisionId, wired: Option<Wired>) -> bool
+fn has_two_with(path: &Path, member: RevisionId, wired: Option<Wired>) -> bool
     ensures other { (P : Problem) → IsProblemOf path.now P → IsTrue result
         ↔ ((w : Wired) × (wired ≡ Some w) × OtherProvider P.world.known (partial P (made P path.now)) member w.wire.capability.provider) }
 {
@@ -65,7 +65,7 @@ fn has_new_provider(path: &Path, member: RevisionId, wired: Option<Wired>) -> bo
     }
 }
 
-/// Whether the member is stuck. By two providers of one package only where this wire, if there is one, goes to one of them.
+/// Whether the member is stuck. Two providers of one package count only where there is this wire, and it goes to one of them.
 pub fn is_stuck_by(
     alloc: Global,
     path: &Path,
@@ -77,10 +77,10 @@ pub fn is_stuck_by(
     if is_amiss(alloc, path, member)? {
         return Ok(true);
     }
-    Ok(has_new_provider(path, member, wired))
+    Ok(has_two_with(path, member, wired))
 }
 
-/// Whether one of the members is so.
+/// Whether one of the members is stuck.
 pub fn has_stuck_member(alloc: Global, path: &Path) -> Result<bool, AllocError>
     ensures stuck { IfOk result (λ answer. (P : Problem) → IsProblemOf path.now P → IsTrue answer ↔ ((m : RevisionId) × In m (members P (made P path.now)) × IsStuck P (made P path.now) m)) }
 {

@@ -5,7 +5,7 @@ use Rattle.osgi_path.specs.declared.step.Step.{Step}
 use Rattle.osgi_path.specs.declared.step.Step.TheVariants.{Attached, Wired as WiredStep}
 use Rattle.osgi_path.specs.declared.wired.Wired.{Wired}
 
--- the wire of a step, if it is one
+-- the wire of a step, if the step is a wire
 abbrev pub wired_by : Option Step → List Wired
 wired_by None = []
 wired_by (Some (Attached host fragment)) = []

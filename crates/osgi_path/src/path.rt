@@ -227,7 +227,7 @@ impl<'w> Path<'w> {
         self.lists.is_sure(owner)
     }
 
-    /// The decisions that are made, in their order, with the wires that they made.
+    /// The marks of the decisions that are made. Their wires are those of the members.
     pub fn marks(&self) -> &[Mark]
         ensures wires { (P : Problem) → IsProblemOf self.now P → (w : Wired) → In w (wired_in result.now) ↔ In w.revision (members P (made P self.now)) × HasWire (partial.partial P (made P self.now)) w.revision w.wire }
     {

@@ -136,7 +136,7 @@ pub fn undecided(
 
 // ---- wires
 
-/// The wire of a step, if it is one.
+/// The wire of a step, if the step is a wire.
 pub fn wired_by(step: Option<Step>) -> Option<Wired>
     ensures wired { option_to_list result ≡ wired_by step }
 {

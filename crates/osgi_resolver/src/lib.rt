@@ -11,3 +11,4 @@ mod walk;
 pub use answer::{Answer, Cause};
 pub use indexed_wirings::IndexedWirings;
 pub use resolving::resolve;
+pub use walk::Walk;

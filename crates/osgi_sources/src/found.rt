@@ -1,4 +1,4 @@
-//! What was found so far, in order, each once.
+//! What was found so far, in order.
 
 ghost use Rattle.std.specs.Prelude.{◌≡◌, ◌↔◌, ◌⊎◌, ◌≤◌, [], length, Contains, IfOk, IsTrue};
 ghost use Rattle.std.specs.BTreeSet.{contains};
@@ -36,7 +36,7 @@ impl<T: Node> Found<T> {
         }
     }
 
-    /// These values.
+    /// These values, in this order; one may stand there several times.
     pub fn of(alloc: Global, items: Vec<T>) -> Result<Found<T>, AllocError>
         ensures items { IfOk result (λ found. found.items ≡ items) }
         ensures collected { IfOk result (λ found. IsCollected T.cmp found) }

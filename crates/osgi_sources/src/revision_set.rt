@@ -7,8 +7,8 @@ use crate::found::Found;
 use std::alloc::{AllocError, Global};
 use std::marker::Model;
 
-/// The numbers of revisions. Contracts see them as a list, in the order in which they were added. Of a few the list is looked
-/// through, which takes less time than a tree.
+/// The numbers of revisions. Contracts see them as a list, in the order in which they were added. While they are few, `has` looks
+/// through the list, which takes less time than a tree.
 #[derive(Drop)]
 pub struct RevisionSet {
     found: Found<u32>,
@@ -42,7 +42,7 @@ impl RevisionSet {
         self.found.has(revision)
     }
 
-    /// The set with one more revision, unless it has it.
+    /// The set with one more revision, unless it is there.
     pub fn with(self, revision: u32) -> Result<RevisionSet, AllocError>
         ensures added { IfOk result (λ set. Adds (λ x. x ≡ revision) self set) }
     {

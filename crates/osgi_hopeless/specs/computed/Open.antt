@@ -1,4 +1,4 @@
--- Members that are not settled.
+-- Members that are not decided, or not settled.
 use Rattle.std.specs.Prelude.{◌↔◌, ℕ, List, Contains}
 use Rattle.osgi_wires.specs.Agree.{id}
 use Rattle.osgi_world.specs.Decisions.{Made}
@@ -7,6 +7,7 @@ use Rattle.osgi_world.specs.Hopeless.{IsDecided, IsSettled}
 use Rattle.osgi_world.specs.Lists.{In}
 use Rattle.osgi_world.specs.declared.problem.Problem.{Problem}
 
+-- the list has the number
 abbrev pub Has : List ℕ → ℕ → Type 0
 Has set n = Contains set n
 

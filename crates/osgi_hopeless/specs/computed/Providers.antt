@@ -16,6 +16,6 @@ HasTwoProviders R r = (p x y : ℕ) × Imports R r p x × Imports R r p y × (x 
 abbrev pub HasOtherProvider : RowLists → ℕ → ℕ → Type 0
 HasOtherProvider R r x = (p y : ℕ) × Imports R r p x × Imports R r p y × (x ≢ y)
 
--- the row goes to x, and one for its package to another provider
+-- the row goes to x, and another row of r for the same package does not
 abbrev pub IsContested : RowLists → ℕ → ℕ → Import → Type 0
 IsContested R r x row = (row.provider ≡ x) × Any (λ (other : Import). other.provider ≢ x) (imports_for R r row.imported)

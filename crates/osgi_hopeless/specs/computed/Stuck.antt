@@ -70,11 +70,12 @@ SameName K e f = symbolic_name K e ≡ symbolic_name K f
 abbrev pub IsAmiss : Problem → Made → RevisionId → Type 0
 IsAmiss P D m = IsUnmet P D m ⊎ Two (SameName P.world.known) (fragments_of P D m)
 
+-- what makes a word hopeless of the member m alone
 pub data IsStuck (P : Problem) (D : Made) (m : RevisionId) : Type 0 where
   amiss : IsAmiss P D m → IsStuck P D m
   two_providers : TwoProviders P.world.known (partial P D) m → IsStuck P D m
 
--- ---- those that a wire can have given
+-- ---- after one decision more
 
 -- r has wires for one package to x and to another provider
 pub record OtherProvider (K : List Known) (W : List Wiring) (r x : RevisionId) : Type 0 where
@@ -84,7 +85,7 @@ pub record OtherProvider (K : List Known) (W : List Wiring) (r x : RevisionId) :
   pub other_wire : PackageWire K W r name other
   pub differ : x ≢ other
 
--- m is stuck; where it is so by two providers of one package, the wire, if there is one, goes to one of them
+-- m is stuck; two providers of one package count only where there is a wire, and it goes to one of them
 pub data IsStuckBy (P : Problem) (D : Made) (m : RevisionId) (wired : Option Wired) : Type 0 where
   by_itself : IsAmiss P D m → IsStuckBy P D m wired
   by_wire : (w : Wired) → wired ≡ Some w → OtherProvider P.world.known (partial P D) m w.wire.capability.provider → IsStuckBy P D m wired

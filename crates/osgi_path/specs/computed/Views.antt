@@ -1,5 +1,5 @@
--- What is seen of a course: which decisions are of packages and bundles, and what they add.
-use Rattle.std.specs.Prelude.{◌≡◌, ◌⊎◌, ℕ, Bool, true, false, List, [], ◌∷◌, Option, None, Some, flat_map, reverse}
+-- What is seen of a course: which decisions are of packages and bundles, and what decisions add.
+use Rattle.std.specs.Prelude.{◌≡◌, ◌⊎◌, ℕ, Bool, true, false, List, [], Option, None, Some, reverse}
 use Rattle.osgi_base.specs.declared.ids.RevisionId.{RevisionId}
 use Rattle.osgi_world.specs.Decisions as decisions
 use Rattle.osgi_world.specs.Decisions.{Made, attaching, choose, pick}
@@ -18,13 +18,9 @@ use Rattle.osgi_owners.specs.computed.Known.{IsProblemIn}
 use Rattle.osgi_path.specs.computed.Moving.{IsLearnt}
 use Rattle.osgi_path.specs.computed.Valued.{AreValues}
 use Rattle.osgi_path.specs.declared.course.Course.{Course}
-use Rattle.osgi_path.specs.declared.course.Mark.{Mark}
 use Rattle.osgi_owners.specs.declared.decision.Decision.{Decision}
 use Rattle.osgi_owners.specs.declared.lists.Lists.{Lists}
-use Rattle.osgi_path.specs.declared.step.Step.{Step}
-use Rattle.osgi_path.specs.declared.step.Step.TheVariants.{Attached, Wired as WiredStep}
 use Rattle.osgi_path.specs.declared.values.Values.{Values}
-use Rattle.osgi_path.specs.declared.wired.Wired.{Wired}
 
 -- the course is right for the problem
 abbrev pub IsAt : Problem → Course → Type 0

@@ -21,15 +21,15 @@ loop-mark-preserved c = λ W is.
     let i = c.loop-mark.mark-index in
     let within = c.loop-mark-test.true in
     each_step (λ (m : Mark). (w : Wired) → In w (wired_by m.step) → ¬ IsLost c.args.rows.now.known W c.args.unsettled.now w) marks i _ within (get_or_default marks i _ _ within) (c.loop-mark.invariant W is)
-    (λ w j lost. not_true _ c.if-is_made_lost.false ((c.is_made_lost.ensures.lost W is).1 (w, listed-some _ _ c.wired.ensures.wired w j, lost)))
+    (λ w j lost. not_true _ c.if-is_wire_lost.false ((c.is_wire_lost.ensures.lost W is).1 (w, listed-some _ _ c.wired.ensures.wired w j, lost)))
 
-pub returns-then-is_made_lost : goal.returns-then-is_made_lost
-returns-then-is_made_lost c = record {
+pub returns-then-is_wire_lost : goal.returns-then-is_wire_lost
+returns-then-is_wire_lost c = record {
   lost = λ W is.
       let marks = c.args.marks.now in
       let i = c.loop-mark.mark-index in
       let within = c.loop-mark-test.true in
-      let some = (c.is_made_lost.ensures.lost W is).0 c.if-is_made_lost.true in
+      let some = (c.is_wire_lost.ensures.lost W is).0 c.if-is_wire_lost.true in
       yes (some.0, in-flat_map (λ (m : Mark). wired_by m.step) marks _ some.0 (at_in marks i _ within (get_or_default marks i _ _ within)) (some-listed _ _ c.wired.ensures.wired some.0 some.1), some.2);
 }
 

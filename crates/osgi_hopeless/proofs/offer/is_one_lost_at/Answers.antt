@@ -23,8 +23,8 @@ loop-mark-preserved c = λ P L are.
     let within = c.loop-mark-test.true in
     let at = get_or_default marks i _ _ within in
     each_step (λ (m : Mark). (w : Wired) → In w (wired_by m.step) → ¬ IsLostAt P (made P c.args.path.now) c.args.host w.wire) marks i _ within at (c.loop-mark.invariant P L are)
-    (λ w j lost. not_true _ c.if-branch.false (c.in_ok-is_made_lost_at.ensures.all P L w (listed-some _ _ c.wired.ensures.wired w j)
-        ((are w).0 (in-flat_map (λ (m : Mark). wired_by m.step) marks _ w (at_in marks i _ within at) j)).1 lost))
+    (λ w j lost. not_true _ c.if-branch.false (c.in_ok-is_wire_lost_at.ensures.all P L w (listed-some _ _ c.wired.ensures.wired w j)
+    ((are w).0 (in-flat_map (λ (m : Mark). wired_by m.step) marks _ w (at_in marks i _ within at) j)).1 lost))
 
 pub returns-then-branch : goal.returns-then-branch
 returns-then-branch c = record {
@@ -32,9 +32,9 @@ returns-then-branch c = record {
       let marks = c.args.marks.now in
       let i = c.loop-mark.mark-index in
       let within = c.loop-mark-test.true in
-      let one = c.in_ok-is_made_lost_at.ensures.made c.if-branch.true in
+      let one = c.in_ok-is_wire_lost_at.ensures.made c.if-branch.true in
       let there = (are one.0).0 (in-flat_map (λ (m : Mark). wired_by m.step) marks _ one.0 (at_in marks i _ within (get_or_default marks i _ _ within)) (some-listed _ _ c.wired.ensures.wired one.0 one.1)) in
-      lost-there P (made P c.args.path.now) one.0 there (c.in_ok-is_made_lost_at.ensures.lost P L one.0 one.1 there.1 c.if-branch.true);
+      lost-there P (made P c.args.path.now) one.0 there (c.in_ok-is_wire_lost_at.ensures.lost P L one.0 one.1 there.1 c.if-branch.true);
   all = λ P L are has. refl;
 }
 

@@ -10,7 +10,7 @@ returns-then-branch c = record { stuck = λ P M. yes (by_itself ((c.in_ok-is_ami
 pub returns : goal.returns
 returns c = record {
   stuck = λ P M.
-      let other = c.has_new_provider.ensures.other P M.problem in (
+      let other = c.has_two_with.ensures.other P M.problem in (
         λ t. let some = other.0 t in by_wire some.0 some.1 some.2,
         λ s. elim s [
           | by_itself a ↦ absurd (not_true _ c.if-branch.false ((c.in_ok-is_amiss.ensures.amiss P M).1 a))

@@ -1,5 +1,5 @@
 -- The wires of all marks are those of the members.
-use Rattle.std.proofs.Common.{◌↔◌, ◌∙◌, List, sym, subst}
+use Rattle.std.proofs.Common.{◌↔◌, List, sym, subst}
 use Rattle.osgi_world.specs.Decisions.{Made}
 use Rattle.osgi_world.specs.DueDecisions.{members}
 use Rattle.osgi_world.specs.Lists.{In}
@@ -7,7 +7,6 @@ use Rattle.osgi_world.specs.Partial as partial
 use Rattle.osgi_world.specs.Wirings.{HasWire}
 use Rattle.osgi_path.specs.Standing.{made}
 use Rattle.osgi_path.specs.computed.Courses.{lists_of}
-use Rattle.osgi_path.specs.computed.Views.{decided_in}
 use Rattle.osgi_path.specs.Wires.{wired_in}
 use Rattle.osgi_path.specs.declared.course.Mark.{Mark}
 use Rattle.osgi_path.proofs.OnWay.{made-at, stands-at}

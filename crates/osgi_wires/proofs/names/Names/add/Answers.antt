@@ -1,10 +1,9 @@
 -- The indices with one name more.
-use Rattle.std.proofs.Common.{◌≡◌, ◌++◌, ◌∷◌, [], ℕ, List, length, sym, ◌∙◌, ap, subst, rules, arith}
-use Rattle.std.specs.Prelude.{false, Some, is_some}
-use Rattle.std.specs.BTreeMap.{get, Updates}
+use Rattle.std.proofs.Common.{◌≡◌, ◌++◌, ◌∷◌, [], ℕ, List, length, sym, ◌∙◌, ap, subst, rules}
+use Rattle.std.specs.Prelude.{Some}
+use Rattle.std.specs.BTreeMap.{Updates}
 use Rattle.std.specs.Cmp.Lexicographic.{slice_cmp}
 use Rattle.std.specs.Ordering.{nat_cmp}
-use Rattle.std.proofs.lemmas.Grind.{common_steps}
 use Rattle.osgi_wires.specs.Names.{HasNumber}
 use Rattle.osgi_wires.specs.computed.Digests.{digest_of}
 use Rattle.osgi_wires.specs.computed.Numbers.{AreNumbersOf}

@@ -4,7 +4,7 @@ use Rattle.osgi_hopeless.proofs.Answering.{no}
 use Rattle.osgi_hopeless.proofs.Tested.{some-none, some-same}
 use Rattle.osgi_hopeless.specs.computed.Clashing.{IsLost}
 use Rattle.osgi_path.specs.declared.wired.Wired.{Wired}
-use Rattle.osgi_hopeless.proofs.offer.is_made_lost.Goals as goal
+use Rattle.osgi_hopeless.proofs.offer.is_wire_lost.Goals as goal
 
 pub returns-in-Some : goal.returns-in-Some
 returns-in-Some c = record {

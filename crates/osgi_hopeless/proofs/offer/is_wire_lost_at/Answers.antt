@@ -6,7 +6,7 @@ use Rattle.osgi_path.specs.Standing.{made}
 use Rattle.osgi_path.specs.declared.wired.Wired.{Wired}
 use Rattle.osgi_world.specs.Partial.{partial}
 use Rattle.osgi_world.specs.Wirings.{HasWire}
-use Rattle.osgi_hopeless.proofs.offer.is_made_lost_at.Goals as goal
+use Rattle.osgi_hopeless.proofs.offer.is_wire_lost_at.Goals as goal
 
 pub returns-in_ok-is_lost_at-in-Some : goal.returns-in_ok-is_lost_at-in-Some
 returns-in_ok-is_lost_at-in-Some c = record {

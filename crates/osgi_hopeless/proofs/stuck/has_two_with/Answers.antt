@@ -1,5 +1,5 @@
 -- The rows are those of the wirings that are decided.
-use Rattle.std.proofs.Common.{sym, ap, ◌∙◌, subst}
+use Rattle.std.proofs.Common.{sym, subst}
 use Rattle.osgi_hopeless.proofs.Answering.{known-is, no}
 use Rattle.osgi_hopeless.proofs.Tested.{some-none, some-same}
 use Rattle.osgi_hopeless.proofs.TwoProviders.{other-provider}
@@ -9,7 +9,7 @@ use Rattle.osgi_path.specs.Standing.{made}
 use Rattle.osgi_path.specs.declared.wired.Wired.{Wired}
 use Rattle.osgi_wires.specs.Names.{name_of}
 use Rattle.osgi_world.specs.Partial.{partial}
-use Rattle.osgi_hopeless.proofs.stuck.has_new_provider.Goals as goal
+use Rattle.osgi_hopeless.proofs.stuck.has_two_with.Goals as goal
 
 pub returns-in-Some : goal.returns-in-Some
 returns-in-Some c = record {
