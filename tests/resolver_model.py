@@ -479,6 +479,22 @@ class Walk:
         return self.found if self.found is not None else NoWord(self.problem.first_lacking())
 
 
+def has_few_words(walk, most):
+    """At most so many words come up to the first good one, or where there is none are all words; those that are hopeless are among
+    them."""
+    found = walk.found.word if walk.found is not None else None
+    left = [((), ())]
+    while left:
+        most -= 1
+        word, made = left.pop()
+        if word == found or most < 0:
+            return most >= 0
+        decision = Decided(walk.problem, made).next()
+        for value in reversed(range(len(walk.problem.values(decision)) if decision is not None else 0)):
+            left.append((word + (value,), made + ((decision, value),)))
+    return True
+
+
 def extended(world, added):
     return World(world.known, world.wirings + added)
 

@@ -33,6 +33,13 @@ def spelled_answer(problem, answer):
     return f"no candidate {asked.namespace} {asked.name}"
 
 
+def spelled_slowly(answer):
+    """The same as the slow search answers it."""
+    if isinstance(answer, Found):
+        return f"found [{' '.join(map(str, answer.word))}]"
+    return f"spent {answer.visited}" if isinstance(answer, Spent) else "none"
+
+
 # ---------------------------------------------------------------- steps
 
 class Teller:
@@ -69,15 +76,17 @@ class Teller:
             self.walks[root] = walk, walk.answer()
         return self.walks[root]
 
-    def resolve(self, root, budget, is_anew):
-        """The answer to `resolve` or `anew`. The effort is within the budget, or the budget is spent."""
+    def resolve(self, word, root, budget):
+        """The answer to `resolve`, `anew` or `slowly`. The effort is within the budget, or the budget is spent."""
         obstacle = self.obstacle(root)
         if obstacle is not None:
             return obstacle
         walk, answer = self.walk(root)
         if walk.effort > budget:
             answer = Spent(budget + 1)
-        if not isinstance(answer, Found) or is_anew:
+        if word == "slowly":
+            return spelled_slowly(answer)
+        if not isinstance(answer, Found) or word == "anew":
             return spelled_answer(walk.problem, answer)
         self.world = extended(self.world, answer.added)
         self.walks = {}
@@ -91,7 +100,7 @@ class Teller:
         if word == "wires":
             return spelled_wirings(self.world.wirings[1:])
         root, *budget = map(int, rest[0].split())
-        return self.resolve(root, budget[0] if budget else AMPLE, word == "anew")
+        return self.resolve(word, root, budget[0] if budget else AMPLE)
 
 
 def answer_row(row):

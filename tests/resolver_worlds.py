@@ -8,8 +8,9 @@
 
 A row makes revisions known and resolves some of them, each with a budget that is one too small, and then with one that is just
 enough; so what is in force is what the model has found before, and is consistent. Where the effort is above MOST, the budget is
-that, and both have to say that it was spent. A row that the program answers in another way is made as small as it can be, and
-printed, and then the status is 1.
+that, and both have to say that it was spent. Where few words come up to the first good one, hopeless ones among them, the slow
+search over all words is asked as well. A row that the program answers in another way is made as small as it can be, and printed,
+and then the status is 1.
 
 All revisions are current: the rows of osgi_resolver_cases have no step after which one is not."""
 import itertools
@@ -19,13 +20,14 @@ from collections import Counter
 from dataclasses import replace
 
 sys.dont_write_bytecode = True
-from resolver_model import Found, Spent, broken_laws, version_in
+from resolver_model import Found, Spent, broken_laws, has_few_words, version_in
 from resolver_rows import Teller
 from space_model import BUNDLE, PACKAGE, Capability, Host, Requirement, Revision, parts
 from space_rows import spelled_revision
 from space_worlds import Makers
 
 MOST = 40  # the largest effort that is counted
+FEW = 2000  # the slow search is asked where it has to look at no more words than these
 BATCH = 200
 
 PACKAGES = ["p", "q", "r", "s", "t"]
@@ -298,6 +300,7 @@ class Row:
         self.steps = []
         self.answers = []
         self.problems = []  # each a walk and its answer
+        self.slow = 0  # problems of which the slow search is asked
         for revision in known:
             self.teller.add(revision)
         for word, what in steps:
@@ -314,12 +317,16 @@ class Row:
             self.answers.append(answer)
 
     def resolve(self, word, root):
-        """With a budget that is one too small, and with just enough."""
+        """With a budget that is one too small, and with just enough; first by the slow search, if few words come up."""
         if self.teller.obstacle(root) is not None:
             return self.take(f"{word} {root}")
         walk, answer = self.teller.walk(root)
         self.problems.append((walk, answer))
+        is_slow = not isinstance(answer, Spent) and has_few_words(walk, FEW)
+        self.slow += is_slow
         for budget in [MOST] if isinstance(answer, Spent) else [walk.effort - 1, walk.effort] if walk.effort > 0 else [0]:
+            if is_slow:
+                self.take(f"slowly {root} {budget}")
             self.take(f"{word} {root} {budget}")
 
     def text(self):
@@ -464,20 +471,21 @@ def smallest(program, row):
 def compare(program, seed, count, shown=3):
     """Asks the program in batches, and prints the first rows that it answers in another way, made as small as they can be."""
     drawn = rows(seed, count)
-    problems = wrong = 0
+    problems = slow = wrong = 0
     while True:
         batch = [row for _, row in itertools.islice(drawn, BATCH)]
         if not batch:
             return 1 if wrong else 0
         for row, told in zip(batch, ask(program, batch)):
             problems += len(row.problems)
+            slow += row.slow
             if difference(row, told) is not None:
                 wrong += 1
                 if wrong <= shown:
                     least = smallest(program, row)
                     model, other = difference(least, ask(program, [least])[0])
                     print(f"{least.text()}\n  model:   {model}\n  program: {other}", flush=True)
-        print(f"{problems} problems; {wrong} rows have another answer", flush=True)
+        print(f"{problems} problems, {slow} of them by the slow search too; {wrong} rows have another answer", flush=True)
 
 
 def check_laws(seed, count):

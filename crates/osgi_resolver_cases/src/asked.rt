@@ -4,7 +4,8 @@ ghost use Rattle.std.specs.Prelude.{◌≡◌, None};
 ghost use Rattle.osgi_wiring.specs.States.{MayExtend};
 ghost use Rattle.osgi_world.specs.Candidates.{IsUnresolved};
 
-use crate::shown::{push_cause, push_found};
+use crate::shown::{push_cause, push_first, push_found};
+use crate::slowly::{FirstWord, first_word_slowly};
 use osgi_base::ids::RevisionId;
 use osgi_base::list::List;
 use osgi_resolver::{Answer, IndexedWirings, resolve};
@@ -106,5 +107,36 @@ pub fn push_resolved_anew(
     match obstacle(wirings, root) {
         Some(reason) => out.push_str(reason),
         None => push_answer_anew(alloc, out, wirings, root, budget),
+    }
+}
+
+/// Adds what the slow search answers for a revision that may be resolved.
+fn push_answer_slowly(
+    alloc: Global,
+    out: &mut String,
+    wirings: &Wirings,
+    root: RevisionId,
+    budget: u32,
+) -> Result<(), AllocError>
+    requires unresolved { IsUnresolved wirings.now.world.known wirings.now.world.wirings root }
+{
+    match first_word_slowly(alloc, wirings.world(), root, u64::from(budget))? {
+        FirstWord::Found(word) => push_first(out, word.items()),
+        FirstWord::NoWord => out.push_str("none"),
+        FirstWord::Spent { visited } => write!(out, "spent {visited}"),
+    }
+}
+
+/// Adds what the slow search answers for a revision, or why it cannot be resolved.
+pub fn push_resolved_slowly(
+    alloc: Global,
+    out: &mut String,
+    wirings: &Wirings,
+    root: RevisionId,
+    budget: u32,
+) -> Result<(), AllocError> {
+    match obstacle(wirings, root) {
+        Some(reason) => out.push_str(reason),
+        None => push_answer_slowly(alloc, out, wirings, root, budget),
     }
 }

@@ -13,6 +13,7 @@
 //! |---|---|
 //! | `resolve ID`, `resolve ID BUDGET` | how the revision is resolved, with a budget of 1,000,000 where none is given: one of the answers below |
 //! | `anew ID`, `anew ID BUDGET` | the same by a call that keeps nothing of the world from one time to the next; what is found is not put in force |
+//! | `slowly ID`, `slowly ID BUDGET` | what a search over all words answers, also those that are hopeless: `found [NUMBER NUMBER]`, `none` for `no candidate` and `clash`, or `spent NUMBER`; what is found is not put in force |
 //! | `add REVISION` | nothing, or `cannot be known`: the revision becomes known |
 //! | `wires` | the wirings that are in force, but that of the framework: `WIRING, WIRING`, or `none` |
 //!
@@ -29,6 +30,7 @@ mod asked;
 mod known;
 mod rows;
 mod shown;
+mod slowly;
 
 use std::io;
 

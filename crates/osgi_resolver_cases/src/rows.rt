@@ -1,6 +1,6 @@
 //! Rows: what is known at first, and steps.
 
-use crate::asked::{push_resolved, push_resolved_anew};
+use crate::asked::{push_resolved, push_resolved_anew, push_resolved_slowly};
 use crate::known::{add, add_all, first_wirings};
 use crate::shown::push_wirings;
 use osgi_base::list::List;
@@ -51,6 +51,14 @@ fn push_answer(
         push_resolved(out, wirings, revision_id(root), budget(allowed))
     } else if word == "anew" {
         push_resolved_anew(
+            alloc,
+            out,
+            wirings.wirings(),
+            revision_id(root),
+            budget(allowed),
+        )
+    } else if word == "slowly" {
+        push_resolved_slowly(
             alloc,
             out,
             wirings.wirings(),

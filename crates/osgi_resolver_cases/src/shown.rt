@@ -65,10 +65,15 @@ pub fn push_wirings(out: &mut String, wirings: &[Wiring]) -> Result<(), AllocErr
     Ok(())
 }
 
+/// Adds `found [NUMBER NUMBER]`.
+pub fn push_first(out: &mut String, word: &[u64]) -> Result<(), AllocError> {
+    out.push_str("found ")?;
+    push_word(out, word)
+}
+
 /// Adds `found [NUMBER NUMBER] WIRING, WIRING`.
 pub fn push_found(out: &mut String, word: &[u64], added: &[Wiring]) -> Result<(), AllocError> {
-    out.push_str("found ")?;
-    push_word(out, word)?;
+    push_first(out, word)?;
     out.push(' ')?;
     push_wirings(out, added)
 }

@@ -1,0 +1,2 @@
+-- What the slow search answers.
+pub mod FirstWords

@@ -1,0 +1,2 @@
+-- Lemmas on a search over all words.
+mod Moves

@@ -1,0 +1,2 @@
+-- How far a search over all words has come.
+pub mod Seen
