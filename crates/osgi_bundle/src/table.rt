@@ -12,6 +12,7 @@ ghost use Rattle.osgi_ops.specs.declared.limits.TheConstants.{MAX_BUNDLES};
 
 use crate::directory::{BundleName, Directory};
 use crate::kept::BundleKept;
+use osgi_base::copied::copy_two;
 use osgi_base::ids::BundleId;
 use osgi_base::text::Text;
 use osgi_ops::limits::MAX_BUNDLES;
@@ -23,12 +24,23 @@ use std::alloc::{AllocError, Global};
 use std::marker::Model;
 
 /// The live bundles by rising id, the system bundle first, found by id, by location, and by name and version.
-#[derive(Drop)]
 pub struct Table {
     alloc: Global,
     rows: Vec<BundleKept>,
     directory: Directory,
     issued: u32,
+}
+
+/// Not derived, so that each exit at which one is dropped is a single call, which is cheap to prove.
+impl Drop for Table {
+    fn drop(self) {
+        let Table {
+            alloc: _,
+            rows: _,
+            directory: _,
+            issued: _,
+        } = self;
+    }
 }
 
 impl Model for Table {
@@ -208,11 +220,12 @@ fn system_row(alloc: Global) -> Result<BundleKept, AllocError>
     ensures system { IfOk result (λ row. row ≡ kept_of first_world the_system_bundle) }
 {
     let revision = system_revision(alloc)?;
+    let (name, version) = copy_two(&revision.name, &revision.version, alloc)?;
     Ok(BundleKept {
         bundle: BundleId(0),
         location: Text::empty(),
-        name: revision.name,
-        version: revision.version,
+        name,
+        version,
         fragment: false,
         row: 0,
         state: ACTIVE,

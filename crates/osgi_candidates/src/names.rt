@@ -19,11 +19,21 @@ pub struct Place {
 
 /// The capabilities of the revisions that were added by their names, the revisions by their symbolic names, and the current
 /// fragments among them by the symbolic name of their host.
-#[derive(Drop)]
 pub struct KnownNames {
     pub capabilities: Grouped<Text, Place>,
     pub revisions: Grouped<Text, RevisionId>,
     pub fragments: Grouped<Text, RevisionId>,
+}
+
+/// Not derived, so that each exit at which one is dropped is a single call, which is cheap to prove.
+impl Drop for KnownNames {
+    fn drop(self) {
+        let KnownNames {
+            capabilities: _,
+            revisions: _,
+            fragments: _,
+        } = self;
+    }
 }
 
 impl KnownNames {

@@ -18,13 +18,25 @@ use std::collections::BTreeSet;
 
 /// What a world offers, by names and by revisions, as far as it was followed: how many of its known revisions and wirings
 /// were added, the names of these revisions, these wirings by revision, and the revisions in use. A world grows at its ends.
-#[derive(Drop)]
 pub struct OfferIndex {
     known: usize,
     wirings: usize,
     pub(crate) names: KnownNames,
     pub(crate) held: HeldWirings,
     pub(crate) in_use: BTreeSet<u32>,
+}
+
+/// Not derived, so that each exit at which one is dropped is a single call, which is cheap to prove.
+impl Drop for OfferIndex {
+    fn drop(self) {
+        let OfferIndex {
+            known: _,
+            wirings: _,
+            names: _,
+            held: _,
+            in_use: _,
+        } = self;
+    }
 }
 
 impl OfferIndex {

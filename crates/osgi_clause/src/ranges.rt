@@ -23,3 +23,12 @@ pub fn any_range(alloc: Global) -> Result<VersionRange, AllocError>
         None => Ok(VersionRange::at_least_zero()),
     }
 }
+
+/// The range of all versions, twice.
+pub fn any_ranges(alloc: Global) -> Result<(VersionRange, VersionRange), AllocError>
+    ensures first { IfOk result (λ ranges. IsAnyRange ranges.0) }
+    ensures second { IfOk result (λ ranges. IsAnyRange ranges.1) }
+{
+    let first = any_range(alloc)?;
+    Ok((first, any_range(alloc)?))
+}

@@ -11,7 +11,7 @@ use crate::effective::takes_part;
 use crate::fault::ClauseFault;
 use crate::members::{ClauseReader, members};
 use crate::namespaces::has_reserved;
-use crate::ranges::any_range;
+use crate::ranges::any_ranges;
 use crate::repeats::repeats;
 use osgi_base::list::List;
 use osgi_base::text::Text;
@@ -46,23 +46,23 @@ fn requirement(
     clause: &Clause,
     filter: Option<Filter>,
     ranges: (VersionRange, VersionRange),
-) -> Result<Requirement, AllocError>
-    ensures required { IfOk result (λ r. r ≡ required_of clause.now filter ranges.0 ranges.1) }
+) -> Requirement
+    ensures required { result ≡ required_of clause.now filter ranges.0 ranges.1 }
 {
     let (range, from_range) = ranges;
-    Ok(Requirement {
+    Requirement {
         namespace: Text::empty(),
         name: Text::empty(),
         range,
         from_name: None,
         from_range,
-        equal: List::new(alloc)?,
+        equal: List::from(Vec::new(alloc)),
         filter,
         optional: is_directed(b"resolution", b"optional", clause),
         multiple: false,
         reexport: false,
         effective: takes_part(clause),
-    })
+    }
 }
 
 /// The clauses of Require-Capability.
@@ -93,8 +93,8 @@ impl ClauseReader for RequiredCapabilities {
         if has_reserved(clause.paths.items()) {
             return Ok(Err(ManifestKind::ReservedNamespace));
         }
-        let ranges = (any_range(alloc)?, any_range(alloc)?);
-        Ok(Ok(requirement(alloc, clause, filter, ranges)?))
+        let ranges = any_ranges(alloc)?;
+        Ok(Ok(requirement(alloc, clause, filter, ranges)))
     }
 
     fn takes(_clause: &Clause) -> bool {

@@ -40,28 +40,56 @@ pub fn put_faults(out: &mut String, faults: u64) -> Result<(), AllocError> {
     put_shown(out, &faults)
 }
 
+/// What a case tries.
+#[derive(Clone, Copy)]
+enum Case {
+    StdSink,
+    VecSink,
+    MemorySink,
+    StdSource,
+    SliceSource,
+    MemorySource,
+    LongSource,
+    Shelf,
+    Folder,
+}
+
+/// The cases by their first words.
+const CASES: [(&str, Case); 9] = [
+    ("std-sink", Case::StdSink),
+    ("vec-sink", Case::VecSink),
+    ("memory-sink", Case::MemorySink),
+    ("std-source", Case::StdSource),
+    ("slice-source", Case::SliceSource),
+    ("memory-source", Case::MemorySource),
+    ("long-source", Case::LongSource),
+    ("shelf", Case::Shelf),
+    ("folder", Case::Folder),
+];
+
+/// The case that a line's first word names.
+fn case_of(word: &str) -> Option<Case> {
+    for (name, case) in CASES {
+        if name == word {
+            return Some(case);
+        }
+    }
+    None
+}
+
 /// Adds the answer to a line that is a case.
 pub fn add_answer(alloc: Global, out: &mut String, line: &str) -> Result<(), AllocError> {
-    let (name, rest) = split_word(line);
-    if name == "std-sink" {
-        sinks::std_sink(alloc, out, rest)
-    } else if name == "vec-sink" {
-        sinks::vec_sink(alloc, out, rest)
-    } else if name == "memory-sink" {
-        sinks::memory_sink(alloc, out, rest)
-    } else if name == "std-source" {
-        sources::std_source(alloc, out, rest)
-    } else if name == "slice-source" {
-        sources::slice_source(alloc, out, rest)
-    } else if name == "memory-source" {
-        sources::memory_source(alloc, out, rest)
-    } else if name == "long-source" {
-        sources::long_source(alloc, out, rest)
-    } else if name == "shelf" {
-        shelves::read_each(alloc, out, rest)
-    } else if name == "folder" {
-        shelves::read_folder(alloc, out, rest)
-    } else {
-        put(out, "not a case")
+    let (word, rest) = split_word(line);
+    match case_of(word) {
+        Some(Case::StdSink) => sinks::std_sink(alloc, out, rest),
+        Some(Case::VecSink) => sinks::vec_sink(alloc, out, rest),
+        Some(Case::MemorySink) => sinks::memory_sink(alloc, out, rest),
+        Some(Case::StdSource) => sources::std_source(alloc, out, rest),
+        Some(Case::SliceSource) => sources::slice_source(alloc, out, rest),
+        Some(Case::MemorySource) => sources::memory_source(alloc, out, rest),
+        Some(Case::LongSource) => sources::long_source(alloc, out, rest),
+        Some(Case::Shelf) => shelves::read_each(alloc, out, rest),
+        Some(Case::Folder) => shelves::read_folder(alloc, out, rest),
+        None => put(out, "not a case"),
     }
 }

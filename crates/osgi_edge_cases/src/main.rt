@@ -28,7 +28,30 @@ mod sinks;
 mod sources;
 
 use osgi_outside::gate::{Gate, OpenGate, Point};
+use std::alloc::AllocError;
 use std::io;
+use std::rt::Files;
+use std::sync::Wait;
+use std::thread::Threads;
+
+/// Passes each point of a gate that holds nobody.
+fn pass_gate<R: Threads + Wait + Sync>(rt: &R) {
+    for point in [Point::BeforeCall, Point::AfterCall, Point::InSection] {
+        OpenGate.at(rt, 1, point);
+    }
+}
+
+/// Adds the answer to a case other than the gate.
+fn add_answer<R: Files + AllocGlobal + Clone + Drop>(
+    rt: &R,
+    out: &mut String,
+    case: &str,
+) -> Result<(), AllocError> {
+    match case.strip_prefix("dir ") {
+        Some(locations) => folders::read_each(rt, out, locations),
+        None => cases::add_answer(rt.alloc(), out, case),
+    }
+}
 
 fn main(rt: HostRuntime) -> io::Result<()> {
     for line in rt.lines(rt.alloc()) {
@@ -37,17 +60,11 @@ fn main(rt: HostRuntime) -> io::Result<()> {
         if case.is_empty() || case.starts_with('#') {
             println!(rt; "{case}")?;
         } else if case == "gate" {
-            for point in [Point::BeforeCall, Point::AfterCall, Point::InSection] {
-                OpenGate.at(&rt, 1, point);
-            }
+            pass_gate(&rt);
             println!(rt; "{case} => passed")?;
-        } else if let Some(locations) = case.strip_prefix("dir ") {
-            let mut answer = String::new(rt.alloc());
-            folders::read_each(&rt, &mut answer, locations)?;
-            println!(rt; "{case} => {answer}")?;
         } else {
             let mut answer = String::new(rt.alloc());
-            cases::add_answer(rt.alloc(), &mut answer, case)?;
+            add_answer(&rt, &mut answer, case)?;
             println!(rt; "{case} => {answer}")?;
         }
     }

@@ -1,6 +1,6 @@
 //! Payloads: what a host offers and needs with its fragments.
 
-ghost use Rattle.std.specs.Prelude.{◌≡◌, ◌<◌, ◌^◌, ◌∷◌, ◌++◌, IfOk, OnOk, map};
+ghost use Rattle.std.specs.Prelude.{◌≡◌, ◌<◌, ◌^◌, ◌∷◌, ◌++◌, [], IfOk, OnOk, map};
 ghost use Rattle.osgi_world.specs.Lists.{below};
 ghost use Rattle.osgi_world.specs.Payloads.{capabilities_of, own_capabilities, own_requirements, requirements_of};
 
@@ -20,6 +20,34 @@ pub struct Hosted {
 }
 
 impl Hosted {
+    /// Nothing yet.
+    fn nothing(alloc: Global) -> Result<Hosted, AllocError>
+        ensures capabilities { IfOk result (λ hosted. hosted.capabilities ≡ []) }
+        ensures requirements { IfOk result (λ hosted. hosted.requirements ≡ []) }
+    {
+        let capabilities = List::new(alloc)?;
+        Ok(Hosted {
+            capabilities,
+            requirements: List::new(alloc)?,
+        })
+    }
+
+    /// Adds what each of the owners offers and needs, in their order.
+    fn add_all(
+        &mut self,
+        known: &KnownIndex,
+        host: RevisionId,
+        owners: &[RevisionId],
+    ) -> Result<(), AllocError>
+        ensures capabilities { OnOk result (self.new.capabilities ≡ self.old.capabilities ++ capabilities_of known.now host owners.now) }
+        ensures requirements { OnOk result (self.new.requirements ≡ self.old.requirements ++ requirements_of known.now owners.now) }
+    {
+        for owner in owners {
+            self.add(known, host, *owner)?;
+        }
+        Ok(())
+    }
+
     /// Adds what the owner offers and needs; nothing where it is not known.
     fn add(
         &mut self,
@@ -92,13 +120,8 @@ pub fn payload(
     ensures requirements { IfOk result (λ hosted. hosted.requirements ≡ requirements_of world.now.known (host ∷ fragments.now)) }
 {
     let known = KnownIndex::new(alloc, world.known.items())?;
-    let mut hosted = Hosted {
-        capabilities: List::new(alloc)?,
-        requirements: List::new(alloc)?,
-    };
+    let mut hosted = Hosted::nothing(alloc)?;
     hosted.add(&known, host, host)?;
-    for fragment in fragments {
-        hosted.add(&known, host, *fragment)?;
-    }
+    hosted.add_all(&known, host, fragments)?;
     Ok(hosted)
 }

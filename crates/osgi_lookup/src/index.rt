@@ -12,11 +12,17 @@ use std::collections::BTreeMap;
 use std::marker::Model;
 
 /// The known revisions, found by their ids. Contracts see the known revisions. Of several with one id the first counts.
-#[derive(Drop)]
 pub struct KnownIndex<'w> {
     all: &'w [Known],
     /// The first revision of each id; not needed where the ids rise from one revision to the next.
     by_id: Option<BTreeMap<u32, &'w Known>>,
+}
+
+/// Not derived, so that each exit at which one is dropped is a single call, which is cheap to prove.
+impl Drop for KnownIndex<'_> {
+    fn drop(self) {
+        let KnownIndex { all: _, by_id: _ } = self;
+    }
 }
 
 impl<'w> Model for KnownIndex<'w> {

@@ -4,7 +4,7 @@ ghost use Rattle.std.specs.Prelude.{◌≡◌, IfOk};
 
 use crate::kind::Kind;
 use crate::target::Target;
-use osgi_base::copied::{Copied, copy_option};
+use osgi_base::copied::{Copied, copy_three, copy_two};
 use osgi_base::ids::{BundleId, ListenerId, ServiceId};
 use osgi_base::list::List;
 use osgi_base::text::Text;
@@ -187,11 +187,12 @@ fn register(
 ) -> Result<Op, AllocError>
     ensures made { IfOk result (λ made. made ≡ Op.Register owner classes.now object.now properties.now) }
 {
+    let (classes, object, properties) = copy_three(classes, object, properties, alloc)?;
     Ok(Op::Register {
         owner,
-        classes: classes.copy(alloc)?,
-        object: object.copy(alloc)?,
-        properties: properties.copy(alloc)?,
+        classes,
+        object,
+        properties,
     })
 }
 
@@ -218,10 +219,11 @@ fn find(
 ) -> Result<Op, AllocError>
     ensures made { IfOk result (λ made. made ≡ Op.Find asker class.now filter.now) }
 {
+    let (class, filter) = copy_two(class, filter, alloc)?;
     Ok(Op::Find {
         asker,
-        class: class.copy(alloc)?,
-        filter: copy_option(filter, alloc)?,
+        class,
+        filter,
     })
 }
 
@@ -233,10 +235,11 @@ fn find_all(
 ) -> Result<Op, AllocError>
     ensures made { IfOk result (λ made. made ≡ Op.FindAll asker class.now filter.now) }
 {
+    let (class, filter) = copy_two(class, filter, alloc)?;
     Ok(Op::FindAll {
         asker,
-        class: class.copy(alloc)?,
-        filter: copy_option(filter, alloc)?,
+        class,
+        filter,
     })
 }
 
@@ -249,11 +252,12 @@ fn add_listener(
 ) -> Result<Op, AllocError>
     ensures made { IfOk result (λ made. made ≡ Op.AddListener owner name.now kind filter.now) }
 {
+    let (name, filter) = copy_two(name, filter, alloc)?;
     Ok(Op::AddListener {
         owner,
-        name: name.copy(alloc)?,
+        name,
         kind,
-        filter: copy_option(filter, alloc)?,
+        filter,
     })
 }
 

@@ -6,7 +6,7 @@ use crate::event::{Busy, Event};
 use crate::refusal::Refusal;
 use crate::rows::{BundleRow, WireRow};
 use crate::service::ServiceRow;
-use osgi_base::copied::Copied;
+use osgi_base::copied::{Copied, copy_two};
 use osgi_base::ids::{BundleId, ListenerId, RevisionId, ServiceId};
 use osgi_base::list::List;
 use osgi_base::text::Text;
@@ -148,10 +148,8 @@ fn closure(
 ) -> Result<Reply, AllocError>
     ensures made { IfOk result (λ made. made ≡ Reply.Closure all.now active.now) }
 {
-    Ok(Reply::Closure {
-        all: all.copy(alloc)?,
-        active: active.copy(alloc)?,
-    })
+    let (all, active) = copy_two(all, active, alloc)?;
+    Ok(Reply::Closure { all, active })
 }
 
 fn wires(
@@ -161,10 +159,8 @@ fn wires(
 ) -> Result<Reply, AllocError>
     ensures made { IfOk result (λ made. made ≡ Reply.Wires rows.now fragments.now) }
 {
-    Ok(Reply::Wires {
-        rows: rows.copy(alloc)?,
-        fragments: fragments.copy(alloc)?,
-    })
+    let (rows, fragments) = copy_two(rows, fragments, alloc)?;
+    Ok(Reply::Wires { rows, fragments })
 }
 
 impl Reply {

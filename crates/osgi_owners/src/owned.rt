@@ -21,7 +21,6 @@ use osgi_world::wiring::{CapRef, ReqRef};
 use std::alloc::{AllocError, Global};
 
 /// What a world offers to an owner.
-#[derive(Drop)]
 pub struct Owned {
     /// The candidates of its requirements, by their places. One that is not effective has none here.
     pub lists: Vec<Vec<CapRef>>,
@@ -33,6 +32,19 @@ pub struct Owned {
     pub is_free: bool,
     /// Each requirement that is needed may have one wire alone, and has a candidate. Where it is false, that need not be so.
     pub is_sure: bool,
+}
+
+/// Not derived, so that each exit at which one is dropped is a single call, which is cheap to prove.
+impl Drop for Owned {
+    fn drop(self) {
+        let Owned {
+            lists: _,
+            fragments: _,
+            first: _,
+            is_free: _,
+            is_sure: _,
+        } = self;
+    }
 }
 
 // ---- candidates

@@ -57,6 +57,16 @@ fn exporter_name(alloc: Global, clause: &Clause) -> Result<Option<Text>, AllocEr
     }
 }
 
+/// The texts of what a clause asks of each of its packages: the namespace, the name, of which there is none yet, and the symbolic
+/// name that the exporter has to have.
+fn texts(alloc: Global, clause: &Clause) -> Result<(Text, Text, Option<Text>), AllocError>
+    ensures texts { IfOk result (λ texts. texts ≡ (codes "osgi.wiring.package", codes "", spec.attribute_text (codes "bundle-symbolic-name") clause.now)) }
+{
+    let namespace = Text::of(alloc, b"osgi.wiring.package")?;
+    let name = Text::of(alloc, b"")?;
+    Ok((namespace, name, exporter_name(alloc, clause)?))
+}
+
 /// What a clause asks of each of its packages, for which there is no name yet.
 fn requirement(
     alloc: Global,
@@ -66,12 +76,13 @@ fn requirement(
 ) -> Result<Requirement, AllocError>
     ensures template { IfOk result (λ r. r ≡ template_of clause.now ranges.0 ranges.1 equal) }
 {
+    let (namespace, name, from_name) = texts(alloc, clause)?;
     let (range, from_range) = ranges;
     Ok(Requirement {
-        namespace: Text::of(alloc, b"osgi.wiring.package")?,
-        name: Text::of(alloc, b"")?,
+        namespace,
+        name,
         range,
-        from_name: exporter_name(alloc, clause)?,
+        from_name,
         from_range,
         equal,
         filter: None,

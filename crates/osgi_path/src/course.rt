@@ -22,13 +22,25 @@ pub struct Mark {
 
 /// The members in order, the decisions of the first of them up to the one at place `last`, one member after another, and what
 /// was made of these decisions so far. Each member's place is found by its number; who is no member any more may still have one.
-#[derive(Drop)]
 pub struct Course {
     pub ids: Vec<RevisionId>,
     pub places: NumberMap<usize>,
     pub queue: Vec<Decision>,
     pub last: usize,
     pub marks: Vec<Mark>,
+}
+
+/// Not derived, so that each exit at which one is dropped is a single call, which is cheap to prove.
+impl Drop for Course {
+    fn drop(self) {
+        let Course {
+            ids: _,
+            places: _,
+            queue: _,
+            last: _,
+            marks: _,
+        } = self;
+    }
 }
 
 impl Course {

@@ -39,7 +39,6 @@ use std::marker::Model;
 
 /// A search for the resolve of a root, with the decisions that it has made so far. Contracts see the world, the root and the
 /// values of these decisions.
-#[derive(Drop)]
 pub struct Path<'w> {
     alloc: Global,
     world: &'w World,
@@ -47,6 +46,20 @@ pub struct Path<'w> {
     lists: Lists<'w>,
     spaces: Spaces<'w>,
     course: Course,
+}
+
+/// Not derived, so that each exit at which one is dropped is a single call, which is cheap to prove.
+impl Drop for Path<'_> {
+    fn drop(self) {
+        let Path {
+            alloc: _,
+            world: _,
+            root: _,
+            lists: _,
+            spaces: _,
+            course: _,
+        } = self;
+    }
 }
 
 impl<'w> Model for Path<'w> {

@@ -1,9 +1,11 @@
 //! A live service with the counts of its uses.
 
-ghost use Rattle.std.specs.Prelude.{◌≡◌, ◌+◌, ◌<◌, ◌^◌, ◌-◌, nat_lt, [], IfOk, OnOk, OnErr};
+ghost use Rattle.std.specs.Prelude.{◌≡◌, ◌+◌, ◌<◌, ◌≤◌, ◌^◌, ◌-◌, nat_lt, [], IfOk, OnOk, OnErr};
 ghost use Rattle.std.specs.Bool.{OnTrue, OnFalse};
+ghost use Rattle.osgi_ops.specs.Properties.{with_framework};
 ghost use Rattle.osgi_registry.specs.Rows.{count_of, used_less, used_more, without_user};
 
+use crate::properties::FrameworkTexts;
 use crate::uses::Uses;
 use osgi_base::ids::BundleId;
 use osgi_base::shared::Shared;
@@ -98,8 +100,28 @@ impl Held {
     }
 }
 
+/// The service with these properties in place of those that were given for it, beside those of the framework.
+pub fn modified(
+    alloc: Global,
+    texts: &FrameworkTexts,
+    service: &Service,
+    given: Attributes,
+) -> Result<Shared<Service>, AllocError>
+    requires fits { service.now.service.0 ≤ 4294967295 }
+    ensures modified { IfOk result (λ modified. modified ≡ record service.now { properties = with_framework given service.now.classes service.now.service service.now.owner }) }
+{
+    let all = texts.with_framework(
+        alloc,
+        given,
+        service.classes.items(),
+        service.service,
+        service.owner,
+    )?;
+    service_with(alloc, service, all)
+}
+
 /// The service with these properties in place of its own.
-pub fn service_with(
+fn service_with(
     alloc: Global,
     service: &Service,
     properties: Attributes,

@@ -127,7 +127,6 @@ fn is_the_frameworks(property: &Attribute) -> bool
 
 /// The names of the properties that the framework sets, and the one scope of services. They are made once, and all services
 /// share them.
-#[derive(Drop)]
 pub struct FrameworkTexts {
     object_class: Text,
     service_id: Text,
@@ -139,6 +138,19 @@ pub struct FrameworkTexts {
     ghost owners_name: { service_bundleid ≡ codes "service.bundleid" },
     ghost scopes_name: { service_scope ≡ codes "service.scope" },
     ghost scope: { singleton ≡ codes "singleton" },
+}
+
+/// Not derived, so that each exit at which one is dropped is a single call, which is cheap to prove.
+impl Drop for FrameworkTexts {
+    fn drop(self) {
+        let FrameworkTexts {
+            object_class: _,
+            service_id: _,
+            service_bundleid: _,
+            service_scope: _,
+            singleton: _,
+        } = self;
+    }
 }
 
 impl FrameworkTexts {

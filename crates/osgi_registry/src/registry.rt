@@ -15,7 +15,7 @@ ghost use Rattle.osgi_registry.specs.Stands.{StandsAfter, StandsFor};
 
 use crate::class_index::ClassIndex;
 use crate::finding::{all_fit, all_of, first_open};
-use crate::held::{Held, service_with};
+use crate::held::{Held, modified};
 use crate::place::Place;
 use crate::properties::{FrameworkTexts, has_twins};
 use crate::services::Services;
@@ -32,13 +32,25 @@ use std::collections::BTreeMap;
 use std::marker::Model;
 
 /// The live services by rising id, with their uses.
-#[derive(Drop)]
 pub struct Registry {
     alloc: Global,
     texts: FrameworkTexts,
     services: BTreeMap<u64, Held>,
     index: ClassIndex,
     issued: u64,
+}
+
+/// Not derived, so that each exit at which one is dropped is a single call, which is cheap to prove.
+impl Drop for Registry {
+    fn drop(self) {
+        let Registry {
+            alloc: _,
+            texts: _,
+            services: _,
+            index: _,
+            issued: _,
+        } = self;
+    }
 }
 
 impl Model for Registry {
@@ -195,23 +207,34 @@ impl Registry {
         if has_twins(self.alloc, properties.items())? {
             return Ok(Err(Refusal::BadProperties));
         }
-        let Some(held) = self.services.get_mut(&service.0) else {
+        if !self.put_properties(service, properties)? {
             return Ok(Err(Refusal::NoSuchService));
+        }
+        Ok(Ok(()))
+    }
+
+    /// Puts these properties in place of all that were given of a live service; false where the service is not live.
+    fn put_properties(
+        &mut self,
+        service: ServiceId,
+        properties: Attributes,
+    ) -> Result<bool, AllocError>
+        ensures absent { IfOk result (λ live. OnFalse live (row_at service self.old.rows ≡ None)) }
+        ensures rows { IfOk result (λ live. OnTrue live (self.new.rows ≡ change service (with_properties properties) self.old.rows)) }
+        ensures issued { self.new.issued ≡ self.old.issued }
+        ensures refused { IfOk result (λ live. OnFalse live (self.new ≡ self.old)) }
+        ensures unchanged { OnErr result (self.new ≡ self.old) }
+    {
+        let Some(held) = self.services.get_mut(&service.0) else {
+            return Ok(false);
         };
         let now = held.service();
-        let all = self.texts.with_framework(
-            self.alloc,
-            properties,
-            now.classes.items(),
-            now.service,
-            now.owner,
-        )?;
-        let next = service_with(self.alloc, now, all)?;
+        let next = modified(self.alloc, &self.texts, now, properties)?;
         let place = Place::of(next.get());
         self.index
             .move_all(now.classes.items(), Place::of(now), place, &next)?;
         held.replace(next);
-        Ok(Ok(()))
+        Ok(true)
     }
 
     /// Takes the service out, and its uses with it.

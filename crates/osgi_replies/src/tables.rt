@@ -7,13 +7,25 @@ use osgi_resolver::IndexedWirings;
 
 /// The depot and the limit on the effort of a resolve, which never change; the services that are live, the bundles, and the
 /// wirings in force.
-#[derive(Drop)]
 pub struct Tables {
     pub depot: IndexedDepot,
     pub budget: u64,
     pub registry: Registry,
     pub bundles: Table,
     pub wirings: IndexedWirings,
+}
+
+/// Not derived, so that each exit at which one is dropped is a single call, which is cheap to prove.
+impl Drop for Tables {
+    fn drop(self) {
+        let Tables {
+            depot: _,
+            budget: _,
+            registry: _,
+            bundles: _,
+            wirings: _,
+        } = self;
+    }
 }
 
 impl Tables {

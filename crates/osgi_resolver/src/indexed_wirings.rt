@@ -19,11 +19,21 @@ use std::marker::Model;
 
 /// The known revisions and the wirings in force, as `Wirings` has them. A resolve makes use of what an earlier one has found out,
 /// and reads only what is new in the world since, and the ids of the known revisions.
-#[derive(Drop)]
 pub struct IndexedWirings {
     alloc: Global,
     wirings: Wirings,
     index: Index,
+}
+
+/// Not derived, so that each exit at which one is dropped is a single call, which is cheap to prove.
+impl Drop for IndexedWirings {
+    fn drop(self) {
+        let IndexedWirings {
+            alloc: _,
+            wirings: _,
+            index: _,
+        } = self;
+    }
 }
 
 impl Model for IndexedWirings {

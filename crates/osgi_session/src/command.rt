@@ -4,7 +4,7 @@ ghost use Rattle.std.specs.Prelude.{◌≡◌, true, IfOk};
 ghost use Rattle.osgi_ops.specs.declared.target.Target.TheVariants as target;
 ghost use Rattle.osgi_session.specs.Plans.{op_of};
 
-use osgi_base::copied::{Copied, copy_option};
+use osgi_base::copied::{Copied, copy_three, copy_two};
 use osgi_base::ids::{BundleId, ServiceId};
 use osgi_base::list::List;
 use osgi_base::text::Text;
@@ -135,10 +135,11 @@ fn register(
 ) -> Result<Command, AllocError>
     ensures made { IfOk result (λ made. made ≡ Command.Register classes.now object.now properties.now) }
 {
+    let (classes, object, properties) = copy_three(classes, object, properties, alloc)?;
     Ok(Command::Register {
-        classes: classes.copy(alloc)?,
-        object: object.copy(alloc)?,
-        properties: properties.copy(alloc)?,
+        classes,
+        object,
+        properties,
     })
 }
 
@@ -154,19 +155,15 @@ fn modify(alloc: Global, service: ServiceId, properties: &Attributes) -> Result<
 fn find(alloc: Global, class: &Text, filter: &Option<Filter>) -> Result<Command, AllocError>
     ensures made { IfOk result (λ made. made ≡ Command.Find class.now filter.now) }
 {
-    Ok(Command::Find {
-        class: class.copy(alloc)?,
-        filter: copy_option(filter, alloc)?,
-    })
+    let (class, filter) = copy_two(class, filter, alloc)?;
+    Ok(Command::Find { class, filter })
 }
 
 fn find_all(alloc: Global, class: &Text, filter: &Option<Filter>) -> Result<Command, AllocError>
     ensures made { IfOk result (λ made. made ≡ Command.FindAll class.now filter.now) }
 {
-    Ok(Command::FindAll {
-        class: class.copy(alloc)?,
-        filter: copy_option(filter, alloc)?,
-    })
+    let (class, filter) = copy_two(class, filter, alloc)?;
+    Ok(Command::FindAll { class, filter })
 }
 
 fn listen(
@@ -177,11 +174,8 @@ fn listen(
 ) -> Result<Command, AllocError>
     ensures made { IfOk result (λ made. made ≡ Command.Listen name.now kind filter.now) }
 {
-    Ok(Command::Listen {
-        name: name.copy(alloc)?,
-        kind,
-        filter: copy_option(filter, alloc)?,
-    })
+    let (name, filter) = copy_two(name, filter, alloc)?;
+    Ok(Command::Listen { name, kind, filter })
 }
 
 impl Command {

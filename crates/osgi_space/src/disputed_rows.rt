@@ -25,10 +25,19 @@ use std::marker::Model;
 
 /// Rows with the packages that may have more than one source in them, which are kept as wires and fragments are added. What is taken
 /// back leaves them as they are: of a package that is not among them there is still at most one possible source.
-#[derive(Drop)]
 pub struct DisputedRows<'w> {
     rows: WorldRows<'w>,
     possible: Possible,
+}
+
+/// Not derived, so that each exit at which one is dropped is a single call, which is cheap to prove.
+impl Drop for DisputedRows<'_> {
+    fn drop(self) {
+        let DisputedRows {
+            rows: _,
+            possible: _,
+        } = self;
+    }
 }
 
 impl<'w> Model for DisputedRows<'w> {

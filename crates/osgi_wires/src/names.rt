@@ -14,7 +14,6 @@ use std::marker::Model;
 ///
 /// A name is found by its digest, which is compared at the cost of a number. Names of one digest are told apart by an ordered
 /// map of their own, so no choice of names makes a search slow, and the digest need not be a good hash.
-#[derive(Drop)]
 pub struct Names {
     alloc: Global,
     texts: Vec<Text>,
@@ -22,6 +21,18 @@ pub struct Names {
     by_digest: BTreeMap<u64, u32>,
     /// The names whose digest an earlier name has.
     by_text: BTreeMap<Text, u32>,
+}
+
+/// Not derived, so that each exit at which one is dropped is a single call, which is cheap to prove.
+impl Drop for Names {
+    fn drop(self) {
+        let Names {
+            alloc: _,
+            texts: _,
+            by_digest: _,
+            by_text: _,
+        } = self;
+    }
 }
 
 impl Model for Names {

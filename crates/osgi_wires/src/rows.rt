@@ -52,13 +52,25 @@ pub struct Use {
 }
 
 /// Rows, found by the numbers that they begin with. Wires and attachments can be taken back, those that were added last first.
-#[derive(Drop)]
 pub struct Rows {
     imports: Spots<Import>,
     required: Table<Required>,
     attached: Table<Attachment>,
     exports: Spots<Export>,
     uses: Spots<Use>,
+}
+
+/// Not derived, so that each exit at which one is dropped is a single call, which is cheap to prove.
+impl Drop for Rows {
+    fn drop(self) {
+        let Rows {
+            imports: _,
+            required: _,
+            attached: _,
+            exports: _,
+            uses: _,
+        } = self;
+    }
 }
 
 impl Model for Rows {

@@ -17,10 +17,16 @@ pub trait Spotted: Keyed {
 }
 
 /// Rows with their groups by revision, and by revision and name. Contracts see the list of the rows.
-#[derive(Drop)]
 pub struct Spots<V: Spotted> {
     rows: Table<V>,
     groups: NameGroups<V>,
+}
+
+/// Not derived, so that each exit at which one is dropped is a single call, which is cheap to prove.
+impl<V: Spotted + Drop> Drop for Spots<V> {
+    fn drop(self) {
+        let Spots { rows: _, groups: _ } = self;
+    }
 }
 
 impl<V: Spotted> Model for Spots<V> {

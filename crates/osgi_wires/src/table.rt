@@ -16,10 +16,16 @@ pub trait Keyed: Copy {
 }
 
 /// Rows with their groups by number. Contracts see the list of the rows.
-#[derive(Drop)]
 pub struct Table<V: Keyed> {
     rows: Vec<V>,
     groups: NumberGroups<V>,
+}
+
+/// Not derived, so that each exit at which one is dropped is a single call, which is cheap to prove.
+impl<V: Keyed + Drop> Drop for Table<V> {
+    fn drop(self) {
+        let Table { rows: _, groups: _ } = self;
+    }
 }
 
 impl<V: Keyed> Model for Table<V> {

@@ -23,10 +23,16 @@ use std::alloc::{AllocError, Global};
 use std::marker::Model;
 
 /// The known revisions, and the rows of wirings. Wires and fragments are added and taken back one by one.
-#[derive(Drop)]
 pub struct WorldRows<'w> {
     known: KnownIndex<'w>,
     named: Named,
+}
+
+/// Not derived, so that each exit at which one is dropped is a single call, which is cheap to prove.
+impl Drop for WorldRows<'_> {
+    fn drop(self) {
+        let WorldRows { known: _, named: _ } = self;
+    }
 }
 
 impl<'w> Model for WorldRows<'w> {
@@ -107,7 +113,7 @@ impl<'w> WorldRows<'w> {
         ensures rows { result.rows ≡ self.entry.rows }
         ensures numbered { AreNumbered result.names result.rows }
     {
-        let WorldRows { named, .. } = self;
+        let WorldRows { known: _, named } = self;
         named
     }
 

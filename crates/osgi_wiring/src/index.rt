@@ -10,6 +10,24 @@ use osgi_base::ids::{BundleId, RevisionId};
 use osgi_world::wiring::Wiring;
 use std::alloc::{AllocError, Global};
 
+/// The set of the number 0.
+fn set_of_zero(alloc: Global) -> Result<IndexSet<u32>, AllocError>
+    ensures zero { IfOk result (λ set. set.keys ≡ 0 ∷ []) }
+{
+    let mut set = IndexSet::new(alloc);
+    set.insert_full(0)?;
+    Ok(set)
+}
+
+/// The map of 0 to 0.
+fn map_of_zero(alloc: Global) -> Result<IndexMap<u32, u32>, AllocError>
+    ensures zero { IfOk result (λ r. (b : ℕ) → map.get nat_eq r b ≡ puts b 0 0 None) }
+{
+    let mut map = IndexMap::new(alloc);
+    map.insert(0, 0)?;
+    Ok(map)
+}
+
 /// Revision 0 of bundle 0 alone is known, current and in force.
 pub fn first_index(
     alloc: Global,
@@ -18,13 +36,9 @@ pub fn first_index(
     ensures current { IfOk result (λ r. (b : ℕ) → map.get nat_eq r.1 b ≡ puts b 0 0 None) }
     ensures in_force { IfOk result (λ r. r.2.keys ≡ 0 ∷ []) }
 {
-    let mut ids = IndexSet::new(alloc);
-    ids.insert_full(0)?;
-    let mut current = IndexMap::new(alloc);
-    current.insert(0, 0)?;
-    let mut in_force = IndexSet::new(alloc);
-    in_force.insert_full(0)?;
-    Ok((ids, current, in_force))
+    let ids = set_of_zero(alloc)?;
+    let current = map_of_zero(alloc)?;
+    Ok((ids, current, set_of_zero(alloc)?))
 }
 
 /// Notes one more revision, as the current one of the bundle. There is room for it.

@@ -22,7 +22,6 @@ use std::mem;
 ///
 /// The room is an empty vector. Where the known revisions grow and there is no memory, they move there. The ids of the known
 /// revisions and of those in force stand in the order of the world's lists; each bundle has the id of its current revision.
-#[derive(Drop)]
 pub struct Wirings {
     alloc: Global,
     world: World,
@@ -32,6 +31,22 @@ pub struct Wirings {
     ids: IndexSet<u32>,
     current: IndexMap<u32, u32>,
     in_force: IndexSet<u32>,
+}
+
+/// Not derived, so that each exit at which one is dropped is a single call, which is cheap to prove.
+impl Drop for Wirings {
+    fn drop(self) {
+        let Wirings {
+            alloc: _,
+            world: _,
+            issued: _,
+            room: _,
+            reserved: _,
+            ids: _,
+            current: _,
+            in_force: _,
+        } = self;
+    }
 }
 
 impl Model for Wirings {

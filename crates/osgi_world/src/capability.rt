@@ -2,7 +2,7 @@
 
 ghost use Rattle.std.specs.Prelude.{◌≡◌, IfOk};
 
-use osgi_base::copied::Copied;
+use osgi_base::copied::{Copied, copy_three, copy_two};
 use osgi_base::list::List;
 use osgi_base::text::Text;
 use osgi_model::value::Attributes;
@@ -25,21 +25,20 @@ impl Capability {
     pub fn copy(&self, alloc: Global) -> Result<Capability, AllocError>
         ensures same { IfOk result (λ copy. copy ≡ self.now) }
     {
-        let (uses, mandatory) = self.copy_directives(alloc)?;
+        let (attributes, uses, mandatory) = copy_three(
+            &self.attributes,
+            &self.uses,
+            &self.mandatory,
+            alloc,
+        )?;
+        let (namespace, name) = copy_two(&self.namespace, &self.name, alloc)?;
         Ok(Capability {
-            namespace: self.namespace.copy(alloc)?,
-            name: self.name.copy(alloc)?,
-            attributes: self.attributes.copy(alloc)?,
+            namespace,
+            name,
+            attributes,
             uses,
             mandatory,
         })
-    }
-
-    fn copy_directives(&self, alloc: Global) -> Result<(List<Text>, List<Text>), AllocError>
-        ensures same { IfOk result (λ copies. copies ≡ (self.now.uses, self.now.mandatory)) }
-    {
-        let uses = self.uses.copy(alloc)?;
-        Ok((uses, self.mandatory.copy(alloc)?))
     }
 }
 

@@ -2,7 +2,7 @@
 
 ghost use Rattle.std.specs.Prelude.{◌≡◌, IfOk};
 
-use osgi_base::copied::{Copied, copy_option};
+use osgi_base::copied::{Copied, copy_three, copy_two};
 use osgi_base::text::Text;
 use osgi_model::filter::Filter;
 use osgi_model::value::Attributes;
@@ -11,7 +11,7 @@ use std::alloc::{AllocError, Global};
 
 /// A requirement of a revision: in the package namespace an import, in the bundle namespace a required bundle or a
 /// fragment's host, in others a filter over what is provided. There the name is that of the namespace.
-#[derive(Debug, Drop, PartialEq, Eq)]
+#[derive(Debug, PartialEq, Eq)]
 pub struct Requirement {
     pub namespace: Text,
     pub name: Text,
@@ -32,13 +32,37 @@ pub struct Requirement {
     pub effective: bool,
 }
 
+/// Not derived, so that each exit at which one is dropped is a single call, which is cheap to prove.
+impl Drop for Requirement {
+    fn drop(self) {
+        let Requirement {
+            namespace: _,
+            name: _,
+            range: _,
+            from_name: _,
+            from_range: _,
+            equal: _,
+            filter: _,
+            optional: _,
+            multiple: _,
+            reexport: _,
+            effective: _,
+        } = self;
+    }
+}
+
 impl Requirement {
     pub fn copy(&self, alloc: Global) -> Result<Requirement, AllocError>
         ensures same { IfOk result (λ copy. copy ≡ self.now) }
     {
-        let (namespace, name, range) = self.copy_subject(alloc)?;
-        let (from_name, from_range) = self.copy_exporter(alloc)?;
-        let (equal, filter) = self.copy_conditions(alloc)?;
+        let (namespace, name, from_name) = copy_three(
+            &self.namespace,
+            &self.name,
+            &self.from_name,
+            alloc,
+        )?;
+        let (range, from_range) = copy_two(&self.range, &self.from_range, alloc)?;
+        let (equal, filter) = copy_two(&self.equal, &self.filter, alloc)?;
         Ok(Requirement {
             namespace,
             name,
@@ -52,28 +76,6 @@ impl Requirement {
             reexport: self.reexport,
             effective: self.effective,
         })
-    }
-
-    fn copy_subject(&self, alloc: Global) -> Result<(Text, Text, VersionRange), AllocError>
-        ensures same { IfOk result (λ copies. copies ≡ (self.now.namespace, self.now.name, self.now.range)) }
-    {
-        let namespace = self.namespace.copy(alloc)?;
-        let name = self.name.copy(alloc)?;
-        Ok((namespace, name, self.range.copy(alloc)?))
-    }
-
-    fn copy_exporter(&self, alloc: Global) -> Result<(Option<Text>, VersionRange), AllocError>
-        ensures same { IfOk result (λ copies. copies ≡ (self.now.from_name, self.now.from_range)) }
-    {
-        let name = copy_option(&self.from_name, alloc)?;
-        Ok((name, self.from_range.copy(alloc)?))
-    }
-
-    fn copy_conditions(&self, alloc: Global) -> Result<(Attributes, Option<Filter>), AllocError>
-        ensures same { IfOk result (λ copies. copies ≡ (self.now.equal, self.now.filter)) }
-    {
-        let equal = self.equal.copy(alloc)?;
-        Ok((equal, copy_option(&self.filter, alloc)?))
     }
 }
 

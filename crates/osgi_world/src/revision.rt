@@ -5,7 +5,7 @@ ghost use Rattle.osgi_world.specs.declared.revision.TheConstants.{MAX_MEMBERS};
 
 use crate::capability::Capability;
 use crate::requirement::Requirement;
-use osgi_base::copied::{Copied, copy_option};
+use osgi_base::copied::{Copied, copy_three, copy_two};
 use osgi_base::list::List;
 use osgi_base::text::Text;
 use osgi_version::version::Version;
@@ -28,10 +28,8 @@ impl Policy {
     pub fn copy(&self, alloc: Global) -> Result<Policy, AllocError>
         ensures same { IfOk result (λ copy. copy ≡ self.now) }
     {
-        Ok(Policy {
-            include: copy_option(&self.include, alloc)?,
-            exclude: self.exclude.copy(alloc)?,
-        })
+        let (include, exclude) = copy_two(&self.include, &self.exclude, alloc)?;
+        Ok(Policy { include, exclude })
     }
 }
 
@@ -42,7 +40,7 @@ impl Copied for Policy {
 }
 
 /// A revision of a bundle.
-#[derive(Debug, Drop, PartialEq, Eq)]
+#[derive(Debug, PartialEq, Eq)]
 pub struct Revision {
     /// The symbolic name.
     pub name: Text,
@@ -66,15 +64,39 @@ pub struct Revision {
     pub ghost requirements_fit: { length requirements + length dynamics ≤ MAX_MEMBERS },
 }
 
+/// Not derived, so that each exit at which one is dropped is a single call, which is cheap to prove.
+impl Drop for Revision {
+    fn drop(self) {
+        let Revision {
+            name: _,
+            version: _,
+            singleton: _,
+            attach: _,
+            host: _,
+            activator: _,
+            capabilities: _,
+            requirements: _,
+            dynamics: _,
+            lazy: _,
+            files: _,
+        } = self;
+    }
+}
+
 impl Revision {
     ghost use Rattle.std.specs.Prelude.{◌≡◌, IfOk};
 
     pub fn copy(&self, alloc: Global) -> Result<Revision, AllocError>
         ensures same { IfOk result (λ copy. copy ≡ self.now) }
     {
-        let (name, version, host) = self.copy_identity(alloc)?;
-        let (capabilities, requirements, dynamics) = self.copy_members(alloc)?;
-        let (activator, lazy, files) = self.copy_contents(alloc)?;
+        let (capabilities, requirements, dynamics) = copy_three(
+            &self.capabilities,
+            &self.requirements,
+            &self.dynamics,
+            alloc,
+        )?;
+        let (activator, lazy, files) = copy_three(&self.activator, &self.lazy, &self.files, alloc)?;
+        let (name, version, host) = copy_three(&self.name, &self.version, &self.host, alloc)?;
         Ok(Revision {
             name,
             version,
@@ -88,39 +110,6 @@ impl Revision {
             lazy,
             files,
         })
-    }
-
-    fn copy_identity(
-        &self,
-        alloc: Global,
-    ) -> Result<(Text, Version, Option<Requirement>), AllocError>
-        ensures same { IfOk result (λ copies. copies ≡ (self.now.name, self.now.version, self.now.host)) }
-    {
-        let name = self.name.copy(alloc)?;
-        let version = self.version.copy(alloc)?;
-        Ok((name, version, copy_option(&self.host, alloc)?))
-    }
-
-    fn copy_members(
-        &self,
-        alloc: Global,
-    ) -> Result<(List<Capability>, List<Requirement>, List<Requirement>), AllocError>
-        ensures same { IfOk result (λ copies. copies ≡ (self.now.capabilities, self.now.requirements, self.now.dynamics)) }
-    {
-        let capabilities = self.capabilities.copy(alloc)?;
-        let requirements = self.requirements.copy(alloc)?;
-        Ok((capabilities, requirements, self.dynamics.copy(alloc)?))
-    }
-
-    fn copy_contents(
-        &self,
-        alloc: Global,
-    ) -> Result<(Option<Text>, Option<Policy>, List<Text>), AllocError>
-        ensures same { IfOk result (λ copies. copies ≡ (self.now.activator, self.now.lazy, self.now.files)) }
-    {
-        let activator = copy_option(&self.activator, alloc)?;
-        let lazy = copy_option(&self.lazy, alloc)?;
-        Ok((activator, lazy, self.files.copy(alloc)?))
     }
 }
 

@@ -1,5 +1,5 @@
 -- Answers that are the only ones. No public promise speaks of this.
-use Rattle.std.specs.Prelude.{◌≡◌, List, MatchResult, Result}
+use Rattle.std.specs.Prelude.{List, MatchResult, Result}
 use Rattle.osgi_base.specs.Verdict.{Verdict}
 use Rattle.osgi_header.specs.declared.clause.Clause.{Clause}
 use Rattle.osgi_package.specs.declared.fault.PackageFault.{PackageFault}

@@ -21,7 +21,7 @@ returns c =
       template = (
         required_none clause (not_so _ c.in_ok-repeats.field-0 c.if-branch.false c.in_ok-repeats.ensures.repeats) filtered.0 (λ reserved. false≢true (sym free ∙ reserved)),
         λ path.
-            subst (λ (t : Requirement). IsOnly (IsRequired clause path) (required_in t path)) (sym c.in_ok-requirement.ensures.required)
-            (required_capability clause c.in-Ok.filter c.in_ok-any_range.field-0 c.in_ok-any_range-2.field-0 filtered.1 c.in_ok-any_range.ensures.any c.in_ok-any_range-2.ensures.any path),
+            subst (λ (t : Requirement). IsOnly (IsRequired clause path) (required_in t path)) (sym c.requirement.ensures.required)
+            (required_capability clause c.in-Ok.filter c.in_ok-ranges.ranges.0 c.in_ok-ranges.ranges.1 filtered.1 c.in_ok-ranges.ensures.first c.in_ok-ranges.ensures.second path),
       );
     }

@@ -5,4 +5,4 @@ use Rattle.osgi_wires.specs.Rows.{RowLists}
 use Rattle.osgi_space.proofs.disputed_rows.DisputedRows.new.Goals as goal
 
 pub invariant_of-result : goal.invariant_of-result
-invariant_of-result c = subst (λ (R : RowLists). AreNoted R c.in_ok-possible.possible) c.rows-2.ensures.rows c.in_ok-possible.ensures.noted
+invariant_of-result c = subst (λ (R : RowLists). AreNoted R c.in_ok-possible.possible) c.rows.ensures.rows c.in_ok-possible.ensures.noted

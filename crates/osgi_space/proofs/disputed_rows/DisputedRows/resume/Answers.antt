@@ -33,12 +33,12 @@ invariant_of-result c =
     follows.noted
     (λ k p at own. c.in_ok-possible-2.ensures.kept p k.id.0 (c.in_ok-possible.ensures.noted k p (subst (λ (l : List Known). In k l) (sym (take_rest K kept.known)) at) (subst (λ (R : RowLists). OwnExport R k.id.0 p) (sym c.rows.ensures.rows) own)))
     (λ r p x at. c.in_ok-possible-2.ensures.imports r p x
-    (subst (λ (R : RowLists). Contains (drop (length c.imports-imports.result.now) R.imports) (record { revision = r; imported = p; provider = x })) (sym c.rows-5.ensures.rows)
+    (subst (λ (R : RowLists). Contains (drop (length c.imports-imports.result.now) R.imports) (record { revision = r; imported = p; provider = x })) (sym c.rows-4.ensures.rows)
     (subst (λ (l : List Import). Contains (drop (length l) after.rows.imports) (record { revision = r; imported = p; provider = x })) (sym imports) at)))
     (λ h f p at own. c.in_ok-possible-2.ensures.attached h f p
-    (subst (λ (R : RowLists). Contains (drop (length c.attached-attached.result.now) R.attached) (record { host = h; fragment = f })) (sym c.rows-5.ensures.rows)
+    (subst (λ (R : RowLists). Contains (drop (length c.attached-attached.result.now) R.attached) (record { host = h; fragment = f })) (sym c.rows-4.ensures.rows)
     (subst (λ (l : List Attachment). Contains (drop (length l) after.rows.attached) (record { host = h; fragment = f })) (sym attached) at))
-    (subst (λ (R : RowLists). OwnExport R f p) (sym c.rows-5.ensures.rows) own))
+    (subst (λ (R : RowLists). OwnExport R f p) (sym c.rows-4.ensures.rows) own))
 
 pub returns-clause-rows : goal.returns-clause-rows
 returns-clause-rows c =
