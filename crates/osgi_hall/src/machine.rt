@@ -40,7 +40,7 @@ pub trait Machine {
         ensures made { can_make (setting self.now) (entries self.now) };
 
     /// Does one operation. A recorded reply adds exactly its entry, at the end of the history; a reply that is not recorded, and
-    /// want of memory, change nothing that a contract sees.
+    /// running out of memory, change nothing that a contract sees.
     fn apply(&mut self, tag: Tag, op: Self::Op) -> Result<Self::Reply, AllocError>
         ensures setting { setting self.new ≡ setting self.old }
         ensures applied { IsApplied is_recorded (gives (setting self.old)) (entries self.old) (entries self.new) tag op result };

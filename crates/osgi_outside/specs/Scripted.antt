@@ -25,7 +25,7 @@ pub record SourceState : Type 0 where
   pub left : List ℕ
   pub script : Script
 
--- a sink in memory; `starved` counts the writes that failed for want of memory
+-- a sink in memory; `starved` counts the writes that failed where memory ran out
 pub record SinkState : Type 0 where
   pub written : List ℕ
   pub flushed : List ℕ

@@ -28,7 +28,7 @@ pub const MAX_FOLDERS: u32 = 65_536;
 /// that, nothing outside a location's folder is read.
 ///
 /// These fail:
-/// - a location that is not UTF-8, that the system refuses as a path, or behind a folder that may not be
+/// - a location that is not UTF-8, that the system refuses as a path, or below a folder that may not be
 ///   searched;
 /// - a name below a location that is not UTF-8;
 /// - more than `MAX_LEVELS` levels of folders below a location's, so also a link to a folder that it lies in;
@@ -95,7 +95,7 @@ impl<R: Files + AllocGlobal + Clone + Drop> Shelf for DirShelf<R> {
     }
 }
 
-/// What stands at a location, `Failed` for all trouble but want of memory.
+/// What stands at a location, `Failed` for all trouble but out of memory.
 fn look<R: Files + AllocGlobal + Clone + Drop>(
     rt: &R,
     alloc: Global,

@@ -88,7 +88,7 @@ impl Sink for MemorySink {
 
     ghost told_together = { λ s. refl };
 
-    /// Takes all bytes. A write that is not listed fails only for want of memory, and counts that.
+    /// Takes all bytes. A write that is not listed fails only where memory runs out, and counts that.
     fn write(&mut self, buf: &[u8]) -> Result<usize, Failed>
         ensures bound { WritesAtMost result buf.now }
         ensures some { IfOk result (λ n. 0 < length buf.now → 0 < n) }

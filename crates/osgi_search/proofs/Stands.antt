@@ -11,7 +11,7 @@ use Rattle.osgi_world.specs.Effort.{IsFirst, IsEffort, IsEffortWithin, IsEffortA
 use Rattle.osgi_choice.specs.Search.{IsAt}
 use Rattle.osgi_choice.proofs.Search.{at-start, found-first, found-effort, hopeless-none, hopeless-effort, spent-above, none-extends}
 
--- the walker, whose problem is Q, stands at w, behind n words
+-- the walker, whose problem is Q, stands at w, after n words
 pub record IsStanding (P Q : Problem) (w : List ℕ) (n : ℕ) : Type 0 where
   pub same : Q ≡ P
   pub there : IsAt P w n

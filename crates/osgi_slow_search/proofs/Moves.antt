@@ -19,7 +19,7 @@ use Rattle.osgi_choice.specs.Search.{IsAt}
 use Rattle.osgi_search.proofs.Midway.{popped}
 use Rattle.osgi_search.specs.Outcomes.{IsOutcome}
 use Rattle.osgi_search.specs.declared.depth_first.Outcome.{Outcome}
-use Rattle.osgi_slow_search.specs.Seen.{HasPassed, IsSeen, StaysAt, behind}
+use Rattle.osgi_slow_search.specs.Seen.{HasPassed, IsSeen, StaysAt, after}
 use Rattle.osgi_slow_search.specs.declared.seen.Seen.{Seen}
 use Rattle.osgi_slow_search.specs.declared.seen.Seen.TheVariants.{Passed, Ended}
 
@@ -112,16 +112,16 @@ longer-falls P R w x v t L l e =
     (subst (λ u. open_count P (made_by P u) < open_count P (made_by P w)) (sym l.there) (step-falls P L w v l.word l.fits)))
 
 -- where the search ends below it, it ends
-pub longer-ended : (P R : Problem) (w x y : List ℕ) (v budget : ℕ) (seen : Seen) (o : Outcome) → IsLonger P R w x v → IsSeen R budget (behind R x) y seen → seen ≡ Ended o → IsOutcome P budget y o
-longer-ended P R w x y v budget seen o l s e = subst (λ (X : Problem). IsOutcome X budget y o) l.same (subst (IsSeen R budget (behind R x) y) e s)
+pub longer-ended : (P R : Problem) (w x y : List ℕ) (v budget : ℕ) (seen : Seen) (o : Outcome) → IsLonger P R w x v → IsSeen R budget (after R x) y seen → seen ≡ Ended o → IsOutcome P budget y o
+longer-ended P R w x y v budget seen o l s e = subst (λ (X : Problem). IsOutcome X budget y o) l.same (subst (IsSeen R budget (after R x) y) e s)
 
--- and with all that extend it behind, the next value is tried
-pub longer-next : (P R S T : Problem) (w x y z : List ℕ) (v n budget : ℕ) (seen : Seen) (r : Option ℕ) → IsProblem P → IsLonger P R w x v → S ≡ R → IsSeen R budget (behind R x) y seen → StaysAt x y seen → seen ≡ Passed n →
+-- and after all that extend it, the next value is tried
+pub longer-next : (P R S T : Problem) (w x y z : List ℕ) (v n budget : ℕ) (seen : Seen) (r : Option ℕ) → IsProblem P → IsLonger P R w x v → S ≡ R → IsSeen R budget (after R x) y seen → StaysAt x y seen → seen ≡ Passed n →
     T ≡ S → MatchOption r ((y ≡ []) × (z ≡ [])) (λ u. y ≡ z ++ u ∷ []) → IsTrying P T w z (v + 1) n budget
 longer-next P R S T w x y z v n budget seen r L l s-same s stays e t-same out =
     let there : y ≡ x = subst (StaysAt x y) e stays in
-    let p : (n ≤ budget) × HasPassed R (behind R x) n = subst (IsSeen R budget (behind R x) y) e s in
-    let q : HasPassed P (behind P (w ++ v ∷ [])) n = subst (λ u. HasPassed P (behind P u) n) l.there (subst (λ (X : Problem). HasPassed X (behind X x) n) l.same p.1) in
+    let p : (n ≤ budget) × HasPassed R (after R x) n = subst (IsSeen R budget (after R x) y) e s in
+    let q : HasPassed P (after P (w ++ v ∷ [])) n = subst (λ u. HasPassed P (after P u) n) l.there (subst (λ (X : Problem). HasPassed X (after X x) n) l.same p.1) in
     record {
       same = t-same ∙ s-same ∙ l.same;
       there = popped y z w v r (there ∙ l.there) out;
@@ -131,7 +131,7 @@ longer-next P R S T w x y z v n budget seen r L l s-same s stays e t-same out =
 
 -- ---- all words
 
-within-width : (P : Problem) (w : List ℕ) → IsWord P w → IsBefore w (behind P [])
+within-width : (P : Problem) (w : List ℕ) → IsWord P w → IsBefore w (after P [])
 within-width P [] f = tt
 within-width P (v ∷ w) f = inl f.0
 
@@ -141,23 +141,23 @@ before-good f u w never (inl b) a = absurd (never b)
 before-good f u w never (inr (inl e)) a = subst (IsBefore w) (sym e) a
 before-good f u w never (inr (inr b)) a = before-trans w f u a b
 
-behind-counted : (P : Problem) (w : List ℕ) (n : ℕ) → IsProblem P → (p : HasPassed P (behind P []) n) → In w p.earlier → IsCounted P w
-behind-counted P w n L p i =
+after-counted : (P : Problem) (w : List ℕ) (n : ℕ) → IsProblem P → (p : HasPassed P (after P []) n) → In w p.earlier → IsCounted P w
+after-counted P w n L p i =
     let l = p.upto.listed w i in
-    record { word = l.0; hopeful = l.1; before = λ u g. before-good (behind P []) u w (p.upto.none u (g.0, g.1, good-hopeful P L u g)) (before-total u (behind P [])) l.2 }
+    record { word = l.0; hopeful = l.1; before = λ u g. before-good (after P []) u w (p.upto.none u (g.0, g.1, good-hopeful P L u g)) (before-total u (after P [])) l.2 }
 
-behind-effort : (P : Problem) (n : ℕ) → IsProblem P → HasPassed P (behind P []) n → IsEffort P n
-behind-effort P n L p = (
+after-effort : (P : Problem) (n : ℕ) → IsProblem P → HasPassed P (after P []) n → IsEffort P n
+after-effort P n L p = (
   p.earlier,
   p.upto.falling,
-  (λ w. (behind-counted P w n L p, λ c. p.upto.whole w c.word c.hopeful (within-width P w c.word))),
+  (λ w. (after-counted P w n L p, λ c. p.upto.whole w c.word c.hopeful (within-width P w c.word))),
   p.number,
 )
 
--- with all words behind, there is no good one
-pub none-behind : (P : Problem) (w x : List ℕ) (n budget : ℕ) (seen : Seen) → IsProblem P → w ≡ [] → IsSeen P budget (behind P w) x seen → seen ≡ Passed n →
+-- after all words, there is no good one
+pub none-after : (P : Problem) (w x : List ℕ) (n budget : ℕ) (seen : Seen) → IsProblem P → w ≡ [] → IsSeen P budget (after P w) x seen → seen ≡ Passed n →
     ((V : List Wiring) → Extends P.world.known P.world.wirings V P.root → ⊥) × IsEffortWithin P budget
-none-behind P w x n budget seen L empty s e =
-    let p : (n ≤ budget) × HasPassed P (behind P w) n = subst (IsSeen P budget (behind P w) x) e s in
-    let q : HasPassed P (behind P []) n = subst (λ u. HasPassed P (behind P u) n) empty p.1 in
-    (none-extends P L (λ u g. ended P L q.earlier q.upto u (g.0, g.1, good-hopeful P L u g)), (n, p.0, behind-effort P n L q))
+none-after P w x n budget seen L empty s e =
+    let p : (n ≤ budget) × HasPassed P (after P w) n = subst (IsSeen P budget (after P w) x) e s in
+    let q : HasPassed P (after P []) n = subst (λ u. HasPassed P (after P u) n) empty p.1 in
+    (none-extends P L (λ u g. ended P L q.earlier q.upto u (g.0, g.1, good-hopeful P L u g)), (n, p.0, after-effort P n L q))

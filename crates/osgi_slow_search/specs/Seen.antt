@@ -13,9 +13,9 @@ pub record HasPassed (P : Problem) (f : List ℕ) (n : ℕ) : Type 0 where
   pub upto : Upto P f earlier
   pub number : length earlier ≡ n
 
--- the place behind a word and all that extend it
-abbrev pub behind : Problem → List ℕ → List ℕ
-behind P w = w ++ width P (made_by P w) ∷ []
+-- the place after a word and all that extend it
+abbrev pub after : Problem → List ℕ → List ℕ
+after P w = w ++ width P (made_by P w) ∷ []
 
 -- the words before the place f were looked at, and the walker stands at x
 abbrev pub IsSeen : Problem → ℕ → List ℕ → List ℕ → Seen → Type 0

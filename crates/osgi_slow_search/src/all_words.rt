@@ -4,7 +4,7 @@ ghost use Rattle.std.specs.Prelude.{◌≡◌, ◌^◌, ◌-◌, ◌<◌, ◌≤
 ghost use Rattle.osgi_world.specs.Candidates.{IsProblem};
 ghost use Rattle.osgi_world.specs.ChoiceWords.{IsWord};
 ghost use Rattle.osgi_search.specs.Outcomes.{IsOutcome};
-ghost use Rattle.osgi_slow_search.specs.Seen.{HasPassed, IsSeen, StaysAt, behind};
+ghost use Rattle.osgi_slow_search.specs.Seen.{HasPassed, IsSeen, StaysAt, after};
 
 use crate::seen::{Seen, look_at};
 use osgi_search::{Outcome, Walker};
@@ -20,7 +20,7 @@ fn look_below<W: Walker>(walker: &mut W, budget: u64, visited: u64) -> Result<Se
     requires passed { HasPassed (W.problem walker.old) (W.word walker.old) visited }
     ensures problem { OnOk result (W.problem walker.new ≡ W.problem walker.old) }
     ensures stays { IfOk result (StaysAt (W.word walker.old) (W.word walker.new)) }
-    ensures seen { IfOk result (IsSeen (W.problem walker.old) budget (behind (W.problem walker.old) (W.word walker.old)) (W.word walker.new)) }
+    ensures seen { IfOk result (IsSeen (W.problem walker.old) budget (after (W.problem walker.old) (W.word walker.old)) (W.word walker.new)) }
 {
     let mut visited = match look_at(walker, budget, visited)? {
         Seen::Passed { visited } => visited,

@@ -10,7 +10,7 @@ use std::alloc::AllocError;
 
 /// What is known when some words were looked at.
 pub enum Seen {
-    /// The search goes on, behind so many words that are not hopeless.
+    /// The search goes on, after so many words that are not hopeless.
     Passed { visited: u64 },
     /// The search ends.
     Ended(Outcome),

@@ -93,7 +93,7 @@ pub fn requirement(
     })
 }
 
-/// A revision; what is too long for one counts as want of memory.
+/// A revision; what is too long for one counts as out of memory.
 fn revision(alloc: Global, name: Text, members: Members) -> Result<Revision, AllocError> {
     if !members.are_few() {
         return Err(AllocError);

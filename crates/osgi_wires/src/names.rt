@@ -86,7 +86,7 @@ impl Names {
         self.texts.get(number as usize)
     }
 
-    /// The number of a name, the next if it has none yet. More names than numbers are counted as want of memory.
+    /// The number of a name, the next if it has none yet. More names than numbers count as out of memory.
     pub fn intern(&mut self, text: &Text) -> Result<u32, AllocError>
         ensures number { IfOk result (λ number. HasNumber self.new text.now number) }
         ensures names { OnOk result (Interns self.old self.new text.now) }

@@ -1,4 +1,4 @@
-//! A push that room made before saves from want of memory.
+//! A push that does not run out of memory, since room was made before.
 
 ghost use Rattle.std.specs.Prelude.{◌≡◌, ◌<◌, [], ◌∷◌, ◌++◌, vec_len, vec_capacity, IsOk, OnOk, OnErr};
 

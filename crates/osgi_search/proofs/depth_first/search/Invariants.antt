@@ -1,4 +1,4 @@
--- The search stands behind as many words as it has visited; those of the budget that are left get fewer.
+-- The search stands after as many words as it has visited; those of the budget that are left get fewer.
 use Rattle.std.proofs.Common.{◌-◌, ◌≤◌}
 use Rattle.osgi_search.proofs.Stands.{IsStanding}
 use Rattle.osgi_search.proofs.depth_first.search.Given as goal

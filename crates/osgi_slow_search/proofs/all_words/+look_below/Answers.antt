@@ -1,4 +1,4 @@
--- Each value leads to a longer word, and behind all that extend it to the next value.
+-- Each value leads to a longer word, and after all that extend it to the next value.
 use Rattle.osgi_slow_search.proofs.Moves.{longer, longer-ended, longer-falls, longer-next, longer-passed, longer-problem, longer-word}
 use Rattle.osgi_slow_search.proofs.all_words.+look_below.Goals as goal
 
