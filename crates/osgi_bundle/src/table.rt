@@ -220,6 +220,7 @@ fn system_row(alloc: Global) -> Result<BundleKept, AllocError>
     ensures system { IfOk result (λ row. row ≡ kept_of first_world the_system_bundle) }
 {
     let revision = system_revision(alloc)?;
+    // Copied, since no field can be moved out of a value whose type has a `Drop` of its own.
     let (name, version) = copy_two(&revision.name, &revision.version, alloc)?;
     Ok(BundleKept {
         bundle: BundleId(0),

@@ -24,7 +24,7 @@ pub fn any_range(alloc: Global) -> Result<VersionRange, AllocError>
     }
 }
 
-/// The range of all versions, twice.
+/// The range of all versions, twice: as one call, so that its caller has one exit.
 pub fn any_ranges(alloc: Global) -> Result<(VersionRange, VersionRange), AllocError>
     ensures first { IfOk result (λ ranges. IsAnyRange ranges.0) }
     ensures second { IfOk result (λ ranges. IsAnyRange ranges.1) }

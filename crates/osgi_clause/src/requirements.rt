@@ -56,6 +56,7 @@ fn requirement(
         range,
         from_name: None,
         from_range,
+        // Without a `?`, so that there is no exit at which all of these would be dropped.
         equal: List::from(Vec::new(alloc)),
         filter,
         optional: is_directed(b"resolution", b"optional", clause),

@@ -54,7 +54,7 @@ enum Case {
     Folder,
 }
 
-/// The cases by their first words.
+/// The cases by their first words: a table, since a chain of tests is dear to prove.
 const CASES: [(&str, Case); 9] = [
     ("std-sink", Case::StdSink),
     ("vec-sink", Case::VecSink),

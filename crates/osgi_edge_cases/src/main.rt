@@ -41,8 +41,8 @@ fn pass_gate<R: Threads + Wait + Sync>(rt: &R) {
     }
 }
 
-/// Adds the answer to a case other than the gate.
-fn add_answer<R: Files + AllocGlobal + Clone + Drop>(
+/// Adds the answer to a case other than the gate: of the file system, or in memory.
+fn answer<R: Files + AllocGlobal + Clone + Drop>(
     rt: &R,
     out: &mut String,
     case: &str,
@@ -63,9 +63,9 @@ fn main(rt: HostRuntime) -> io::Result<()> {
             pass_gate(&rt);
             println!(rt; "{case} => passed")?;
         } else {
-            let mut answer = String::new(rt.alloc());
-            add_answer(&rt, &mut answer, case)?;
-            println!(rt; "{case} => {answer}")?;
+            let mut text = String::new(rt.alloc());
+            answer(&rt, &mut text, case)?;
+            println!(rt; "{case} => {text}")?;
         }
     }
     Ok(())

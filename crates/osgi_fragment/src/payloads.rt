@@ -21,7 +21,7 @@ pub struct Hosted {
 
 impl Hosted {
     /// Nothing yet.
-    fn nothing(alloc: Global) -> Result<Hosted, AllocError>
+    fn new(alloc: Global) -> Result<Hosted, AllocError>
         ensures capabilities { IfOk result (λ hosted. hosted.capabilities ≡ []) }
         ensures requirements { IfOk result (λ hosted. hosted.requirements ≡ []) }
     {
@@ -32,7 +32,7 @@ impl Hosted {
         })
     }
 
-    /// Adds what each of the owners offers and needs, in their order.
+    /// Adds what each of the owners offers and needs, in their order. The host provides all capabilities.
     fn add_all(
         &mut self,
         known: &KnownIndex,
@@ -120,7 +120,7 @@ pub fn payload(
     ensures requirements { IfOk result (λ hosted. hosted.requirements ≡ requirements_of world.now.known (host ∷ fragments.now)) }
 {
     let known = KnownIndex::new(alloc, world.known.items())?;
-    let mut hosted = Hosted::nothing(alloc)?;
+    let mut hosted = Hosted::new(alloc)?;
     hosted.add(&known, host, host)?;
     hosted.add_all(&known, host, fragments)?;
     Ok(hosted)

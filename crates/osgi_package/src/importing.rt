@@ -57,14 +57,12 @@ fn exporter_name(alloc: Global, clause: &Clause) -> Result<Option<Text>, AllocEr
     }
 }
 
-/// The texts of what a clause asks of each of its packages: the namespace, the name, of which there is none yet, and the symbolic
-/// name that the exporter has to have.
-fn texts(alloc: Global, clause: &Clause) -> Result<(Text, Text, Option<Text>), AllocError>
-    ensures texts { IfOk result (λ texts. texts ≡ (codes "osgi.wiring.package", codes "", spec.attribute_text (codes "bundle-symbolic-name") clause.now)) }
+/// The namespace of packages, and the symbolic name that the exporter has to have, if the clause gives one.
+fn texts(alloc: Global, clause: &Clause) -> Result<(Text, Option<Text>), AllocError>
+    ensures texts { IfOk result (λ texts. texts ≡ (codes "osgi.wiring.package", spec.attribute_text (codes "bundle-symbolic-name") clause.now)) }
 {
     let namespace = Text::of(alloc, b"osgi.wiring.package")?;
-    let name = Text::of(alloc, b"")?;
-    Ok((namespace, name, exporter_name(alloc, clause)?))
+    Ok((namespace, exporter_name(alloc, clause)?))
 }
 
 /// What a clause asks of each of its packages, for which there is no name yet.
@@ -76,11 +74,11 @@ fn requirement(
 ) -> Result<Requirement, AllocError>
     ensures template { IfOk result (λ r. r ≡ template_of clause.now ranges.0 ranges.1 equal) }
 {
-    let (namespace, name, from_name) = texts(alloc, clause)?;
+    let (namespace, from_name) = texts(alloc, clause)?;
     let (range, from_range) = ranges;
     Ok(Requirement {
         namespace,
-        name,
+        name: Text::empty(),
         range,
         from_name,
         from_range,

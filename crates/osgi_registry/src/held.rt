@@ -100,7 +100,7 @@ impl Held {
     }
 }
 
-/// The service with these properties in place of those that were given for it, beside those of the framework.
+/// The service with these properties and those that the framework sets, in place of all that it had.
 pub fn modified(
     alloc: Global,
     texts: &FrameworkTexts,

@@ -213,7 +213,7 @@ impl Registry {
         Ok(Ok(()))
     }
 
-    /// Puts these properties in place of all that were given of a live service; false where the service is not live.
+    /// Puts these properties in place of all that were given for the service; false, and nothing changed, where it is not live.
     fn put_properties(
         &mut self,
         service: ServiceId,

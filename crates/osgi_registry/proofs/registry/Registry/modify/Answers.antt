@@ -1,4 +1,4 @@
--- A service with other properties.
+-- A registry with other properties of a service stands for the history with the Modify.
 use Rattle.std.proofs.Common.{◌≡◌, subst}
 use Rattle.std.specs.Bool.{OnTrue}
 use Rattle.osgi_registry.specs.Rows.{change, with_properties}
