@@ -1,6 +1,6 @@
 //! Scripts, read line by line.
 
-ghost use Rattle.std.specs.Prelude.{◌≡◌, ◌<◌, ◌≤◌, [], ◌∷◌, ◌++◌, length, None, Some, IfOk, OnOk, MatchBool, MatchResult, Ok, Err};
+ghost use Rattle.std.specs.Prelude.{◌≡◌, ◌<◌, ◌≤◌, false, [], ◌∷◌, ◌++◌, length, None, Some, IfOk, OnOk, MatchBool, MatchResult, Ok, Err};
 ghost use Rattle.std.specs.Str.Lines.{lines};
 ghost use Rattle.osgi_script.specs.Scripts.{IsScriptFault, ReadsScript};
 ghost use Rattle.osgi_script.specs.computed.ScriptReader as spec;
@@ -31,11 +31,9 @@ fn add_section(alloc: Global, parts: &mut Vec<Part>, section: Section) -> Result
     Ok(())
 }
 
-/// Adds a statement; false where there are as many as there may be.
-fn push_statement(
-    statements: &mut List<Statement>,
-    statement: Statement,
-) -> Result<bool, AllocError>
+/// Adds a statement; false where there are as many as there may be. It may be any value: so no exit has to drop a statement, whose
+/// many variants are dear to prove.
+fn push_statement<T: Drop>(statements: &mut List<T>, statement: T) -> Result<bool, AllocError>
     ensures added { IfOk result (λ added. MatchBool added ((length statements.old < MAX_STATEMENTS) × (statements.new ≡ statements.old ++ statement ∷ [])) (MAX_STATEMENTS ≤ length statements.old)) }
 {
     if statements.items().len() >= MAX_STATEMENTS {
@@ -51,8 +49,15 @@ fn add_statement(parts: &mut [Part], statement: Statement) -> Result<bool, Alloc
 {
     match parts.last_mut() {
         Some(part) => push_statement(&mut part.statements, statement),
-        None => Ok(false),
+        None => Ok(refuse(statement)),
     }
+}
+
+/// Drops a value, and says false.
+fn refuse<T: Drop>(_value: T) -> bool
+    ensures refused { result ≡ false }
+{
+    false
 }
 
 /// Adds the head of a section; false where the section has one already.
