@@ -15,6 +15,7 @@ mod module_copies;
 mod tree;
 
 use osgi_escapes::answers::{put, split_word};
+use osgi_escapes::lines::{Cases, answer_lines};
 use std::alloc::{AllocError, Global};
 use std::io;
 
@@ -32,17 +33,21 @@ fn add_answer(alloc: Global, out: &mut String, line: &str) -> Result<(), AllocEr
     }
 }
 
-fn main(rt: HostRuntime) -> io::Result<()> {
-    for line in rt.lines(rt.alloc()) {
-        let line = line?;
-        let case = line.as_str();
-        if case.is_empty() || case.starts_with('#') {
-            println!(rt; "{case}")?;
-        } else {
-            let mut answer = String::new(rt.alloc());
-            add_answer(rt.alloc(), &mut answer, case)?;
-            println!(rt; "{case} => {answer}")?;
-        }
+/// Copies of values.
+#[derive(Drop)]
+struct CopyCases;
+
+impl Cases for CopyCases {
+    fn add_answer(
+        &mut self,
+        alloc: Global,
+        out: &mut String,
+        case: &str,
+    ) -> Result<(), AllocError> {
+        add_answer(alloc, out, case)
     }
-    Ok(())
+}
+
+fn main(rt: HostRuntime) -> io::Result<()> {
+    answer_lines(&rt, &mut CopyCases)
 }

@@ -20,19 +20,25 @@ mod folders;
 mod lines;
 mod shown;
 
+use osgi_escapes::lines::{Cases, answer_lines};
+use std::alloc::{AllocError, Global};
 use std::io;
 
-fn main(rt: HostRuntime) -> io::Result<()> {
-    for line in rt.lines(rt.alloc()) {
-        let line = line?;
-        let case = line.as_str();
-        if case.is_empty() || case.starts_with('#') {
-            println!(rt; "{case}")?;
-        } else {
-            let mut answer = String::new(rt.alloc());
-            cases::add_answer(rt.alloc(), &mut answer, case)?;
-            println!(rt; "{case} => {answer}")?;
-        }
+/// Depots.
+#[derive(Drop)]
+struct DepotCases;
+
+impl Cases for DepotCases {
+    fn add_answer(
+        &mut self,
+        alloc: Global,
+        out: &mut String,
+        case: &str,
+    ) -> Result<(), AllocError> {
+        cases::add_answer(alloc, out, case)
     }
-    Ok(())
+}
+
+fn main(rt: HostRuntime) -> io::Result<()> {
+    answer_lines(&rt, &mut DepotCases)
 }

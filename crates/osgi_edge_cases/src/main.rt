@@ -27,8 +27,9 @@ mod shelves;
 mod sinks;
 mod sources;
 
+use osgi_escapes::lines::{Cases, answer_line};
 use osgi_outside::gate::{Gate, OpenGate, Point};
-use std::alloc::AllocError;
+use std::alloc::{AllocError, Global};
 use std::io;
 use std::rt::Files;
 use std::sync::Wait;
@@ -41,31 +42,35 @@ fn pass_gate<R: Threads + Wait + Sync>(rt: &R) {
     }
 }
 
-/// Adds the answer to a case other than the gate: of the file system, or in memory.
-fn answer<R: Files + AllocGlobal + Clone + Drop>(
-    rt: &R,
-    out: &mut String,
-    case: &str,
-) -> Result<(), AllocError> {
-    match case.strip_prefix("dir ") {
-        Some(locations) => folders::read_each(rt, out, locations),
-        None => cases::add_answer(rt.alloc(), out, case),
+/// The ends of the program and shelves, and the runtime whose folders some cases read.
+#[derive(Drop)]
+struct EdgeCases<'a, R> {
+    rt: &'a R,
+}
+
+impl<R: Files + AllocGlobal + Clone + Drop> Cases for EdgeCases<'_, R> {
+    fn add_answer(
+        &mut self,
+        alloc: Global,
+        out: &mut String,
+        case: &str,
+    ) -> Result<(), AllocError> {
+        match case.strip_prefix("dir ") {
+            Some(locations) => folders::read_each(self.rt, out, locations),
+            None => cases::add_answer(alloc, out, case),
+        }
     }
 }
 
 fn main(rt: HostRuntime) -> io::Result<()> {
+    let mut cases = EdgeCases { rt: &rt };
     for line in rt.lines(rt.alloc()) {
         let line = line?;
-        let case = line.as_str();
-        if case.is_empty() || case.starts_with('#') {
-            println!(rt; "{case}")?;
-        } else if case == "gate" {
+        if line.as_str() == "gate" {
             pass_gate(&rt);
-            println!(rt; "{case} => passed")?;
+            println!(rt; "gate => passed")?;
         } else {
-            let mut text = String::new(rt.alloc());
-            answer(&rt, &mut text, case)?;
-            println!(rt; "{case} => {text}")?;
+            answer_line(&rt, &mut cases, line.as_str())?;
         }
     }
     Ok(())

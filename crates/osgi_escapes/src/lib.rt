@@ -1,8 +1,9 @@
 //! Bytes as the rows of the case programs write them: `\n`, `\r`, `\t`, `\\`, and `\xHH` for any other byte that is not
-//! printable ASCII; the parts of their answers; and what readers gave.
+//! printable ASCII; the parts of their answers; what readers gave; and each line printed with its answer.
 #![tactic(auto)]
 
 pub mod answers;
+pub mod lines;
 pub mod readings;
 
 ghost use Rattle.std.specs.Prelude.{◌<◌, IfSome, length};

@@ -66,22 +66,34 @@ fn run_mutex<R: Threads + Wait + Sync>(
     })
 }
 
-fn main(rt: HostRuntime) -> Result<()> {
-    let words: Vec<_> = env::args(&rt)?.skip(1).collect(rt.alloc())?;
-    let [what, callers, calls] = words.as_slice() else {
-        bail!("takes hall or mutex, CALLERS and CALLS");
-    };
-    let callers: u32 = callers.parse()?;
-    let calls: u32 = calls.parse()?;
+/// The calls that the words ask for, of at most MAX_CALLERS.
+fn run_kind<R: Threads + Wait + Sync>(
+    rt: &R,
+    alloc: Global,
+    kind: &str,
+    callers: u32,
+    calls: u32,
+) -> Result<Crowd> {
     if callers > MAX_CALLERS {
         bail!("more than {MAX_CALLERS} callers");
     }
-    println!(rt; "begin")?;
-    let crowd = match what.as_str() {
-        "hall" => run(&rt, rt.alloc(), callers, calls)?,
-        "mutex" => run_mutex(&rt, rt.alloc(), callers, calls)?,
+    match kind {
+        "hall" => Ok(run(rt, alloc, callers, calls)?),
+        "mutex" => Ok(run_mutex(rt, alloc, callers, calls)?),
         _ => bail!("takes hall or mutex, CALLERS and CALLS"),
-    };
+    }
+}
+
+/// Makes the calls, between two lines, and compares every answer with the history.
+fn measure<R: Print + Threads + Wait + Sync>(
+    rt: &R,
+    alloc: Global,
+    kind: &str,
+    callers: u32,
+    calls: u32,
+) -> Result<()> {
+    println!(rt; "begin")?;
+    let crowd = run_kind(rt, alloc, kind, callers, calls)?;
     let made = u64::from(callers) * u64::from(calls);
     println!(rt; "{made} calls")?;
     if crowd.counter.length() != made || !crowd.agrees_with_history() {
@@ -89,4 +101,18 @@ fn main(rt: HostRuntime) -> Result<()> {
     }
     println!(rt; "each answered as the history says")?;
     Ok(())
+}
+
+fn main(rt: HostRuntime) -> Result<()> {
+    let words: Vec<_> = env::args(&rt)?.skip(1).collect(rt.alloc())?;
+    let [kind, callers, calls] = words.as_slice() else {
+        bail!("takes hall or mutex, CALLERS and CALLS");
+    };
+    measure(
+        &rt,
+        rt.alloc(),
+        kind.as_str(),
+        callers.parse()?,
+        calls.parse()?,
+    )
 }

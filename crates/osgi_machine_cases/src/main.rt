@@ -24,29 +24,32 @@ mod rows;
 
 use depot::depot_of;
 use osgi_core::Core;
+use osgi_escapes::lines::{Cases, answer_lines};
 use osgi_ops::limits::Limits;
 use rows::add_answer;
+use std::alloc::{AllocError, Global};
 use std::io;
 
-/// Answers each row of standard input.
-fn answer_all(rt: &HostRuntime, core: &mut Core) -> io::Result<()> {
-    for line in rt.lines(rt.alloc()) {
-        let line = line?;
-        let line = line.as_str();
-        if line.is_empty() || line.starts_with('#') {
-            println!(rt; "{line}")?;
-        } else {
-            let mut answer = String::new(rt.alloc());
-            add_answer(rt.alloc(), &mut answer, core, line)?;
-            println!(rt; "{line} => {answer}")?;
-        }
+/// The machine that rows ask, one after another.
+#[derive(Drop)]
+struct MachineCases<'a> {
+    core: &'a mut Core,
+}
+
+impl Cases for MachineCases<'_> {
+    fn add_answer(
+        &mut self,
+        alloc: Global,
+        out: &mut String,
+        case: &str,
+    ) -> Result<(), AllocError> {
+        add_answer(alloc, out, self.core, case)
     }
-    Ok(())
 }
 
 fn main(rt: HostRuntime) -> io::Result<()> {
     let mut core = Core::new(rt.alloc(), Limits::standard(), depot_of(rt.alloc(), "")?)?;
-    let answered = answer_all(&rt, &mut core);
+    let answered = answer_lines(&rt, &mut MachineCases { core: &mut core });
     // Its parts are few, and its tables many: a machine that is dropped whole takes minutes of proof.
     let _ = core.into_parts();
     answered

@@ -21,6 +21,7 @@ mod shown;
 use crate::folders::{with_long_line, with_manifest, without_manifest};
 use crate::manifests::meaning;
 use crate::packages::{exported, imported};
+use osgi_escapes::lines::{Cases, answer_lines};
 use std::alloc::{AllocError, Global};
 use std::io;
 
@@ -42,17 +43,21 @@ fn add_answer(alloc: Global, out: &mut String, line: &str) -> Result<(), AllocEr
     }
 }
 
-fn main(rt: HostRuntime) -> io::Result<()> {
-    for line in rt.lines(rt.alloc()) {
-        let line = line?;
-        let line = line.as_str();
-        if line.is_empty() || line.starts_with('#') {
-            println!(rt; "{line}")?;
-        } else {
-            let mut answer = String::new(rt.alloc());
-            add_answer(rt.alloc(), &mut answer, line)?;
-            println!(rt; "{line} => {answer}")?;
-        }
+/// Readers of manifests and of their headers.
+#[derive(Drop)]
+struct ManifestCases;
+
+impl Cases for ManifestCases {
+    fn add_answer(
+        &mut self,
+        alloc: Global,
+        out: &mut String,
+        case: &str,
+    ) -> Result<(), AllocError> {
+        add_answer(alloc, out, case)
     }
-    Ok(())
+}
+
+fn main(rt: HostRuntime) -> io::Result<()> {
+    answer_lines(&rt, &mut ManifestCases)
 }

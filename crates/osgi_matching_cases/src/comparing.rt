@@ -59,7 +59,20 @@ fn agree(
     Ok(matches(filter, attributes, case) == wanted)
 }
 
-/// Whether both agree on the next filter, by names with case and without.
+/// Asks both by names with case and without, and answers whether they agree.
+fn agree_in_each_case(
+    alloc: Global,
+    filter: &Filter,
+    attributes: &Attributes,
+    tally: &mut Tally,
+) -> Result<bool, AllocError> {
+    Ok(
+        agree(alloc, filter, attributes, Case::Keep, tally)?
+            && agree(alloc, filter, attributes, Case::Fold, tally)?,
+    )
+}
+
+/// Whether both agree on the next filter.
 fn agree_on_filter(
     generator: &mut Generator,
     alloc: Global,
@@ -67,10 +80,7 @@ fn agree_on_filter(
 ) -> Result<bool, AllocError> {
     let filter = generator.filter()?;
     let attributes = generator.attributes()?;
-    Ok(
-        agree(alloc, &filter, &attributes, Case::Keep, tally)?
-            && agree(alloc, &filter, &attributes, Case::Fold, tally)?,
-    )
+    agree_in_each_case(alloc, &filter, &attributes, tally)
 }
 
 /// Whether both agree on the next pieces.

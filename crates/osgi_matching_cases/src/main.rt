@@ -10,19 +10,25 @@ mod generated;
 mod slow_matching;
 
 use crate::comparing::add_answer;
+use osgi_escapes::lines::{Cases, answer_lines};
+use std::alloc::{AllocError, Global};
 use std::io;
 
-fn main(rt: HostRuntime) -> io::Result<()> {
-    for line in rt.lines(rt.alloc()) {
-        let line = line?;
-        let line = line.as_str();
-        if line.starts_with('#') {
-            println!(rt; "{line}")?;
-        } else {
-            let mut answer = String::new(rt.alloc());
-            add_answer(rt.alloc(), &mut answer, line)?;
-            println!(rt; "{line} => {answer}")?;
-        }
+/// Filters beside the slow program.
+#[derive(Drop)]
+struct MatchingCases;
+
+impl Cases for MatchingCases {
+    fn add_answer(
+        &mut self,
+        alloc: Global,
+        out: &mut String,
+        case: &str,
+    ) -> Result<(), AllocError> {
+        add_answer(alloc, out, case)
     }
-    Ok(())
+}
+
+fn main(rt: HostRuntime) -> io::Result<()> {
+    answer_lines(&rt, &mut MatchingCases)
 }

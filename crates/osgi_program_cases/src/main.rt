@@ -23,19 +23,25 @@ mod escapes;
 mod replies;
 mod sessions;
 
+use osgi_escapes::lines::{Cases, answer_lines};
+use std::alloc::{AllocError, Global};
 use std::io;
 
-fn main(rt: HostRuntime) -> io::Result<()> {
-    for line in rt.lines(rt.alloc()) {
-        let line = line?;
-        let case = line.as_str();
-        if case.is_empty() || case.starts_with("#") {
-            println!(rt; "{case}")?;
-        } else {
-            let mut answer = String::new(rt.alloc());
-            answers::put_answer(rt.alloc(), &mut answer, case)?;
-            println!(rt; "{case} => {answer}")?;
-        }
+/// Whole runs of the program.
+#[derive(Drop)]
+struct ProgramCases;
+
+impl Cases for ProgramCases {
+    fn add_answer(
+        &mut self,
+        alloc: Global,
+        out: &mut String,
+        case: &str,
+    ) -> Result<(), AllocError> {
+        answers::put_answer(alloc, out, case)
     }
-    Ok(())
+}
+
+fn main(rt: HostRuntime) -> io::Result<()> {
+    answer_lines(&rt, &mut ProgramCases)
 }

@@ -35,19 +35,25 @@ mod versions;
 mod words;
 
 use crate::cases::add_answer;
+use osgi_escapes::lines::{Cases, answer_lines};
+use std::alloc::{AllocError, Global};
 use std::io;
 
-fn main(rt: HostRuntime) -> io::Result<()> {
-    for line in rt.lines(rt.alloc()) {
-        let line = line?;
-        let line = line.as_str();
-        if line.is_empty() || line.starts_with('#') {
-            println!(rt; "{line}")?;
-        } else {
-            let mut answer = String::new(rt.alloc());
-            add_answer(rt.alloc(), &mut answer, line)?;
-            println!(rt; "{line} => {answer}")?;
-        }
+/// Readers, each asked by the word that a case begins with.
+#[derive(Drop)]
+struct ReaderCases;
+
+impl Cases for ReaderCases {
+    fn add_answer(
+        &mut self,
+        alloc: Global,
+        out: &mut String,
+        case: &str,
+    ) -> Result<(), AllocError> {
+        add_answer(alloc, out, case)
     }
-    Ok(())
+}
+
+fn main(rt: HostRuntime) -> io::Result<()> {
+    answer_lines(&rt, &mut ReaderCases)
 }

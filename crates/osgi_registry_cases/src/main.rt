@@ -23,22 +23,24 @@ mod scanned;
 mod trial;
 mod uses;
 
+use osgi_escapes::lines::{Cases, answer_lines};
 use rows::add_answer;
+use std::alloc::{AllocError, Global};
 use std::io;
 use trial::Trial;
 
+impl Cases for Trial {
+    fn add_answer(
+        &mut self,
+        alloc: Global,
+        out: &mut String,
+        case: &str,
+    ) -> Result<(), AllocError> {
+        add_answer(alloc, out, self, case)
+    }
+}
+
 fn main(rt: HostRuntime) -> io::Result<()> {
     let mut trial = Trial::new(rt.alloc())?;
-    for line in rt.lines(rt.alloc()) {
-        let line = line?;
-        let line = line.as_str();
-        if line.is_empty() || line.starts_with('#') {
-            println!(rt; "{line}")?;
-        } else {
-            let mut answer = String::new(rt.alloc());
-            add_answer(rt.alloc(), &mut answer, &mut trial, line)?;
-            println!(rt; "{line} => {answer}")?;
-        }
-    }
-    Ok(())
+    answer_lines(&rt, &mut trial)
 }

@@ -32,19 +32,25 @@ mod rows;
 mod shown;
 mod slowly;
 
+use osgi_escapes::lines::{Cases, answer_lines};
+use std::alloc::{AllocError, Global};
 use std::io;
 
-fn main(rt: HostRuntime) -> io::Result<()> {
-    for line in rt.lines(rt.alloc()) {
-        let line = line?;
-        let row = line.as_str();
-        if row.is_empty() || row.starts_with('#') {
-            println!(rt; "{row}")?;
-        } else {
-            let mut answers = String::new(rt.alloc());
-            rows::push_answers(rt.alloc(), &mut answers, row)?;
-            println!(rt; "{row} => {answers}")?;
-        }
+/// The resolver.
+#[derive(Drop)]
+struct ResolverCases;
+
+impl Cases for ResolverCases {
+    fn add_answer(
+        &mut self,
+        alloc: Global,
+        out: &mut String,
+        case: &str,
+    ) -> Result<(), AllocError> {
+        rows::push_answers(alloc, out, case)
     }
-    Ok(())
+}
+
+fn main(rt: HostRuntime) -> io::Result<()> {
+    answer_lines(&rt, &mut ResolverCases)
 }

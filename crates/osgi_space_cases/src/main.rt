@@ -26,19 +26,25 @@ mod questions;
 mod shown;
 mod steps;
 
+use osgi_escapes::lines::{Cases, answer_lines};
+use std::alloc::{AllocError, Global};
 use std::io;
 
-fn main(rt: HostRuntime) -> io::Result<()> {
-    for line in rt.lines(rt.alloc()) {
-        let line = line?;
-        let row = line.as_str();
-        if row.is_empty() || row.starts_with('#') {
-            println!(rt; "{row}")?;
-        } else {
-            let mut answers = String::new(rt.alloc());
-            questions::push_answers(rt.alloc(), &mut answers, row)?;
-            println!(rt; "{row} => {answers}")?;
-        }
+/// Class spaces.
+#[derive(Drop)]
+struct SpaceCases;
+
+impl Cases for SpaceCases {
+    fn add_answer(
+        &mut self,
+        alloc: Global,
+        out: &mut String,
+        case: &str,
+    ) -> Result<(), AllocError> {
+        questions::push_answers(alloc, out, case)
     }
-    Ok(())
+}
+
+fn main(rt: HostRuntime) -> io::Result<()> {
+    answer_lines(&rt, &mut SpaceCases)
 }

@@ -29,20 +29,29 @@ mod values;
 
 use crate::cases::add_answer;
 use osgi_base::list::List;
+use osgi_escapes::lines::{Cases, answer_lines};
+use osgi_model::value::Attributes;
+use std::alloc::{AllocError, Global};
 use std::io;
 
-fn main(rt: HostRuntime) -> io::Result<()> {
-    let mut attributes = List::new(rt.alloc())?;
-    for line in rt.lines(rt.alloc()) {
-        let line = line?;
-        let line = line.as_str();
-        if line.is_empty() || line.starts_with('#') {
-            println!(rt; "{line}")?;
-        } else {
-            let mut answer = String::new(rt.alloc());
-            add_answer(rt.alloc(), &mut answer, &mut attributes, line)?;
-            println!(rt; "{line} => {answer}")?;
-        }
+/// Values, with the attributes that a case reads and later ones match.
+#[derive(Drop)]
+struct ValueCases {
+    attributes: Attributes,
+}
+
+impl Cases for ValueCases {
+    fn add_answer(
+        &mut self,
+        alloc: Global,
+        out: &mut String,
+        case: &str,
+    ) -> Result<(), AllocError> {
+        add_answer(alloc, out, &mut self.attributes, case)
     }
-    Ok(())
+}
+
+fn main(rt: HostRuntime) -> io::Result<()> {
+    let attributes = List::new(rt.alloc())?;
+    answer_lines(&rt, &mut ValueCases { attributes })
 }
