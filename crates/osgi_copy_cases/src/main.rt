@@ -19,20 +19,6 @@ use osgi_escapes::lines::{Cases, answer_lines};
 use std::alloc::{AllocError, Global};
 use std::io;
 
-/// Adds the answer to a line that is a case.
-fn add_answer(alloc: Global, out: &mut String, line: &str) -> Result<(), AllocError> {
-    let (name, rest) = split_word(line);
-    if name == "order" {
-        copies::order(alloc, out, rest)
-    } else if name == "copies" {
-        copies::copies(alloc, out)
-    } else if name == "module-copies" {
-        module_copies::module_copies(alloc, out)
-    } else {
-        put(out, "not a case")
-    }
-}
-
 /// Copies of values.
 #[derive(Drop)]
 struct CopyCases;
@@ -44,7 +30,16 @@ impl Cases for CopyCases {
         out: &mut String,
         case: &str,
     ) -> Result<(), AllocError> {
-        add_answer(alloc, out, case)
+        let (name, rest) = split_word(case);
+        if name == "order" {
+            copies::order(alloc, out, rest)
+        } else if name == "copies" {
+            copies::copies(alloc, out)
+        } else if name == "module-copies" {
+            module_copies::module_copies(alloc, out)
+        } else {
+            put(out, "not a case")
+        }
     }
 }
 

@@ -4,6 +4,7 @@ use crate::folders::folders;
 use crate::lines::{installs, lines_of};
 use crate::shown::{push_last, push_rows};
 use osgi_depot::read_depot;
+use osgi_escapes::lines::Cases;
 use osgi_ops::depot::Depot;
 use osgi_outside::memory_shelf::MemoryShelf;
 use osgi_outside::shelf::Shelf;
@@ -44,14 +45,24 @@ fn add_many(alloc: Global, out: &mut String, text: &str) -> Result<(), AllocErro
     write!(out, "faults {faults}")
 }
 
-/// Adds the answer to a line that is a case.
-pub fn add_answer(alloc: Global, out: &mut String, line: &str) -> Result<(), AllocError> {
-    let (name, rest) = line.split_once(' ').unwrap_or((line, ""));
-    if name == "depot" {
-        add_depot(alloc, out, rest)
-    } else if name == "many" {
-        add_many(alloc, out, rest)
-    } else {
-        out.push_str("not a case")
+/// Depots.
+#[derive(Drop)]
+pub struct DepotCases;
+
+impl Cases for DepotCases {
+    fn add_answer(
+        &mut self,
+        alloc: Global,
+        out: &mut String,
+        case: &str,
+    ) -> Result<(), AllocError> {
+        let (name, rest) = case.split_once(' ').unwrap_or((case, ""));
+        if name == "depot" {
+            add_depot(alloc, out, rest)
+        } else if name == "many" {
+            add_many(alloc, out, rest)
+        } else {
+            out.push_str("not a case")
+        }
     }
 }

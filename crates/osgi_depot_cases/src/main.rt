@@ -20,24 +20,9 @@ mod folders;
 mod lines;
 mod shown;
 
-use osgi_escapes::lines::{Cases, answer_lines};
-use std::alloc::{AllocError, Global};
+use crate::cases::DepotCases;
+use osgi_escapes::lines::answer_lines;
 use std::io;
-
-/// Depots.
-#[derive(Drop)]
-struct DepotCases;
-
-impl Cases for DepotCases {
-    fn add_answer(
-        &mut self,
-        alloc: Global,
-        out: &mut String,
-        case: &str,
-    ) -> Result<(), AllocError> {
-        cases::add_answer(alloc, out, case)
-    }
-}
 
 fn main(rt: HostRuntime) -> io::Result<()> {
     answer_lines(&rt, &mut DepotCases)

@@ -25,24 +25,6 @@ use osgi_escapes::lines::{Cases, answer_lines};
 use std::alloc::{AllocError, Global};
 use std::io;
 
-/// Adds what is answered to a line.
-fn add_answer(alloc: Global, out: &mut String, line: &str) -> Result<(), AllocError> {
-    let (word, value) = line.split_once(' ').unwrap_or((line, ""));
-    if word == "imports" {
-        imported(alloc, out, value.as_bytes())
-    } else if word == "exports" {
-        exported(alloc, out, value.as_bytes())
-    } else if word == "manifest" {
-        meaning(alloc, out, &with_manifest(alloc, value)?)
-    } else if word == "folder" {
-        meaning(alloc, out, &without_manifest(alloc, value)?)
-    } else if word == "long" {
-        meaning(alloc, out, &with_long_line(alloc, value)?)
-    } else {
-        out.push_str("no such word")
-    }
-}
-
 /// Readers of manifests and of their headers.
 #[derive(Drop)]
 struct ManifestCases;
@@ -54,7 +36,20 @@ impl Cases for ManifestCases {
         out: &mut String,
         case: &str,
     ) -> Result<(), AllocError> {
-        add_answer(alloc, out, case)
+        let (word, value) = case.split_once(' ').unwrap_or((case, ""));
+        if word == "imports" {
+            imported(alloc, out, value.as_bytes())
+        } else if word == "exports" {
+            exported(alloc, out, value.as_bytes())
+        } else if word == "manifest" {
+            meaning(alloc, out, &with_manifest(alloc, value)?)
+        } else if word == "folder" {
+            meaning(alloc, out, &without_manifest(alloc, value)?)
+        } else if word == "long" {
+            meaning(alloc, out, &with_long_line(alloc, value)?)
+        } else {
+            out.push_str("no such word")
+        }
     }
 }
 

@@ -2,6 +2,7 @@
 
 use crate::generated::Generator;
 use crate::slow_matching::matches_slowly;
+use osgi_escapes::lines::Cases;
 use osgi_filter::{Case, matches};
 use osgi_model::filter::Filter;
 use osgi_model::value::Attributes;
@@ -131,16 +132,26 @@ fn compare(
     }
 }
 
-/// Adds what a line is answered.
-pub fn add_answer(alloc: Global, out: &mut String, line: &str) -> Result<(), AllocError> {
-    let (word, numbers) = line.split_once(' ').unwrap_or((line, ""));
-    let (seed, count) = numbers.split_once(' ').unwrap_or((numbers, ""));
-    let (Ok(seed), Ok(count)) = (seed.parse::<u64>(), count.parse::<u32>()) else {
-        return out.push_str("no seed and count");
-    };
-    match word {
-        "filters" => compare(alloc, out, Generated::Filters, seed, count),
-        "pieces" => compare(alloc, out, Generated::Pieces, seed, count),
-        _ => out.push_str("no such word"),
+/// Filters beside the slow program.
+#[derive(Drop)]
+pub struct MatchingCases;
+
+impl Cases for MatchingCases {
+    fn add_answer(
+        &mut self,
+        alloc: Global,
+        out: &mut String,
+        case: &str,
+    ) -> Result<(), AllocError> {
+        let (word, numbers) = case.split_once(' ').unwrap_or((case, ""));
+        let (seed, count) = numbers.split_once(' ').unwrap_or((numbers, ""));
+        let (Ok(seed), Ok(count)) = (seed.parse::<u64>(), count.parse::<u32>()) else {
+            return out.push_str("no seed and count");
+        };
+        match word {
+            "filters" => compare(alloc, out, Generated::Filters, seed, count),
+            "pieces" => compare(alloc, out, Generated::Pieces, seed, count),
+            _ => out.push_str("no such word"),
+        }
     }
 }

@@ -1,33 +1,17 @@
 //! Compares matching with the slow program on generated filters and attributes.
 //!
 //! A line of standard input is `filters SEED COUNT` or `pieces SEED COUNT`, and is printed with ` => ` and its answer after it;
-//! one that begins with `#` is printed alone. Numbers from the seed make so many filters with their attributes, or so many items
-//! that ask for pieces of a text. The answer is how many agree, where all do, and else which is the first that does not.
+//! one that is empty or begins with `#` is printed alone. Numbers from the seed make so many filters with their attributes, or so
+//! many items that ask for pieces of a text. The answer is how many agree, where all do, and else which is the first that does not.
 #![tactic(auto)]
 
 mod comparing;
 mod generated;
 mod slow_matching;
 
-use crate::comparing::add_answer;
-use osgi_escapes::lines::{Cases, answer_lines};
-use std::alloc::{AllocError, Global};
+use crate::comparing::MatchingCases;
+use osgi_escapes::lines::answer_lines;
 use std::io;
-
-/// Filters beside the slow program.
-#[derive(Drop)]
-struct MatchingCases;
-
-impl Cases for MatchingCases {
-    fn add_answer(
-        &mut self,
-        alloc: Global,
-        out: &mut String,
-        case: &str,
-    ) -> Result<(), AllocError> {
-        add_answer(alloc, out, case)
-    }
-}
 
 fn main(rt: HostRuntime) -> io::Result<()> {
     answer_lines(&rt, &mut MatchingCases)

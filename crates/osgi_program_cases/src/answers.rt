@@ -3,6 +3,7 @@
 use crate::cases::Case;
 use crate::escapes::put_quoted;
 use crate::sessions::put_session;
+use osgi_escapes::lines::Cases;
 use osgi_outside::gate::OpenGate;
 use osgi_outside::memory_shelf::MemoryShelf;
 use osgi_outside::memory_sink::MemorySink;
@@ -17,11 +18,21 @@ const SHOWN: usize = 1_000;
 
 const LAST: usize = 60;
 
-/// Appends the answer to a line that is a case.
-pub fn put_answer(alloc: Global, out: &mut String, line: &str) -> Result<(), AllocError> {
-    match Case::read(alloc, line)? {
-        Some(case) => run(alloc, out, case),
-        None => out.push_str("not a case"),
+/// Whole runs of the program.
+#[derive(Drop)]
+pub struct ProgramCases;
+
+impl Cases for ProgramCases {
+    fn add_answer(
+        &mut self,
+        alloc: Global,
+        out: &mut String,
+        case: &str,
+    ) -> Result<(), AllocError> {
+        match Case::read(alloc, case)? {
+            Some(case) => run(alloc, out, case),
+            None => out.push_str("not a case"),
+        }
     }
 }
 

@@ -23,24 +23,9 @@ mod escapes;
 mod replies;
 mod sessions;
 
-use osgi_escapes::lines::{Cases, answer_lines};
-use std::alloc::{AllocError, Global};
+use crate::answers::ProgramCases;
+use osgi_escapes::lines::answer_lines;
 use std::io;
-
-/// Whole runs of the program.
-#[derive(Drop)]
-struct ProgramCases;
-
-impl Cases for ProgramCases {
-    fn add_answer(
-        &mut self,
-        alloc: Global,
-        out: &mut String,
-        case: &str,
-    ) -> Result<(), AllocError> {
-        answers::put_answer(alloc, out, case)
-    }
-}
 
 fn main(rt: HostRuntime) -> io::Result<()> {
     answer_lines(&rt, &mut ProgramCases)

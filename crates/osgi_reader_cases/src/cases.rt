@@ -10,21 +10,32 @@ use crate::versions::{numbered, order, version};
 use crate::words::word_read;
 use osgi_escapes::answers::split_word;
 use osgi_escapes::bytes_of;
+use osgi_escapes::lines::Cases;
 use std::alloc::{AllocError, Global};
 
-/// Adds what is answered to a line.
-pub fn add_answer(alloc: Global, out: &mut String, line: &str) -> Result<(), AllocError> {
-    let (word, text) = split_word(line);
-    if word == "order" {
-        order(alloc, out, text)
-    } else if word == "within" {
-        within(alloc, out, text)
-    } else if word == "long-lines" {
-        long_lines(alloc, out, text)
-    } else if word == "nested" {
-        nested(alloc, out, text)
-    } else {
-        add_read(alloc, out, word, bytes_of(alloc, text)?.as_slice())
+/// Readers, each asked by the word that a case begins with.
+#[derive(Drop)]
+pub struct ReaderCases;
+
+impl Cases for ReaderCases {
+    fn add_answer(
+        &mut self,
+        alloc: Global,
+        out: &mut String,
+        case: &str,
+    ) -> Result<(), AllocError> {
+        let (word, text) = split_word(case);
+        if word == "order" {
+            order(alloc, out, text)
+        } else if word == "within" {
+            within(alloc, out, text)
+        } else if word == "long-lines" {
+            long_lines(alloc, out, text)
+        } else if word == "nested" {
+            nested(alloc, out, text)
+        } else {
+            add_read(alloc, out, word, bytes_of(alloc, text)?.as_slice())
+        }
     }
 }
 

@@ -34,25 +34,9 @@ mod trees;
 mod versions;
 mod words;
 
-use crate::cases::add_answer;
-use osgi_escapes::lines::{Cases, answer_lines};
-use std::alloc::{AllocError, Global};
+use crate::cases::ReaderCases;
+use osgi_escapes::lines::answer_lines;
 use std::io;
-
-/// Readers, each asked by the word that a case begins with.
-#[derive(Drop)]
-struct ReaderCases;
-
-impl Cases for ReaderCases {
-    fn add_answer(
-        &mut self,
-        alloc: Global,
-        out: &mut String,
-        case: &str,
-    ) -> Result<(), AllocError> {
-        add_answer(alloc, out, case)
-    }
-}
 
 fn main(rt: HostRuntime) -> io::Result<()> {
     answer_lines(&rt, &mut ReaderCases)

@@ -32,24 +32,9 @@ mod rows;
 mod shown;
 mod slowly;
 
-use osgi_escapes::lines::{Cases, answer_lines};
-use std::alloc::{AllocError, Global};
+use crate::rows::ResolverCases;
+use osgi_escapes::lines::answer_lines;
 use std::io;
-
-/// The resolver.
-#[derive(Drop)]
-struct ResolverCases;
-
-impl Cases for ResolverCases {
-    fn add_answer(
-        &mut self,
-        alloc: Global,
-        out: &mut String,
-        case: &str,
-    ) -> Result<(), AllocError> {
-        rows::push_answers(alloc, out, case)
-    }
-}
 
 fn main(rt: HostRuntime) -> io::Result<()> {
     answer_lines(&rt, &mut ResolverCases)

@@ -4,6 +4,7 @@ use crate::asked::{push_resolved, push_resolved_anew, push_resolved_slowly};
 use crate::known::{add, add_all, first_wirings};
 use crate::shown::push_wirings;
 use osgi_base::list::List;
+use osgi_escapes::lines::Cases;
 use osgi_resolver::IndexedWirings;
 use osgi_world::world::Known;
 use osgi_world_rows::{cut, known_revision, known_revisions, number, revision_id};
@@ -113,10 +114,20 @@ fn push_all(
     take_all(alloc, out, wirings, steps)
 }
 
-/// Adds the answers to all steps of a row.
-pub fn push_answers(alloc: Global, out: &mut String, row: &str) -> Result<(), AllocError> {
-    let (known, steps) = row.split_once('|').unwrap_or((row, ""));
-    let revisions = known_revisions(alloc, known)?;
-    let mut wirings = first_wirings(alloc)?;
-    push_all(alloc, out, &mut wirings, revisions, steps)
+/// The resolver.
+#[derive(Drop)]
+pub struct ResolverCases;
+
+impl Cases for ResolverCases {
+    fn add_answer(
+        &mut self,
+        alloc: Global,
+        out: &mut String,
+        case: &str,
+    ) -> Result<(), AllocError> {
+        let (known, steps) = case.split_once('|').unwrap_or((case, ""));
+        let revisions = known_revisions(alloc, known)?;
+        let mut wirings = first_wirings(alloc)?;
+        push_all(alloc, out, &mut wirings, revisions, steps)
+    }
 }

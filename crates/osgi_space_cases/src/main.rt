@@ -26,24 +26,9 @@ mod questions;
 mod shown;
 mod steps;
 
-use osgi_escapes::lines::{Cases, answer_lines};
-use std::alloc::{AllocError, Global};
+use crate::questions::SpaceCases;
+use osgi_escapes::lines::answer_lines;
 use std::io;
-
-/// Class spaces.
-#[derive(Drop)]
-struct SpaceCases;
-
-impl Cases for SpaceCases {
-    fn add_answer(
-        &mut self,
-        alloc: Global,
-        out: &mut String,
-        case: &str,
-    ) -> Result<(), AllocError> {
-        questions::push_answers(alloc, out, case)
-    }
-}
 
 fn main(rt: HostRuntime) -> io::Result<()> {
     answer_lines(&rt, &mut SpaceCases)

@@ -6,6 +6,7 @@ use osgi_base::ids::RevisionId;
 use osgi_base::list::List;
 use osgi_base::text::Text;
 use osgi_escapes::complain;
+use osgi_escapes::lines::Cases;
 use osgi_fragment::payload;
 use osgi_space::{ClassSpaces, Implied, implied, is_consistent, sources};
 use osgi_world::world::World;
@@ -221,10 +222,20 @@ fn parts(row: &str) -> (&str, &str, &str) {
     (known, wirings, questions)
 }
 
-/// Adds the answers to all questions of a row.
-pub fn push_answers(alloc: Global, out: &mut String, row: &str) -> Result<(), AllocError> {
-    let (known, wirings, questions) = parts(row);
-    let world = world(alloc, known, wirings)?;
-    let mut asked = Asked::new(alloc, &world)?;
-    take_all(alloc, out, &mut asked, questions)
+/// Class spaces.
+#[derive(Drop)]
+pub struct SpaceCases;
+
+impl Cases for SpaceCases {
+    fn add_answer(
+        &mut self,
+        alloc: Global,
+        out: &mut String,
+        case: &str,
+    ) -> Result<(), AllocError> {
+        let (known, wirings, questions) = parts(case);
+        let world = world(alloc, known, wirings)?;
+        let mut asked = Asked::new(alloc, &world)?;
+        take_all(alloc, out, &mut asked, questions)
+    }
 }
