@@ -1,7 +1,7 @@
 #!/usr/bin/env python3
 """Random small folders, most of their manifests nearly valid, with the model's answers.
 
-    manifest_folders.py SEED COUNT            rows of osgi_manifest_cases with their answers, as in its stdout
+    manifest_folders.py SEED COUNT            rows of cases_manifests with their answers, as in its stdout
     manifest_folders.py SEED COUNT --lines    the rows alone, as in its stdin
 
 The same seed gives the same lines.

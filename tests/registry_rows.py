@@ -1,4 +1,4 @@
-"""Random rows of osgi_machine_cases and osgi_registry_cases with the answers that plain scans give, and the files that they
+"""Random rows of cases_machine and cases_registry with the answers that plain scans give, and the files that they
 stand in.
 
 What is answered is written here a second time, by the rules of docs/FRAMEWORK.md alone: a history is a list of calls, and

@@ -1,10 +1,10 @@
 #!/usr/bin/env python3
-"""The rows of osgi_resolver_cases: worlds and steps as text, and the answers that the model gives. The form of a row is explained
-in crates/osgi_resolver_cases/src/main.rt.
+"""The rows of cases_resolver: worlds and steps as text, and the answers that the model gives. The form of a row is explained
+in crates/cases_resolver/src/main.rt.
 
     tests/resolver_rows.py FILE
 
-compares the model with rows that have answers (`ROW => ANSWER; ANSWER`), as crates/osgi_resolver_cases/stdout has them. Its
+compares the model with rows that have answers (`ROW => ANSWER; ANSWER`), as crates/cases_resolver/stdout has them. Its
 status is 1 where one is different."""
 import sys
 

@@ -1,10 +1,10 @@
 #!/usr/bin/env python3
 """Random small problems of the resolver, with the answers of the plain model (`resolver_model.py`).
 
-    tests/resolver_worlds.py SEED COUNT             prints rows for osgi_resolver_cases
+    tests/resolver_worlds.py SEED COUNT             prints rows for cases_resolver
     tests/resolver_worlds.py SEED COUNT --stats     says how often each answer and each feature came up
     tests/resolver_worlds.py SEED COUNT --laws      looks at the first words of each problem, at those below hopeless ones too
-    tests/resolver_worlds.py SEED COUNT PROGRAM     asks the program, built from osgi_resolver_cases, and compares
+    tests/resolver_worlds.py SEED COUNT PROGRAM     asks the program, built from cases_resolver, and compares
 
 A row makes revisions known and resolves some of them, each with a budget that is one too small, and then with one that is just
 enough; so what is in force is what the model has found before, and is consistent. Where the effort is above MOST, the budget is
@@ -12,7 +12,7 @@ that, and both have to say that it was spent. Where few words come up to the fir
 search over all words is asked as well. A row that the program answers in another way is made as small as it can be, and printed,
 and then the status is 1.
 
-All revisions are current: the rows of osgi_resolver_cases have no step after which one is not."""
+All revisions are current: the rows of cases_resolver have no step after which one is not."""
 import itertools
 import subprocess
 import sys

@@ -1,5 +1,5 @@
-"""The rows of osgi_space_cases: worlds and questions as text, and the answers that the model gives. The form of a row is
-explained in crates/osgi_space_cases/src/main.rt."""
+"""The rows of cases_space: worlds and questions as text, and the answers that the model gives. The form of a row is
+explained in crates/cases_space/src/main.rt."""
 from space_model import BUNDLE, PACKAGE, Capability, Host, Requirement, Revision, Space, Wire, Wiring, World, with_fragment, with_wire
 
 # ---------------------------------------------------------------- from text

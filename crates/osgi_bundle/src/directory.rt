@@ -6,14 +6,13 @@ ghost use Rattle.std.specs.Option.{option_copied};
 ghost use Rattle.osgi_bundle.specs.computed.Kept.{AddsFirst, HoldsSame, name_cmp, named, text_cmp};
 ghost use Rattle.osgi_bundle.specs.declared.directory.BundleName.{BundleName};
 
-use osgi_base::ids::BundleId;
-use osgi_base::text::Text;
-use osgi_version::version::Version;
+use osgi_base::{BundleId, Text};
+use osgi_version::Version;
 use std::alloc::{AllocError, Global};
 use std::collections::BTreeMap;
 
 /// A symbolic name with a version.
-#[derive(Debug, Drop, PartialEq, Eq, PartialOrd, Ord)]
+#[derive(Drop, PartialEq, Eq, PartialOrd, Ord)]
 pub struct BundleName {
     pub name: Text,
     pub version: Version,

@@ -4,8 +4,8 @@ ghost use Rattle.std.specs.Prelude.{◌≡◌, ◌<◌, List, ℕ, length, None,
 ghost use Rattle.osgi_bundle.specs.computed.Places.{AreFirstPlaces};
 ghost use Rattle.osgi_ops.specs.Depots.{row_number, stored_at};
 
-use osgi_base::text::Text;
-use osgi_ops::depot::{Depot, DepotRow, Stored};
+use osgi_base::Text;
+use osgi_ops::{Depot, DepotRow, Stored};
 use std::alloc::{AllocError, Global};
 use std::collections::BTreeMap;
 use std::marker::Model;

@@ -1,12 +1,11 @@
 //! What the table keeps of a bundle.
 
-use osgi_base::ids::{BundleId, Tag};
-use osgi_base::text::Text;
-use osgi_version::version::Version;
+use osgi_base::{BundleId, Tag, Text};
+use osgi_version::Version;
 
 /// A live bundle: where it was installed from, its symbolic name and version, whether it is a fragment, the number of the
 /// depot's row that it comes from, its state by OSGi's number, and who last began to start or stop it.
-#[derive(Debug, Drop, PartialEq, Eq)]
+#[derive(Drop, PartialEq, Eq)]
 pub struct BundleKept {
     pub bundle: BundleId,
     pub location: Text,

@@ -12,14 +12,10 @@ ghost use Rattle.osgi_ops.specs.declared.limits.TheConstants.{MAX_BUNDLES};
 
 use crate::directory::{BundleName, Directory};
 use crate::kept::BundleKept;
-use osgi_base::copied::copy_two;
-use osgi_base::ids::BundleId;
-use osgi_base::text::Text;
-use osgi_ops::limits::MAX_BUNDLES;
-use osgi_ops::refusal::{Many, Refusal};
-use osgi_ops::state::{ACTIVE, INSTALLED, RESOLVED, UNINSTALLED};
-use osgi_version::version::Version;
-use osgi_world::system::system_revision;
+use osgi_base::{BundleId, Text, copy_two};
+use osgi_ops::{ACTIVE, INSTALLED, MAX_BUNDLES, Many, RESOLVED, Refusal, UNINSTALLED};
+use osgi_version::Version;
+use osgi_world::system_revision;
 use std::alloc::{AllocError, Global};
 use std::marker::Model;
 

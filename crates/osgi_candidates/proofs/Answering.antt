@@ -2,7 +2,7 @@
 use Rattle.std.proofs.Common.{◌≡◌, ◌↔◌, List, sym, subst}
 use Rattle.osgi_candidates.specs.computed.Collecting.{AreCandidates}
 use Rattle.osgi_candidates.specs.computed.Fitting.{IsFit, bare}
-use Rattle.osgi_choice.proofs.Preferred.{candidates-one}
+use Rattle.osgi_resolver_theory.proofs.Preferred.{candidates-one}
 use Rattle.osgi_world.specs.Candidates.{CanBeAsked, IsCandidate, IsProblem, candidates}
 use Rattle.osgi_world.specs.declared.problem.Problem.{Problem}
 use Rattle.osgi_world.specs.declared.wiring.CapRef.{CapRef}

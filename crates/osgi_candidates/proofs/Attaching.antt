@@ -17,11 +17,11 @@ use Rattle.osgi_candidates.proofs.Preferring.{nat-less, then_less, then_tie}
 use Rattle.osgi_candidates.proofs.Proposed.{asks_host}
 use Rattle.osgi_candidates.proofs.Sets.{put_in, put_kept, put_stored, two_below}
 use Rattle.osgi_candidates.proofs.Tested.{matching_is}
-use Rattle.osgi_choice.proofs.Laws.{laws}
-use Rattle.osgi_choice.proofs.Lists.{in-map, map-in}
-use Rattle.osgi_choice.proofs.Twos.{two-map, two-unfilter}
-use Rattle.osgi_choice.proofs.Values.{find-some, rev-eq}
-use Rattle.osgi_coherence.proofs.Grow.{in_either}
+use Rattle.osgi_resolver_theory.proofs.Laws.{laws}
+use Rattle.osgi_resolver_theory.proofs.Lists.{in-map, map-in}
+use Rattle.osgi_resolver_theory.proofs.Twos.{two-map, two-unfilter}
+use Rattle.osgi_resolver_theory.proofs.Values.{find-some, rev-eq}
+use Rattle.osgi_space_rules.proofs.Grow.{in_either}
 use Rattle.osgi_world.specs.Candidates.{IsProblem, matching}
 use Rattle.osgi_world.specs.Lists.{In, Two}
 use Rattle.osgi_world.specs.Lookups.{bundle_of, is_host_of, known_at, revision_at, symbolic_name}

@@ -9,9 +9,9 @@ use Rattle.osgi_candidates.specs.declared.names.Place.{Place}
 use Rattle.osgi_candidates.specs.declared.ranked.Ranked.{Ranked}
 use Rattle.osgi_candidates.proofs.Preferring.{preferred_is, tied_same}
 use Rattle.osgi_candidates.proofs.Sets.{in_reverse, put_in, put_kept, put_stored, reverse_in, two_below, two_reverse}
-use Rattle.osgi_choice.proofs.Lists.{in-map, map-in}
-use Rattle.osgi_choice.proofs.Twos.{two-map}
-use Rattle.osgi_coherence.proofs.Grow.{in_more}
+use Rattle.osgi_resolver_theory.proofs.Lists.{in-map, map-in}
+use Rattle.osgi_resolver_theory.proofs.Twos.{two-map}
+use Rattle.osgi_space_rules.proofs.Grow.{in_more}
 use Rattle.osgi_world.specs.Candidates.{IsCandidate, IsPreferred}
 use Rattle.osgi_world.specs.Lists.{In, Two}
 use Rattle.osgi_world.specs.declared.wiring.CapRef.{CapRef}

@@ -18,9 +18,9 @@ use Rattle.osgi_candidates.specs.declared.held.HeldWirings.{HeldWirings}
 use Rattle.osgi_candidates.specs.declared.names.KnownNames.{KnownNames}
 use Rattle.osgi_candidates.specs.declared.offer_index.OfferIndex.{OfferIndex}
 use Rattle.osgi_candidates.proofs.Standing.{held_none}
-use Rattle.osgi_choice.proofs.Lists.{in-append_cases, in-append_left, in-append_right}
-use Rattle.osgi_choice.proofs.Values.{find-some, rev-eq, rev-same}
-use Rattle.osgi_coherence.specs.computed.Growing.{Grows}
+use Rattle.osgi_resolver_theory.proofs.Lists.{in-append_cases, in-append_left, in-append_right}
+use Rattle.osgi_resolver_theory.proofs.Values.{find-some, rev-eq, rev-same}
+use Rattle.osgi_space_rules.specs.computed.Growing.{Grows}
 use Rattle.osgi_world.specs.Consistency.{Consistent}
 use Rattle.osgi_world.specs.Lists.{In, Two}
 use Rattle.osgi_world.specs.Lookups.{IsKnown, known_at, symbolic_name}

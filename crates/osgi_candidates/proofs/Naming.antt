@@ -8,11 +8,11 @@ use Rattle.std.proofs.lemmas.Option.{slice_get_within}
 use Rattle.osgi_base.specs.declared.ids.RevisionId.{RevisionId}
 use Rattle.osgi_candidates.specs.computed.Names.{GrowsBy, capability_added, fragment_added, place_at, values_of}
 use Rattle.osgi_candidates.specs.declared.names.Place.{Place}
-use Rattle.osgi_choice.proofs.Lists.{in-append_cases, in-append_left, in-append_right}
-use Rattle.osgi_coherence.proofs.Exact.{text_exact, text_total}
-use Rattle.osgi_coherence.specs.computed.Keys.{text_cmp}
-use Rattle.osgi_wires.specs.computed.Groups.{Adds}
-use Rattle.osgi_wires.specs.declared.grouped.Grouped.{Grouped}
+use Rattle.osgi_resolver_theory.proofs.Lists.{in-append_cases, in-append_left, in-append_right}
+use Rattle.osgi_space_rules.proofs.Exact.{text_exact, text_total}
+use Rattle.osgi_space_rules.specs.computed.Keys.{text_cmp}
+use Rattle.osgi_space_rows.specs.computed.Groups.{Adds}
+use Rattle.osgi_space_rows.specs.declared.grouped.Grouped.{Grouped}
 use Rattle.osgi_world.specs.Lists.{In}
 use Rattle.osgi_world.specs.declared.capability.Capability.{Capability}
 use Rattle.osgi_world.specs.declared.requirement.Requirement.{Requirement}

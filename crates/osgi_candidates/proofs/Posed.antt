@@ -6,9 +6,9 @@ use Rattle.osgi_candidates.specs.computed.Choices.{AddsAsked, AddsChoice, AddsCh
 use Rattle.osgi_candidates.specs.computed.Collecting.{AreCandidates}
 use Rattle.osgi_candidates.specs.computed.Fitting.{IsFit}
 use Rattle.osgi_candidates.proofs.Answering.{same_candidate}
-use Rattle.osgi_choice.proofs.Lists.{and-both, in-append_left, in-append_right}
-use Rattle.osgi_choice.proofs.Values.{find-none, find-some, nat-same, place-eq, ref-eq, rev-eq}
-use Rattle.osgi_coherence.proofs.Grow.{in_either, in_more}
+use Rattle.osgi_resolver_theory.proofs.Lists.{and-both, in-append_left, in-append_right}
+use Rattle.osgi_resolver_theory.proofs.Values.{find-none, find-some, nat-same, place-eq, ref-eq, rev-eq}
+use Rattle.osgi_space_rules.proofs.Grow.{in_either, in_more}
 use Rattle.osgi_world.specs.Candidates.{CanBeAsked, IsPreferred, IsProblem, IsUnresolved, same_place}
 use Rattle.osgi_world.specs.Lists.{In, Two}
 use Rattle.osgi_world.specs.Lookups.{known_at, requirement_count}

@@ -13,8 +13,8 @@ use Rattle.osgi_candidates.specs.declared.names.Place.{Place}
 use Rattle.osgi_candidates.specs.declared.ranked.Ranked.{Ranked}
 use Rattle.osgi_candidates.proofs.Collected.{IsAtSome, extends_like, extends_two}
 use Rattle.osgi_candidates.proofs.Tested.{matching_is}
-use Rattle.osgi_choice.proofs.Lists.{and-cases}
-use Rattle.osgi_choice.proofs.Values.{find-some, rev-eq}
+use Rattle.osgi_resolver_theory.proofs.Lists.{and-cases}
+use Rattle.osgi_resolver_theory.proofs.Values.{find-some, rev-eq}
 use Rattle.std.specs.BTreeSet.{BTreeSet}
 use Rattle.osgi_version.specs.RangeValues.{is_within, range_parts}
 use Rattle.osgi_version.specs.VersionValues.{parts}

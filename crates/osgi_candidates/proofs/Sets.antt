@@ -7,8 +7,8 @@ use Rattle.std.specs.Ordering.{match_ordering}
 use Rattle.std.specs.declared.cmp.Ordering.{Ordering}
 use Rattle.std.specs.declared.cmp.Ordering.TheVariants.{Less, Equal, Greater}
 use Rattle.std.proofs.lemmas.List.{reverse-append}
-use Rattle.osgi_choice.proofs.Lists.{in-append_cases, in-append_left, in-append_right}
-use Rattle.osgi_choice.proofs.Twos.{two-append}
+use Rattle.osgi_resolver_theory.proofs.Lists.{in-append_cases, in-append_left, in-append_right}
+use Rattle.osgi_resolver_theory.proofs.Twos.{two-append}
 use Rattle.osgi_world.specs.Lists.{In, Two}
 
 module _ {K : Type 0} (cmp : K → K → Ordering) (k : K) where

@@ -12,11 +12,11 @@ use Rattle.osgi_base.specs.declared.ids.RevisionId.{RevisionId}
 use Rattle.osgi_candidates.specs.computed.Holding.{AreElsewhere, AreFragments, AreHeld, Holds, IsElsewhere, PutsElsewhere}
 use Rattle.osgi_candidates.specs.declared.held.Held.{Held}
 use Rattle.osgi_candidates.specs.declared.held.HeldWirings.{HeldWirings}
-use Rattle.osgi_choice.proofs.Lists.{in-append_left, in-append_right}
-use Rattle.osgi_coherence.proofs.Exact.{inserted, text_exact, text_total}
-use Rattle.osgi_coherence.proofs.Grow.{in_either}
-use Rattle.osgi_coherence.specs.computed.Growing.{Grows, Has, Nothing}
-use Rattle.osgi_coherence.specs.computed.Keys.{text_cmp}
+use Rattle.osgi_resolver_theory.proofs.Lists.{in-append_left, in-append_right}
+use Rattle.osgi_space_rules.proofs.Exact.{inserted, text_exact, text_total}
+use Rattle.osgi_space_rules.proofs.Grow.{in_either}
+use Rattle.osgi_space_rules.specs.computed.Growing.{Grows, Has, Nothing}
+use Rattle.osgi_space_rules.specs.computed.Keys.{text_cmp}
 use Rattle.osgi_world.specs.Lists.{In}
 use Rattle.osgi_world.specs.Wirings.{InForce, IsExport}
 use Rattle.osgi_world.specs.declared.wiring.Wire.{Wire}

@@ -10,10 +10,10 @@ use Rattle.osgi_candidates.specs.computed.Holding.{AreHeld, HasFragment, HasPack
 use Rattle.osgi_candidates.specs.declared.held.Held.{Held}
 use Rattle.osgi_candidates.specs.declared.held.HeldWirings.{HeldWirings}
 use Rattle.osgi_candidates.proofs.Standing.{in_force_is}
-use Rattle.osgi_choice.proofs.Laws.{in-sorted, known-found, sorted-in}
-use Rattle.osgi_choice.proofs.Lists.{and-both, and-cases, filter-in, in-filter, in-map, map-in}
-use Rattle.osgi_choice.proofs.Twos.{only-one}
-use Rattle.osgi_choice.proofs.Values.{find-some, rev-eq}
+use Rattle.osgi_resolver_theory.proofs.Laws.{in-sorted, known-found, sorted-in}
+use Rattle.osgi_resolver_theory.proofs.Lists.{and-both, and-cases, filter-in, in-filter, in-map, map-in}
+use Rattle.osgi_resolver_theory.proofs.Twos.{only-one}
+use Rattle.osgi_resolver_theory.proofs.Values.{find-some, rev-eq}
 use Rattle.osgi_world.specs.Candidates.{IsCandidate, matching}
 use Rattle.osgi_world.specs.Lists.{In}
 use Rattle.osgi_world.specs.Lookups.{SatisfiesAs, SatisfiesAt, capability_at, is_current, is_dynamic, is_host_of, known_at, requirement_at, revision_at}

@@ -7,8 +7,8 @@ use Rattle.std.proofs.lemmas.Cmp.{nat_cmp_total}
 use Rattle.std.proofs.lemmas.Map.Lookups.{exact_unsigned}
 use Rattle.osgi_base.specs.declared.ids.RevisionId.{RevisionId}
 use Rattle.osgi_candidates.specs.computed.InUses.{HasRevision, PutsInUse}
-use Rattle.osgi_coherence.proofs.Exact.{inserted}
-use Rattle.osgi_coherence.specs.computed.Growing.{Grows}
+use Rattle.osgi_space_rules.proofs.Exact.{inserted}
+use Rattle.osgi_space_rules.specs.computed.Growing.{Grows}
 use Rattle.osgi_world.specs.Lists.{In}
 use Rattle.osgi_world.specs.declared.wiring.Wiring.{Wiring}
 

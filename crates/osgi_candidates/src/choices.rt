@@ -9,12 +9,9 @@ ghost use Rattle.osgi_world.specs.Wirings.{IsWorld};
 
 use crate::offer_index::OfferIndex;
 use crate::offers::Offers;
-use osgi_base::ids::RevisionId;
-use osgi_base::list::List;
-use osgi_lookup::index::KnownIndex;
-use osgi_world::problem::{Choice, Problem};
-use osgi_world::wiring::ReqRef;
-use osgi_world::world::{Known, World};
+use osgi_base::{List, RevisionId};
+use osgi_lookup::KnownIndex;
+use osgi_world::{Choice, Known, Problem, ReqRef, World};
 use std::alloc::{AllocError, Global};
 
 /// The problem of resolving the root: the candidates of each effective requirement of each current revision are listed.

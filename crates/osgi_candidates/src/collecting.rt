@@ -8,9 +8,8 @@ ghost use Rattle.osgi_world.specs.Candidates.{CanBeAsked};
 use crate::names::Place;
 use crate::offers::Offers;
 use crate::ranked::{Ranked, in_order};
-use osgi_base::ids::RevisionId;
-use osgi_world::requirement::Requirement;
-use osgi_world::wiring::{CapRef, ReqRef};
+use osgi_base::RevisionId;
+use osgi_world::{CapRef, ReqRef, Requirement};
 use std::alloc::{AllocError, Global};
 use std::collections::BTreeSet;
 

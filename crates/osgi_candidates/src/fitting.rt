@@ -9,8 +9,7 @@ ghost use Rattle.osgi_world.specs.Wirings.{IsWorld};
 use crate::held::Held;
 use crate::offers::Offers;
 use osgi_capability::satisfies;
-use osgi_world::requirement::Requirement;
-use osgi_world::wiring::{CapRef, ReqRef};
+use osgi_world::{CapRef, ReqRef, Requirement};
 
 impl Offers<'_> {
     /// Whether the capability is a candidate of the requirement, which stands at this place.

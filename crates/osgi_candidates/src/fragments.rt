@@ -6,14 +6,14 @@ ghost use Rattle.osgi_candidates.specs.computed.Fragments.{AreAttachable, AreBun
 ghost use Rattle.osgi_candidates.specs.computed.Fitting.{IsFit};
 
 use crate::offers::Offers;
-use osgi_base::ids::{BundleId, RevisionId};
+use osgi_base::{BundleId, RevisionId};
 use osgi_fragment::host_matches;
-use osgi_world::revision::Revision;
+use osgi_world::Revision;
 use std::alloc::{AllocError, Global};
 use std::collections::BTreeSet;
 
 /// A fragment with its bundle.
-#[derive(Clone, Copy, Debug, PartialEq, Eq, PartialOrd, Ord)]
+#[derive(Clone, Copy, PartialEq, Eq, PartialOrd, Ord)]
 pub struct Bundled {
     pub bundle: BundleId,
     pub fragment: RevisionId,

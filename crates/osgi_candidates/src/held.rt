@@ -7,10 +7,9 @@ ghost use Rattle.std.specs.Ordering.{nat_cmp};
 ghost use Rattle.osgi_candidates.specs.computed.Holding.{AreElsewhere, AreFragments, AreHeld, Holds, IsElsewhere, PutsElsewhere};
 ghost use Rattle.osgi_world.specs.declared.wiring.Wiring.{Wiring};
 
-use osgi_base::ids::RevisionId;
-use osgi_base::text::Text;
-use osgi_lookup::index::KnownIndex;
-use osgi_world::wiring::{Wire, Wiring};
+use osgi_base::{RevisionId, Text};
+use osgi_lookup::KnownIndex;
+use osgi_world::{Wire, Wiring};
 use std::alloc::{AllocError, Global};
 use std::collections::{BTreeMap, BTreeSet};
 

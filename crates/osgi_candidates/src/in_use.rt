@@ -4,7 +4,7 @@ ghost use Rattle.std.specs.Prelude.{◌++◌, List, OnOk};
 ghost use Rattle.osgi_candidates.specs.computed.InUses.{AreInUse, PutsInUse};
 ghost use Rattle.osgi_world.specs.declared.wiring.Wiring.{Wiring};
 
-use osgi_world::wiring::Wiring;
+use osgi_world::Wiring;
 use std::alloc::{AllocError, Global};
 use std::collections::BTreeSet;
 

@@ -4,14 +4,13 @@ ghost use Rattle.std.specs.Prelude.{◌++◌, List, OnOk};
 ghost use Rattle.osgi_candidates.specs.computed.Names.{AddsKnown, AreNames, AreOnce, GrowsBy, HasNone, ListsCapabilities, fragment_added};
 ghost use Rattle.osgi_world.specs.declared.world.Known.{Known};
 
-use osgi_base::ids::RevisionId;
-use osgi_base::text::Text;
-use osgi_wires::grouped::Grouped;
-use osgi_world::world::Known;
+use osgi_base::{RevisionId, Text};
+use osgi_space_rows::Grouped;
+use osgi_world::Known;
 use std::alloc::{AllocError, Global};
 
 /// A place in the capabilities of a revision.
-#[derive(Clone, Copy, Debug, PartialEq, Eq)]
+#[derive(Clone, Copy, PartialEq, Eq)]
 pub struct Place {
     pub owner: RevisionId,
     pub index: u32,

@@ -11,8 +11,8 @@ ghost use Rattle.osgi_world.specs.declared.world.Known.{Known};
 use crate::held::HeldWirings;
 use crate::in_use::add_all_in_use;
 use crate::names::KnownNames;
-use osgi_lookup::index::KnownIndex;
-use osgi_world::world::World;
+use osgi_lookup::KnownIndex;
+use osgi_world::World;
 use std::alloc::{AllocError, Global};
 use std::collections::BTreeSet;
 

@@ -10,11 +10,9 @@ ghost use Rattle.osgi_world.specs.Wirings.{InForce, InUse};
 ghost use Rattle.osgi_world.specs.declared.problem.Problem.{Problem};
 
 use crate::offer_index::OfferIndex;
-use osgi_base::ids::RevisionId;
-use osgi_base::text::Text;
-use osgi_lookup::index::KnownIndex;
-use osgi_world::wiring::{CapRef, ReqRef};
-use osgi_world::world::World;
+use osgi_base::{RevisionId, Text};
+use osgi_lookup::KnownIndex;
+use osgi_world::{CapRef, ReqRef, World};
 use std::alloc::{AllocError, Global};
 use std::marker::Model;
 

@@ -4,15 +4,15 @@ ghost use Rattle.std.specs.Prelude.{◌≡◌, IfOk, OnOk, map, reverse};
 ghost use Rattle.std.specs.BTreeSet.{IsOrdered};
 ghost use Rattle.osgi_candidates.specs.computed.Ranking.{capability_of, ranked_cmp};
 
-use osgi_base::ids::RevisionId;
-use osgi_version::version::Version;
-use osgi_world::wiring::CapRef;
+use osgi_base::RevisionId;
+use osgi_version::Version;
+use osgi_world::CapRef;
 use std::alloc::{AllocError, Global};
 use std::cmp::Reverse;
 use std::collections::BTreeSet;
 
 /// A capability, with what it is preferred by. Of two the greater is preferred.
-#[derive(Debug, Drop, PartialEq, Eq, PartialOrd, Ord)]
+#[derive(Drop, PartialEq, Eq, PartialOrd, Ord)]
 pub struct Ranked {
     /// Whether its provider is in force.
     pub in_force: bool,

@@ -10,9 +10,9 @@ ghost use Rattle.osgi_world.specs.Satisfaction.{version_in, version_of};
 use crate::offers::Offers;
 use crate::ranked::Ranked;
 use osgi_capability::value_named;
-use osgi_model::value::{Attributes, Value};
-use osgi_version::version::Version;
-use osgi_world::wiring::CapRef;
+use osgi_model::{Attributes, Value};
+use osgi_version::Version;
+use osgi_world::CapRef;
 use std::alloc::{AllocError, Global};
 use std::cmp::Reverse;
 

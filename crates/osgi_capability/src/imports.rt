@@ -7,12 +7,10 @@ ghost use Rattle.osgi_model.specs.Matching.{attribute_value};
 ghost use Rattle.osgi_world.specs.Satisfaction.{version_of};
 ghost use Rattle.osgi_version.specs.RangeValues.{is_within, range_parts};
 
-use osgi_base::text::Text;
-use osgi_model::value::{Attribute, Value};
-use osgi_version::range::VersionRange;
-use osgi_version::version::Version;
-use osgi_world::capability::Capability;
-use osgi_world::requirement::Requirement;
+use osgi_base::Text;
+use osgi_model::{Attribute, Value};
+use osgi_version::{Version, VersionRange};
+use osgi_world::{Capability, Requirement};
 
 /// The value of the first attribute of this name.
 pub fn value_named<'a>(attributes: &'a [Attribute], name: &[u8]) -> Option<&'a Value>

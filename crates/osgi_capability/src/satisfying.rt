@@ -6,13 +6,11 @@ ghost use Rattle.osgi_capability.specs.computed.Satisfied.{fits_filter, is_satis
 ghost use Rattle.osgi_world.specs.Satisfaction.{Satisfies};
 
 use crate::imports::fits_import;
-use osgi_base::text::Text;
+use osgi_base::Text;
 use osgi_filter::{Case, matches};
-use osgi_model::filter::Filter;
-use osgi_model::value::Attributes;
-use osgi_version::version::Version;
-use osgi_world::capability::Capability;
-use osgi_world::requirement::Requirement;
+use osgi_model::{Attributes, Filter};
+use osgi_version::Version;
+use osgi_world::{Capability, Requirement};
 
 /// Whether the capability satisfies the requirement, for a provider of this symbolic name and version.
 ///

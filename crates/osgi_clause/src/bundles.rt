@@ -11,13 +11,11 @@ use crate::fault::ClauseFault;
 use crate::members::{ClauseReader, members};
 use crate::ranges::{any_range, range};
 use crate::repeats::repeats;
-use osgi_base::list::List;
-use osgi_base::text::Text;
-use osgi_header::clause::{Clause, ClauseAt};
-use osgi_package::parameters::{is_directed, version_text};
-use osgi_version::range::VersionRange;
-use osgi_world::manifest_fault::ManifestKind;
-use osgi_world::requirement::Requirement;
+use osgi_base::{List, Text};
+use osgi_header::{Clause, ClauseAt};
+use osgi_package::{is_directed, version_text};
+use osgi_version::VersionRange;
+use osgi_world::{ManifestKind, Requirement};
 use std::alloc::{AllocError, Global};
 
 /// A requirement of a bundle in this range, for which there is no name yet.

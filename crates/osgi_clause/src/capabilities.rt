@@ -12,13 +12,11 @@ use crate::fault::ClauseFault;
 use crate::members::{ClauseReader, members};
 use crate::namespaces::has_reserved;
 use crate::repeats::repeats;
-use osgi_base::list::List;
-use osgi_base::text::Text;
-use osgi_header::clause::{Clause, ClauseAt};
-use osgi_model::value::Attributes;
-use osgi_package::attributes::{has_double, read_attributes};
-use osgi_world::capability::Capability;
-use osgi_world::manifest_fault::ManifestKind;
+use osgi_base::{List, Text};
+use osgi_header::{Clause, ClauseAt};
+use osgi_model::Attributes;
+use osgi_package::{has_double, read_attributes};
+use osgi_world::{Capability, ManifestKind};
 use std::alloc::{AllocError, Global};
 
 /// The attributes of a clause with their values, or what is wrong with these.

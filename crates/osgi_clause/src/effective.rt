@@ -3,8 +3,8 @@
 ghost use Rattle.std.specs.Prelude.{◌≡◌};
 ghost use Rattle.osgi_clause.specs.Directives as spec;
 
-use osgi_header::clause::Clause;
-use osgi_package::parameters::directive_value;
+use osgi_header::Clause;
+use osgi_package::directive_value;
 
 /// Whether its `effective` is `resolve`, which it is also where the clause does not give it.
 pub fn takes_part(clause: &Clause) -> bool

@@ -13,11 +13,10 @@ use crate::bundles::bundle;
 use crate::fault::ClauseFault;
 use crate::lone::lone;
 use crate::repeats::repeats;
-use osgi_base::text::Text;
-use osgi_header::clause::{Clause, ClauseAt};
-use osgi_package::parameters::directive_value;
-use osgi_world::manifest_fault::ManifestKind;
-use osgi_world::requirement::Requirement;
+use osgi_base::Text;
+use osgi_header::{Clause, ClauseAt};
+use osgi_package::directive_value;
+use osgi_world::{ManifestKind, Requirement};
 use std::alloc::{AllocError, Global};
 
 /// The host, unless the clause says that the bundle extends it.

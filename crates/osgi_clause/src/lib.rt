@@ -4,12 +4,12 @@
 mod bundles;
 mod capabilities;
 mod effective;
-pub mod fault;
+mod fault;
 mod host;
 mod lone;
 mod members;
 mod namespaces;
-pub mod naming;
+mod naming;
 mod packages;
 mod ranges;
 mod repeats;
@@ -17,7 +17,8 @@ mod requirements;
 
 pub use bundles::required_bundles;
 pub use capabilities::provided_capabilities;
+pub use fault::ClauseFault;
 pub use host::hosted;
-pub use naming::named;
+pub use naming::{Naming, named};
 pub use packages::{exported, imported};
 pub use requirements::required_capabilities;

@@ -4,8 +4,8 @@ ghost use Rattle.std.specs.Prelude.{◌≡◌};
 ghost use Rattle.osgi_clause.specs.computed.Lone.{lone_of};
 
 use crate::fault::ClauseFault;
-use osgi_header::clause::ClauseAt;
-use osgi_world::manifest_fault::ManifestKind;
+use osgi_header::ClauseAt;
+use osgi_world::ManifestKind;
 
 /// What the first clause makes, where it is the only one; a second clause has this fault.
 pub fn lone<A: Drop>(

@@ -8,10 +8,9 @@ ghost use Rattle.osgi_clause.specs.computed.Answers.{IsAdded, IsTemplate};
 ghost use Rattle.osgi_clause.specs.Walks.{Walked};
 
 use crate::fault::ClauseFault;
-use osgi_base::list::List;
-use osgi_base::text::Text;
-use osgi_header::clause::{Clause, ClauseAt};
-use osgi_world::manifest_fault::ManifestKind;
+use osgi_base::{List, Text};
+use osgi_header::{Clause, ClauseAt};
+use osgi_world::ManifestKind;
 use std::alloc::{AllocError, Global};
 
 /// What a header makes of a clause.

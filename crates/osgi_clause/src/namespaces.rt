@@ -4,7 +4,7 @@ ghost use Rattle.std.specs.Prelude.{◌≡◌};
 ghost use Rattle.std.specs.List.{list_any};
 ghost use Rattle.osgi_clause.specs.Faults as spec;
 
-use osgi_base::text::Text;
+use osgi_base::Text;
 
 fn is_reserved(namespace: &[u8]) -> bool
     ensures reserved { result ≡ spec.is_reserved namespace.now }

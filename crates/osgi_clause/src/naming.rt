@@ -9,15 +9,15 @@ ghost use Rattle.osgi_clause.specs.computed.Lone.{IsNamingOf, IsPathName};
 use crate::fault::ClauseFault;
 use crate::lone::lone;
 use crate::repeats::repeats;
-use osgi_base::text::Text;
-use osgi_header::clause::{Clause, ClauseAt};
-use osgi_package::parameters::is_directed;
-use osgi_syntax::names::bundle_name;
-use osgi_world::manifest_fault::ManifestKind;
+use osgi_base::Text;
+use osgi_header::{Clause, ClauseAt};
+use osgi_package::is_directed;
+use osgi_syntax::bundle_name;
+use osgi_world::ManifestKind;
 use std::alloc::{AllocError, Global};
 
 /// What a bundle says of itself by its name's clause.
-#[derive(Debug, Drop)]
+#[derive(Drop)]
 pub struct Naming {
     /// The symbolic name.
     pub name: Text,

@@ -15,13 +15,10 @@ ghost use Rattle.osgi_clause.specs.computed.Packages.{IsPlainLen, fault_in, or_r
 
 use crate::fault::ClauseFault;
 use crate::repeats::repeats;
-use osgi_base::list::List;
-use osgi_header::clause::{Clause, ClauseAt};
-use osgi_package::fault::{PackageFault, PackageKind};
-use osgi_package::{exports, imports};
-use osgi_world::capability::Capability;
-use osgi_world::manifest_fault::ManifestKind;
-use osgi_world::requirement::Requirement;
+use osgi_base::List;
+use osgi_header::{Clause, ClauseAt};
+use osgi_package::{PackageFault, PackageKind, exports, imports};
+use osgi_world::{Capability, ManifestKind, Requirement};
 use std::alloc::{AllocError, Global};
 
 /// So many clauses are read at most; no value of a manifest has more.

@@ -4,7 +4,7 @@ ghost use Rattle.std.specs.Prelude.{IfOk};
 ghost use Rattle.osgi_package.specs.computed.ImportReader.{IsRangeOf};
 ghost use Rattle.osgi_clause.specs.computed.Templates.{IsAnyRange};
 
-use osgi_version::range::VersionRange;
+use osgi_version::VersionRange;
 use std::alloc::{AllocError, Global};
 
 /// The range that a text reads as; none where it reads as none.

@@ -3,9 +3,8 @@
 ghost use Rattle.std.specs.Prelude.{◌≡◌, map, IfOk, MatchBool};
 ghost use Rattle.osgi_clause.specs.Directives.{Repeats};
 
-use osgi_base::list::List;
-use osgi_base::text::Text;
-use osgi_header::clause::{Clause, Pair, Typed};
+use osgi_base::{List, Text};
+use osgi_header::{Clause, Pair, Typed};
 use osgi_package::are_distinct;
 use std::alloc::{AllocError, Global};
 

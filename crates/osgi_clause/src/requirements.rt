@@ -13,15 +13,13 @@ use crate::members::{ClauseReader, members};
 use crate::namespaces::has_reserved;
 use crate::ranges::any_ranges;
 use crate::repeats::repeats;
-use osgi_base::list::List;
-use osgi_base::text::Text;
+use osgi_base::{List, Text};
 use osgi_filter::parse;
-use osgi_header::clause::{Clause, ClauseAt};
-use osgi_model::filter::Filter;
-use osgi_package::parameters::{directive_value, is_directed};
-use osgi_version::range::VersionRange;
-use osgi_world::manifest_fault::ManifestKind;
-use osgi_world::requirement::Requirement;
+use osgi_header::{Clause, ClauseAt};
+use osgi_model::Filter;
+use osgi_package::{directive_value, is_directed};
+use osgi_version::VersionRange;
+use osgi_world::{ManifestKind, Requirement};
 use std::alloc::{AllocError, Global};
 
 /// The filter that the clause gives, if it gives one; or that its text reads as none.

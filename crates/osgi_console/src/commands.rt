@@ -7,16 +7,13 @@ ghost use Rattle.osgi_filter.specs.computed.Reader.{read_filter};
 ghost use Rattle.osgi_console.specs.computed.LineReader.{command_by, command_of, is_space, location_of, modify_of, name_of, only_bundle_of, only_id_of, only_word_of, register_of, verb_of, search_of};
 ghost use Rattle.osgi_syntax.specs.Splitting.{words_of};
 
-use osgi_base::ids::{BundleId, ServiceId};
 use osgi_base::quoted::quoted;
-use osgi_base::text::Text;
+use osgi_base::{BundleId, ServiceId, Text};
 use osgi_filter::parse;
-use osgi_model::filter::Filter;
-use osgi_session::command::Command;
-use osgi_syntax::ids::{bundle_id, id};
-use osgi_syntax::names::{class, classes};
+use osgi_model::Filter;
+use osgi_session::Command;
 use osgi_syntax::properties::properties;
-use osgi_syntax::words::{skip_spaces, split_word, split_words};
+use osgi_syntax::{bundle_id, class, classes, id, skip_spaces, split_word, split_words};
 use std::alloc::{AllocError, Global};
 
 /// The commands, by their first words.

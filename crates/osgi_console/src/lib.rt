@@ -2,11 +2,11 @@
 #![tactic(auto)]
 
 mod commands;
-mod reading;
+mod input_lines;
 mod refusals;
 mod rendering;
 mod wires;
 mod writing;
 
-pub use reading::parse;
+pub use input_lines::parse;
 pub use rendering::render;

@@ -5,9 +5,9 @@ ghost use Rattle.osgi_session.specs.RefusalTexts.{details, fault_text, header_te
 ghost use Rattle.osgi_session.specs.Rendering.{with_line_end};
 
 use crate::writing::{add_spaced, add_spaced_number};
-use osgi_base::ids::Tag;
-use osgi_ops::refusal::{Refusal, Unmet};
-use osgi_world::manifest_fault::{ManifestFault, ManifestKind};
+use osgi_base::Tag;
+use osgi_ops::{Refusal, Unmet};
+use osgi_world::{ManifestFault, ManifestKind};
 use std::alloc::AllocError;
 
 /// The name of what is wrong with a manifest.

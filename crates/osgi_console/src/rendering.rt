@@ -9,14 +9,9 @@ ghost use Rattle.osgi_console.specs.computed.Texts.{AreTextsOf, line_text_by, te
 use crate::refusals::add_refusal;
 use crate::wires::add_wires;
 use crate::writing::{add_quoted, add_ranking, add_spaced, add_spaced_number};
-use osgi_base::ids::{BundleId, ServiceId};
-use osgi_base::text::Text;
-use osgi_ops::entry::Entry;
-use osgi_ops::op::Op;
-use osgi_ops::reply::Reply;
-use osgi_ops::rows::BundleRow;
-use osgi_ops::service::ServiceRow;
-use osgi_session::line::{Content, Line};
+use osgi_base::{BundleId, ServiceId, Text};
+use osgi_ops::{BundleRow, Entry, Op, Reply, ServiceRow};
+use osgi_session::{Content, Line};
 use std::alloc::{AllocError, Global};
 use std::collections::BTreeMap;
 

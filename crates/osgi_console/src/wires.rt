@@ -5,7 +5,7 @@ ghost use Rattle.std.specs.List.{concat};
 ghost use Rattle.osgi_session.specs.Rendering.{fragment_row_text, revision_text, wire_lines, wire_row_text, with_line_end};
 
 use crate::writing::{add_number, add_spaced, add_spaced_number};
-use osgi_ops::rows::WireRow;
+use osgi_ops::WireRow;
 use std::alloc::{AllocError, Global};
 
 /// Adds the bundle, the version and the revision of a provider or of a fragment.

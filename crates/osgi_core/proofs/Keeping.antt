@@ -36,12 +36,12 @@ use Rattle.osgi_wiring.specs.States.{IsKeptWorld}
 use Rattle.osgi_world.specs.Consistency.{ExtendsWorld}
 use Rattle.osgi_world.specs.System.{known_system}
 use Rattle.osgi_world.specs.declared.world.World.{World}
-use Rattle.osgi_replies.proofs.Installing.{sound_of}
-use Rattle.osgi_serving.proofs.Serving.{uses_now}
+use Rattle.osgi_reply.proofs.Installing.{sound_of}
+use Rattle.osgi_reply_services.proofs.Serving.{uses_now}
 use Rattle.osgi_core.specs.Machine.{Machine}
 use Rattle.osgi_core.specs.computed.Kept.{IsKept}
-use Rattle.osgi_replies.specs.Replied.{HasRoom, IsReplied, IsWorldOf, StandsFor, StandsStill}
-use Rattle.osgi_replies.specs.declared.tables.Tables.{Tables}
+use Rattle.osgi_reply.specs.Replied.{HasRoom, IsReplied, IsWorldOf, StandsFor, StandsStill}
+use Rattle.osgi_reply.specs.declared.tables.Tables.{Tables}
 
 -- the moment at which the next operation is asked for
 abbrev pub next : Setting → List Entry → Tables → Tag → Moment

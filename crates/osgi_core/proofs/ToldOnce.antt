@@ -2,7 +2,7 @@
 use Rattle.std.proofs.Common.{◌≡◌, List, [], ◌∷◌, ◌++◌, ap, sym, ◌∙◌, refl, subst}
 use Rattle.std.specs.Prelude.{Bool, true, false, Option, None, Some, MatchOption}
 use Rattle.osgi_base.specs.declared.ids.BundleId.{BundleId}
-use Rattle.osgi_choice.proofs.Once.{wirings-once}
+use Rattle.osgi_resolver_theory.proofs.Once.{wirings-once}
 use Rattle.osgi_ops.specs.Along.{AllAlong}
 use Rattle.osgi_ops.specs.Bundles.{Bundle, installed_by}
 use Rattle.osgi_ops.specs.Legal.{IsAllowed, IsReplayed}

@@ -5,9 +5,8 @@ ghost use Rattle.std.specs.Option.{option_copied};
 ghost use Rattle.osgi_depot.specs.Depots as spec;
 ghost use Rattle.osgi_depot.specs.computed.Locations.{AreSeen};
 
-use osgi_base::text::Text;
-use osgi_session::command::Command;
-use osgi_session::line::{Content, Line};
+use osgi_base::Text;
+use osgi_session::{Command, Content, Line};
 use std::alloc::{AllocError, Global};
 use std::collections::BTreeSet;
 

@@ -1,38 +1,22 @@
 //! What a depot keeps of what was found at a location.
 
-ghost use Rattle.std.specs.Prelude.{◌≡◌, IfOk};
-ghost use Rattle.std.specs.Option.{option_copied};
+ghost use Rattle.std.specs.Prelude.{IfOk};
 ghost use Rattle.osgi_depot.specs.computed.Keeping.{IsKept, IsMeant};
 ghost use Rattle.osgi_manifest.specs.Manifests as spec;
 
-use osgi_base::folder::{File, Folder};
-use osgi_base::shared::Shared;
-use osgi_ops::depot::Stored;
-use osgi_outside::shelf::Found;
-use osgi_world::revision::Revision;
+use osgi_base::{Folder, Shared};
+use osgi_manifest::manifest_file;
+use osgi_ops::Stored;
+use osgi_outside::Found;
+use osgi_world::Revision;
 use std::alloc::{AllocError, Global};
-
-/// The path of a bundle's manifest.
-const MANIFEST: &[u8] = b"META-INF/MANIFEST.MF";
-
-/// The file of the path, if the folder has one.
-fn file_at<'a>(path: &[u8], folder: &'a Folder) -> Option<&'a File>
-    ensures file { option_copied result ≡ spec.file_at path.now folder.now }
-{
-    for file in folder.files.items() {
-        if file.path.bytes() == path {
-            return Some(file);
-        }
-    }
-    None
-}
 
 /// A revision that a folder means, with the text of the folder's manifest.
 fn keep_revision(alloc: Global, folder: &Folder, revision: Revision) -> Result<Stored, AllocError>
     requires meant { spec.Means folder.now revision }
     ensures meant { IfOk result (IsMeant folder.now) }
 {
-    let Some(file) = file_at(MANIFEST, folder) else {
+    let Some(file) = manifest_file(folder) else {
         unreachable!()
     };
     Ok(Stored::Read {

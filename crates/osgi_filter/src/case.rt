@@ -3,11 +3,11 @@
 ghost use Rattle.std.specs.Prelude.{◌≡◌};
 ghost use Rattle.osgi_filter.specs.Names.{same_name};
 
-use osgi_base::text::Text;
+use osgi_base::Text;
 
 /// How the names of attributes are compared: with case, as those of capabilities, or without ASCII case, as those of
 /// services.
-#[derive(Clone, Copy, Debug, PartialEq, Eq)]
+#[derive(Clone, Copy, PartialEq, Eq)]
 pub enum Case {
     Keep,
     Fold,

@@ -7,9 +7,8 @@ ghost use Rattle.osgi_filter.specs.computed.Reader.{is_composing, opens, listing
 use crate::items::item_at;
 use crate::scan::{after, skip};
 use crate::stop::Stop;
-use osgi_base::boxed::Boxed;
-use osgi_base::list::List;
-use osgi_model::filter::{Filter, MAX_LEVELS};
+use osgi_base::{Boxed, List};
+use osgi_model::{Filter, MAX_LEVELS};
 use std::alloc::Global;
 
 fn is_composing(sign: u8) -> bool

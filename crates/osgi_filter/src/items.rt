@@ -7,8 +7,8 @@ ghost use Rattle.osgi_filter.specs.computed.Reader.{is_order, order_test, order_
 use crate::scan::{after, name_at, skip};
 use crate::stop::Stop;
 use crate::values::{equal_at, plain_at};
-use osgi_base::text::Text;
-use osgi_model::filter::{Filter, Test};
+use osgi_base::Text;
+use osgi_model::{Filter, Test};
 use std::alloc::Global;
 
 /// The byte that begins `~=`, `>=` or `<=`.

@@ -9,6 +9,7 @@
 mod approx;
 mod case;
 mod fault;
+mod filter_text;
 mod filters;
 mod items;
 mod matching;
@@ -16,13 +17,12 @@ mod ordered;
 mod passing;
 mod pieces;
 mod printing;
-mod reading;
 mod scan;
 mod stop;
 mod values;
 
 pub use case::Case;
 pub use fault::FilterFault;
+pub use filter_text::parse;
 pub use matching::matches;
 pub use printing::print;
-pub use reading::parse;

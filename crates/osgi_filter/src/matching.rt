@@ -8,9 +8,8 @@ ghost use Rattle.osgi_filter.specs.Names.{same_name};
 
 use crate::case::Case;
 use crate::passing::passes;
-use osgi_base::text::Text;
-use osgi_model::filter::{Filter, Test};
-use osgi_model::value::{Attribute, Attributes, Value};
+use osgi_base::Text;
+use osgi_model::{Attribute, Attributes, Filter, Test, Value};
 
 /// The value of the first attribute of the name.
 fn attribute_value<'a>(name: &Text, attributes: &'a [Attribute], case: Case) -> Option<&'a Value>

@@ -5,10 +5,9 @@ ghost use Rattle.osgi_model.specs.computed.MatchReader.{long_order, order_passes
 ghost use Rattle.osgi_version.specs.VersionValues.{parts};
 ghost use Rattle.osgi_filter.specs.computed.Orders.{order_of};
 
-use osgi_base::text::Text;
-use osgi_model::filter::Test;
-use osgi_model::reading::read_long;
-use osgi_version::version::Version;
+use osgi_base::Text;
+use osgi_model::{Test, read_long};
+use osgi_version::Version;
 use std::cmp::Ordering;
 
 /// A value of an ordered type.

@@ -6,9 +6,8 @@ ghost use Rattle.osgi_model.specs.computed.MatchReader as reader;
 use crate::approx::is_approx;
 use crate::ordered::Ordered;
 use crate::pieces::stand;
-use osgi_base::text::Text;
-use osgi_model::filter::Test;
-use osgi_model::value::Value;
+use osgi_base::Text;
+use osgi_model::{Test, Value};
 
 fn text_passes(test: &Test, given: &Text) -> bool
     ensures passes { result ≡ reader.text_passes test.now given.now }

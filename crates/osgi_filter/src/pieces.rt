@@ -5,7 +5,7 @@ ghost use Rattle.osgi_model.specs.Matching.{Stand};
 ghost use Rattle.osgi_filter.specs.computed.Between.{Between};
 
 use memchr::memmem;
-use osgi_base::text::Text;
+use osgi_base::Text;
 
 /// Whether the pieces stand in the text in order without overlap. Each is taken at the first place where it stands,
 /// which leaves the others the most room.

@@ -6,8 +6,8 @@ ghost use Rattle.osgi_model.specs.Filters.{ReadsFilter};
 ghost use Rattle.osgi_model.specs.FilterTexts.{value_text, starred, test_text, filter_text};
 
 use crate::scan::is_plain;
-use osgi_base::text::Text;
-use osgi_model::filter::{Filter, Test};
+use osgi_base::Text;
+use osgi_model::{Filter, Test};
 use std::alloc::{AllocError, Global};
 
 fn print_value(out: &mut Vec<u8>, value: &[u8]) -> Result<(), AllocError>

@@ -7,7 +7,7 @@ ghost use Rattle.osgi_filter.specs.computed.Given.{Gives};
 ghost use Rattle.osgi_filter.specs.computed.Reader.{skip, name_at, after};
 
 use crate::stop::Stop;
-use osgi_base::text::Text;
+use osgi_base::Text;
 use std::alloc::Global;
 
 /// White space.

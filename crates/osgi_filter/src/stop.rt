@@ -6,7 +6,7 @@ ghost use Rattle.osgi_filter.specs.declared.stop.Stop.TheVariants.{Memory};
 use std::alloc::{AllocError, AllocFailed};
 
 /// Memory ran out, or this many bytes were left where the reading stopped.
-#[derive(Debug, Drop)]
+#[derive(Drop)]
 pub enum Stop {
     Left(usize),
     Memory,

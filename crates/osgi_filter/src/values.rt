@@ -6,9 +6,8 @@ ghost use Rattle.osgi_filter.specs.computed.Reader.{piece_at, value_at, starred_
 
 use crate::scan::{after, is_plain};
 use crate::stop::Stop;
-use osgi_base::list::List;
-use osgi_base::text::Text;
-use osgi_model::filter::Test;
+use osgi_base::{List, Text};
+use osgi_model::Test;
 use std::alloc::Global;
 
 /// A piece up to the `)` or `(`, or the `*` that cuts, and what is left from there.

@@ -4,15 +4,13 @@ ghost use Rattle.std.specs.Prelude.{◌≡◌, ◌<◌, ◌^◌, ◌∷◌, ◌+
 ghost use Rattle.osgi_world.specs.Lists.{below};
 ghost use Rattle.osgi_world.specs.Payloads.{capabilities_of, own_capabilities, own_requirements, requirements_of};
 
-use osgi_base::ids::RevisionId;
-use osgi_base::list::List;
-use osgi_lookup::index::KnownIndex;
-use osgi_world::wiring::{CapRef, ReqRef};
-use osgi_world::world::World;
+use osgi_base::{List, RevisionId};
+use osgi_lookup::KnownIndex;
+use osgi_world::{CapRef, ReqRef, World};
 use std::alloc::{AllocError, Global};
 
 /// What a host offers and needs with its fragments, by places.
-#[derive(Debug, Drop, PartialEq, Eq)]
+#[derive(Drop, PartialEq, Eq)]
 pub struct Hosted {
     pub capabilities: List<CapRef>,
     /// Dynamic imports are not among them.

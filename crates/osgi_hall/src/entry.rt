@@ -1,10 +1,10 @@
 //! Entries of a history, and what is kept of a caller that has ended.
 
-use osgi_base::ids::Tag;
+use osgi_base::Tag;
 use std::collections::LinkedList;
 
 /// One operation that the machine did and recorded: who asked for it, and what was answered.
-#[derive(Debug, Drop)]
+#[derive(Drop)]
 pub struct Entry<O, R> {
     pub tag: Tag,
     pub op: O,

@@ -13,7 +13,7 @@ use crate::machine::Machine;
 use crate::pass::Pass;
 use crate::steps::{DrawTicket, GiveTurn, Look, NoteEntries, SplitOff, TakeIn, TakeTurn, Turns};
 use atomic_table::{Refused, Seat, Table};
-use osgi_base::ids::Tag;
+use osgi_base::Tag;
 use std::alloc::{AllocError, Global};
 use std::marker::Model;
 use std::snapshot::Snapshot;

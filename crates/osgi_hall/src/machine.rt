@@ -4,7 +4,7 @@ ghost use Rattle.std.specs.Prelude.{◌≡◌, Bool, List, length};
 ghost use Rattle.osgi_hall.specs.declared.entry.Entry.{Entry};
 ghost use Rattle.osgi_hall.specs.Histories.{IsApplied};
 
-use osgi_base::ids::Tag;
+use osgi_base::Tag;
 use std::alloc::AllocError;
 
 /// A machine that does one operation at a time, answers it, and keeps a history of what it did.

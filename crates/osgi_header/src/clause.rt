@@ -3,13 +3,11 @@
 ghost use Rattle.std.specs.Prelude.{◌≡◌, IfOk};
 
 use crate::fault::HeaderFault;
-use osgi_base::copied::Copied;
-use osgi_base::list::List;
-use osgi_base::text::Text;
+use osgi_base::{Copied, List, Text};
 use std::alloc::{AllocError, Global};
 
 /// A directive: `name:=value`.
-#[derive(Debug, Drop, PartialEq, Eq)]
+#[derive(Drop, PartialEq, Eq)]
 pub struct Pair {
     pub name: Text,
     pub value: Text,
@@ -33,7 +31,7 @@ impl Copied for Pair {
 }
 
 /// An attribute: `name=value`, whose kind is `String`, or `name:kind=value`.
-#[derive(Debug, Drop, PartialEq, Eq)]
+#[derive(Drop, PartialEq, Eq)]
 pub struct Typed {
     pub name: Text,
     pub kind: Text,
@@ -59,7 +57,7 @@ impl Copied for Typed {
 }
 
 /// A clause: its paths, and its directives and attributes, each in the order in which they stand.
-#[derive(Debug, Drop, PartialEq, Eq)]
+#[derive(Drop, PartialEq, Eq)]
 pub struct Clause {
     pub paths: List<Text>,
     pub directives: List<Pair>,
@@ -85,14 +83,14 @@ impl Copied for Clause {
 }
 
 /// A clause, and the byte at which it begins: 0, or right after the `,` before it.
-#[derive(Debug, Drop, PartialEq, Eq)]
+#[derive(Drop, PartialEq, Eq)]
 pub struct ClauseAt {
     pub at: u64,
     pub clause: Clause,
 }
 
 /// The clauses of a value before its first fault, and that fault if it has one.
-#[derive(Debug, Drop, PartialEq, Eq)]
+#[derive(Drop, PartialEq, Eq)]
 pub struct ReadClauses {
     pub clauses: List<ClauseAt>,
     pub fault: Option<HeaderFault>,

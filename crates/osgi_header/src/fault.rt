@@ -18,7 +18,7 @@ pub enum HeaderKind {
 }
 
 /// A fault: its kind, and the byte at which the faulty line or clause begins.
-#[derive(Clone, Copy, Debug, PartialEq, Eq)]
+#[derive(Clone, Copy, PartialEq, Eq)]
 pub struct HeaderFault {
     pub kind: HeaderKind,
     pub at: u64,

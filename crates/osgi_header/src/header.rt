@@ -2,12 +2,11 @@
 
 ghost use Rattle.std.specs.Prelude.{◌≡◌, IfOk};
 
-use osgi_base::copied::Copied;
-use osgi_base::text::Text;
+use osgi_base::{Copied, Text};
 use std::alloc::{AllocError, Global};
 
 /// A header: its name as the manifest spells it, and its value.
-#[derive(Debug, Drop, PartialEq, Eq)]
+#[derive(Drop, PartialEq, Eq)]
 pub struct Header {
     pub name: Text,
     pub value: Text,

@@ -2,17 +2,20 @@
 #![tactic(auto)]
 
 mod blanks;
-pub mod clause;
-pub mod fault;
-pub mod header;
+mod clause;
+mod fault;
+mod header;
+mod header_value;
 mod lines;
 mod name_list;
 mod parameters;
 mod parts;
-mod reading;
 mod repeated;
 mod unfolding;
 
+pub use clause::{Clause, ClauseAt, Pair, ReadClauses, Typed};
+pub use fault::{HeaderFault, HeaderKind};
+pub use header::Header;
+pub use header_value::{clauses, read_clauses};
 pub use name_list::names;
-pub use reading::{clauses, read_clauses};
 pub use unfolding::unfold;

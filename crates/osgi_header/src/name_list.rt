@@ -5,8 +5,7 @@ ghost use Rattle.osgi_header.specs.NameLists.{AreNames};
 ghost use Rattle.osgi_header.specs.computed.NameReader.{names_of};
 
 use crate::blanks::trim;
-use osgi_base::list::List;
-use osgi_base::text::Text;
+use osgi_base::{List, Text};
 use std::alloc::{AllocError, Global};
 
 fn listed(alloc: Global, text: &[u8]) -> Result<List<Text>, AllocError>

@@ -7,8 +7,8 @@ ghost use Rattle.osgi_header.specs.computed.ClauseReader.{attribute_of, directiv
 
 use crate::blanks::trim;
 use crate::clause::{Pair, Typed};
+use osgi_base::Text;
 use osgi_base::quoted::quoted;
-use osgi_base::text::Text;
 use std::alloc::{AllocError, Global};
 
 /// A part of a clause.

@@ -3,7 +3,7 @@
 ghost use Rattle.std.specs.Prelude.{◌≡◌};
 ghost use Rattle.osgi_header.specs.computed.Cutting.{is_open, left_after, BeginsWithPart};
 
-use osgi_base::parts::{QuoteState, part_len};
+use osgi_base::{QuoteState, part_len};
 
 /// Splits off the first part: the part, and what is left after the separator, if one stands there.
 pub fn split_part(separator: u8, text: &[u8]) -> (&[u8], Option<&[u8]>)

@@ -11,8 +11,7 @@ use crate::fault::{HeaderFault, HeaderKind};
 use crate::header::Header;
 use crate::lines::{Line, read_lines};
 use crate::repeated::keep_last;
-use osgi_base::list::List;
-use osgi_base::text::Text;
+use osgi_base::{List, Text};
 use std::alloc::{AllocError, Global};
 use std::str;
 

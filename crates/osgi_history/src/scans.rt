@@ -6,11 +6,8 @@ ghost use Rattle.std.specs.Option.{option_map_or, option_to_list};
 ghost use Rattle.osgi_ops.specs.Services.{is_get, is_live, is_unget, live, registered_by, takes_out, uses};
 ghost use Rattle.osgi_history.specs.computed.Scans.{held, is_registration};
 
-use osgi_base::ids::{BundleId, ServiceId};
-use osgi_base::list::List;
-use osgi_ops::entry::Entry;
-use osgi_ops::op::Op;
-use osgi_ops::reply::Reply;
+use osgi_base::{BundleId, List, ServiceId};
+use osgi_ops::{Entry, Op, Reply};
 use std::alloc::{AllocError, Global};
 
 /// Whether the entry is an accepted Unregister of the service.

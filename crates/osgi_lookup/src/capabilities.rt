@@ -2,15 +2,14 @@
 
 ghost use Rattle.std.specs.Prelude.{◌≡◌, ◌↔◌, ℕ, List, Some};
 ghost use Rattle.std.specs.Option.{option_copied};
-ghost use Rattle.osgi_world.specs.Lookups.{capability_at, capability_name, capability_namespace, used_packages};
+ghost use Rattle.osgi_world.specs.Lookups.{capability_at, capability_namespace};
 ghost use Rattle.osgi_world.specs.Satisfaction.{is_bundle, is_package};
 ghost use Rattle.osgi_world.specs.Wirings.{IsExport};
 
 use crate::index::KnownIndex;
 use crate::namespaces::{is_bundle, is_package};
-use osgi_base::ids::RevisionId;
-use osgi_base::text::Text;
-use osgi_world::capability::Capability;
+use osgi_base::{RevisionId, Text};
+use osgi_world::Capability;
 
 impl<'w> KnownIndex<'w> {
     /// The capability at a place of its owner.
@@ -31,26 +30,6 @@ impl<'w> KnownIndex<'w> {
         }
     }
 
-    /// The bytes of its name; none where there is no such capability.
-    pub fn capability_name(&self, owner: RevisionId, index: u32) -> &'w [u8]
-        ensures name { result.now ≡ capability_name self.now owner index }
-    {
-        match self.capability(owner, index) {
-            Some(capability) => capability.name.bytes(),
-            None => &[],
-        }
-    }
-
-    /// What its directive `uses` lists.
-    pub fn used_packages(&self, owner: RevisionId, index: u32) -> &'w [Text]
-        ensures packages { result.now ≡ used_packages self.now owner index }
-    {
-        match self.capability(owner, index) {
-            Some(capability) => capability.uses.items(),
-            None => &[],
-        }
-    }
-
     /// Whether it is a bundle itself.
     pub fn is_bundle(&self, owner: RevisionId, index: u32) -> bool
         ensures bundle { result ≡ is_bundle (capability_namespace self.now owner index) }
@@ -67,12 +46,5 @@ impl<'w> KnownIndex<'w> {
             return None;
         }
         Some(&capability.name)
-    }
-
-    /// Whether it is an exported package.
-    pub fn is_export(&self, owner: RevisionId, index: u32) -> bool
-        ensures package { result ≡ is_package (capability_namespace self.now owner index) }
-    {
-        is_package(self.capability_namespace(owner, index))
     }
 }

@@ -3,8 +3,7 @@
 ghost use Rattle.std.specs.Prelude.{◌≡◌};
 ghost use Rattle.osgi_world.specs.Satisfaction.{is_host_for, matches_host};
 
-use osgi_world::requirement::Requirement;
-use osgi_world::revision::Revision;
+use osgi_world::{Requirement, Revision};
 
 /// Whether the revision is one that a fragment with this requirement may attach to.
 fn is_host_for(asked: &Requirement, host: &Revision) -> bool

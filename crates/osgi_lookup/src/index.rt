@@ -5,8 +5,8 @@ ghost use Rattle.std.specs.Option.{option_copied};
 ghost use Rattle.osgi_lookup.specs.computed.Index.{AreRising, IsIndexOf};
 ghost use Rattle.osgi_world.specs.Lookups.{known_at};
 
-use osgi_base::ids::RevisionId;
-use osgi_world::world::Known;
+use osgi_base::RevisionId;
+use osgi_world::Known;
 use std::alloc::{AllocError, Global};
 use std::collections::BTreeMap;
 use std::marker::Model;

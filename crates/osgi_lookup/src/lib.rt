@@ -1,9 +1,13 @@
 //! What is known of revisions, found by their ids without a scan.
 #![tactic(auto)]
 
-pub mod capabilities;
-pub mod hosts;
-pub mod index;
-pub mod namespaces;
-pub mod requirements;
-pub mod revisions;
+mod capabilities;
+mod hosts;
+mod index;
+mod namespaces;
+mod requirements;
+mod revisions;
+
+pub use hosts::matches_host;
+pub use index::KnownIndex;
+pub use namespaces::{is_bundle, is_package};

@@ -5,9 +5,7 @@ ghost use Rattle.std.specs.Option.{option_copied};
 ghost use Rattle.osgi_world.specs.Lookups.{is_dynamic, is_effective, is_multiple, is_optional, is_reexport, requirement_at, requirement_namespace, IsNeeded};
 
 use crate::index::KnownIndex;
-use osgi_world::requirement::Requirement;
-use osgi_world::revision::Revision;
-use osgi_world::wiring::ReqRef;
+use osgi_world::{ReqRef, Requirement, Revision};
 
 impl<'w> KnownIndex<'w> {
     /// The requirement at a place. The places of dynamic imports are those after all requirements.

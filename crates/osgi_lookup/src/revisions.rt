@@ -2,12 +2,12 @@
 
 ghost use Rattle.std.specs.Prelude.{◌≡◌, ◌<◌, ◌^◌};
 ghost use Rattle.std.specs.Option.{option_copied};
-ghost use Rattle.osgi_world.specs.Lookups.{bundle_of, capability_count, dynamic_count, is_current, is_fragment, is_host_of, is_singleton, requirement_count, revision_at, symbolic_name};
+ghost use Rattle.osgi_world.specs.Lookups.{bundle_of, capability_count, dynamic_count, is_current, is_fragment, is_host_of, is_singleton, requirement_count, revision_at};
 
 use crate::hosts::matches_host;
 use crate::index::KnownIndex;
-use osgi_base::ids::{BundleId, RevisionId};
-use osgi_world::revision::Revision;
+use osgi_base::{BundleId, RevisionId};
+use osgi_world::Revision;
 
 impl<'w> KnownIndex<'w> {
     pub fn revision(&self, id: RevisionId) -> Option<&'w Revision>
@@ -41,16 +41,6 @@ impl<'w> KnownIndex<'w> {
     {
         self.revision(id)
             .map_or(false, |revision| revision.singleton)
-    }
-
-    /// The bytes of the symbolic name; none where the revision is not known.
-    pub fn symbolic_name(&self, id: RevisionId) -> &'w [u8]
-        ensures name { result.now ≡ symbolic_name self.now id }
-    {
-        match self.revision(id) {
-            Some(revision) => revision.name.bytes(),
-            None => &[],
-        }
     }
 
     /// How many requirements the revision has, dynamic imports not counted.

@@ -1,10 +1,8 @@
 //! The program `osgi_program`: hands the command line, the real streams and the file system to the top call.
 #![tactic(auto)]
 
-use osgi_base::text::Text;
-use osgi_outside::dir_shelf::DirShelf;
-use osgi_outside::gate::OpenGate;
-use osgi_outside::std_ends::{StdSink, StdSource};
+use osgi_base::Text;
+use osgi_outside::{DirShelf, OpenGate, StdSink, StdSource};
 use osgi_program::framework_main;
 use std::io::{ErrorKind, writer};
 use std::process::ExitCode;
@@ -12,7 +10,7 @@ use std::rt::Env;
 use std::{env, io};
 
 /// What is said of words that are not of the written form.
-const USAGE: &str = "usage: osgi_program run [--budget B] | check | make";
+const USAGE: &str = "usage: osgi_program run|check|make";
 
 /// The words of the command line, without the program's name.
 fn words(rt: &(impl Env + AllocGlobal)) -> io::Result<Vec<Text>> {

@@ -9,13 +9,12 @@ use Rattle.osgi_header.specs.declared.fault.HeaderFault.{HeaderFault}
 use Rattle.osgi_header.specs.declared.header.Header.{Header}
 use Rattle.osgi_header.specs.Headers.{AreHeadersOf, IsHeaderFault}
 use Rattle.osgi_package.specs.Only.{IsOnly}
-use Rattle.osgi_manifest.specs.computed.Answers.{IsStep, in_header}
+use Rattle.osgi_manifest.specs.computed.Answers.{Stops, in_header}
 use Rattle.osgi_manifest.specs.computed.Readings.{AnswersOnly, IsStopAt, SaysText, line, said}
 use Rattle.osgi_manifest.specs.declared.stop.Stop.{Stop}
 use Rattle.osgi_manifest.specs.declared.stop.Stop.TheVariants.{Fault, Memory}
 use Rattle.osgi_manifest.specs.Manifests.{IsRevisionOf, SaysManifest, file_at, headers, lines, manifest_faults, manifest_path, missing}
-use Rattle.osgi_manifest.specs.computed.Steps.{said_conditions}
-use Rattle.osgi_manifest.proofs.Revisions.{fault_refuses}
+use Rattle.osgi_manifest.proofs.Stages.{refuses_only}
 use Rattle.osgi_world.specs.declared.manifest_fault.ManifestFault.{ManifestFault}
 use Rattle.osgi_world.specs.declared.manifest_fault.ManifestKind.{ManifestKind}
 use Rattle.osgi_world.specs.declared.manifest_fault.ManifestKind.TheVariants as fault
@@ -117,11 +116,11 @@ said_answers folder text hs are one none (Err Memory) is = tt
 
 -- ---- the headers
 
--- what all steps answered before the revision was made
-pub stop_answers : (folder : Folder) (hs : List Header) {A : Type 0} (Reads : A → Type 0) (stop : Stop) → IsStep (said_conditions folder hs) Reads (Err stop) →
+-- where a step stopped, no revision was made
+pub stop_answers : (folder : Folder) (hs : List Header) (stop : Stop) → Stops (manifest_faults folder hs) stop →
     AnswersOnly (Gives (manifest_faults folder hs) (IsRevisionOf folder hs)) (Err stop)
-stop_answers folder hs Reads (Fault found) is = fault_refuses folder hs found is
-stop_answers folder hs Reads Memory is = tt
+stop_answers folder hs (Fault found) is = refuses_only (manifest_faults folder hs) (IsRevisionOf folder hs) found is
+stop_answers folder hs Memory is = tt
 
 -- what is handed on of a stop
 pub answers_on : (Says : Verdict ManifestFault Revision → Type 0) (r : Result Revision Stop) (given : Stop) → IsErrAnd r (λ stop. stop ≡ given) → AnswersOnly Says (Err given) → AnswersOnly Says r

@@ -1,5 +1,5 @@
 -- What a header makes, or its first fault, by what was read of it and what was made of its clauses.
-use Rattle.std.proofs.Common.{◌≡◌, ℕ, List, [], ◌∷◌, ap, sym, ◌∙◌, refl, subst}
+use Rattle.std.proofs.Common.{◌≡◌, ℕ, List, [], ◌∷◌, ap, sym, ◌∙◌, refl, subst, inr}
 use Rattle.std.specs.Prelude.{⊤, None, Some, Option, Result, Ok, Err, MatchOption, MatchResult, IsSomeAnd}
 use Rattle.std.proofs.lemmas.List.{map-append}
 use Rattle.osgi_header.specs.declared.clause.Clause.{Clause}
@@ -16,11 +16,13 @@ use Rattle.osgi_world.specs.declared.manifest_fault.ManifestFault.{ManifestFault
 use Rattle.osgi_world.specs.declared.manifest_fault.ManifestKind.{ManifestKind}
 use Rattle.osgi_package.specs.Only.{IsOnly}
 use Rattle.osgi_package.specs.laws.Splits.{no_item}
+use Rattle.osgi_manifest.specs.Manifests.{InValue}
 use Rattle.osgi_manifest.specs.ValueFaults.{IsValueFault}
 use Rattle.osgi_clause.specs.ClauseFaults.{clauses_of}
-use Rattle.osgi_manifest.specs.computed.Answers.{AnswersHeader, GoesOn, IsReadIn, IsStopOf, StopsAt, in_header, no_clauses}
+use Rattle.osgi_manifest.specs.computed.Answers.{AnswersHeader, GoesOn, IsMadeIn, IsReadIn, IsStep, IsStopOf, StopsAt, in_header, no_clauses}
 use Rattle.osgi_clause.specs.Walks.{IsFirstFaulty, Walked}
 use Rattle.osgi_clause.specs.declared.fault.ClauseFault.{ClauseFault}
+use Rattle.osgi_clause.specs.laws.FirstFaults.{called_only}
 use Rattle.osgi_manifest.specs.declared.stop.Stop.{Stop}
 use Rattle.osgi_manifest.specs.declared.stop.Stop.TheVariants.{Fault, Memory}
 use Rattle.osgi_manifest.specs.Values.{header_value}
@@ -121,3 +123,13 @@ module _ {A : Type 0} (faults : List Clause → Clause → List (ManifestKind �
   header_answer headers read walked (Ok made) is walks stops = answer_by (header_value name headers) read walked (Ok made) is walks stops
   header_answer headers read walked (Err (Fault fault)) is walks stops = answer_by (header_value name headers) read walked (Err (Fault fault)) is walks stops
   header_answer headers read walked (Err Memory) is walks stops = tt
+
+  -- the same as a step of reading, of a header that may have nothing
+  pub header_step : (headers : List Header) (read : ReadClauses) (walked : Result A ClauseFault) (r : Result A Stop) → IsReadIn name headers read →
+      Walked faults Makes read.clauses walked → IsStopOf name outside read.fault walked r → IsStep (InValue headers name faults outside ∷ []) (IsOnly (IsMadeIn Makes headers name)) r
+  header_step headers read walked r is walks stops = by r (header_answer headers read walked r is walks stops)
+    where
+      by : (r : Result A Stop) → AnswersHeader faults outside Makes headers name r → IsStep (InValue headers name faults outside ∷ []) (IsOnly (IsMadeIn Makes headers name)) r
+      by (Ok made) answer = (inr (answer.0, tt), answer.1)
+      by (Err (Fault fault)) answer = called_only (InValue headers name faults outside) [] (λ (fine : Unit {0}). ⊤) fault answer.0
+      by (Err Memory) answer = tt

@@ -1,5 +1,4 @@
 -- Lemmas on the steps of reading a manifest.
-pub mod Covering
 pub mod Identities
 pub mod Folders
 pub mod InHeaders

@@ -2,33 +2,31 @@
 use Rattle.std.proofs.Common.{◌≡◌, ℕ, List, [], ◌∷◌, ◌++◌, length, ◌+◌, ap, sym, ◌∙◌, refl, subst}
 use Rattle.std.proofs.Math.Bridge.{le_prop}
 use Rattle.std.proofs.Math.Path.{to_path_p}
-use Rattle.std.specs.Prelude.{◌≤◌, false, codes, if◌then◌else◌, is_some, MatchOption, None, Option, Some}
+use Rattle.std.specs.Prelude.{◌≤◌, false, codes, is_some, MatchOption, None, Option, Some}
 use Rattle.osgi_base.specs.declared.folder.Folder.{Folder}
-use Rattle.osgi_base.specs.Verdict.{Gives, answers, refuses}
+use Rattle.osgi_base.specs.Verdict.{Gives, answers}
 use Rattle.osgi_header.specs.Clauses.{AreClausesOf}
 use Rattle.osgi_header.specs.declared.clause.Clause.{Clause}
 use Rattle.osgi_header.specs.declared.header.Header.{Header}
 use Rattle.osgi_world.specs.declared.capability.Capability.{Capability}
-use Rattle.osgi_world.specs.declared.manifest_fault.ManifestFault.{ManifestFault}
 use Rattle.osgi_world.specs.declared.requirement.Requirement.{Requirement}
 use Rattle.osgi_world.specs.declared.revision.Revision.{Revision}
 use Rattle.osgi_world.specs.declared.revision.TheConstants.{MAX_MEMBERS}
-use Rattle.osgi_version.specs.declared.version.Version.{Version}
 use Rattle.osgi_version.specs.Versions.{ReadsVersion}
 use Rattle.osgi_version.specs.VersionValues.{parts}
 use Rattle.osgi_package.specs.Only.{IsOnly}
 use Rattle.osgi_manifest.specs.computed.Answers.{CallNone}
-use Rattle.osgi_clause.specs.Walks.{IsTheFirst}
 use Rattle.osgi_manifest.specs.computed.Lone.{IsHostIn}
 use Rattle.osgi_clause.specs.Lone.{IsLone, SaysHost}
-use Rattle.osgi_manifest.specs.computed.Revisions.{IsMadeOf, Lists, capabilities_of, own_of, requirements_of}
-use Rattle.osgi_manifest.specs.computed.Steps.{AreLists, AreSaid, said_conditions}
+use Rattle.osgi_manifest.specs.computed.Revisions.{IsMadeOf, itself_of, own_of}
+use Rattle.osgi_manifest.specs.computed.Steps.{AreMembers, IsSaid}
+use Rattle.osgi_manifest.specs.declared.members.Members.{Members}
+use Rattle.osgi_manifest.specs.declared.said.Said.{Said}
 use Rattle.osgi_clause.specs.declared.naming.Naming.{Naming}
 use Rattle.osgi_manifest.specs.Manifests.{AreOwn, HasCapabilities, HasHost, HasRequirements, IsRevisionOf, manifest_faults, own_version, IsOwn}
 use Rattle.osgi_manifest.specs.Values.{header_value}
-use Rattle.osgi_manifest.proofs.Covering.{covered}
 use Rattle.osgi_manifest.proofs.Identities.{hosted_holds, named_holds, named_only}
-use Rattle.osgi_manifest.proofs.Stages.{answers_only, refuses_only}
+use Rattle.osgi_manifest.proofs.Stages.{answers_only}
 
 -- ---- equal revisions
 
@@ -56,11 +54,11 @@ same_revision a b name version singleton attach host activator capabilities requ
 own_is : (name : List ℕ) (own : Capability) → IsOwn name own → own ≡ own_of name
 own_is name own is = λ i. record { namespace = is.namespace i; name = is.name i; attributes = is.no_attributes i; uses = is.no_uses i; mandatory = is.no_mandatory i }
 
-own_holds : (host : Option Requirement) (name : List ℕ) → AreOwn host name (if is_some host then [] else own_of name ∷ [])
+own_holds : (host : Option Requirement) (name : List ℕ) → AreOwn host name (itself_of (is_some host) name)
 own_holds None name = (own_of name, record { namespace = refl; name = refl; no_attributes = refl; no_uses = refl; no_mandatory = refl }, refl)
 own_holds (Some host) name = refl
 
-own_one : (host : Option Requirement) (name : List ℕ) (own : List Capability) → AreOwn host name own → own ≡ (if is_some host then [] else own_of name ∷ [])
+own_one : (host : Option Requirement) (name : List ℕ) (own : List Capability) → AreOwn host name own → own ≡ itself_of (is_some host) name
 own_one None name own are = are.2 ∙ ap (λ c. c ∷ []) (own_is name are.0 are.1)
 own_one (Some host) name own are = are
 
@@ -87,49 +85,48 @@ host_one headers host other is has = is.0.only other (host_made other (header_va
 
 -- ---- capabilities and requirements
 
-module _ (headers : List Header) where
-  offers : (lists : Lists) (host : Option Requirement) (name : List ℕ) (revision : Revision) → AreLists headers lists → revision.host ≡ host → revision.name ≡ name →
-      revision.capabilities ≡ capabilities_of (is_some host) name (lists.1.0 ++ lists.1.1.1) → HasCapabilities headers revision
-  offers lists host name revision are hosted named all =
-      let exports = are.1.0.holds in
-      let provided = are.1.1.1.holds in
-      record {
-        export_clauses = exports.0;
-        provided_clauses = provided.0;
-        own = if is_some host then [] else own_of name ∷ [];
-        exports = lists.1.0;
-        provided = lists.1.1.1;
-        in_exports = exports.1;
-        in_provided = provided.1;
-        are_own = subst (λ h. AreOwn h revision.name (if is_some host then [] else own_of name ∷ [])) (sym hosted)
-            (subst (λ n. AreOwn host n (if is_some host then [] else own_of name ∷ [])) (sym named) (own_holds host name));
-        are_exports = exports.2;
-        are_provided = provided.2;
-        are = all;
-      }
+module _ (headers : List Header) (members : Members) (are : AreMembers headers members) (revision : Revision) where
+  module _ (host : Option Requirement) (name : List ℕ) (hosted : revision.host ≡ host) (named : revision.name ≡ name) where
+    offers : revision.capabilities ≡ itself_of (is_some host) name ++ (members.exports ++ members.provided) → HasCapabilities headers revision
+    offers all =
+        let exports = are.exports.holds in
+        let provided = are.provided.holds in
+        record {
+          export_clauses = exports.0;
+          provided_clauses = provided.0;
+          own = itself_of (is_some host) name;
+          exports = members.exports;
+          provided = members.provided;
+          in_exports = exports.1;
+          in_provided = provided.1;
+          are_own = subst (λ h. AreOwn h revision.name (itself_of (is_some host) name)) (sym hosted)
+              (subst (λ n. AreOwn host n (itself_of (is_some host) name)) (sym named) (own_holds host name));
+          are_exports = exports.2;
+          are_provided = provided.2;
+          are = all;
+        }
 
-  offers_only : (lists : Lists) (host : Option Requirement) (name : List ℕ) (revision : Revision) → AreLists headers lists → revision.host ≡ host → revision.name ≡ name →
-      HasCapabilities headers revision → revision.capabilities ≡ capabilities_of (is_some host) name (lists.1.0 ++ lists.1.1.1)
-  offers_only lists host name revision are hosted named has =
-      let own : has.own ≡ (if is_some host then [] else own_of name ∷ [])
-      = own_one host name has.own
-      (subst (λ n. AreOwn host n has.own) named (subst (λ h. AreOwn h revision.name has.own) hosted has.are_own)) in
-      let exports : has.exports ≡ lists.1.0 = are.1.0.only has.exports (has.export_clauses, has.in_exports, has.are_exports) in
-      let provided : has.provided ≡ lists.1.1.1 = are.1.1.1.only has.provided (has.provided_clauses, has.in_provided, has.are_provided) in
-      has.are ∙ (λ i. own i ++ (exports i ++ provided i))
+    offers_only : HasCapabilities headers revision → revision.capabilities ≡ itself_of (is_some host) name ++ (members.exports ++ members.provided)
+    offers_only has =
+        let own : has.own ≡ itself_of (is_some host) name
+        = own_one host name has.own
+        (subst (λ n. AreOwn host n has.own) named (subst (λ h. AreOwn h revision.name has.own) hosted has.are_own)) in
+        let exports : has.exports ≡ members.exports = are.exports.only has.exports (has.export_clauses, has.in_exports, has.are_exports) in
+        let provided : has.provided ≡ members.provided = are.provided.only has.provided (has.provided_clauses, has.in_provided, has.are_provided) in
+        has.are ∙ (λ i. own i ++ (exports i ++ provided i))
 
-  asks : (lists : Lists) (revision : Revision) → AreLists headers lists → revision.requirements ≡ requirements_of lists → HasRequirements headers revision
-  asks lists revision are all =
-      let bundles = are.0.0.holds in
-      let imports = are.0.1.holds in
-      let required = are.1.1.0.holds in
+  asks : revision.requirements ≡ members.bundles ++ (members.imports ++ members.required) → HasRequirements headers revision
+  asks all =
+      let bundles = are.bundles.holds in
+      let imports = are.imports.holds in
+      let required = are.required.holds in
       record {
         bundle_clauses = bundles.0;
         import_clauses = imports.0;
         required_clauses = required.0;
-        bundles = lists.0.0;
-        imports = lists.0.1;
-        required = lists.1.1.0;
+        bundles = members.bundles;
+        imports = members.imports;
+        required = members.required;
         in_bundles = bundles.1;
         in_imports = imports.1;
         in_required = required.1;
@@ -139,25 +136,24 @@ module _ (headers : List Header) where
         are = all;
       }
 
-  asks_only : (lists : Lists) (revision : Revision) → AreLists headers lists → HasRequirements headers revision → revision.requirements ≡ requirements_of lists
-  asks_only lists revision are has =
-      let bundles : has.bundles ≡ lists.0.0 = are.0.0.only has.bundles (has.bundle_clauses, has.in_bundles, has.are_bundles) in
-      let imports : has.imports ≡ lists.0.1 = are.0.1.only has.imports (has.import_clauses, has.in_imports, has.are_imports) in
-      let required : has.required ≡ lists.1.1.0 = are.1.1.0.only has.required (has.required_clauses, has.in_required, has.are_required) in
+  asks_only : HasRequirements headers revision → revision.requirements ≡ members.bundles ++ (members.imports ++ members.required)
+  asks_only has =
+      let bundles : has.bundles ≡ members.bundles = are.bundles.only has.bundles (has.bundle_clauses, has.in_bundles, has.are_bundles) in
+      let imports : has.imports ≡ members.imports = are.imports.only has.imports (has.import_clauses, has.in_imports, has.are_imports) in
+      let required : has.required ≡ members.required = are.required.only has.required (has.required_clauses, has.in_required, has.are_required) in
       has.are ∙ (λ i. bundles i ++ (imports i ++ required i))
 
 -- ---- the revision
 
-module _ (folder : Folder) (headers : List Header) (identity : Naming × Version) (hosted : Option Requirement × (Lists × Option (List ℕ)))
-    (said : AreSaid headers (identity, hosted)) (revision : Revision) (made : IsMadeOf folder identity hosted revision) where
+module _ (folder : Folder) (headers : List Header) (said : Said) (is_said : IsSaid headers said) (revision : Revision) (made : IsMadeOf folder said revision) where
   revision_holds : IsRevisionOf folder headers revision
   revision_holds = record {
-    named = named_holds headers identity.0 revision said.0.0.holds made.name made.singleton made.attach;
-    version = subst (λ v. ReadsVersion (own_version headers) (parts v)) (sym made.version) said.0.1.holds;
-    host = subst (HasHost (header_value (codes "Fragment-Host") headers)) (sym made.host) (host_holds headers hosted.0 said.1.0);
-    activator_is = made.activator ∙ said.1.1.1;
-    capabilities = offers headers hosted.1.0 hosted.0 identity.0.name revision said.1.1.0 made.host made.name made.capabilities;
-    requirements = asks headers hosted.1.0 revision said.1.1.0 made.requirements;
+    named = named_holds headers said.naming revision is_said.naming.holds made.name made.singleton made.attach;
+    version = subst (λ v. ReadsVersion (own_version headers) (parts v)) (sym made.version) is_said.version.holds;
+    host = subst (HasHost (header_value (codes "Fragment-Host") headers)) (sym made.host) (host_holds headers said.host is_said.host);
+    activator_is = made.activator ∙ is_said.activator;
+    capabilities = offers headers said.members is_said.members revision said.host said.naming.name made.host made.name made.capabilities;
+    requirements = asks headers said.members is_said.members revision made.requirements;
     no_dynamics = made.dynamics;
     not_lazy = made.lazy;
     files = made.files;
@@ -165,14 +161,14 @@ module _ (folder : Folder) (headers : List Header) (identity : Naming × Version
 
   revision_one : (other : Revision) → IsRevisionOf folder headers other → other ≡ revision
   revision_one other is =
-      let naming : record { name = other.name; singleton = other.singleton; attach = other.attach } ≡ identity.0
-      = said.0.0.only (record { name = other.name; singleton = other.singleton; attach = other.attach }) (named_only headers other is.named) in
-      let name : other.name ≡ identity.0.name = ap (λ (n : Naming). n.name) naming in
-      let host : other.host ≡ hosted.0 = host_one headers hosted.0 other.host said.1.0 is.host in
-      same_revision other revision (name ∙ sym made.name) (said.0.1.only other.version is.version ∙ sym made.version) (ap (λ (n : Naming). n.singleton) naming ∙ sym made.singleton)
-      (ap (λ (n : Naming). n.attach) naming ∙ sym made.attach) (host ∙ sym made.host) (is.activator_is ∙ sym said.1.1.1 ∙ sym made.activator)
-      (offers_only headers hosted.1.0 hosted.0 identity.0.name other said.1.1.0 host name is.capabilities ∙ sym made.capabilities)
-      (asks_only headers hosted.1.0 other said.1.1.0 is.requirements ∙ sym made.requirements) (is.no_dynamics ∙ sym made.dynamics) (is.not_lazy ∙ sym made.lazy)
+      let naming : record { name = other.name; singleton = other.singleton; attach = other.attach } ≡ said.naming
+      = is_said.naming.only (record { name = other.name; singleton = other.singleton; attach = other.attach }) (named_only headers other is.named) in
+      let name : other.name ≡ said.naming.name = ap (λ (n : Naming). n.name) naming in
+      let host : other.host ≡ said.host = host_one headers said.host other.host is_said.host is.host in
+      same_revision other revision (name ∙ sym made.name) (is_said.version.only other.version is.version ∙ sym made.version) (ap (λ (n : Naming). n.singleton) naming ∙ sym made.singleton)
+      (ap (λ (n : Naming). n.attach) naming ∙ sym made.attach) (host ∙ sym made.host) (is.activator_is ∙ sym is_said.activator ∙ sym made.activator)
+      (offers_only headers said.members is_said.members other said.host said.naming.name host name is.capabilities ∙ sym made.capabilities)
+      (asks_only headers said.members is_said.members other is.requirements ∙ sym made.requirements) (is.no_dynamics ∙ sym made.dynamics) (is.not_lazy ∙ sym made.lazy)
       (is.files ∙ sym made.files)
 
   -- the headers mean this revision, and no other
@@ -180,14 +176,5 @@ module _ (folder : Folder) (headers : List Header) (identity : Naming × Version
   revision_only = record { holds = revision_holds; only = revision_one }
 
   -- that is what the folder and the headers say, where none of the conditions calls for a fault
-  pub revision_answers : CallNone (said_conditions folder headers) → IsOnly (Gives (manifest_faults folder headers) (IsRevisionOf folder headers)) (answers revision)
-  revision_answers uncalled =
-      covered folder headers (IsRevisionOf folder headers) (answers revision)
-      (answers_only (said_conditions folder headers) (IsRevisionOf folder headers) revision uncalled revision_only)
-
--- the first fault is what they say, where there is one
-pub fault_refuses : (folder : Folder) (headers : List Header) (found : ManifestFault) → IsTheFirst (said_conditions folder headers) found →
-    IsOnly (Gives (manifest_faults folder headers) (IsRevisionOf folder headers)) (refuses found)
-fault_refuses folder headers found is =
-    covered folder headers (IsRevisionOf folder headers) (refuses found)
-    (refuses_only (said_conditions folder headers) (IsRevisionOf folder headers) found is)
+  pub revision_answers : CallNone (manifest_faults folder headers) → IsOnly (Gives (manifest_faults folder headers) (IsRevisionOf folder headers)) (answers revision)
+  revision_answers uncalled = answers_only (manifest_faults folder headers) (IsRevisionOf folder headers) revision uncalled revision_only

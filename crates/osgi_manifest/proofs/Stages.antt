@@ -1,11 +1,11 @@
 -- Conditions in stages: the first one that calls for a refusal, and what holds where none does.
-use Rattle.std.proofs.Common.{◌≡◌, List, [], ◌∷◌, ◌++◌, append-nil, ap, sym, subst, ◌∙◌, refl, inl, inr}
+use Rattle.std.proofs.Common.{◌≡◌, ℕ, zero, suc, List, [], ◌∷◌, ◌++◌, append-nil, ap, sym, subst, ◌∙◌, refl, inl, inr}
 use Rattle.std.specs.Prelude.{⊤, Result, Ok, Err}
 use Rattle.std.specs.Result.{IsErrAnd}
 use Rattle.osgi_base.specs.Verdict.{Gives, Verdict, answers, refuses}
 use Rattle.osgi_package.specs.Only.{IsOnly}
 use Rattle.osgi_world.specs.declared.manifest_fault.ManifestFault.{ManifestFault}
-use Rattle.osgi_manifest.specs.computed.Answers.{CallNone, IsStep}
+use Rattle.osgi_manifest.specs.computed.Answers.{CallNone, IsStep, Stops}
 use Rattle.osgi_clause.specs.Walks.{IsTheFirst}
 use Rattle.osgi_manifest.specs.declared.stop.Stop.{Stop}
 use Rattle.osgi_manifest.specs.declared.stop.Stop.TheVariants.{Fault, Memory}
@@ -90,17 +90,54 @@ refuses_only conditions answer refusal is =
 
 module _ (conditions rest : List (ManifestFault → Type 0)) where
   -- a fault of the first step is that of both
-  pub step_fails : {A B : Type 0} (First : A → Type 0) (Both : B → Type 0) (stop : Stop) → IsStep conditions First (Err stop) → IsStep (conditions ++ rest) Both (Err stop)
-  step_fails First Both (Fault fault) is = first_stays conditions rest (λ (fine : Unit {0}). ⊤) fault is
-  step_fails First Both Memory is = tt
+  step_fails : (stop : Stop) → Stops conditions stop → Stops (conditions ++ rest) stop
+  step_fails (Fault fault) is = first_stays conditions rest (λ (fine : Unit {0}). ⊤) fault is
+  step_fails Memory is = tt
 
   -- where the first step has none, that of the second is
-  pub then_fails : {B C : Type 0} (Both : B → Type 0) (Second : C → Type 0) (stop : Stop) → CallNone conditions → IsStep rest Second (Err stop) → IsStep (conditions ++ rest) Both (Err stop)
-  then_fails Both Second (Fault fault) uncalled is = others_decide conditions rest (λ (fine : Unit {0}). ⊤) (refuses fault) uncalled is
-  then_fails Both Second Memory uncalled is = tt
+  then_fails : (stop : Stop) → CallNone conditions → Stops rest stop → Stops (conditions ++ rest) stop
+  then_fails (Fault fault) uncalled is = others_decide conditions rest (λ (fine : Unit {0}). ⊤) (refuses fault) uncalled is
+  then_fails Memory uncalled is = tt
+
+-- the conditions of all steps
+abbrev pub all_of : List (List (ManifestFault → Type 0)) → List (ManifestFault → Type 0)
+all_of [] = []
+all_of (step ∷ steps) = step ++ all_of steps
+
+-- no condition calls for a fault, of all steps, or of those before a place
+abbrev pub NoneOf : List (List (ManifestFault → Type 0)) → Type 0
+NoneOf [] = ⊤
+NoneOf (step ∷ steps) = CallNone step × NoneOf steps
+
+abbrev pub NoneBefore : ℕ → List (List (ManifestFault → Type 0)) → Type 0
+NoneBefore zero steps = ⊤
+NoneBefore (suc n) [] = ⊤
+NoneBefore (suc n) (step ∷ steps) = CallNone step × NoneBefore n steps
+
+-- the step at this place stops
+abbrev pub StopsAt : ℕ → List (List (ManifestFault → Type 0)) → Stop → Type 0
+StopsAt zero [] stop = ⊥
+StopsAt zero (step ∷ steps) stop = Stops step stop
+StopsAt (suc n) [] stop = ⊥
+StopsAt (suc n) (step ∷ steps) stop = StopsAt n steps stop
+
+pub none_of_all : (steps : List (List (ManifestFault → Type 0))) → NoneOf steps → CallNone (all_of steps)
+none_of_all [] none = tt
+none_of_all (step ∷ steps) none = none_of_both step (all_of steps) none.0 (none_of_all steps none.1)
+
+stops_at : (n : ℕ) (steps : List (List (ManifestFault → Type 0))) (stop : Stop) → NoneBefore n steps → StopsAt n steps stop → Stops (all_of steps) stop
+stops_at zero [] stop none is = absurd is
+stops_at zero (step ∷ steps) stop none is = step_fails step (all_of steps) stop is
+stops_at (suc n) [] stop none is = absurd is
+stops_at (suc n) (step ∷ steps) stop none is = then_fails step (all_of steps) stop none.0 (stops_at n steps stop none.1 is)
 
 -- what is handed on of a step
 pub handed_on : {A : Type 0} (conditions : List (ManifestFault → Type 0)) (Reads : A → Type 0) (r : Result A Stop) (given : Stop) →
-    IsErrAnd r (λ stop. stop ≡ given) → IsStep conditions Reads (Err given) → IsStep conditions Reads r
+    IsErrAnd r (λ stop. stop ≡ given) → Stops conditions given → IsStep conditions Reads r
 handed_on conditions Reads (Ok read) given handed is = absurd handed
-handed_on conditions Reads (Err stop) given handed is = subst (λ s. IsStep conditions Reads (Err s)) (sym handed) is
+handed_on conditions Reads (Err stop) given handed is = subst (Stops conditions) (sym handed) is
+
+-- where the steps before a place have none, the fault of the step there is that of all
+pub stopped : {A : Type 0} (steps : List (List (ManifestFault → Type 0))) (n : ℕ) (Reads : A → Type 0) (r : Result A Stop) (given : Stop) →
+    IsErrAnd r (λ stop. stop ≡ given) → NoneBefore n steps → StopsAt n steps given → IsStep (all_of steps) Reads r
+stopped steps n Reads r given handed none is = handed_on (all_of steps) Reads r given handed (stops_at n steps given none is)

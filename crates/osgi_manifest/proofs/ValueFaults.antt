@@ -1,5 +1,5 @@
 -- The first faulty clause is the fault of the header's value.
-use Rattle.std.proofs.Common.{◌≡◌, ◌+◌, ℕ, List, ◌∷◌, ◌++◌, ap, sym, ◌∙◌, refl, subst}
+use Rattle.std.proofs.Common.{◌≡◌, ℕ, List, ◌∷◌, ◌++◌, ap, sym, ◌∙◌, refl, subst}
 use Rattle.std.specs.Prelude.{None, Some, Option}
 use Rattle.osgi_base.specs.Verdict.{Verdict, refuses}
 use Rattle.osgi_header.specs.declared.clause.Clause.{Clause}

@@ -1,5 +1,5 @@
 -- What a bundle's folder means, header by header, and its first fault in the order of the headers.
-use Rattle.std.specs.Prelude.{ℕ, ◌≡◌, ◌≢◌, ◌==◌, not, true, if◌then◌else◌, Bool, List, [], ◌∷◌, ◌++◌, codes, filter, find, map, IsSomeAnd, Option, None, Some, is_some, unwrap_or}
+use Rattle.std.specs.Prelude.{ℕ, ◌≡◌, ◌≢◌, ◌==◌, not, if◌then◌else◌, Bool, List, [], ◌∷◌, ◌++◌, codes, filter, find, map, IsSomeAnd, Option, None, Some, is_some, unwrap_or}
 use Rattle.std.specs.Str.{bytes_eq}
 use Rattle.osgi_base.specs.declared.folder.File.{File}
 use Rattle.osgi_base.specs.declared.folder.Folder.{Folder}

@@ -6,27 +6,15 @@ ghost use Rattle.osgi_manifest.specs.Manifests as spec;
 ghost use Rattle.osgi_manifest.specs.computed.Answers.{IsStep};
 ghost use Rattle.osgi_manifest.specs.computed.Steps.{Anything, IsActivator, IsClassFault, activator_conditions, native_conditions};
 
+use crate::files::file_at;
 use crate::headers::{header_fault, header_value};
 use crate::host::has_host;
 use crate::scripts::is_script;
 use crate::stop::Stop;
-use osgi_base::folder::{File, Folder};
-use osgi_base::text::Text;
-use osgi_header::header::Header;
-use osgi_world::manifest_fault::ManifestKind;
+use osgi_base::{Folder, Text};
+use osgi_header::Header;
+use osgi_world::ManifestKind;
 use std::alloc::{AllocError, Global};
-
-/// The file of the path, if the folder has one.
-pub fn file_at<'a>(path: &[u8], folder: &'a Folder) -> Option<&'a File>
-    ensures file { option_copied result ≡ spec.file_at path.now folder.now }
-{
-    for file in folder.files.items() {
-        if file.path.bytes() == path {
-            return Some(file);
-        }
-    }
-    None
-}
 
 /// The path of the file of a class.
 fn class_file(alloc: Global, class: &[u8]) -> Result<Vec<u8>, AllocError>

@@ -7,14 +7,10 @@ ghost use Rattle.osgi_manifest.specs.Values as spec;
 ghost use Rattle.osgi_manifest.specs.computed.Answers.{IsReadIn, IsStopOf};
 
 use crate::stop::Stop;
-use osgi_base::list::List;
-use osgi_base::text::Text;
-use osgi_clause::fault::ClauseFault;
-use osgi_header::clause::ReadClauses;
-use osgi_header::fault::HeaderFault;
-use osgi_header::header::Header;
-use osgi_header::read_clauses;
-use osgi_world::manifest_fault::{ManifestFault, ManifestKind};
+use osgi_base::{List, Text};
+use osgi_clause::ClauseFault;
+use osgi_header::{Header, HeaderFault, ReadClauses, read_clauses};
+use osgi_world::{ManifestFault, ManifestKind};
 use std::alloc::{AllocError, Global};
 
 fn is_named(name: &[u8], header: &Header) -> bool

@@ -11,9 +11,8 @@ ghost use Rattle.osgi_clause.specs.Lone.{IsLone, SaysHost};
 use crate::headers::{header_fault, header_value, made_of, read_header};
 use crate::stop::Stop;
 use osgi_clause::hosted;
-use osgi_header::header::Header;
-use osgi_world::manifest_fault::ManifestKind;
-use osgi_world::requirement::Requirement;
+use osgi_header::Header;
+use osgi_world::{ManifestKind, Requirement};
 use std::alloc::Global;
 
 fn host_header(alloc: Global, headers: &[Header]) -> Result<Option<Requirement>, Stop>

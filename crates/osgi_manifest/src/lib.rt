@@ -2,16 +2,18 @@
 #![tactic(auto)]
 
 mod activator;
+mod files;
+mod folder;
 mod headers;
 mod host;
 mod lists;
+mod members;
 mod naming;
-mod reading;
-mod revision;
+mod said;
 mod scripts;
 mod sections;
-mod steps;
 mod stop;
 mod versions;
 
-pub use reading::read;
+pub use files::manifest_file;
+pub use folder::read;

@@ -1,22 +1,38 @@
 //! The parts of a revision that are made of several lists.
 
-ghost use Rattle.std.specs.Prelude.{◌≡◌, [], ◌∷◌, ◌++◌, if◌then◌else◌, map, IfOk};
+ghost use Rattle.std.specs.Prelude.{◌≡◌, ◌≤◌, ◌++◌, length, map, IfOk};
 ghost use Rattle.osgi_base.specs.declared.folder.File.{File};
-ghost use Rattle.osgi_manifest.specs.computed.Revisions.{own_of};
+ghost use Rattle.osgi_world.specs.declared.revision.TheConstants.{MAX_MEMBERS};
+ghost use Rattle.osgi_manifest.specs.computed.Revisions.{itself_of, own_of};
 
-use osgi_base::folder::Folder;
-use osgi_base::list::List;
-use osgi_base::text::Text;
-use osgi_world::capability::Capability;
+use osgi_base::{Folder, List, Text};
+use osgi_world::{Capability, MAX_MEMBERS};
 use std::alloc::{AllocError, Global};
 
 /// The items of the first list, and then those of the second.
-pub fn append<T: Drop>(first: List<T>, second: List<T>) -> Result<List<T>, AllocError>
+fn append<T: Drop>(first: List<T>, second: List<T>) -> Result<List<T>, AllocError>
     ensures both { IfOk result (λ all. all ≡ first ++ second) }
 {
     let mut all = first;
     for item in second.into_items() {
         all.push(item)?;
+    }
+    Ok(all)
+}
+
+/// The items of all three lists, where they are no more than a revision's members may be. There is no memory for more.
+pub fn joined<T: Drop>(
+    first: List<T>,
+    second: List<T>,
+    third: List<T>,
+) -> Result<List<T>, AllocError>
+    ensures all { IfOk result (λ all. all ≡ first ++ (second ++ third)) }
+    ensures few { IfOk result (λ all. length all ≤ MAX_MEMBERS) }
+{
+    let others = append(second, third)?;
+    let all = append(first, others)?;
+    if all.items().len() > MAX_MEMBERS {
+        return Err(AllocError);
     }
     Ok(all)
 }
@@ -42,7 +58,7 @@ pub fn offers_itself(
     name: &Text,
     is_fragment: bool,
 ) -> Result<List<Capability>, AllocError>
-    ensures own { IfOk result (λ all. all ≡ (if is_fragment then [] else own_of name.now ∷ [])) }
+    ensures own { IfOk result (λ all. all ≡ itself_of is_fragment name.now) }
 {
     let mut all = List::new(alloc)?;
     if !is_fragment {

@@ -10,9 +10,9 @@ ghost use Rattle.osgi_manifest.specs.computed.Lone.{IsNamedAs, name_conditions};
 
 use crate::headers::{header_fault, made_of, read_header};
 use crate::stop::Stop;
-use osgi_clause::naming::{Naming, named};
-use osgi_header::header::Header;
-use osgi_world::manifest_fault::ManifestKind;
+use osgi_clause::{Naming, named};
+use osgi_header::Header;
+use osgi_world::ManifestKind;
 use std::alloc::Global;
 
 fn name_header(alloc: Global, headers: &[Header]) -> Result<Option<Naming>, Stop>

@@ -3,11 +3,11 @@
 ghost use Rattle.std.specs.Prelude.{◌≡◌};
 ghost use Rattle.osgi_manifest.specs.declared.stop.Stop.TheVariants.{Memory};
 
-use osgi_world::manifest_fault::ManifestFault;
+use osgi_world::ManifestFault;
 use std::alloc::{AllocError, AllocFailed};
 
 /// The manifest is faulty, or memory ran out.
-#[derive(Debug, Drop)]
+#[derive(Drop)]
 pub enum Stop {
     Fault(ManifestFault),
     Memory,

@@ -8,9 +8,9 @@ ghost use Rattle.osgi_manifest.specs.computed.Steps.{Anything, IsVersion, manife
 
 use crate::headers::{header_fault, header_value};
 use crate::stop::Stop;
-use osgi_header::header::Header;
-use osgi_version::version::Version;
-use osgi_world::manifest_fault::ManifestKind;
+use osgi_header::Header;
+use osgi_version::Version;
+use osgi_world::ManifestKind;
 use std::alloc::Global;
 
 fn is_two(headers: &[Header]) -> bool

@@ -3,8 +3,7 @@
 ghost use Rattle.std.specs.Prelude.{◌≡◌, ◌++◌, IfOk, OnOk};
 ghost use Rattle.osgi_model.specs.computed.ValueReader.{elements_of, unescaped};
 
-use osgi_base::list::List;
-use osgi_base::text::Text;
+use osgi_base::{List, Text};
 use std::alloc::{AllocError, Global};
 
 /// Adds a byte that follows a `\`, and before it the `\` where that stands for itself.

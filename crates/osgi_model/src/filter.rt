@@ -2,17 +2,14 @@
 
 ghost use Rattle.std.specs.Prelude.{◌≡◌, IfOk};
 
-use osgi_base::boxed::Boxed;
-use osgi_base::copied::Copied;
-use osgi_base::list::List;
-use osgi_base::text::Text;
+use osgi_base::{Boxed, Copied, List, Text};
 use std::alloc::{AllocError, Global};
 
 /// How many levels a filter has at most.
 pub const MAX_LEVELS: u32 = 64;
 
 /// What an item asks of its attribute.
-#[derive(Debug, Drop, PartialEq, Eq)]
+#[derive(Drop)]
 pub enum Test {
     Equal(Text),
     Approx(Text),
@@ -45,7 +42,7 @@ impl Copied for Test {
 }
 
 /// A filter of attributes.
-#[derive(Debug, Drop, PartialEq, Eq)]
+#[derive(Drop)]
 pub enum Filter {
     And(List<Filter>),
     Or(List<Filter>),

@@ -2,8 +2,13 @@
 #![tactic(auto)]
 
 mod elements;
-pub mod filter;
+mod filter;
 mod long;
-pub mod reading;
-pub mod value;
-pub mod value_type;
+mod value;
+mod value_text;
+mod value_type;
+
+pub use filter::{Filter, MAX_LEVELS, Test};
+pub use value::{Attribute, Attributes, Value};
+pub use value_text::{read_long, read_value};
+pub use value_type::{Scalar, ValueType};

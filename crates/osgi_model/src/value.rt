@@ -5,15 +5,12 @@ ghost use Rattle.std.specs.Cmp.{partial_equiv_from_equiv};
 ghost use Rattle.osgi_base.specs.computed.Exact.{exact_equivalence};
 ghost use Rattle.osgi_model.specs.Comparing.{each_passes, exact_attribute, exact_value, value_eq};
 
-use osgi_base::copied::Copied;
-use osgi_base::exact::ExactEq;
-use osgi_base::list::List;
-use osgi_base::text::Text;
-use osgi_version::version::Version;
+use osgi_base::{Copied, ExactEq, List, Text};
+use osgi_version::Version;
 use std::alloc::{AllocError, Global};
 
 /// A value of a property or of an attribute.
-#[derive(Debug, Drop)]
+#[derive(Drop)]
 pub enum Value {
     Text(Text),
     Long(i64),
@@ -94,7 +91,7 @@ impl ExactEq for Value {
 }
 
 /// A property, or an attribute of a capability: a name and its value.
-#[derive(Debug, Drop, PartialEq, Eq)]
+#[derive(Drop, PartialEq, Eq)]
 pub struct Attribute {
     pub name: Text,
     pub value: Value,

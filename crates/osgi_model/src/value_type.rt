@@ -14,7 +14,7 @@ pub enum Scalar {
 }
 
 /// The types of values.
-#[derive(Clone, Copy, Debug, PartialEq, Eq)]
+#[derive(Clone, Copy, PartialEq, Eq)]
 pub enum ValueType {
     One(Scalar),
     /// A list of values of one type.

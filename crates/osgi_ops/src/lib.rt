@@ -1,16 +1,30 @@
 //! What is asked of the framework, what it answers, and what was asked and answered: data only.
 #![tactic(auto)]
 
-pub mod depot;
-pub mod entry;
-pub mod event;
-pub mod kind;
-pub mod limits;
-pub mod op;
-pub mod refusal;
-pub mod reply;
-pub mod rows;
-pub mod section;
-pub mod service;
-pub mod state;
-pub mod target;
+mod depot;
+mod entry;
+mod event;
+mod kind;
+mod limits;
+mod op;
+mod refusal;
+mod reply;
+mod rows;
+mod section;
+mod service;
+mod state;
+mod target;
+
+pub use depot::{Depot, DepotRow, Stored};
+pub use entry::Entry;
+pub use event::{Busy, Event};
+pub use kind::Kind;
+pub use limits::{Limits, MAX_BUNDLES, MAX_LOCATIONS, MAX_SERVICES};
+pub use op::Op;
+pub use refusal::{Many, Refusal, Unmet};
+pub use reply::Reply;
+pub use rows::{BundleRow, WireRow};
+pub use section::Section;
+pub use service::{Service, ServiceRow};
+pub use state::{ACTIVE, INSTALLED, RESOLVED, STARTING, STOPPING, UNINSTALLED, is_up};
+pub use target::Target;

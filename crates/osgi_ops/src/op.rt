@@ -4,15 +4,10 @@ ghost use Rattle.std.specs.Prelude.{◌≡◌, IfOk};
 
 use crate::kind::Kind;
 use crate::target::Target;
-use osgi_base::copied::{Copied, copy_three, copy_two};
-use osgi_base::ids::{BundleId, ListenerId, ServiceId};
-use osgi_base::list::List;
-use osgi_base::text::Text;
-use osgi_model::filter::Filter;
-use osgi_model::value::Attributes;
+use osgi_base::{BundleId, Copied, List, ListenerId, ServiceId, Text, copy_three, copy_two};
+use osgi_model::{Attributes, Filter};
 use std::alloc::{AllocError, Global};
 
-#[derive(Debug, Drop, PartialEq, Eq)]
 pub enum Op {
     /// Registers a service object under one or more class names, with properties.
     Register {
@@ -176,6 +171,106 @@ pub enum Op {
     ListWires {
         bundle: BundleId,
     },
+}
+
+/// Not derived, so that each exit at which one is dropped is a single call, which is cheap to prove.
+impl Drop for Op {
+    fn drop(self) {
+        match self {
+            Op::Register {
+                owner: _,
+                classes: _,
+                object: _,
+                properties: _,
+            } => {}
+            Op::Modify {
+                owner: _,
+                service: _,
+                properties: _,
+            } => {}
+            Op::Unregister {
+                owner: _,
+                service: _,
+            } => {}
+            Op::Find {
+                asker: _,
+                class: _,
+                filter: _,
+            } => {}
+            Op::FindAll {
+                asker: _,
+                class: _,
+                filter: _,
+            } => {}
+            Op::Get {
+                user: _,
+                service: _,
+            } => {}
+            Op::Unget {
+                user: _,
+                service: _,
+            } => {}
+            Op::AddListener {
+                owner: _,
+                name: _,
+                kind: _,
+                filter: _,
+            } => {}
+            Op::RemoveListener { owner: _, name: _ } => {}
+            Op::Hand => {}
+            Op::EndHand { listener: _ } => {}
+            Op::QueueJob { owner: _, name: _ } => {}
+            Op::TakeJob => {}
+            Op::EndJob => {}
+            Op::Print { owner: _, text: _ } => {}
+            Op::Fail { owner: _, text: _ } => {}
+            Op::Install { location: _ } => {}
+            Op::Resolve { bundle: _ } => {}
+            Op::WishStart {
+                target: _,
+                transient: _,
+            } => {}
+            Op::BeginStart {
+                bundle: _,
+                transient: _,
+            } => {}
+            Op::EndStart {
+                bundle: _,
+                failed: _,
+            } => {}
+            Op::BeginStop {
+                target: _,
+                transient: _,
+            } => {}
+            Op::EndStop {
+                bundle: _,
+                failed: _,
+            } => {}
+            Op::Update {
+                bundle: _,
+                location: _,
+            } => {}
+            Op::Uninstall { bundle: _ } => {}
+            Op::BeginRefresh { bundles: _ } => {}
+            Op::DropWirings => {}
+            Op::EndRefresh => {}
+            Op::BeginLevel { target_level: _ } => {}
+            Op::ListLevel { level: _ } => {}
+            Op::MoveLevel { to: _ } => {}
+            Op::EndLevel => {}
+            Op::SetBundleLevel {
+                bundle: _,
+                level: _,
+            } => {}
+            Op::Load {
+                bundle: _,
+                class: _,
+            } => {}
+            Op::ListBundles => {}
+            Op::ListServices => {}
+            Op::ListWires { bundle: _ } => {}
+        }
+    }
 }
 
 fn register(

@@ -6,13 +6,9 @@ use crate::event::{Busy, Event};
 use crate::refusal::Refusal;
 use crate::rows::{BundleRow, WireRow};
 use crate::service::ServiceRow;
-use osgi_base::copied::{Copied, copy_two};
-use osgi_base::ids::{BundleId, ListenerId, RevisionId, ServiceId};
-use osgi_base::list::List;
-use osgi_base::text::Text;
+use osgi_base::{BundleId, Copied, List, ListenerId, RevisionId, ServiceId, Text, copy_two};
 use std::alloc::{AllocError, Global};
 
-#[derive(Debug, Drop, PartialEq, Eq)]
 pub enum Reply {
     /// The service was registered under this id.
     Service {
@@ -139,6 +135,59 @@ pub enum Reply {
     Refused {
         refusal: Refusal,
     },
+}
+
+/// Not derived, so that each exit at which one is dropped is a single call, which is cheap to prove.
+impl Drop for Reply {
+    fn drop(self) {
+        match self {
+            Reply::Service { service: _ } => {}
+            Reply::Done => {}
+            Reply::Best { service: _ } => {}
+            Reply::Services { services: _ } => {}
+            Reply::Object { text: _ } => {}
+            Reply::Flag { value: _ } => {}
+            Reply::Listener { listener: _ } => {}
+            Reply::Handed {
+                listener: _,
+                owner: _,
+                row: _,
+                name: _,
+                event: _,
+            } => {}
+            Reply::Nothing { busy: _ } => {}
+            Reply::Job {
+                owner: _,
+                row: _,
+                name: _,
+            } => {}
+            Reply::NoJob => {}
+            Reply::Bundle {
+                bundle: _,
+                known: _,
+            } => {}
+            Reply::Resolved { added: _ } => {}
+            Reply::Go { bundle: _ } => {}
+            Reply::Active { bundle: _ } => {}
+            Reply::Kept { bundle: _ } => {}
+            Reply::Begun { bundle: _, row: _ } => {}
+            Reply::Idle { bundle: _ } => {}
+            Reply::Closure { all: _, active: _ } => {}
+            Reply::Ids { ids: _ } => {}
+            Reply::Level { from: _, to: _ } => {}
+            Reply::Moved { start: _ } => {}
+            Reply::Leveled { value: _ } => {}
+            Reply::Up { bundle: _ } => {}
+            Reply::Loaded { by: _ } => {}
+            Reply::Bundles { rows: _ } => {}
+            Reply::ServiceRows { rows: _ } => {}
+            Reply::Wires {
+                rows: _,
+                fragments: _,
+            } => {}
+            Reply::Refused { refusal: _ } => {}
+        }
+    }
 }
 
 fn closure(

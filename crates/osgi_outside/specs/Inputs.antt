@@ -2,8 +2,8 @@
 use Rattle.std.specs.Prelude.{ℕ, ◌<◌, ◌≤◌, List, length, Option, IfSome}
 use Rattle.std.specs.Io.KnownBytes.{Consumes, IsAtEnd}
 use Rattle.osgi_outside.specs.Causes.{Rose}
-use Rattle.osgi_outside.specs.declared.reading.Input.{Input}
-use Rattle.osgi_outside.specs.declared.reading.Input.TheVariants.{All, TooMuch, Failed}
+use Rattle.osgi_outside.specs.declared.input.Input.{Input}
+use Rattle.osgi_outside.specs.declared.input.Input.TheVariants.{All, TooMuch, Failed}
 
 -- what reading up to `limit` bytes answers, where `before` was left and then `after`, and the source's
 -- count of faults was `from` and then `to`

@@ -6,7 +6,7 @@ ghost use Rattle.osgi_outside.specs.Shelves.{IsAsTold, IsInOrder, KeepsLimits, R
 use crate::dir_walk;
 use crate::dir_walk::Trouble;
 use crate::shelf::{Found, Shelf};
-use osgi_base::text::Text;
+use osgi_base::Text;
 use std::alloc::{AllocError, Global};
 use std::marker::Model;
 use std::rt::Files;

@@ -6,7 +6,7 @@ ghost use Rattle.osgi_outside.specs.Shelves.{IsInOrder, KeepsLimits};
 use crate::dir_shelf::{MAX_FOLDERS, MAX_LEVELS};
 use crate::gathered::Gathered;
 use crate::shelf::Found;
-use osgi_base::text::Text;
+use osgi_base::Text;
 use std::alloc::{AllocError, Global};
 use std::fs::DirEntry;
 use std::io::ErrorKind;
@@ -14,7 +14,7 @@ use std::rt::Files;
 use std::{fs, io};
 
 /// Why a location was not read.
-#[derive(Clone, Copy, Debug, PartialEq, Eq)]
+#[derive(Clone, Copy, PartialEq, Eq)]
 pub enum Trouble {
     OutOfMemory,
     Unreadable,

@@ -4,7 +4,7 @@ use std::sync::Wait;
 use std::thread::Threads;
 
 /// Where a lane stands when it comes to a gate.
-#[derive(Clone, Copy, Debug, PartialEq, Eq)]
+#[derive(Clone, Copy, PartialEq, Eq)]
 pub enum Point {
     /// Before a call of the framework.
     BeforeCall,
@@ -20,7 +20,7 @@ pub trait Gate {
 }
 
 /// A gate that holds nobody.
-#[derive(Clone, Copy, Debug, PartialEq, Eq)]
+#[derive(Clone, Copy, PartialEq, Eq)]
 pub struct OpenGate;
 
 impl Gate for OpenGate {

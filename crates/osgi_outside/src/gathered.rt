@@ -6,12 +6,10 @@ ghost use Rattle.std.specs.Cmp.Lexicographic.{slice_cmp};
 ghost use Rattle.std.specs.Ordering.{nat_cmp};
 
 use crate::dir_walk::Trouble;
-use crate::reading::{Input, read_all};
+use crate::input::{Input, read_all};
 use crate::shelf::{Found, MAX_BYTES, MAX_FILES};
 use crate::std_ends::StdSource;
-use osgi_base::folder::{File, Folder};
-use osgi_base::list::List;
-use osgi_base::text::Text;
+use osgi_base::{File, Folder, List, Text};
 use std::alloc::{AllocError, Global};
 use std::fs;
 use std::path::Path;

@@ -2,17 +2,29 @@
 //! at which a test can hold a lane. Each is a trait, with forms in memory whose calls fail on demand.
 #![tactic(auto)]
 
-pub mod dir_shelf;
+mod dir_shelf;
 mod dir_walk;
-pub mod gate;
+mod gate;
 mod gathered;
-pub mod memory_shelf;
-pub mod memory_sink;
-pub mod memory_source;
-pub mod reading;
+mod input;
+mod memory_shelf;
+mod memory_sink;
+mod memory_source;
 mod script;
-pub mod shelf;
-pub mod sink;
-pub mod source;
-pub mod std_ends;
-pub mod writing;
+mod shelf;
+mod sink;
+mod source;
+mod std_ends;
+mod writing;
+
+pub use dir_shelf::{DirShelf, MAX_FOLDERS, MAX_LEVELS};
+pub use gate::{Gate, OpenGate, Point};
+pub use input::{Input, read_all};
+pub use memory_shelf::MemoryShelf;
+pub use memory_sink::MemorySink;
+pub use memory_source::MemorySource;
+pub use shelf::{Found, MAX_BYTES, MAX_FILES, Shelf};
+pub use sink::Sink;
+pub use source::{Failed, Source};
+pub use std_ends::{StdSink, StdSource};
+pub use writing::write_all;

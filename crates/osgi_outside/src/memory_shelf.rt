@@ -8,14 +8,13 @@ ghost use Rattle.osgi_outside.specs.Shelves.{folder_at, bytes_of, files_of, foun
 use crate::script::Script;
 use crate::shelf::{Found, MAX_BYTES, MAX_FILES, Shelf};
 use crate::source::Failed;
-use osgi_base::folder::Folder;
-use osgi_base::text::Text;
+use osgi_base::{Folder, Text};
 use std::alloc::{AllocError, Global};
 use std::marker::Model;
 
 /// Folders with their locations, and the numbers of the reads that are to fail, counted from 1. The first
 /// row of a location counts.
-#[derive(Debug, Drop)]
+#[derive(Drop)]
 pub struct MemoryShelf {
     rows: Vec<(Text, Folder)>,
     script: Script,

@@ -14,7 +14,7 @@ use std::marker::Model;
 
 /// Bytes that were written, and the numbers of the calls that are to fail: writes and flushes together,
 /// counted from 1.
-#[derive(Debug, Drop)]
+#[derive(Drop)]
 pub struct MemorySink {
     bytes: Vec<u8>,
     flushed: usize,

@@ -12,7 +12,7 @@ use crate::source::{Failed, Source};
 use std::marker::Model;
 
 /// Bytes to be read, and the numbers of the reads that are to fail, counted from 1.
-#[derive(Debug, Drop)]
+#[derive(Drop)]
 pub struct MemorySource {
     bytes: Vec<u8>,
     at: usize,

@@ -9,7 +9,7 @@ use std::marker::Model;
 
 /// The numbers of the calls that are to fail, counted from 1, and the counts so far. The counts stand
 /// still at the end of their type.
-#[derive(Debug, Drop)]
+#[derive(Drop)]
 pub struct Script {
     fail: Vec<u64>,
     calls: u64,

@@ -3,8 +3,7 @@
 ghost use Rattle.std.specs.Prelude.{◌≡◌, ◌≤◌, ℕ, List, Option, IfOk, OnErr};
 ghost use Rattle.osgi_base.specs.declared.folder.Folder.{Folder};
 
-use osgi_base::folder::Folder;
-use osgi_base::text::Text;
+use osgi_base::{Folder, Text};
 use std::alloc::{AllocError, Global};
 
 /// The most bytes that the files of a folder may have together.
@@ -14,7 +13,7 @@ pub const MAX_BYTES: u64 = 4_194_304;
 pub const MAX_FILES: u32 = 4_096;
 
 /// What stands at a location.
-#[derive(Debug, Drop, PartialEq, Eq)]
+#[derive(Drop, PartialEq, Eq)]
 pub enum Found {
     /// A folder of at most `MAX_BYTES` bytes in at most `MAX_FILES` files.
     Folder(Folder),

@@ -7,7 +7,7 @@ ghost use Rattle.osgi_outside.specs.Causes.{HasCause};
 ghost use Rattle.osgi_outside.specs.Ends.{GivesNoneAtEnd};
 
 /// A read, a write or a flush that did not come about.
-#[derive(Clone, Copy, Debug, PartialEq, Eq)]
+#[derive(Clone, Copy, PartialEq, Eq)]
 pub struct Failed;
 
 /// A place that bytes are read from, in order. It counts its failures.

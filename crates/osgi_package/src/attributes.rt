@@ -9,11 +9,9 @@ ghost use Rattle.osgi_package.specs.computed.AttributeReader.{attribute_of, attr
 
 use crate::fault::PackageKind;
 use crate::parameters::{is_double, is_other};
-use osgi_base::list::List;
-use osgi_header::clause::{Clause, Typed};
-use osgi_model::reading::read_value;
-use osgi_model::value::{Attribute, Attributes};
-use osgi_model::value_type::ValueType;
+use osgi_base::List;
+use osgi_header::{Clause, Typed};
+use osgi_model::{Attribute, Attributes, ValueType, read_value};
 use std::alloc::{AllocError, Global};
 
 /// The attribute with its value; none where no type has the name of its type, or its text is no value of that type.

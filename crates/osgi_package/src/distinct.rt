@@ -3,7 +3,7 @@
 ghost use Rattle.std.specs.Prelude.{◌≢◌, ◌++◌, ℕ, List, AllPairs, IfOk, MatchBool};
 ghost use Rattle.osgi_package.specs.computed.ImportReader.{AreNew, AreSeen};
 
-use osgi_base::text::Text;
+use osgi_base::Text;
 use std::alloc::{AllocError, Global};
 use std::collections::BTreeSet;
 

@@ -16,12 +16,11 @@ ghost use Rattle.osgi_package.specs.computed.ExportReader.{capabilities_of, IsAd
 use crate::attributes::attributes;
 use crate::fault::{PackageFault, PackageKind};
 use crate::parameters::{is_implicit, is_java, listed, version_text};
-use osgi_base::list::List;
-use osgi_base::text::Text;
-use osgi_header::clause::{Clause, Typed};
-use osgi_model::value::{Attribute, Attributes, Value};
-use osgi_version::version::Version;
-use osgi_world::capability::Capability;
+use osgi_base::{List, Text};
+use osgi_header::{Clause, Typed};
+use osgi_model::{Attribute, Attributes, Value};
+use osgi_version::Version;
+use osgi_world::Capability;
 use std::alloc::{AllocError, Global};
 
 /// The version of the clause's packages; none where its text is none.

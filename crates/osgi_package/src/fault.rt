@@ -18,7 +18,7 @@ pub enum PackageKind {
 }
 
 /// A fault: its kind, and the faulty clause, counted from 0.
-#[derive(Clone, Copy, Debug, PartialEq, Eq)]
+#[derive(Clone, Copy, PartialEq, Eq)]
 pub struct PackageFault {
     pub kind: PackageKind,
     pub clause: u32,

@@ -15,12 +15,11 @@ use crate::attributes::attributes;
 use crate::distinct::add_texts;
 use crate::fault::{PackageFault, PackageKind};
 use crate::parameters::{attribute_text, is_directed, is_java, version_text};
-use osgi_base::list::List;
-use osgi_base::text::Text;
-use osgi_header::clause::Clause;
-use osgi_model::value::Attributes;
-use osgi_version::range::VersionRange;
-use osgi_world::requirement::Requirement;
+use osgi_base::{List, Text};
+use osgi_header::Clause;
+use osgi_model::Attributes;
+use osgi_version::VersionRange;
+use osgi_world::Requirement;
 use std::alloc::{AllocError, Global};
 use std::collections::BTreeSet;
 

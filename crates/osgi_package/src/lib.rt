@@ -1,13 +1,16 @@
 //! The packages that a bundle imports and exports, from the clauses of its headers.
 #![tactic(auto)]
 
-pub mod attributes;
+mod attributes;
 mod distinct;
 mod exporting;
-pub mod fault;
+mod fault;
 mod importing;
-pub mod parameters;
+mod parameters;
 
+pub use attributes::{has_double, read_attributes};
 pub use distinct::are_distinct;
 pub use exporting::exports;
+pub use fault::{PackageFault, PackageKind};
 pub use importing::imports;
+pub use parameters::{directive_value, is_directed, version_text};

@@ -5,10 +5,8 @@ ghost use Rattle.std.specs.Option.{option_copied};
 ghost use Rattle.osgi_package.specs.Packages as package_spec;
 ghost use Rattle.osgi_package.specs.Parameters as spec;
 
-use osgi_base::list::List;
-use osgi_base::text::Text;
-use osgi_header::clause::{Clause, Typed};
-use osgi_header::names;
+use osgi_base::{List, Text};
+use osgi_header::{Clause, Typed, names};
 use std::alloc::{AllocError, Global};
 
 /// Whether the attribute has the name.

@@ -15,19 +15,13 @@ use crate::session::{
     Session, TROUBLED, WRITE_FAILED,
 };
 use crate::words::{run_budget, run_limits};
-use osgi_base::text::Text;
+use osgi_base::Text;
 use osgi_console::{parse, render};
 use osgi_core::Core;
 use osgi_depot::read_depot;
-use osgi_ops::entry::Entry;
-use osgi_ops::limits::Limits;
-use osgi_outside::gate::Gate;
-use osgi_outside::reading::{Input, read_all};
-use osgi_outside::shelf::Shelf;
-use osgi_outside::sink::Sink;
-use osgi_outside::source::Source;
-use osgi_outside::writing::write_all;
-use osgi_session::line::{Content, Line};
+use osgi_ops::{Entry, Limits};
+use osgi_outside::{Gate, Input, Shelf, Sink, Source, read_all, write_all};
+use osgi_session::{Content, Line};
 use std::alloc::{AllocError, Global};
 
 /// Reads the folders that the lines of an input name, and runs the lines on a new machine.

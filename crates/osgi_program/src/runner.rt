@@ -5,20 +5,17 @@ ghost use Rattle.osgi_ops.specs.Bundles.{system};
 ghost use Rattle.osgi_session.specs.Plans.{op_of};
 ghost use Rattle.osgi_program.specs.computed.Running.{IsAsked, ran_by, RunsLine, RunsLines, says_full, tag_of};
 
-use osgi_base::ids::{BundleId, Tag};
+use osgi_base::{BundleId, Tag};
 use osgi_core::Core;
-use osgi_ops::op::Op;
-use osgi_ops::refusal::Refusal;
-use osgi_ops::reply::Reply;
-use osgi_session::command::Command;
-use osgi_session::line::{Content, Line};
+use osgi_ops::{Op, Refusal, Reply};
+use osgi_session::{Command, Content, Line};
 use std::alloc::{AllocError, Global};
 
 /// The system bundle, which runs the console's commands.
 const SYSTEM: BundleId = BundleId(0);
 
 /// How far the running of lines came.
-#[derive(Clone, Copy, Debug, PartialEq, Eq)]
+#[derive(Clone, Copy, PartialEq, Eq)]
 pub enum Ran {
     /// To the end.
     All,

@@ -1,12 +1,10 @@
 //! What the top call answers.
 
-use osgi_base::list::List;
-use osgi_ops::depot::Depot;
-use osgi_ops::entry::Entry;
-use osgi_session::line::Line;
+use osgi_base::List;
+use osgi_ops::{Depot, Entry};
+use osgi_session::Line;
 
 /// The lines of an input, the depot that they ran with, and the history that they made.
-#[derive(Debug, Drop, PartialEq, Eq)]
 pub struct Session {
     /// All lines of the input, in order.
     pub lines: List<Line>,
@@ -16,6 +14,18 @@ pub struct Session {
     pub handings: u64,
     /// The folders that the lines name, as they were read before the first line ran.
     pub depot: Depot,
+}
+
+/// Not derived, so that each exit at which one is dropped is a single call, which is cheap to prove.
+impl Drop for Session {
+    fn drop(self) {
+        let Session {
+            lines: _,
+            entries: _,
+            handings: _,
+            depot: _,
+        } = self;
+    }
 }
 
 /// How many bytes an input may have.
@@ -41,7 +51,6 @@ pub(crate) const TROUBLED: u8 = 1;
 pub(crate) const DONE: u8 = 0;
 
 /// How a run of the program ended.
-#[derive(Debug, Drop, PartialEq, Eq)]
 pub struct Finished {
     /// The first of these that holds. 2: the words do not ask for a run; nothing was read. 3: a read
     /// failed. 6: the input has more than 1,048,576 bytes. 4: a write or a flush failed. 7: a line with a
@@ -50,6 +59,16 @@ pub struct Finished {
     pub status: u8,
     /// None on 2, 3 and 6, and where memory ran out before the framework was made.
     pub session: Option<Session>,
+}
+
+/// Not derived, so that each exit at which one is dropped is a single call, which is cheap to prove.
+impl Drop for Finished {
+    fn drop(self) {
+        let Finished {
+            status: _,
+            session: _,
+        } = self;
+    }
 }
 
 impl Finished {

@@ -4,10 +4,9 @@ ghost use Rattle.std.specs.Prelude.{◌≡◌, ◌≢◌, ◌≤◌, ℕ, IfSome
 ghost use Rattle.osgi_ops.specs.Settings.{bounds_of};
 ghost use Rattle.osgi_program.specs.Words.{AreOptions, AsksRun, IsBudget, run_bounds};
 
-use osgi_base::ids::ServiceId;
-use osgi_base::text::Text;
-use osgi_ops::limits::Limits;
-use osgi_syntax::ids::id;
+use osgi_base::{ServiceId, Text};
+use osgi_ops::Limits;
+use osgi_syntax::id;
 
 /// The greatest limit on the effort of a resolve.
 pub(crate) const MAX_BUDGET: u64 = 1_000_000_000;

@@ -6,9 +6,8 @@ ghost use Rattle.osgi_registry.specs.computed.Places.{entries_at, holds, HoldsSa
 ghost use Rattle.osgi_registry.specs.declared.place.Place.{Place};
 
 use crate::place::Place;
-use osgi_base::shared::Shared;
-use osgi_base::text::Text;
-use osgi_ops::service::Service;
+use osgi_base::{Shared, Text};
+use osgi_ops::Service;
 use std::alloc::{AllocError, Global};
 use std::collections::BTreeMap;
 

@@ -13,13 +13,10 @@ ghost use Rattle.osgi_registry.specs.computed.Places.{place_cmp, service_at};
 ghost use Rattle.osgi_registry.specs.Rows.{IsOneOf};
 
 use crate::place::Place;
-use osgi_base::ids::{BundleId, ServiceId};
-use osgi_base::list::List;
-use osgi_base::shared::Shared;
-use osgi_base::text::Text;
+use osgi_base::{BundleId, List, ServiceId, Shared, Text};
 use osgi_filter::{Case, matches};
-use osgi_model::filter::Filter;
-use osgi_ops::service::Service;
+use osgi_model::Filter;
+use osgi_ops::Service;
 use std::alloc::{AllocError, Global};
 use std::collections::BTreeMap;
 

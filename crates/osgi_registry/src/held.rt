@@ -7,10 +7,9 @@ ghost use Rattle.osgi_registry.specs.Rows.{count_of, used_less, used_more, witho
 
 use crate::properties::FrameworkTexts;
 use crate::uses::Uses;
-use osgi_base::ids::BundleId;
-use osgi_base::shared::Shared;
-use osgi_model::value::Attributes;
-use osgi_ops::service::Service;
+use osgi_base::{BundleId, Shared};
+use osgi_model::Attributes;
+use osgi_ops::Service;
 use std::alloc::{AllocError, Global};
 use std::marker::Model;
 

@@ -6,11 +6,12 @@ mod finding;
 mod held;
 mod others;
 mod place;
-pub mod properties;
+mod properties;
 mod registry;
 mod services;
 mod uses;
 
-pub use osgi_ops::service::Service;
+pub use osgi_ops::Service;
+pub use properties::{FrameworkTexts, has_twins, ranking};
 pub use registry::Registry;
 pub use services::Services;

@@ -5,7 +5,7 @@ ghost use Rattle.std.specs.Bool.{OnTrue, OnFalse};
 ghost use Rattle.osgi_registry.specs.Rows.{count_of, with_count};
 
 use indexmap::IndexMap;
-use osgi_base::ids::BundleId;
+use osgi_base::BundleId;
 use std::alloc::{AllocError, Global};
 use std::marker::Model;
 

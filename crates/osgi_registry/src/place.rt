@@ -3,13 +3,13 @@
 ghost use Rattle.std.specs.Prelude.{◌≡◌};
 
 use crate::properties::ranking;
-use osgi_base::ids::ServiceId;
-use osgi_model::value::Attribute;
-use osgi_ops::service::Service;
+use osgi_base::ServiceId;
+use osgi_model::Attribute;
+use osgi_ops::Service;
 use std::cmp::Reverse;
 
 /// A place among the services of a class: higher rankings come first, then lower ids.
-#[derive(Clone, Copy, Debug, PartialEq, Eq, PartialOrd, Ord)]
+#[derive(Clone, Copy, PartialEq, Eq, PartialOrd, Ord)]
 pub struct Place {
     ranking: Reverse<i32>,
     service: u64,

@@ -6,10 +6,8 @@ ghost use Rattle.std.specs.Option.{option_copied};
 ghost use Rattle.std.specs.Str.{str_to_ascii_lowercase};
 ghost use Rattle.osgi_ops.specs.Properties as spec;
 
-use osgi_base::ids::{BundleId, ServiceId};
-use osgi_base::list::List;
-use osgi_base::text::Text;
-use osgi_model::value::{Attribute, Attributes, Value};
+use osgi_base::{BundleId, List, ServiceId, Text};
+use osgi_model::{Attribute, Attributes, Value};
 use std::alloc::{AllocError, Global};
 use std::collections::BTreeSet;
 

@@ -7,7 +7,7 @@ ghost use Rattle.osgi_registry.specs.Rows.{services_in};
 ghost use Rattle.osgi_ops.specs.declared.service.Service as declared;
 
 use crate::held::Held;
-use osgi_ops::service::Service;
+use osgi_ops::Service;
 use std::collections::btree_map::Values;
 use std::marker::Model;
 

@@ -6,7 +6,7 @@ ghost use Rattle.osgi_registry.specs.Rows.{count_of, with_count};
 ghost use Rattle.osgi_registry.specs.computed.Uses.{uses_of};
 
 use crate::others::{Others, take_one};
-use osgi_base::ids::BundleId;
+use osgi_base::BundleId;
 use std::alloc::{AllocError, Global};
 use std::marker::Model;
 

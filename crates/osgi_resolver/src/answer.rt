@@ -1,10 +1,10 @@
 //! What a resolve answers.
 
-use osgi_base::list::List;
-use osgi_world::wiring::{ReqRef, Wiring};
+use osgi_base::List;
+use osgi_world::{ReqRef, Wiring};
 
 /// Why nothing can be chosen.
-#[derive(Clone, Copy, Debug, PartialEq, Eq)]
+#[derive(Clone, Copy, PartialEq, Eq)]
 pub enum Cause {
     /// The first mandatory effective requirement of the root itself that has no candidate.
     NoCandidate(ReqRef),
@@ -12,7 +12,7 @@ pub enum Cause {
     Clash,
 }
 
-#[derive(Debug, Drop, PartialEq, Eq)]
+#[derive(Drop)]
 pub enum Answer {
     /// The first good word, and the wirings that it adds.
     Found {

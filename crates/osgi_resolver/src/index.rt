@@ -4,7 +4,7 @@ ghost use Rattle.osgi_resolver.specs.computed.Following.{FollowsWorld};
 ghost use Rattle.osgi_world.specs.declared.world.World.{World};
 
 use osgi_candidates::OfferIndex;
-use osgi_space::kept_rows::KeptRows;
+use osgi_space::KeptRows;
 use std::alloc::Global;
 
 /// What a world offers and the rows of its wirings, as far as they were followed. The world grows at its ends.

@@ -8,12 +8,9 @@ ghost use Rattle.osgi_world.specs.Candidates.{IsUnresolved};
 use crate::answer::Answer;
 use crate::index::Index;
 use crate::resolving::resolve_with;
-use osgi_base::ids::{BundleId, RevisionId};
-use osgi_base::list::List;
-use osgi_base::shared::Shared;
+use osgi_base::{BundleId, List, RevisionId, Shared};
 use osgi_wiring::Wirings;
-use osgi_world::revision::Revision;
-use osgi_world::wiring::Wiring;
+use osgi_world::{Revision, Wiring};
 use std::alloc::{AllocError, Global};
 use std::marker::Model;
 

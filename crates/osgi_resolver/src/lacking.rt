@@ -8,9 +8,9 @@ ghost use Rattle.osgi_world.specs.declared.wiring.ReqRef.{ReqRef};
 ghost use Rattle.osgi_resolver.specs.Answers.{IsCause};
 
 use crate::answer::Cause;
-use osgi_base::ids::RevisionId;
+use osgi_base::RevisionId;
 use osgi_candidates::Offers;
-use osgi_world::wiring::ReqRef;
+use osgi_world::ReqRef;
 use std::alloc::{AllocError, Global};
 
 /// Whether the requirement is needed, and has no candidate.

@@ -1,11 +1,11 @@
 //! A walk over the words of the problem of resolving a root in a world.
 
 ghost use Rattle.std.specs.Prelude.{◌≡◌};
-ghost use Rattle.osgi_problem.specs.WorldProblems.{the_problem};
+ghost use Rattle.osgi_resolver_theory.specs.WorldProblems.{the_problem};
 
-use osgi_hopeless::{has_become_hopeless, is_hopeless};
-use osgi_path::Path;
-use osgi_search::Walker;
+use osgi_resolver_hopeless::{has_become_hopeless, is_hopeless};
+use osgi_resolver_path::Path;
+use osgi_resolver_search::Walker;
 use std::alloc::{AllocError, Global};
 use std::marker::Model;
 
@@ -20,8 +20,8 @@ impl<'w> Model for Walk<'w> {
     ghost use Rattle.std.specs.Coded.{codes};
     ghost use Rattle.osgi_model.specs.contracts.filter.Filter as filter;
     ghost use Rattle.osgi_model.specs.contracts.value.Value as value;
-    ghost use Rattle.osgi_path.specs.Standing.{Standing};
-    ghost use Rattle.osgi_problem.specs.WorldProblems.{the_problem};
+    ghost use Rattle.osgi_resolver_path.specs.Standing.{Standing};
+    ghost use Rattle.osgi_resolver_theory.specs.WorldProblems.{the_problem};
     ghost use Rattle.osgi_world.specs.Candidates.{IsProblem};
 
     ghost Value = { Standing };

@@ -5,10 +5,9 @@ ghost use Rattle.osgi_script.specs.computed.HeadReader.{alone, head_by, head_nam
 ghost use Rattle.osgi_syntax.specs.Splitting.{words_of};
 
 use crate::statements::only_word;
-use osgi_base::text::Text;
-use osgi_ops::section::Section;
-use osgi_syntax::names::name;
-use osgi_syntax::words::split_word;
+use osgi_base::Text;
+use osgi_ops::Section;
+use osgi_syntax::{name, split_word};
 use std::alloc::{AllocError, Global};
 
 /// The first words of heads.

@@ -3,10 +3,12 @@
 
 mod heads;
 mod lines;
-mod reading;
-pub mod script;
-pub mod statement;
+mod script;
+mod script_text;
+mod statement;
 mod statements;
 mod taken;
 
-pub use reading::parse;
+pub use script::{MAX_STATEMENTS, Part, Script, ScriptFault};
+pub use script_text::parse;
+pub use statement::Statement;

@@ -7,8 +7,8 @@ ghost use Rattle.osgi_script.specs.computed.HeadReader.{head_of};
 use crate::heads::head;
 use crate::statement::Statement;
 use crate::statements::statement;
-use osgi_ops::section::Section;
-use osgi_syntax::lines::says_nothing;
+use osgi_ops::Section;
+use osgi_syntax::says_nothing;
 use std::alloc::{AllocError, Global};
 
 /// What a line of a script is.

@@ -10,14 +10,13 @@ ghost use Rattle.osgi_syntax.specs.Splitting.{first_word, words_of};
 ghost use Rattle.osgi_syntax.specs.WordReader.{bundle_name_of, class_of, name_of};
 
 use crate::statement::Statement;
+use osgi_base::Text;
 use osgi_base::quoted::quoted;
-use osgi_base::text::Text;
 use osgi_filter::parse;
-use osgi_model::filter::Filter;
-use osgi_ops::kind::Kind;
-use osgi_syntax::names::{bundle_name, class, classes, name};
+use osgi_model::Filter;
+use osgi_ops::Kind;
 use osgi_syntax::properties::properties;
-use osgi_syntax::words::{skip_spaces, split_word, split_words};
+use osgi_syntax::{bundle_name, class, classes, name, skip_spaces, split_word, split_words};
 use std::alloc::{AllocError, Global};
 
 /// The statements, by their first words.

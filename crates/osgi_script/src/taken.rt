@@ -4,8 +4,8 @@ ghost use Rattle.std.specs.Prelude.{◌≡◌, ◌||◌, not, false, IfOk};
 ghost use Rattle.osgi_ops.specs.declared.section.Section.{Section};
 ghost use Rattle.osgi_script.specs.computed.ScriptReader.{is_taken, same_section};
 
-use osgi_base::text::Text;
-use osgi_ops::section::Section;
+use osgi_base::Text;
+use osgi_ops::Section;
 use std::alloc::{AllocError, Global};
 use std::collections::BTreeSet;
 

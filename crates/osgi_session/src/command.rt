@@ -4,18 +4,11 @@ ghost use Rattle.std.specs.Prelude.{◌≡◌, true, IfOk};
 ghost use Rattle.osgi_ops.specs.declared.target.Target.TheVariants as target;
 ghost use Rattle.osgi_session.specs.Plans.{op_of};
 
-use osgi_base::copied::{Copied, copy_three, copy_two};
-use osgi_base::ids::{BundleId, ServiceId};
-use osgi_base::list::List;
-use osgi_base::text::Text;
-use osgi_model::filter::Filter;
-use osgi_model::value::Attributes;
-use osgi_ops::kind::Kind;
-use osgi_ops::op::Op;
-use osgi_ops::target::Target;
+use osgi_base::{BundleId, Copied, List, ServiceId, Text, copy_three, copy_two};
+use osgi_model::{Attributes, Filter};
+use osgi_ops::{Kind, Op, Target};
 use std::alloc::{AllocError, Global};
 
-#[derive(Debug, Drop, PartialEq, Eq)]
 pub enum Command {
     /// `register CLASS[,CLASS].. "TEXT" [PROP]..`
     Register {
@@ -125,6 +118,71 @@ pub enum Command {
     Fail {
         text: Text,
     },
+}
+
+/// Not derived, so that each exit at which one is dropped is a single call, which is cheap to prove.
+impl Drop for Command {
+    fn drop(self) {
+        match self {
+            Command::Register {
+                classes: _,
+                object: _,
+                properties: _,
+            } => {}
+            Command::Modify {
+                service: _,
+                properties: _,
+            } => {}
+            Command::Unregister { service: _ } => {}
+            Command::Find {
+                class: _,
+                filter: _,
+            } => {}
+            Command::FindAll {
+                class: _,
+                filter: _,
+            } => {}
+            Command::Get { service: _ } => {}
+            Command::Unget { service: _ } => {}
+            Command::Start {
+                target: _,
+                transient: _,
+            } => {}
+            Command::Stop {
+                target: _,
+                transient: _,
+            } => {}
+            Command::Load {
+                bundle: _,
+                class: _,
+            } => {}
+            Command::Install { location: _ } => {}
+            Command::Update {
+                bundle: _,
+                location: _,
+            } => {}
+            Command::Uninstall { bundle: _ } => {}
+            Command::Resolve { bundle: _ } => {}
+            Command::Refresh { bundles: _ } => {}
+            Command::Wires { bundle: _ } => {}
+            Command::Level { level: _ } => {}
+            Command::BundleLevel {
+                bundle: _,
+                level: _,
+            } => {}
+            Command::Bundles => {}
+            Command::Services => {}
+            Command::Listen {
+                name: _,
+                kind: _,
+                filter: _,
+            } => {}
+            Command::Unlisten { name: _ } => {}
+            Command::Job { name: _ } => {}
+            Command::Print { text: _ } => {}
+            Command::Fail { text: _ } => {}
+        }
+    }
 }
 
 fn register(
@@ -283,7 +341,11 @@ impl Command {
             Command::Stop { target, transient } => Op::BeginStop { target, transient },
             Command::Load { bundle, class } => load(asker, bundle, class),
             Command::Install { location } => Op::Install { location },
-            Command::Update { bundle, .. } | Command::Uninstall { bundle } => stop(bundle),
+            Command::Update {
+                bundle,
+                location: _,
+            }
+            | Command::Uninstall { bundle } => stop(bundle),
             Command::Resolve { bundle } => Op::Resolve { bundle },
             Command::Refresh { bundles } => Op::BeginRefresh { bundles },
             Command::Wires { bundle } => Op::ListWires { bundle },

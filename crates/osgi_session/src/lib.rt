@@ -1,5 +1,8 @@
 //! The lines of a session, and the commands in them: data only.
 #![tactic(auto)]
 
-pub mod command;
-pub mod line;
+mod command;
+mod line;
+
+pub use command::Command;
+pub use line::{Content, Line};

@@ -8,8 +8,8 @@ use Rattle.std.specs.Cmp.Lexicographic.{nat_list_cmp_total, slice_cmp}
 use Rattle.std.specs.Ordering.{is_eq, is_lt, nat_cmp}
 use Rattle.std.specs.declared.cmp.Ordering.{Ordering}
 use Rattle.std.specs.declared.cmp.Ordering.TheVariants.{Less, Equal, Greater}
-use Rattle.osgi_wires.specs.Names.{name_of}
-use Rattle.osgi_sources.specs.declared.given.Given.{Given}
+use Rattle.osgi_space_rows.specs.Names.{name_of}
+use Rattle.osgi_space_sources.specs.declared.given.Given.{Given}
 use Rattle.osgi_space.specs.Violations.{IsBelow}
 use Rattle.osgi_space.specs.computed.Firsts.{IsBefore}
 

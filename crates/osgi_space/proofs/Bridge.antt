@@ -5,9 +5,9 @@ use Rattle.osgi_world.specs.Sources as relation
 use Rattle.osgi_world.specs.Wirings as theory
 use Rattle.osgi_world.specs.declared.wiring.Wiring.{Wiring}
 use Rattle.osgi_world.specs.declared.world.Known.{Known}
-use Rattle.osgi_wires.specs.Agree.{AreRowsOf, id}
-use Rattle.osgi_wires.specs.Rows.{RowLists, Imports, OwnExport}
-use Rattle.osgi_sources.specs.computed.RowSources.{Owns, HasExport, ExportUses, ImportsElsewhere, Exports, Gives, substituted, itself, reexported, Sources, Implied, seen, follows, Clash}
+use Rattle.osgi_space_rows.specs.Agree.{AreRowsOf, id}
+use Rattle.osgi_space_rows.specs.Rows.{RowLists, Imports, OwnExport}
+use Rattle.osgi_space_sources.specs.computed.RowSources.{Owns, HasExport, ExportUses, ImportsElsewhere, Exports, Gives, substituted, itself, reexported, Sources, Implied, seen, follows, Clash}
 
 module _ (K : List Known) (W : List Wiring) (N : ℕ → List ℕ) (R : RowLists) (is : AreRowsOf K W N R) where
   pub imports-to : (r p x : ℕ) → Imports R r p x → theory.PackageWire K W (id r) (N p) (id x)

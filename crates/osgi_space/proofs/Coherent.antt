@@ -1,15 +1,15 @@
 -- The uses of all revisions in force are kept by the rows where they are by the wirings.
 use Rattle.std.proofs.Common.{ℕ, List, refl, sym, subst, Any}
 use Rattle.osgi_base.specs.declared.ids.RevisionId.{RevisionId}
-use Rattle.osgi_coherence.specs.Rules.{UsesHold}
+use Rattle.osgi_space_rules.specs.Rules.{UsesHold}
 use Rattle.osgi_world.specs.Sources as relation
 use Rattle.osgi_world.specs.declared.wiring.Wiring.{Wiring}
 use Rattle.osgi_world.specs.declared.world.Known.{Known}
-use Rattle.osgi_wires.specs.Agree.{AreRowsOf}
-use Rattle.osgi_wires.specs.Rows.{RowLists}
-use Rattle.osgi_sources.specs.computed.Clashes.{KeepsUses}
-use Rattle.osgi_sources.specs.computed.RowSources.{Clash, Implied}
-use Rattle.osgi_sources.specs.laws.Adding.{any-in, any-of}
+use Rattle.osgi_space_rows.specs.Agree.{AreRowsOf}
+use Rattle.osgi_space_rows.specs.Rows.{RowLists}
+use Rattle.osgi_space_sources.specs.computed.Clashes.{KeepsUses}
+use Rattle.osgi_space_sources.specs.computed.RowSources.{Clash, Implied}
+use Rattle.osgi_space_sources.specs.laws.Adding.{any-in, any-of}
 use Rattle.osgi_space.proofs.Bridge.{clash-from, clash-to, implied-from, implied-to}
 use Rattle.osgi_space.proofs.Ids.{contains-in, in-contains}
 

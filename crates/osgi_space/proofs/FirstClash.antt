@@ -1,10 +1,10 @@
 -- One pair more, of which the first that clashes is looked for.
 use Rattle.std.proofs.Common.{◌≡◌, inl, inr, ℕ, ◌+◌, ◌<◌, List, length, get_or, take, refl, subst}
 use Rattle.std.specs.Prelude.{MatchOption, Option, None, Some}
-use Rattle.osgi_wires.specs.Rows.{RowLists}
-use Rattle.osgi_sources.specs.computed.Clashes.{IsClash}
-use Rattle.osgi_sources.specs.declared.given.Given.{Given}
-use Rattle.osgi_sources.specs.laws.Adding.{any-of, contains-more, none-more}
+use Rattle.osgi_space_rows.specs.Rows.{RowLists}
+use Rattle.osgi_space_sources.specs.computed.Clashes.{IsClash}
+use Rattle.osgi_space_sources.specs.declared.given.Given.{Given}
+use Rattle.osgi_space_sources.specs.laws.Adding.{any-of, contains-more, none-more}
 use Rattle.osgi_space.specs.computed.Firsts.{IsBefore, IsFirstClash}
 use Rattle.osgi_space.proofs.Before.{before-trans, not-before-itself}
 

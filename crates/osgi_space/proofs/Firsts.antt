@@ -3,21 +3,21 @@ use Rattle.std.proofs.Common.{◌≡◌, ◌↔◌, inl, inr, ℕ, ◌<◌, List
 use Rattle.std.proofs.lemmas.List.Elements.{All-contains}
 use Rattle.std.specs.Prelude.{Option, None, Some}
 use Rattle.osgi_base.specs.declared.ids.RevisionId.{RevisionId}
-use Rattle.osgi_wires.specs.Agree.{AreRowsOf, id}
-use Rattle.osgi_wires.specs.Names.{name_of}
-use Rattle.osgi_wires.specs.Rows.{RowLists}
-use Rattle.osgi_wires.specs.Worlds.{AreNumbered}
-use Rattle.osgi_wires.specs.declared.rows.Use.{Use}
+use Rattle.osgi_space_rows.specs.Agree.{AreRowsOf, id}
+use Rattle.osgi_space_rows.specs.Names.{name_of}
+use Rattle.osgi_space_rows.specs.Rows.{RowLists}
+use Rattle.osgi_space_rows.specs.Worlds.{AreNumbered}
+use Rattle.osgi_space_rows.specs.declared.rows.Use.{Use}
 use Rattle.osgi_world.specs.Lists.{In}
 use Rattle.osgi_world.specs.Sources as relation
 use Rattle.osgi_world.specs.declared.wiring.Wiring.{Wiring}
 use Rattle.osgi_world.specs.declared.world.Known.{Known}
-use Rattle.osgi_sources.specs.computed.Clashes.{IsClash}
-use Rattle.osgi_sources.specs.computed.Pairs.{IsImplied}
-use Rattle.osgi_sources.specs.computed.RowSources.{Clash, Implied, seen, follows, ExportUses}
-use Rattle.osgi_sources.specs.declared.given.Given.{Given}
-use Rattle.osgi_sources.specs.laws.Adding.{any-of}
-use Rattle.osgi_sources.specs.laws.Following.{starts-among}
+use Rattle.osgi_space_sources.specs.computed.Clashes.{IsClash}
+use Rattle.osgi_space_sources.specs.computed.Pairs.{IsImplied}
+use Rattle.osgi_space_sources.specs.computed.RowSources.{Clash, Implied, seen, follows, ExportUses}
+use Rattle.osgi_space_sources.specs.declared.given.Given.{Given}
+use Rattle.osgi_space_sources.specs.laws.Adding.{any-of}
+use Rattle.osgi_space_sources.specs.laws.Following.{starts-among}
 use Rattle.osgi_space.specs.Violations.{IsBelow, IsFirstViolation, IsViolated}
 use Rattle.osgi_space.specs.computed.Firsts.{IsFirstClash, IsFirstImplied}
 use Rattle.osgi_space.specs.declared.violation.Violation.{Violation}

@@ -3,15 +3,15 @@ use Rattle.std.proofs.Common.{◌≡◌, inl, inr, ℕ, List, [], length, take, 
 use Rattle.std.proofs.lemmas.List.{take_all}
 use Rattle.osgi_world.specs.declared.wiring.Wiring.{Wiring}
 use Rattle.osgi_world.specs.declared.world.Known.{Known}
-use Rattle.osgi_wires.specs.Agree.{AreRowsOf}
-use Rattle.osgi_wires.specs.AllKnown.{AreAllKnown}
-use Rattle.osgi_wires.specs.Names.{name_of}
-use Rattle.osgi_wires.specs.Rows.{RowLists, no_rows}
-use Rattle.osgi_wires.specs.Worlds.{AreNumbered}
-use Rattle.osgi_wires.specs.declared.named.Named.{Named}
-use Rattle.osgi_wires.proofs.MoreKnown.{nothing-all_known, nothing-known, nothing-named}
-use Rattle.osgi_sources.specs.computed.Disputes.{AreNoted, IsPossible}
-use Rattle.osgi_sources.specs.declared.disputed.Possible.{Possible}
+use Rattle.osgi_space_rows.specs.Agree.{AreRowsOf}
+use Rattle.osgi_space_rows.specs.AllKnown.{AreAllKnown}
+use Rattle.osgi_space_rows.specs.Names.{name_of}
+use Rattle.osgi_space_rows.specs.Rows.{RowLists, no_rows}
+use Rattle.osgi_space_rows.specs.Worlds.{AreNumbered}
+use Rattle.osgi_space_rows.specs.declared.named.Named.{Named}
+use Rattle.osgi_space_rows.proofs.MoreKnown.{nothing-all_known, nothing-known, nothing-named}
+use Rattle.osgi_space_sources.specs.computed.Disputes.{AreNoted, IsPossible}
+use Rattle.osgi_space_sources.specs.declared.disputed.Possible.{Possible}
 use Rattle.osgi_space.specs.Kept.{FollowsRows}
 use Rattle.osgi_space.specs.declared.kept_rows.KeptRows.{KeptRows}
 

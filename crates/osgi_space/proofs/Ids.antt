@@ -2,8 +2,8 @@
 use Rattle.std.proofs.Common.{◌≡◌, ◌↔◌, inl, inr, ℕ, List, [], ◌∷◌, refl, sym, ap, arith, map, Contains}
 use Rattle.osgi_base.specs.declared.ids.RevisionId.{RevisionId}
 use Rattle.osgi_world.specs.Lists.{In}
-use Rattle.osgi_wires.specs.Agree.{id}
-use Rattle.osgi_sources.specs.laws.Members.{cons-cases, here, later}
+use Rattle.osgi_space_rows.specs.Agree.{id}
+use Rattle.osgi_space_sources.specs.laws.Members.{cons-cases, here, later}
 
 pub in-contains : {X : Type 0} (xs : List X) (x : X) → In x xs → Contains xs x
 in-contains [] x i = elim i [ ]

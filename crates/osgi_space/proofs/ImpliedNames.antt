@@ -10,16 +10,16 @@ use Rattle.std.specs.Cmp.Lexicographic.{on_texts, slice_cmp}
 use Rattle.std.specs.Ordering.{eq_by_cmp, is_eq, nat_cmp}
 use Rattle.std.specs.declared.cmp.Ordering.TheVariants.{Equal}
 use Rattle.osgi_base.specs.declared.ids.RevisionId.{RevisionId}
-use Rattle.osgi_wires.specs.Agree.{AreRowsOf, id}
-use Rattle.osgi_wires.specs.Names.{name_of}
-use Rattle.osgi_wires.specs.Rows.{RowLists}
+use Rattle.osgi_space_rows.specs.Agree.{AreRowsOf, id}
+use Rattle.osgi_space_rows.specs.Names.{name_of}
+use Rattle.osgi_space_rows.specs.Rows.{RowLists}
 use Rattle.osgi_world.specs.Sources as relation
 use Rattle.osgi_world.specs.declared.wiring.Wiring.{Wiring}
 use Rattle.osgi_world.specs.declared.world.Known.{Known}
-use Rattle.osgi_sources.specs.computed.Exact.{exact_number}
-use Rattle.osgi_sources.specs.computed.Pairs.{IsImplied}
-use Rattle.osgi_sources.specs.declared.given.Given.{Given}
-use Rattle.osgi_sources.specs.laws.Adding.{any-in, any-of}
+use Rattle.osgi_space_sources.specs.computed.Exact.{exact_number}
+use Rattle.osgi_space_sources.specs.computed.Pairs.{IsImplied}
+use Rattle.osgi_space_sources.specs.declared.given.Given.{Given}
+use Rattle.osgi_space_sources.specs.laws.Adding.{any-in, any-of}
 use Rattle.osgi_space.specs.ImpliedOrder.{implied_cmp}
 use Rattle.osgi_space.specs.computed.NamedPairs.{named_pair}
 use Rattle.osgi_space.specs.declared.implied_constraints.Implied.{Implied}

@@ -6,10 +6,10 @@ use Rattle.osgi_base.specs.declared.ids.RevisionId.{RevisionId}
 use Rattle.osgi_world.specs.Sources as relation
 use Rattle.osgi_world.specs.Wirings as theory
 use Rattle.osgi_world.specs.declared.wiring.Wiring.{Wiring}
-use Rattle.osgi_wires.specs.Names.{HasNumber, name_of}
-use Rattle.osgi_wires.specs.Worlds.{AreNumbered, AreRowsIn, WorldLists}
-use Rattle.osgi_wires.specs.declared.rows.Export.{Export}
-use Rattle.osgi_wires.specs.declared.rows.Import.{Import}
+use Rattle.osgi_space_rows.specs.Names.{HasNumber, name_of}
+use Rattle.osgi_space_rows.specs.Worlds.{AreNumbered, AreRowsIn, WorldLists}
+use Rattle.osgi_space_rows.specs.declared.rows.Export.{Export}
+use Rattle.osgi_space_rows.specs.declared.rows.Import.{Import}
 
 get_some : {X : Type 0} (xs : List X) (i : ℕ) → i < length xs → (x : X) × (slice_get xs i ≡ Some x)
 get_some [] i h = absurd (omega arith)

@@ -7,19 +7,19 @@ use Rattle.osgi_base.specs.declared.ids.RevisionId.{RevisionId}
 use Rattle.osgi_world.specs.Lists.{In}
 use Rattle.osgi_world.specs.declared.wiring.Wiring.{Wiring}
 use Rattle.osgi_world.specs.declared.world.Known.{Known}
-use Rattle.osgi_wires.specs.Agree.{AreRowsOf, id}
-use Rattle.osgi_wires.specs.AllKnown.{AreAllKnown}
-use Rattle.osgi_wires.specs.Names.{AreOnce, name_of}
-use Rattle.osgi_wires.specs.Rows.{Attaches, OwnExport, RowLists}
-use Rattle.osgi_wires.specs.Worlds.{AddsKnown, AddsWires, WorldLists}
-use Rattle.osgi_wires.specs.declared.named.Named.{Named}
-use Rattle.osgi_wires.specs.declared.rows.Attachment.{Attachment}
-use Rattle.osgi_wires.specs.declared.rows.Export.{Export}
-use Rattle.osgi_wires.specs.declared.rows.Import.{Import}
-use Rattle.osgi_wires.specs.laws.AllKnown.{capability-known, is-known, known-in}
-use Rattle.osgi_wires.proofs.Stepped.{in-append_cases}
-use Rattle.osgi_sources.specs.computed.Disputes.{AreNoted, HoldsAll, IsNoted, IsPossible}
-use Rattle.osgi_sources.specs.declared.disputed.Possible.{Possible}
+use Rattle.osgi_space_rows.specs.Agree.{AreRowsOf, id}
+use Rattle.osgi_space_rows.specs.AllKnown.{AreAllKnown}
+use Rattle.osgi_space_rows.specs.Names.{AreOnce, name_of}
+use Rattle.osgi_space_rows.specs.Rows.{Attaches, OwnExport, RowLists}
+use Rattle.osgi_space_rows.specs.Worlds.{AddsKnown, AddsWires, WorldLists}
+use Rattle.osgi_space_rows.specs.declared.named.Named.{Named}
+use Rattle.osgi_space_rows.specs.declared.rows.Attachment.{Attachment}
+use Rattle.osgi_space_rows.specs.declared.rows.Export.{Export}
+use Rattle.osgi_space_rows.specs.declared.rows.Import.{Import}
+use Rattle.osgi_space_rows.specs.laws.AllKnown.{capability-known, is-known, known-in}
+use Rattle.osgi_space_rows.proofs.Stepped.{in-append_cases}
+use Rattle.osgi_space_sources.specs.computed.Disputes.{AreNoted, HoldsAll, IsNoted, IsPossible}
+use Rattle.osgi_space_sources.specs.declared.disputed.Possible.{Possible}
 use Rattle.osgi_space.proofs.Numbering.{named}
 
 -- an item of the longer list is one of the shorter, or one of those after it

@@ -12,19 +12,19 @@ use Rattle.std.proofs.lemmas.List.Elements.{All-contains}
 use Rattle.std.proofs.lemmas.Map.Lookups.{exact_bytes, exact_unsigned}
 use Rattle.std.proofs.lemmas.Map.Views.{btree_map_get_iff, btree_set_contains_iff}
 use Rattle.osgi_base.specs.declared.ids.RevisionId.{RevisionId}
-use Rattle.osgi_wires.specs.Agree.{id}
-use Rattle.osgi_wires.specs.Names.{HasNumber, name_of}
-use Rattle.osgi_wires.specs.Worlds.{AreNumbered, AreRowsIn, WorldLists}
+use Rattle.osgi_space_rows.specs.Agree.{id}
+use Rattle.osgi_space_rows.specs.Names.{HasNumber, name_of}
+use Rattle.osgi_space_rows.specs.Worlds.{AreNumbered, AreRowsIn, WorldLists}
 use Rattle.osgi_world.specs.Lists.{In}
 use Rattle.osgi_world.specs.Sources as relation
 use Rattle.osgi_world.specs.declared.wiring.Wiring.{Wiring}
 use Rattle.osgi_world.specs.declared.world.Known.{Known}
-use Rattle.osgi_sources.specs.computed.Exact.{exact_number}
-use Rattle.osgi_sources.specs.computed.Givens.{IsSeen}
-use Rattle.osgi_sources.specs.declared.given.Given.{Given}
-use Rattle.osgi_sources.specs.laws.Adding.{any-in, any-more, any-of}
-use Rattle.osgi_sources.specs.laws.Members.{contains-map, map-contains}
-use Rattle.osgi_sources.specs.laws.Sets.{set_put}
+use Rattle.osgi_space_sources.specs.computed.Exact.{exact_number}
+use Rattle.osgi_space_sources.specs.computed.Givens.{IsSeen}
+use Rattle.osgi_space_sources.specs.declared.given.Given.{Given}
+use Rattle.osgi_space_sources.specs.laws.Adding.{any-in, any-more, any-of}
+use Rattle.osgi_space_sources.specs.laws.Members.{contains-map, map-contains}
+use Rattle.osgi_space_sources.specs.laws.Sets.{set_put}
 use Rattle.osgi_space.specs.Seen.{IsClassSpace}
 use Rattle.osgi_space.specs.computed.ByName.{AddsSource, HasSource, IsFilled, as_entry, text_cmp}
 use Rattle.osgi_space.specs.declared.seen_packages.PackageSources.{PackageSources}

@@ -2,11 +2,11 @@
 use Rattle.std.specs.Prelude.{◌≤◌, List, length, take}
 use Rattle.osgi_world.specs.declared.wiring.Wiring.{Wiring}
 use Rattle.osgi_world.specs.declared.world.Known.{Known}
-use Rattle.osgi_wires.specs.Agree.{AreRowsOf}
-use Rattle.osgi_wires.specs.AllKnown.{AreAllKnown}
-use Rattle.osgi_wires.specs.Names.{name_of}
-use Rattle.osgi_wires.specs.Worlds.{AreNumbered}
-use Rattle.osgi_sources.specs.computed.Disputes.{AreNoted}
+use Rattle.osgi_space_rows.specs.Agree.{AreRowsOf}
+use Rattle.osgi_space_rows.specs.AllKnown.{AreAllKnown}
+use Rattle.osgi_space_rows.specs.Names.{name_of}
+use Rattle.osgi_space_rows.specs.Worlds.{AreNumbered}
+use Rattle.osgi_space_sources.specs.computed.Disputes.{AreNoted}
 use Rattle.osgi_space.specs.declared.kept_rows.KeptRows.{KeptRows}
 
 -- the rows are those of the first so many known revisions and wirings of the world, and each possible source in them is noted. The

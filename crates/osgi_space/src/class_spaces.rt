@@ -13,11 +13,9 @@ ghost use Rattle.osgi_world.specs.Sources.{Sources};
 use crate::implied_constraints::{Implied, implied_in};
 use crate::questions::sources_in;
 use crate::seen_packages::{PackageSources, space_in};
-use osgi_base::ids::RevisionId;
-use osgi_base::list::List;
-use osgi_base::text::Text;
-use osgi_wires::world_rows::WorldRows;
-use osgi_world::world::World;
+use osgi_base::{List, RevisionId, Text};
+use osgi_space_rows::WorldRows;
+use osgi_world::World;
 use std::alloc::{AllocError, Global};
 use std::marker::Model;
 

@@ -1,14 +1,13 @@
 //! Whether the wirings of a world are consistent.
 
 ghost use Rattle.std.specs.Prelude.{◌↔◌, IfOk, IsTrue};
-ghost use Rattle.osgi_wires.specs.Worlds.{AreRowsIn};
+ghost use Rattle.osgi_space_rows.specs.Worlds.{AreRowsIn};
 ghost use Rattle.osgi_world.specs.Consistency.{IsCoherent};
 
-use osgi_coherence::keeps_wiring_rules;
-use osgi_sources::uses::all_keep_uses;
-use osgi_wires::world_rows::WorldRows;
-use osgi_world::wiring::Wiring;
-use osgi_world::world::World;
+use osgi_space_rows::WorldRows;
+use osgi_space_rules::keeps_wiring_rules;
+use osgi_space_sources::all_keep_uses;
+use osgi_world::{Wiring, World};
 use std::alloc::{AllocError, Global};
 
 /// Whether wirings are consistent, but that it is not asked whether each wire's capability satisfies its requirement.

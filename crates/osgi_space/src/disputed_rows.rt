@@ -1,24 +1,21 @@
 //! The rows of a world, and the packages that may be disputed in them.
 
 ghost use Rattle.std.specs.Prelude.{◌≡◌, ◌≤◌, ℕ, Contains, IfOk, OnErr, drop, length};
-ghost use Rattle.osgi_sources.specs.computed.Disputes.{AreDisputed, AreNoted, HoldsAll, IsNoted};
+ghost use Rattle.osgi_space_sources.specs.computed.Disputes.{AreDisputed, AreNoted, HoldsAll, IsNoted};
 ghost use Rattle.osgi_space.specs.Kept.{FollowsRows};
-ghost use Rattle.osgi_wires.specs.AllKnown.{AreAllKnown};
-ghost use Rattle.osgi_wires.specs.Rows.{OwnExport, RowLists};
-ghost use Rattle.osgi_wires.specs.Worlds.{AddsStep, AreNumbered, AreRowsIn, TakesBack, with_added};
+ghost use Rattle.osgi_space_rows.specs.AllKnown.{AreAllKnown};
+ghost use Rattle.osgi_space_rows.specs.Rows.{OwnExport, RowLists};
+ghost use Rattle.osgi_space_rows.specs.Worlds.{AddsStep, AreNumbered, AreRowsIn, TakesBack, with_added};
 ghost use Rattle.osgi_world.specs.Decisions.{attached, wired};
 ghost use Rattle.osgi_world.specs.Lists.{In};
 
 use crate::kept_rows::KeptRows;
-use osgi_base::ids::RevisionId;
-use osgi_sources::disputed::{
+use osgi_base::RevisionId;
+use osgi_space_rows::{Added, Rows, WorldRows};
+use osgi_space_sources::{
     Possible, note_fragment, note_fragments, note_imports, note_known, possible_sources,
 };
-use osgi_wires::added::Added;
-use osgi_wires::rows::Rows;
-use osgi_wires::world_rows::WorldRows;
-use osgi_world::wiring::{Wire, Wiring};
-use osgi_world::world::Known;
+use osgi_world::{Known, Wire, Wiring};
 use std::alloc::{AllocError, Global};
 use std::collections::BTreeSet;
 use std::marker::Model;
@@ -41,8 +38,8 @@ impl Drop for DisputedRows<'_> {
 }
 
 impl<'w> Model for DisputedRows<'w> {
-    ghost use Rattle.osgi_sources.specs.computed.Disputes.{AreNoted};
-    ghost use Rattle.osgi_wires.specs.Worlds.{WorldLists};
+    ghost use Rattle.osgi_space_sources.specs.computed.Disputes.{AreNoted};
+    ghost use Rattle.osgi_space_rows.specs.Worlds.{WorldLists};
     ghost use Rattle.std.specs.Coded.{codes};
     ghost use Rattle.osgi_model.specs.contracts.filter.Filter as filter;
     ghost use Rattle.osgi_model.specs.contracts.value.Value as value;

@@ -2,29 +2,24 @@
 
 ghost use Rattle.std.specs.Prelude.{◌≡◌, ◌<◌, ◌↔◌, List, All, Any, IfOk, IsTrue, length};
 ghost use Rattle.std.specs.BTreeSet.{contains};
-ghost use Rattle.osgi_sources.specs.declared.given.Given.{Given};
+ghost use Rattle.osgi_space_sources.specs.declared.given.Given.{Given};
 ghost use Rattle.osgi_space.specs.ImpliedOrder.{AreInOrder, implied_cmp};
 ghost use Rattle.osgi_space.specs.computed.NamedPairs.{named_pair};
 ghost use Rattle.osgi_space.specs.declared.implied_constraints.Implied.{Implied};
-ghost use Rattle.osgi_wires.specs.Worlds.{AreRowsIn};
+ghost use Rattle.osgi_space_rows.specs.Worlds.{AreRowsIn};
 ghost use Rattle.osgi_world.specs.Lists.{In};
 ghost use Rattle.osgi_world.specs.Sources as relation;
 ghost use Rattle.osgi_world.specs.declared.wiring.Wiring.{Wiring};
 
 use crate::first::name_bytes;
-use osgi_base::ids::RevisionId;
-use osgi_base::list::List;
-use osgi_base::text::Text;
-use osgi_sources::among::Among;
-use osgi_sources::constraints::constraints_of;
-use osgi_sources::given::Given;
-use osgi_wires::names::Names;
-use osgi_wires::world_rows::WorldRows;
+use osgi_base::{List, RevisionId, Text};
+use osgi_space_rows::{Names, WorldRows};
+use osgi_space_sources::{Among, Given, constraints_of};
 use std::alloc::{AllocError, Global};
 use std::collections::BTreeSet;
 
 /// An implied constraint: a package, and the revision that sees it.
-#[derive(Debug, Drop, PartialEq, Eq, PartialOrd, Ord)]
+#[derive(Drop, PartialEq, Eq, PartialOrd, Ord)]
 pub struct Implied {
     pub seen_by: RevisionId,
     pub package: Text,

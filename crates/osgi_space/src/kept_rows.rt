@@ -5,8 +5,8 @@ ghost use Rattle.osgi_space.specs.Kept.{FollowsRows};
 ghost use Rattle.osgi_world.specs.declared.wiring.Wiring.{Wiring};
 ghost use Rattle.osgi_world.specs.declared.world.Known.{Known};
 
-use osgi_sources::disputed::Possible;
-use osgi_wires::named::Named;
+use osgi_space_rows::Named;
+use osgi_space_sources::Possible;
 use std::alloc::Global;
 
 /// The rows of a world that grows at its ends, as far as they were followed: those of its first so many known revisions and

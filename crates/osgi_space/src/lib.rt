@@ -3,10 +3,10 @@
 
 mod class_spaces;
 mod consistent;
-pub mod disputed_rows;
+mod disputed_rows;
 mod first;
 mod implied_constraints;
-pub mod kept_rows;
+mod kept_rows;
 mod naming;
 mod questions;
 mod seen_packages;
@@ -14,8 +14,10 @@ mod violation;
 
 pub use class_spaces::{ClassSpaces, implied, sources};
 pub use consistent::is_consistent;
+pub use disputed_rows::DisputedRows;
 pub use first::first_violation;
 pub use implied_constraints::{Implied, implied_in};
+pub use kept_rows::KeptRows;
 pub use questions::sources_in;
 pub use seen_packages::{PackageSources, space_in};
 pub use violation::Violation;

@@ -3,13 +3,12 @@
 ghost use Rattle.std.specs.Prelude.{◌≡◌, ◌↔◌, ℕ, Any, Contains, IfOk, map};
 ghost use Rattle.std.specs.List.Sorted.{IsStrictlyIncreasing};
 ghost use Rattle.osgi_base.specs.declared.ids.RevisionId.{RevisionId};
-ghost use Rattle.osgi_wires.specs.Agree.{id};
+ghost use Rattle.osgi_space_rows.specs.Agree.{id};
 ghost use Rattle.osgi_world.specs.Lists.{In};
-ghost use Rattle.osgi_sources.specs.declared.given.Given.{Given};
+ghost use Rattle.osgi_space_sources.specs.declared.given.Given.{Given};
 
-use osgi_base::ids::RevisionId;
-use osgi_base::list::List;
-use osgi_sources::given::Given;
+use osgi_base::{List, RevisionId};
+use osgi_space_sources::Given;
 use std::alloc::{AllocError, Global};
 
 /// The same numbers, each once and rising.

@@ -3,17 +3,15 @@
 ghost use Rattle.std.specs.Prelude.{◌↔◌, List, IfOk, map};
 ghost use Rattle.std.specs.List.Sorted.{IsStrictlyIncreasing};
 ghost use Rattle.osgi_base.specs.declared.ids.RevisionId.{RevisionId};
-ghost use Rattle.osgi_wires.specs.Worlds.{AreRowsIn};
+ghost use Rattle.osgi_space_rows.specs.Worlds.{AreRowsIn};
 ghost use Rattle.osgi_world.specs.Lists.{In};
 ghost use Rattle.osgi_world.specs.Sources.{Sources};
 ghost use Rattle.osgi_world.specs.declared.wiring.Wiring.{Wiring};
 
 use crate::naming::source_ids;
-use osgi_base::ids::RevisionId;
-use osgi_base::list::List;
-use osgi_base::text::Text;
-use osgi_sources::package_sources::sources_of;
-use osgi_wires::world_rows::WorldRows;
+use osgi_base::{List, RevisionId, Text};
+use osgi_space_rows::WorldRows;
+use osgi_space_sources::sources_of;
 use std::alloc::{AllocError, Global};
 
 /// The sources of the package for the revision, rising, in the wirings whose rows these are.

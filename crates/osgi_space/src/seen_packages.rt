@@ -4,27 +4,23 @@ ghost use Rattle.std.specs.Prelude.{◌≡◌, ◌↔◌, ℕ, List, All, Any, I
 ghost use Rattle.std.specs.BTreeMap.{IsOrdered};
 ghost use Rattle.std.specs.List.Sorted.{IsStrictlyIncreasing};
 ghost use Rattle.osgi_base.specs.declared.ids.RevisionId.{RevisionId};
-ghost use Rattle.osgi_sources.specs.declared.given.Given.{Given};
+ghost use Rattle.osgi_space_sources.specs.declared.given.Given.{Given};
 ghost use Rattle.osgi_space.specs.Seen.{IsClassSpace};
 ghost use Rattle.osgi_space.specs.computed.ByName.{AddsSource, HasSource, IsFilled, as_entry, text_cmp};
 ghost use Rattle.osgi_space.specs.declared.seen_packages.PackageSources.{PackageSources};
-ghost use Rattle.osgi_wires.specs.Names.{HasNumber};
-ghost use Rattle.osgi_wires.specs.Worlds.{AreRowsIn};
+ghost use Rattle.osgi_space_rows.specs.Names.{HasNumber};
+ghost use Rattle.osgi_space_rows.specs.Worlds.{AreRowsIn};
 ghost use Rattle.osgi_world.specs.declared.wiring.Wiring.{Wiring};
 
 use crate::naming::as_ids;
-use osgi_base::ids::RevisionId;
-use osgi_base::list::List;
-use osgi_base::text::Text;
-use osgi_sources::given::Given;
-use osgi_sources::space::space_of;
-use osgi_wires::names::Names;
-use osgi_wires::world_rows::WorldRows;
+use osgi_base::{List, RevisionId, Text};
+use osgi_space_rows::{Names, WorldRows};
+use osgi_space_sources::{Given, space_of};
 use std::alloc::{AllocError, Global};
 use std::collections::{BTreeMap, BTreeSet};
 
 /// A package, and its sources.
-#[derive(Debug, Drop, PartialEq, Eq)]
+#[derive(Drop, PartialEq, Eq)]
 pub struct PackageSources {
     pub package: Text,
     pub sources: List<RevisionId>,

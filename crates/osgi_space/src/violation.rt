@@ -1,11 +1,10 @@
 //! Violated uses clauses.
 
-use osgi_base::ids::RevisionId;
-use osgi_base::text::Text;
+use osgi_base::{RevisionId, Text};
 
 /// A package, and two revisions that each have a source of it that the other lacks: the first has an implied constraint for it,
 /// as the second sees it.
-#[derive(Debug, Drop, PartialEq, Eq)]
+#[derive(Drop, PartialEq, Eq)]
 pub struct Violation {
     pub revision: RevisionId,
     pub seen_by: RevisionId,

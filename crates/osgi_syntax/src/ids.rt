@@ -8,7 +8,7 @@ ghost use Rattle.osgi_base.specs.declared.ids.ServiceId.{ServiceId};
 ghost use Rattle.osgi_syntax.specs.WordReader.{bundle_by, bundle_id_of, id_of};
 ghost use Rattle.osgi_syntax.specs.Words.{IsBundleId, IsId};
 
-use osgi_base::ids::{BundleId, ServiceId};
+use osgi_base::{BundleId, ServiceId};
 use std::str;
 
 /// The most digits of an id.

@@ -6,8 +6,7 @@ ghost use Rattle.osgi_syntax.specs.Splitting.{texts_of};
 ghost use Rattle.osgi_syntax.specs.WordReader.{bundle_name_of, class_of, classes_of, is_class, is_comma, is_dot, is_name, is_token, name_of};
 ghost use Rattle.osgi_syntax.specs.Words.{AreClasses, begins_name, is_class_byte, is_name_byte, is_token_byte, IsBundleName, IsClass, IsName};
 
-use osgi_base::list::List;
-use osgi_base::text::Text;
+use osgi_base::{List, Text};
 use std::alloc::{AllocError, Global};
 
 fn has_class_bytes(name: &[u8]) -> bool

@@ -8,9 +8,8 @@ ghost use Rattle.osgi_syntax.specs.PropertyReader.{attribute_of, ends_key, is_eq
 ghost use Rattle.osgi_syntax.specs.Splitting.{texts_of};
 
 use crate::values::{value, value_text};
-use osgi_base::list::List;
-use osgi_base::text::Text;
-use osgi_model::value::{Attribute, Attributes};
+use osgi_base::{List, Text};
+use osgi_model::{Attribute, Attributes};
 use std::alloc::{AllocError, Global};
 
 fn key_end(word: &[u8]) -> Option<usize>

@@ -5,11 +5,9 @@ ghost use Rattle.std.specs.List.{list_all};
 ghost use Rattle.osgi_syntax.specs.PropertyReader.{begins_with_quote, value_named, value_text_of};
 ghost use Rattle.osgi_syntax.specs.Properties.{is_bare_byte};
 
+use osgi_base::Text;
 use osgi_base::quoted::quoted;
-use osgi_base::text::Text;
-use osgi_model::reading::read_value;
-use osgi_model::value::Value;
-use osgi_model::value_type::ValueType;
+use osgi_model::{Value, ValueType, read_value};
 use std::alloc::{AllocError, Global};
 
 fn begins_with_quote(spelled: &[u8]) -> bool

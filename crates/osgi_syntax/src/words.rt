@@ -5,7 +5,7 @@ ghost use Rattle.osgi_syntax.specs.Splitting.{after_spaces, texts_of, words_of, 
 ghost use Rattle.osgi_syntax.specs.LineWords.{AreLineWords};
 ghost use Rattle.osgi_syntax.specs.Words.{AreSpaces, IsSeparated};
 
-use osgi_base::parts::part_len;
+use osgi_base::part_len;
 use std::alloc::{AllocError, Global};
 
 /// Drops the spaces at the start.

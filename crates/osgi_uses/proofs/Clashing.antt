@@ -7,7 +7,7 @@ use Rattle.osgi_world.specs.Lists.{In}
 use Rattle.osgi_world.specs.Sources.{Sources}
 use Rattle.osgi_world.specs.declared.wiring.Wiring.{Wiring}
 use Rattle.osgi_world.specs.declared.world.Known.{Known}
-use Rattle.osgi_wires.specs.Worlds.{AreRowsIn, WorldLists}
+use Rattle.osgi_space_rows.specs.Worlds.{AreRowsIn, WorldLists}
 use Rattle.osgi_space.specs.Violations.{IsFirstViolation}
 use Rattle.osgi_space.specs.declared.violation.Violation.{Violation}
 use Rattle.osgi_uses.specs.Clashes.{AreSources, IsFirstAmong}

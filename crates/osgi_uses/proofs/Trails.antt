@@ -5,8 +5,8 @@ use Rattle.osgi_world.specs.Decisions.{Step}
 use Rattle.osgi_world.specs.declared.wiring.Wiring.{Wiring}
 use Rattle.osgi_world.specs.declared.world.Known.{Known}
 use Rattle.osgi_world.specs.declared.world.World.{World}
-use Rattle.osgi_wires.specs.Steps.{with_steps}
-use Rattle.osgi_wires.specs.Worlds.{AddsStep, AreRowsIn, WorldLists}
+use Rattle.osgi_space_rows.specs.Steps.{with_steps}
+use Rattle.osgi_space_rows.specs.Worlds.{AddsStep, AreRowsIn, WorldLists}
 use Rattle.osgi_uses.specs.computed.Trail.{AreRowsAlong, IsTrailOf, step_of}
 use Rattle.osgi_uses.specs.declared.trail.Taken.{Taken}
 

@@ -3,7 +3,7 @@ use Rattle.std.specs.Prelude.{List}
 use Rattle.osgi_world.specs.Decisions.{Step}
 use Rattle.osgi_world.specs.declared.wiring.Wiring.{Wiring}
 use Rattle.osgi_world.specs.declared.world.Known.{Known}
-use Rattle.osgi_wires.specs.Steps.{with_steps}
+use Rattle.osgi_space_rows.specs.Steps.{with_steps}
 
 pub record SpacesState : Type 0 where
   pub known : List Known

@@ -1,12 +1,10 @@
 //! A clash of uses.
 
-use osgi_base::ids::RevisionId;
-use osgi_base::list::List;
-use osgi_base::text::Text;
+use osgi_base::{List, RevisionId, Text};
 
 /// A violated clause of `uses`: a revision has an implied constraint for the package, and it and the one that sees the package
 /// each have a source of it that the other lacks.
-#[derive(Debug, Drop, PartialEq, Eq)]
+#[derive(Drop, PartialEq, Eq)]
 pub struct Clash {
     pub revision: RevisionId,
     pub package: Text,

@@ -2,6 +2,9 @@
 //! uses among settled revisions.
 #![tactic(auto)]
 
-pub mod clash;
-pub mod spaces;
+mod clash;
+mod spaces;
 mod trail;
+
+pub use clash::Clash;
+pub use spaces::Spaces;

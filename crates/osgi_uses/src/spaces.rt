@@ -2,19 +2,17 @@
 
 ghost use Rattle.std.specs.Prelude.{◌≡◌, ◌<◌, ◌++◌, ◌∷◌, [], List, IfOk, OnOk, OnErr, length};
 ghost use Rattle.osgi_world.specs.Decisions.{Step, attached, wired};
-ghost use Rattle.osgi_wires.specs.Rows.{RowLists};
-ghost use Rattle.osgi_wires.specs.Worlds.{AreRowsIn, TakesBack, with_added};
+ghost use Rattle.osgi_space_rows.specs.Rows.{RowLists};
+ghost use Rattle.osgi_space_rows.specs.Worlds.{AreRowsIn, TakesBack, with_added};
 ghost use Rattle.osgi_uses.specs.Clashes.{IsClashAmong};
 ghost use Rattle.osgi_uses.specs.States.{SpacesState, wirings_of};
 
 use crate::clash::Clash;
 use crate::trail::{Addition, Taken};
-use osgi_base::ids::RevisionId;
-use osgi_space::disputed_rows::DisputedRows;
-use osgi_space::{first_violation, sources_in};
-use osgi_wires::world_rows::WorldRows;
-use osgi_world::wiring::Wire;
-use osgi_world::world::World;
+use osgi_base::RevisionId;
+use osgi_space::{DisputedRows, first_violation, sources_in};
+use osgi_space_rows::WorldRows;
+use osgi_world::{Wire, World};
 use std::alloc::{AllocError, Global};
 use std::marker::Model;
 

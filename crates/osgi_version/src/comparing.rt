@@ -9,7 +9,7 @@ ghost use Rattle.osgi_version.specs.Comparing.{exact_version, version_cmp, versi
 ghost use Rattle.osgi_version.specs.VersionValues.{order, parts};
 
 use crate::version::Version;
-use osgi_base::exact::ExactEq;
+use osgi_base::ExactEq;
 use std::cmp::Ordering;
 
 impl PartialEq for Version {

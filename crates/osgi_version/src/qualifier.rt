@@ -8,9 +8,7 @@ ghost use Rattle.std.specs.Cmp.Rules.{comparing};
 ghost use Rattle.std.specs.Ordering.{nat_cmp, as_partial_cmp};
 ghost use Rattle.osgi_version.specs.Bytes.{Each, IsWordByte};
 
-use osgi_base::copied::Copied;
-use osgi_base::exact::ExactEq;
-use osgi_base::text::Text;
+use osgi_base::{Copied, ExactEq, Text};
 use std::alloc::{AllocError, Global};
 use std::cmp::Ordering;
 use std::marker::Model;
@@ -18,7 +16,7 @@ use std::marker::Model;
 /// The last part of a version: letters, digits, `_` and `-`. It may be empty.
 ///
 /// Qualifiers are equal where their bytes are, and ordered by their bytes.
-#[derive(Debug, Drop)]
+#[derive(Drop)]
 pub struct Qualifier {
     bytes: Text,
 }

@@ -15,12 +15,12 @@ use crate::examine::examine;
 use crate::fault::VersionFault;
 use crate::range_state::RangeState;
 use crate::version::Version;
-use osgi_base::copied::{Copied, copy_option};
+use osgi_base::{Copied, copy_option};
 use std::alloc::{AllocError, Global};
 use std::cmp::Ordering;
 
 /// A range of versions. Without `high` it has no upper bound. A range may be empty.
-#[derive(Debug, Drop, PartialEq, Eq)]
+#[derive(Drop, PartialEq, Eq)]
 pub struct VersionRange {
     pub low: Version,
     pub low_in: bool,

@@ -6,12 +6,12 @@ use crate::fault::VersionFault;
 use crate::printing::printed;
 use crate::qualifier::Qualifier;
 use crate::read::{Found, read};
-use osgi_base::copied::Copied;
+use osgi_base::Copied;
 use std::alloc::{AllocError, Global};
 use std::cmp::Ordering;
 
 /// A version. Versions are ordered by their numbers, then by the qualifiers' bytes.
-#[derive(Debug, Drop)]
+#[derive(Drop)]
 pub struct Version {
     pub major: u32,
     pub minor: u32,

@@ -6,8 +6,8 @@ ghost use Rattle.indexmap.specs.IndexSet as set;
 ghost use Rattle.osgi_wiring.specs.computed.Kept.{puts, revision_of};
 
 use indexmap::{IndexMap, IndexSet};
-use osgi_base::ids::{BundleId, RevisionId};
-use osgi_world::wiring::Wiring;
+use osgi_base::{BundleId, RevisionId};
+use osgi_world::Wiring;
 use std::alloc::{AllocError, Global};
 
 /// The set of the number 0.

@@ -2,15 +2,13 @@
 
 ghost use Rattle.std.specs.Prelude.{◌≡◌, IfOk};
 
-use osgi_base::copied::{Copied, copy_three, copy_two};
-use osgi_base::list::List;
-use osgi_base::text::Text;
-use osgi_model::value::Attributes;
+use osgi_base::{Copied, List, Text, copy_three, copy_two};
+use osgi_model::Attributes;
 use std::alloc::{AllocError, Global};
 
 /// A capability of a revision: in the package namespace a package that it exports, in the bundle namespace the bundle
 /// itself, in others what it provides. There the name is that of the namespace.
-#[derive(Debug, Drop, PartialEq, Eq)]
+#[derive(Drop)]
 pub struct Capability {
     pub namespace: Text,
     pub name: Text,

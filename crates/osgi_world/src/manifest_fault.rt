@@ -2,8 +2,7 @@
 
 ghost use Rattle.std.specs.Prelude.{◌≡◌, IfOk};
 
-use osgi_base::copied::Copied;
-use osgi_base::text::Text;
+use osgi_base::{Copied, Text};
 use std::alloc::{AllocError, Global};
 
 /// What is wrong with a manifest.
@@ -52,7 +51,7 @@ pub enum ManifestKind {
 /// Why a manifest is rejected: the header, what is wrong with it, and the byte of its value at which its first faulty clause
 /// begins, 0 where there is no clause. Where no one header is at fault the name is empty, and a line fault counts bytes of the
 /// whole manifest.
-#[derive(Debug, Drop, PartialEq, Eq)]
+#[derive(Drop)]
 pub struct ManifestFault {
     pub header: Text,
     pub kind: ManifestKind,

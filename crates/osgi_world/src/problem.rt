@@ -4,13 +4,11 @@ ghost use Rattle.std.specs.Prelude.{◌≡◌, IfOk};
 
 use crate::wiring::{CapRef, ReqRef};
 use crate::world::World;
-use osgi_base::copied::Copied;
-use osgi_base::ids::RevisionId;
-use osgi_base::list::List;
+use osgi_base::{Copied, List, RevisionId};
 use std::alloc::{AllocError, Global};
 
 /// A requirement, and the capabilities that it may be wired to, the preferred first.
-#[derive(Debug, Drop, PartialEq, Eq)]
+#[derive(Drop)]
 pub struct Choice {
     pub requirement: ReqRef,
     pub candidates: List<CapRef>,
@@ -34,7 +32,7 @@ impl Copied for Choice {
 }
 
 /// A revision to be resolved, and what there is to choose from.
-#[derive(Debug, Drop, PartialEq, Eq)]
+#[derive(Drop)]
 pub struct Problem {
     pub world: World,
     pub root: RevisionId,

@@ -2,16 +2,13 @@
 
 ghost use Rattle.std.specs.Prelude.{◌≡◌, IfOk};
 
-use osgi_base::copied::{Copied, copy_three, copy_two};
-use osgi_base::text::Text;
-use osgi_model::filter::Filter;
-use osgi_model::value::Attributes;
-use osgi_version::range::VersionRange;
+use osgi_base::{Copied, Text, copy_three, copy_two};
+use osgi_model::{Attributes, Filter};
+use osgi_version::VersionRange;
 use std::alloc::{AllocError, Global};
 
 /// A requirement of a revision: in the package namespace an import, in the bundle namespace a required bundle or a
 /// fragment's host, in others a filter over what is provided. There the name is that of the namespace.
-#[derive(Debug, PartialEq, Eq)]
 pub struct Requirement {
     pub namespace: Text,
     pub name: Text,

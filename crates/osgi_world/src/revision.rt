@@ -5,10 +5,8 @@ ghost use Rattle.osgi_world.specs.declared.revision.TheConstants.{MAX_MEMBERS};
 
 use crate::capability::Capability;
 use crate::requirement::Requirement;
-use osgi_base::copied::{Copied, copy_three, copy_two};
-use osgi_base::list::List;
-use osgi_base::text::Text;
-use osgi_version::version::Version;
+use osgi_base::{Copied, List, Text, copy_three, copy_two};
+use osgi_version::Version;
 use std::alloc::{AllocError, Global};
 
 /// How many capabilities a revision may have, and how many requirements, dynamic imports among them.
@@ -16,7 +14,7 @@ pub const MAX_MEMBERS: usize = 4_294_967_294;
 
 /// Which classes activate a lazy bundle when they are loaded: those of the packages that are included, all packages where
 /// `include` is none, without those that are excluded.
-#[derive(Debug, Drop, PartialEq, Eq)]
+#[derive(Drop)]
 pub struct Policy {
     pub include: Option<List<Text>>,
     pub exclude: List<Text>,
@@ -40,7 +38,6 @@ impl Copied for Policy {
 }
 
 /// A revision of a bundle.
-#[derive(Debug, PartialEq, Eq)]
 pub struct Revision {
     /// The symbolic name.
     pub name: Text,

@@ -6,12 +6,9 @@ ghost use Rattle.osgi_world.specs.System.{framework_package, java_environment, j
 use crate::capability::Capability;
 use crate::revision::Revision;
 use crate::world::Known;
-use osgi_base::ids::{BundleId, RevisionId};
-use osgi_base::list::List;
-use osgi_base::shared::Shared;
-use osgi_base::text::Text;
-use osgi_model::value::{Attribute, Attributes, Value};
-use osgi_version::version::Version;
+use osgi_base::{BundleId, List, RevisionId, Shared, Text};
+use osgi_model::{Attribute, Attributes, Value};
+use osgi_version::Version;
 use std::alloc::{AllocError, Global};
 
 /// The system bundle as it is known from the start: bundle 0, by its only revision.

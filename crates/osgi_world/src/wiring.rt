@@ -2,13 +2,11 @@
 
 ghost use Rattle.std.specs.Prelude.{◌≡◌, IfOk};
 
-use osgi_base::copied::Copied;
-use osgi_base::ids::RevisionId;
-use osgi_base::list::List;
+use osgi_base::{Copied, List, RevisionId};
 use std::alloc::{AllocError, Global};
 
 /// A requirement by its place: in its owner's requirements, with the dynamic imports after them, counted from 0.
-#[derive(Clone, Copy, Debug, PartialEq, Eq)]
+#[derive(Clone, Copy, PartialEq, Eq)]
 pub struct ReqRef {
     pub owner: RevisionId,
     pub index: u32,
@@ -30,7 +28,7 @@ impl Copied for ReqRef {
 
 /// A capability by its place in its owner's capabilities, counted from 0, and the revision that provides it: its owner,
 /// or the host that its owner is attached to.
-#[derive(Clone, Copy, Debug, PartialEq, Eq)]
+#[derive(Clone, Copy, PartialEq, Eq)]
 pub struct CapRef {
     pub provider: RevisionId,
     pub owner: RevisionId,
@@ -52,7 +50,7 @@ impl Copied for CapRef {
 }
 
 /// A wire: a requirement, and the capability that it gets.
-#[derive(Clone, Copy, Debug, PartialEq, Eq)]
+#[derive(Clone, Copy, PartialEq, Eq)]
 pub struct Wire {
     pub requirement: ReqRef,
     pub capability: CapRef,
@@ -73,7 +71,7 @@ impl Copied for Wire {
 }
 
 /// The wiring of a resolved revision: the wires of its requirements and of its fragments', and its fragments.
-#[derive(Debug, Drop, PartialEq, Eq)]
+#[derive(Drop)]
 pub struct Wiring {
     pub revision: RevisionId,
     pub wires: List<Wire>,

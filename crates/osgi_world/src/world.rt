@@ -4,14 +4,11 @@ ghost use Rattle.std.specs.Prelude.{◌≡◌, IfOk};
 
 use crate::revision::Revision;
 use crate::wiring::Wiring;
-use osgi_base::copied::Copied;
-use osgi_base::ids::{BundleId, RevisionId};
-use osgi_base::list::List;
-use osgi_base::shared::Shared;
+use osgi_base::{BundleId, Copied, List, RevisionId, Shared};
 use std::alloc::{AllocError, Global};
 
 /// A known revision. Copies share what the revision says.
-#[derive(Debug, Drop, PartialEq, Eq)]
+#[derive(Drop)]
 pub struct Known {
     pub id: RevisionId,
     pub bundle: BundleId,
@@ -40,7 +37,7 @@ impl Copied for Known {
 }
 
 /// What is known of bundles, and how they are wired. A revision is in force where it has a wiring.
-#[derive(Debug, Drop, PartialEq, Eq)]
+#[derive(Drop)]
 pub struct World {
     pub known: List<Known>,
     pub wirings: List<Wiring>,

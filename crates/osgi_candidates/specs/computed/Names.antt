@@ -8,9 +8,9 @@ use Rattle.osgi_world.specs.Lookups.{IsKnown, known_at, symbolic_name}
 use Rattle.osgi_world.specs.declared.capability.Capability.{Capability}
 use Rattle.osgi_world.specs.declared.requirement.Requirement.{Requirement}
 use Rattle.osgi_world.specs.declared.world.Known.{Known}
-use Rattle.osgi_coherence.specs.computed.Keys.{text_cmp}
-use Rattle.osgi_wires.specs.computed.Groups as groups
-use Rattle.osgi_wires.specs.declared.grouped.Grouped.{Grouped}
+use Rattle.osgi_space_rules.specs.computed.Keys.{text_cmp}
+use Rattle.osgi_space_rows.specs.computed.Groups as groups
+use Rattle.osgi_space_rows.specs.declared.grouped.Grouped.{Grouped}
 
 -- the values of the name
 abbrev pub values_of : {V : Type 0} → Grouped (List ℕ) V → List ℕ → List V

@@ -59,8 +59,12 @@ AnswersHeader faults outside Makes headers name (Err Memory) = ⊤
 
 -- ---- steps of reading
 
+-- the first of these conditions that calls for a fault calls for this one, or memory ran out
+abbrev pub Stops : List (ManifestFault → Type 0) → Stop → Type 0
+Stops conditions (Fault fault) = IsTheFirst conditions fault
+Stops conditions Memory = ⊤
+
 -- none of these conditions calls for a fault, and this holds of what was read; or the first one that does
 abbrev pub IsStep : {A : Type 0} → List (ManifestFault → Type 0) → (A → Type 0) → Result A Stop → Type 0
 IsStep conditions Reads (Ok read) = CallNone conditions × Reads read
-IsStep conditions Reads (Err (Fault fault)) = IsTheFirst conditions fault
-IsStep conditions Reads (Err Memory) = ⊤
+IsStep conditions Reads (Err stop) = Stops conditions stop

@@ -6,7 +6,7 @@ use Rattle.std.specs.Cmp.Lexicographic.{slice_cmp}
 use Rattle.std.specs.Option.{ForSome}
 use Rattle.std.specs.Ordering.{nat_cmp}
 use Rattle.std.specs.declared.cmp.Ordering.{Ordering}
-use Rattle.osgi_wires.specs.Agree.{id}
+use Rattle.osgi_space_rows.specs.Agree.{id}
 use Rattle.osgi_space.specs.declared.seen_packages.PackageSources.{PackageSources}
 
 -- by bytes

@@ -1,10 +1,10 @@
 -- The first of the pairs that clash.
 use Rattle.std.specs.Prelude.{◌≡◌, ℕ, ◌<◌, ◌⊎◌, List, length, Any, Contains, Option, None, Some}
-use Rattle.osgi_wires.specs.Names.{name_of}
-use Rattle.osgi_wires.specs.Rows.{RowLists}
-use Rattle.osgi_sources.specs.computed.Clashes.{IsClash}
-use Rattle.osgi_sources.specs.computed.Pairs.{IsImplied}
-use Rattle.osgi_sources.specs.declared.given.Given.{Given}
+use Rattle.osgi_space_rows.specs.Names.{name_of}
+use Rattle.osgi_space_rows.specs.Rows.{RowLists}
+use Rattle.osgi_space_sources.specs.computed.Clashes.{IsClash}
+use Rattle.osgi_space_sources.specs.computed.Pairs.{IsImplied}
+use Rattle.osgi_space_sources.specs.declared.given.Given.{Given}
 use Rattle.osgi_space.specs.Violations.{IsBelow}
 
 -- by the package's name, then by the revision that sees it

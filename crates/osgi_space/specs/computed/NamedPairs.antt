@@ -1,8 +1,8 @@
 -- Implied constraints by the names of their packages.
 use Rattle.std.specs.Prelude.{ℕ, List}
-use Rattle.osgi_wires.specs.Agree.{id}
-use Rattle.osgi_wires.specs.Names.{name_of}
-use Rattle.osgi_sources.specs.declared.given.Given.{Given}
+use Rattle.osgi_space_rows.specs.Agree.{id}
+use Rattle.osgi_space_rows.specs.Names.{name_of}
+use Rattle.osgi_space_sources.specs.declared.given.Given.{Given}
 use Rattle.osgi_space.specs.declared.implied_constraints.Implied.{Implied as Named}
 
 -- a pair by its package's name

@@ -1,6 +1,6 @@
 -- The rows of a world.
 use Rattle.std.specs.Prelude.{◌≡◌}
-use Rattle.osgi_wires.specs.Worlds.{AreRowsIn, WorldLists}
+use Rattle.osgi_space_rows.specs.Worlds.{AreRowsIn, WorldLists}
 use Rattle.osgi_world.specs.declared.world.World.{World}
 
 -- the rows are those of the world's wirings

@@ -4,9 +4,9 @@ use Rattle.std.proofs.Common.{sym, subst, arith, length-append}
 use Rattle.std.proofs.lemmas.List.{take-append-le}
 use Rattle.osgi_world.specs.declared.wiring.Wiring.{Wiring}
 use Rattle.osgi_world.specs.declared.world.Known.{Known}
-use Rattle.osgi_wires.specs.Agree.{AreRowsOf}
-use Rattle.osgi_wires.specs.AllKnown.{AreAllKnown}
-use Rattle.osgi_wires.specs.Names.{name_of}
+use Rattle.osgi_space_rows.specs.Agree.{AreRowsOf}
+use Rattle.osgi_space_rows.specs.AllKnown.{AreAllKnown}
+use Rattle.osgi_space_rows.specs.Names.{name_of}
 use Rattle.osgi_space.specs.Kept.{FollowsRows}
 use Rattle.osgi_space.specs.declared.kept_rows.KeptRows.{KeptRows}
 

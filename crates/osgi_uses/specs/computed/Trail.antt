@@ -3,9 +3,9 @@ use Rattle.std.specs.Prelude.{◌≡◌, List, [], ◌∷◌, map}
 use Rattle.osgi_world.specs.Decisions.{Step, attached, wired}
 use Rattle.osgi_world.specs.declared.wiring.Wiring.{Wiring}
 use Rattle.osgi_world.specs.declared.world.World.{World}
-use Rattle.osgi_wires.specs.Rows.{RowLists}
-use Rattle.osgi_wires.specs.Steps.{with_steps}
-use Rattle.osgi_wires.specs.Worlds.{AreRowsIn, WorldLists, with_added}
+use Rattle.osgi_space_rows.specs.Rows.{RowLists}
+use Rattle.osgi_space_rows.specs.Steps.{with_steps}
+use Rattle.osgi_space_rows.specs.Worlds.{AreRowsIn, WorldLists, with_added}
 use Rattle.osgi_uses.specs.declared.trail.Addition.{Addition}
 use Rattle.osgi_uses.specs.declared.trail.Addition.TheVariants.{Attached, Wired}
 use Rattle.osgi_uses.specs.declared.trail.Taken.{Taken}

@@ -3,9 +3,9 @@ use Rattle.std.proofs.Common.{get_or}
 use Rattle.std.proofs.lemmas.Cmp.{nat_cmp_total}
 use Rattle.std.proofs.lemmas.Map.Lookups.{exact_unsigned}
 use Rattle.osgi_candidates.proofs.Standing.{IsId, fragments_are}
-use Rattle.osgi_coherence.proofs.Exact.{inserted}
-use Rattle.osgi_coherence.proofs.Grow.{grow_done, grow_step}
-use Rattle.osgi_coherence.proofs.Items.{no_revision, there}
+use Rattle.osgi_space_rules.proofs.Exact.{inserted}
+use Rattle.osgi_space_rules.proofs.Grow.{grow_done, grow_step}
+use Rattle.osgi_space_rules.proofs.Items.{no_revision, there}
 use Rattle.osgi_candidates.proofs.held.fragment_ids.Goals as goal
 
 pub loop-fragment-preserved : goal.loop-fragment-preserved

@@ -2,8 +2,8 @@
 use Rattle.std.proofs.Common.{get_or}
 use Rattle.osgi_candidates.specs.computed.Holding.{IsElsewhere}
 use Rattle.osgi_candidates.proofs.Standing.{elsewhere_are}
-use Rattle.osgi_coherence.proofs.Grow.{grow_done, grow_step}
-use Rattle.osgi_coherence.proofs.Items.{no_wire, there}
+use Rattle.osgi_space_rules.proofs.Grow.{grow_done, grow_step}
+use Rattle.osgi_space_rules.proofs.Items.{no_wire, there}
 use Rattle.osgi_candidates.proofs.held.imported_elsewhere.Goals as goal
 
 pub loop-wire-preserved : goal.loop-wire-preserved

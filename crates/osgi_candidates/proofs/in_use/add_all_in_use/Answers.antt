@@ -1,7 +1,7 @@
 -- One more wiring, and all of them.
 use Rattle.osgi_candidates.specs.computed.InUses.{HasRevision, IsUsedBy}
 use Rattle.osgi_candidates.proofs.Following.{in_use_grow}
-use Rattle.osgi_coherence.proofs.Grow.{grow_done, grow_step}
+use Rattle.osgi_space_rules.proofs.Grow.{grow_done, grow_step}
 use Rattle.osgi_candidates.proofs.in_use.add_all_in_use.Goals as goal
 
 pub loop-wiring-preserved : goal.loop-wiring-preserved

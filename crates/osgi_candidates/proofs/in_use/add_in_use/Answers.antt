@@ -2,9 +2,9 @@
 use Rattle.std.proofs.Common.{get_or, subst}
 use Rattle.osgi_candidates.specs.computed.InUses.{HasRevision}
 use Rattle.osgi_candidates.proofs.Using.{IsSame, put_revision, puts_in_use}
-use Rattle.osgi_coherence.proofs.Grow.{grow_done, grow_step}
-use Rattle.osgi_coherence.proofs.Items.{no_revision, there}
-use Rattle.osgi_coherence.specs.computed.Growing.{Grows}
+use Rattle.osgi_space_rules.proofs.Grow.{grow_done, grow_step}
+use Rattle.osgi_space_rules.proofs.Items.{no_revision, there}
+use Rattle.osgi_space_rules.specs.computed.Growing.{Grows}
 use Rattle.osgi_candidates.proofs.in_use.add_in_use.Goals as goal
 
 pub loop-fragment-preserved : goal.loop-fragment-preserved

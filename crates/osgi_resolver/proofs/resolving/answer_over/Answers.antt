@@ -1,12 +1,12 @@
 -- The search goes over the words of the problem that lists all candidates.
 use Rattle.std.proofs.Common.{◌≡◌, ◌∙◌, List, ap, sym, subst}
-use Rattle.osgi_path.specs.Standing.{Standing}
-use Rattle.osgi_problem.proofs.WorldProblems.{the_problem-is}
-use Rattle.osgi_problem.specs.WorldProblems.{the_problem}
-use Rattle.osgi_search.specs.Outcomes.{IsOutcome}
+use Rattle.osgi_resolver_path.specs.Standing.{Standing}
+use Rattle.osgi_resolver_theory.proofs.WorldProblems.{the_problem-is}
+use Rattle.osgi_resolver_theory.specs.WorldProblems.{the_problem}
+use Rattle.osgi_resolver_search.specs.Outcomes.{IsOutcome}
 use Rattle.osgi_space.specs.Kept.{FollowsRows}
-use Rattle.osgi_wires.specs.AllKnown.{AreAllKnown}
-use Rattle.osgi_wires.specs.laws.AllKnown.{coherent-all_known}
+use Rattle.osgi_space_rows.specs.AllKnown.{AreAllKnown}
+use Rattle.osgi_space_rows.specs.laws.AllKnown.{coherent-all_known}
 use Rattle.osgi_world.specs.Candidates.{IsProblem}
 use Rattle.osgi_world.specs.declared.problem.Problem.{Problem}
 use Rattle.osgi_world.specs.declared.world.Known.{Known}

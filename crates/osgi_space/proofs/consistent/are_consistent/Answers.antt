@@ -2,9 +2,9 @@
 use Rattle.std.proofs.Common.{◌≡◌, List, sym, subst}
 use Rattle.osgi_world.specs.Consistency.{IsCoherent}
 use Rattle.osgi_world.specs.declared.world.Known.{Known}
-use Rattle.osgi_wires.specs.Agree.{AreRowsOf}
-use Rattle.osgi_wires.specs.Names.{name_of}
-use Rattle.osgi_wires.specs.Rows.{RowLists}
+use Rattle.osgi_space_rows.specs.Agree.{AreRowsOf}
+use Rattle.osgi_space_rows.specs.Names.{name_of}
+use Rattle.osgi_space_rows.specs.Rows.{RowLists}
 use Rattle.osgi_space.proofs.Coherent.{uses-hold, uses-kept}
 use Rattle.osgi_space.proofs.consistent.are_consistent.Goals as goal
 

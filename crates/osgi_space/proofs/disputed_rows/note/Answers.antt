@@ -1,8 +1,8 @@
 -- What a row adds is noted.
 use Rattle.std.proofs.Common.{◌≡◌, ◌∙◌, ap, sym, subst}
-use Rattle.osgi_sources.specs.laws.Noted.{noted-attachment, noted-import}
-use Rattle.osgi_wires.specs.Rows.{OwnExport, RowLists, with_attachment, with_import, with_required}
-use Rattle.osgi_wires.specs.Worlds.{with_added}
+use Rattle.osgi_space_sources.specs.laws.Noted.{noted-attachment, noted-import}
+use Rattle.osgi_space_rows.specs.Rows.{OwnExport, RowLists, with_attachment, with_import, with_required}
+use Rattle.osgi_space_rows.specs.Worlds.{with_added}
 use Rattle.osgi_space.proofs.disputed_rows.note.Goals as goal
 
 pub returns-in_ok-note-in-Import-clause-noted : goal.returns-in_ok-note-in-Import-clause-noted

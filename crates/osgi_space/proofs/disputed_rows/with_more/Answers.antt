@@ -1,8 +1,8 @@
 -- What stands from these places on.
 use Rattle.std.proofs.Common.{◌∙◌, List, drop, ap, sym, subst, Contains}
 use Rattle.std.proofs.lemmas.List.{take_rest}
-use Rattle.osgi_wires.specs.declared.rows.Attachment.{Attachment}
-use Rattle.osgi_wires.specs.declared.rows.Import.{Import}
+use Rattle.osgi_space_rows.specs.declared.rows.Attachment.{Attachment}
+use Rattle.osgi_space_rows.specs.declared.rows.Import.{Import}
 use Rattle.osgi_space.proofs.disputed_rows.with_more.Goals as goal
 
 pub returns-clause-imports : goal.returns-clause-imports

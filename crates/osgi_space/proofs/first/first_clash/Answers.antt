@@ -3,10 +3,10 @@ use Rattle.std.proofs.Common.{◌≡◌, ◌<◌, ◌↔◌, ℕ, List, length, 
 use Rattle.std.specs.Prelude.{MatchOption}
 use Rattle.std.proofs.lemmas.List.{get_or_default, take_all}
 use Rattle.std.proofs.lemmas.Bool.{false≢true}
-use Rattle.osgi_sources.specs.computed.Clashes.{IsClash}
-use Rattle.osgi_sources.specs.declared.given.Given.{Given}
+use Rattle.osgi_space_sources.specs.computed.Clashes.{IsClash}
+use Rattle.osgi_space_sources.specs.declared.given.Given.{Given}
 use Rattle.osgi_space.specs.computed.Firsts.{IsBefore, IsFirstClash}
-use Rattle.osgi_wires.specs.Rows.{RowLists}
+use Rattle.osgi_space_rows.specs.Rows.{RowLists}
 use Rattle.osgi_space.proofs.FirstClash.{first-kept, first-quiet, first-taken}
 use Rattle.osgi_space.proofs.first.first_clash.Goals as goal
 use Rattle.osgi_space.proofs.first.first_clash.Goals.{then-branch+then-is_earlier, else-branch, else-branch-via-then-branch+else-is_earlier, else-branch-via-else-branch}

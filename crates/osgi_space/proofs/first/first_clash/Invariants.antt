@@ -1,7 +1,7 @@
 -- It is the first of the pairs so far that clash, and has a name.
 use Rattle.std.proofs.Common.{◌<◌, length, take}
 use Rattle.std.specs.Option.{ForSome}
-use Rattle.osgi_sources.specs.declared.given.Given.{Given}
+use Rattle.osgi_space_sources.specs.declared.given.Given.{Given}
 use Rattle.osgi_space.specs.computed.Firsts.{IsFirstClash}
 use Rattle.osgi_space.proofs.first.first_clash.Given as goal
 

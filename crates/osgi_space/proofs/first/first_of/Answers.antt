@@ -3,9 +3,9 @@ use Rattle.std.proofs.Common.{◌↔◌, ◌<◌, ℕ, List, length, get_or, sym
 use Rattle.std.proofs.lemmas.List.{get_or_default}
 use Rattle.std.specs.BTreeSet.{contains}
 use Rattle.std.specs.Ordering.{nat_cmp}
-use Rattle.osgi_wires.specs.Rows.{RowLists}
-use Rattle.osgi_sources.specs.computed.Pairs.{IsImplied}
-use Rattle.osgi_sources.specs.declared.given.Given.{Given}
+use Rattle.osgi_space_rows.specs.Rows.{RowLists}
+use Rattle.osgi_space_sources.specs.computed.Pairs.{IsImplied}
+use Rattle.osgi_space_sources.specs.declared.given.Given.{Given}
 use Rattle.osgi_space.specs.computed.Firsts.{IsFirstClash}
 use Rattle.osgi_space.proofs.Firsts.{first-implied, implied-number}
 use Rattle.osgi_space.proofs.first.first_of.Goals as goal

@@ -7,11 +7,11 @@ use Rattle.std.specs.Ordering.{nat_cmp}
 use Rattle.std.proofs.lemmas.List.{get_or_default}
 use Rattle.std.proofs.lemmas.List.Elements.{All-contains}
 use Rattle.osgi_base.specs.declared.ids.RevisionId.{RevisionId}
-use Rattle.osgi_wires.specs.Agree.{id}
-use Rattle.osgi_wires.specs.Names.{name_of}
+use Rattle.osgi_space_rows.specs.Agree.{id}
+use Rattle.osgi_space_rows.specs.Names.{name_of}
 use Rattle.osgi_world.specs.Lists.{In}
-use Rattle.osgi_sources.specs.declared.given.Given.{Given}
-use Rattle.osgi_sources.specs.laws.Adding.{all-more, all-of}
+use Rattle.osgi_space_sources.specs.declared.given.Given.{Given}
+use Rattle.osgi_space_sources.specs.laws.Adding.{all-more, all-of}
 use Rattle.osgi_space.specs.Violations.{IsFirstViolation}
 use Rattle.osgi_space.specs.computed.Firsts.{IsFirstImplied}
 use Rattle.osgi_space.specs.declared.violation.Violation.{Violation}

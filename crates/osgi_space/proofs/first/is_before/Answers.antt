@@ -5,7 +5,7 @@ use Rattle.std.specs.Cmp.Lexicographic.{slice_cmp}
 use Rattle.std.specs.Ordering.{nat_cmp}
 use Rattle.std.specs.declared.cmp.Ordering.{Ordering}
 use Rattle.std.specs.declared.cmp.Ordering.TheVariants.{Equal, Greater}
-use Rattle.osgi_wires.specs.Names.{name_of}
+use Rattle.osgi_space_rows.specs.Names.{name_of}
 use Rattle.osgi_space.proofs.Before.{equal-before, greater-before}
 use Rattle.osgi_space.proofs.first.is_before.Goals as goal
 

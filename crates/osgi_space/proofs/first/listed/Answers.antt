@@ -3,8 +3,8 @@ use Rattle.std.proofs.Common.{◌≡◌, ◌↔◌, ℕ, ◌+◌, List, [], ◌�
 use Rattle.std.proofs.lemmas.List.{take_more}
 use Rattle.std.specs.BTreeSet.{contains}
 use Rattle.std.specs.Ordering.{nat_cmp}
-use Rattle.osgi_sources.specs.computed.Exact.{exact_number}
-use Rattle.osgi_sources.specs.laws.Sets.{set_push}
+use Rattle.osgi_space_sources.specs.computed.Exact.{exact_number}
+use Rattle.osgi_space_sources.specs.laws.Sets.{set_push}
 use Rattle.osgi_space.proofs.first.listed.Goals as goal
 
 pub loop-number-preserved : goal.loop-number-preserved

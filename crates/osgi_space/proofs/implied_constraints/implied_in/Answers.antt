@@ -2,9 +2,9 @@
 use Rattle.std.proofs.Common.{◌≡◌, ◌↔◌, ◌<◌, ℕ, List, length, get_or, sym, ◌∙◌, subst, All, Any, Contains}
 use Rattle.std.proofs.lemmas.List.{get_or_default}
 use Rattle.std.proofs.lemmas.Map.Views.{btree_set_contains_iff}
-use Rattle.osgi_wires.specs.Rows.{RowLists}
-use Rattle.osgi_sources.specs.computed.Pairs.{IsImplied}
-use Rattle.osgi_sources.specs.declared.given.Given.{Given}
+use Rattle.osgi_space_rows.specs.Rows.{RowLists}
+use Rattle.osgi_space_sources.specs.computed.Pairs.{IsImplied}
+use Rattle.osgi_space_sources.specs.declared.given.Given.{Given}
 use Rattle.osgi_space.specs.computed.NamedPairs.{named_pair}
 use Rattle.osgi_space.specs.declared.implied_constraints.Implied.{Implied}
 use Rattle.osgi_space.proofs.Firsts.{implied-number}

@@ -2,9 +2,9 @@
 use Rattle.std.proofs.Common.{◌≡◌, ◌↔◌, inl, inr, List, get_or, sym, ◌∙◌, subst, Any, IsTrue}
 use Rattle.std.proofs.lemmas.List.{get_or_default, take_all}
 use Rattle.std.specs.BTreeSet.{contains}
-use Rattle.osgi_sources.specs.declared.given.Given.{Given}
-use Rattle.osgi_sources.specs.laws.Adding.{any-more}
-use Rattle.osgi_sources.specs.laws.Sets.{set_put}
+use Rattle.osgi_space_sources.specs.declared.given.Given.{Given}
+use Rattle.osgi_space_sources.specs.laws.Adding.{any-more}
+use Rattle.osgi_space_sources.specs.laws.Sets.{set_put}
 use Rattle.osgi_space.specs.ImpliedOrder.{implied_cmp}
 use Rattle.osgi_space.specs.computed.NamedPairs.{named_pair}
 use Rattle.osgi_space.proofs.ImpliedNames.{exact_implied}

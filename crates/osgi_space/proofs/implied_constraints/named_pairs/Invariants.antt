@@ -1,7 +1,7 @@
 -- The set has exactly the pairs so far, by the names of their packages.
 use Rattle.std.proofs.Common.{◌≡◌, ◌↔◌, Any, take, IsTrue}
 use Rattle.std.specs.BTreeSet.{contains}
-use Rattle.osgi_sources.specs.declared.given.Given.{Given}
+use Rattle.osgi_space_sources.specs.declared.given.Given.{Given}
 use Rattle.osgi_space.specs.ImpliedOrder.{implied_cmp}
 use Rattle.osgi_space.specs.computed.NamedPairs.{named_pair}
 use Rattle.osgi_space.specs.declared.implied_constraints.Implied.{Implied}

@@ -2,11 +2,11 @@
 use Rattle.std.proofs.Common.{◌≡◌, ◌↔◌, ℕ, List, Any, Contains, sym, ◌∙◌, ap, subst, map}
 use Rattle.std.specs.List.Sorted.{IsStrictlyIncreasing}
 use Rattle.osgi_base.specs.declared.ids.RevisionId.{RevisionId}
-use Rattle.osgi_wires.specs.Agree.{id}
+use Rattle.osgi_space_rows.specs.Agree.{id}
 use Rattle.osgi_world.specs.Lists.{In}
-use Rattle.osgi_sources.specs.declared.given.Given.{Given}
-use Rattle.osgi_sources.specs.laws.Adding.{any-in, any-of}
-use Rattle.osgi_sources.specs.laws.Members.{contains-map, map-contains}
+use Rattle.osgi_space_sources.specs.declared.given.Given.{Given}
+use Rattle.osgi_space_sources.specs.laws.Adding.{any-in, any-of}
+use Rattle.osgi_space_sources.specs.laws.Members.{contains-map, map-contains}
 use Rattle.osgi_space.proofs.Ids.{ids-contain, numbers-of}
 use Rattle.osgi_space.proofs.naming.source_ids.Goals as goal
 

@@ -1,11 +1,11 @@
 -- A package without a number has no sources, and one with a number has those by the rows.
 use Rattle.std.proofs.Common.{◌≡◌, ◌↔◌, ℕ, List, Any, Contains, refl, sym, subst}
-use Rattle.osgi_wires.specs.Names.{HasNumber, name_of}
+use Rattle.osgi_space_rows.specs.Names.{HasNumber, name_of}
 use Rattle.osgi_world.specs.Sources.{Sources}
-use Rattle.osgi_sources.specs.computed.Givens.{IsSourceOf}
-use Rattle.osgi_sources.specs.computed.RowSources.{Sources as RowSources}
-use Rattle.osgi_sources.specs.declared.given.Given.{Given}
-use Rattle.osgi_sources.specs.laws.Adding.{any-in, any-none, any-of}
+use Rattle.osgi_space_sources.specs.computed.Givens.{IsSourceOf}
+use Rattle.osgi_space_sources.specs.computed.RowSources.{Sources as RowSources}
+use Rattle.osgi_space_sources.specs.declared.given.Given.{Given}
+use Rattle.osgi_space_sources.specs.laws.Adding.{any-in, any-none, any-of}
 use Rattle.osgi_space.proofs.Bridge.{sources-from, sources-to}
 use Rattle.osgi_space.proofs.Numbering.{named, source-number}
 use Rattle.osgi_space.proofs.questions.sources_in.Goals as goal

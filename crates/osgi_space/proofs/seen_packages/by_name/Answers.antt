@@ -5,8 +5,8 @@ use Rattle.std.specs.Prelude.{None, slice_get}
 use Rattle.std.specs.BTreeMap.{BTreeMap}
 use Rattle.std.specs.BTreeSet.{BTreeSet}
 use Rattle.std.specs.Option.{option_copied}
-use Rattle.osgi_wires.specs.Names.{HasNumber}
-use Rattle.osgi_sources.specs.declared.given.Given.{Given}
+use Rattle.osgi_space_rows.specs.Names.{HasNumber}
+use Rattle.osgi_space_sources.specs.declared.given.Given.{Given}
 use Rattle.osgi_space.specs.computed.ByName.{HasSource, IsFilled}
 use Rattle.osgi_space.proofs.SeenPackages.{named-more, unnamed-more}
 use Rattle.osgi_space.proofs.seen_packages.by_name.Goals.{in-Some+in_ok-add_source, in_default}

@@ -1,7 +1,7 @@
 -- The map has exactly the sources so far, by the names of their packages.
 use Rattle.std.proofs.Common.{◌≡◌, ◌↔◌, ℕ, List, Any, take}
-use Rattle.osgi_wires.specs.Names.{HasNumber}
-use Rattle.osgi_sources.specs.declared.given.Given.{Given}
+use Rattle.osgi_space_rows.specs.Names.{HasNumber}
+use Rattle.osgi_space_sources.specs.declared.given.Given.{Given}
 use Rattle.osgi_space.specs.computed.ByName.{HasSource, IsFilled}
 use Rattle.osgi_space.proofs.seen_packages.by_name.Given as goal
 

@@ -3,7 +3,7 @@ use Rattle.std.proofs.Common.{◌≡◌, ℕ, List, map, sym, subst, rules}
 use Rattle.std.specs.List.Sorted.{IsStrictlyIncreasing}
 use Rattle.std.proofs.lemmas.Map.Keys.{IsStrictlyIncreasing-from_sorted}
 use Rattle.osgi_base.specs.declared.ids.RevisionId.{RevisionId}
-use Rattle.osgi_wires.specs.Agree.{id}
+use Rattle.osgi_space_rows.specs.Agree.{id}
 use Rattle.osgi_space.proofs.Ids.{numbers-of}
 use Rattle.osgi_space.proofs.seen_packages.entry.Goals as goal
 

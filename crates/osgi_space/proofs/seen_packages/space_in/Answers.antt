@@ -1,10 +1,10 @@
 -- The list of what stands under the names is the class space.
 use Rattle.std.proofs.Common.{◌≡◌, ◌↔◌, ℕ, List, Any, Contains, subst}
 use Rattle.osgi_base.specs.declared.ids.RevisionId.{RevisionId}
-use Rattle.osgi_wires.specs.Names.{HasNumber}
+use Rattle.osgi_space_rows.specs.Names.{HasNumber}
 use Rattle.osgi_world.specs.Sources as relation
-use Rattle.osgi_sources.specs.computed.Givens.{IsSeen}
-use Rattle.osgi_sources.specs.declared.given.Given.{Given}
+use Rattle.osgi_space_sources.specs.computed.Givens.{IsSeen}
+use Rattle.osgi_space_sources.specs.declared.given.Given.{Given}
 use Rattle.osgi_space.specs.computed.ByName.{HasSource}
 use Rattle.osgi_space.proofs.SeenPackages.{class-space, seen-source}
 use Rattle.osgi_space.proofs.seen_packages.space_in.Goals as goal

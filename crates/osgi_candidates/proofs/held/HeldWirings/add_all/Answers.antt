@@ -2,7 +2,7 @@
 use Rattle.std.proofs.Common.{◌≡◌, ◌+◌, List, [], ◌∷◌, ◌++◌, take, ap, sym, subst, ◌∙◌, append_assoc}
 use Rattle.std.proofs.lemmas.List.{append-nil, take_all}
 use Rattle.osgi_candidates.specs.computed.Holding.{AreHeld}
-use Rattle.osgi_coherence.proofs.Grow.{one_more}
+use Rattle.osgi_space_rules.proofs.Grow.{one_more}
 use Rattle.osgi_world.specs.declared.wiring.Wiring.{Wiring}
 use Rattle.osgi_candidates.proofs.held.HeldWirings.add_all.Goals as goal
 

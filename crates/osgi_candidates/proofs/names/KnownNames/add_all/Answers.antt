@@ -3,7 +3,7 @@ use Rattle.std.proofs.Common.{◌≡◌, ◌+◌, List, [], ◌∷◌, ◌++◌,
 use Rattle.std.proofs.lemmas.List.{append-nil, take-append-drop, take_all}
 use Rattle.osgi_candidates.specs.computed.Names.{AreNames, AreOnce}
 use Rattle.osgi_candidates.proofs.Following.{names_grow, once_before}
-use Rattle.osgi_coherence.proofs.Grow.{one_more}
+use Rattle.osgi_space_rules.proofs.Grow.{one_more}
 use Rattle.osgi_world.specs.declared.world.Known.{Known}
 use Rattle.osgi_candidates.proofs.names.KnownNames.add_all.Goals as goal
 

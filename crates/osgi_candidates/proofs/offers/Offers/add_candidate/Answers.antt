@@ -4,7 +4,7 @@ use Rattle.osgi_candidates.specs.computed.Collecting.{IsOf}
 use Rattle.osgi_candidates.specs.computed.Fitting.{bare}
 use Rattle.osgi_candidates.proofs.Collected.{extends_none, extends_one}
 use Rattle.osgi_candidates.proofs.Tested.{not_by}
-use Rattle.osgi_choice.proofs.Values.{cap-eq}
+use Rattle.osgi_resolver_theory.proofs.Values.{cap-eq}
 use Rattle.osgi_world.specs.Candidates.{IsCandidate}
 use Rattle.osgi_world.specs.declared.wiring.CapRef.{CapRef}
 use Rattle.osgi_candidates.proofs.offers.Offers.add_candidate.Goals as goal

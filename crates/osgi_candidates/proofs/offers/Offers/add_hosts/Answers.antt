@@ -4,7 +4,7 @@ use Rattle.std.proofs.lemmas.List.{take_all}
 use Rattle.osgi_base.specs.declared.ids.RevisionId.{RevisionId}
 use Rattle.osgi_candidates.specs.computed.Collecting.{Extends, IsAtOf}
 use Rattle.osgi_candidates.proofs.Collected.{hosts_more, hosts_none}
-use Rattle.osgi_coherence.proofs.Items.{no_revision, there}
+use Rattle.osgi_space_rules.proofs.Items.{no_revision, there}
 use Rattle.osgi_candidates.proofs.offers.Offers.add_hosts.Goals as goal
 
 pub loop-host-init : goal.loop-host-init

@@ -6,8 +6,8 @@ use Rattle.osgi_candidates.specs.computed.Fragments.{AreBundled}
 use Rattle.osgi_candidates.specs.declared.fragments.Bundled.{Bundled}
 use Rattle.osgi_candidates.proofs.Attaching.{bundled_none, bundled_put, bundled_skip}
 use Rattle.osgi_candidates.proofs.Tested.{not_by}
-use Rattle.osgi_coherence.proofs.Grow.{one_more}
-use Rattle.osgi_coherence.proofs.Items.{no_revision, there}
+use Rattle.osgi_space_rules.proofs.Grow.{one_more}
+use Rattle.osgi_space_rules.proofs.Items.{no_revision, there}
 use Rattle.osgi_world.specs.Lookups.{bundle_of}
 use Rattle.osgi_world.specs.declared.world.Known.{Known}
 use Rattle.osgi_world.specs.declared.world.World.{World}

@@ -6,7 +6,7 @@ use Rattle.osgi_candidates.specs.computed.Names.{AreNames, place_at}
 use Rattle.osgi_candidates.specs.declared.names.Place.{Place}
 use Rattle.osgi_candidates.proofs.Collected.{IsAtSome, places_more, places_none}
 use Rattle.osgi_candidates.proofs.Proposed.{collects_all}
-use Rattle.osgi_coherence.proofs.Items.{no_revision, there}
+use Rattle.osgi_space_rules.proofs.Items.{no_revision, there}
 use Rattle.osgi_world.specs.declared.world.World.{World}
 use Rattle.osgi_candidates.proofs.offers.Offers.collected.Goals as goal
 

@@ -2,8 +2,8 @@
 use Rattle.std.proofs.Common.{Ok, Err, refl, subst}
 use Rattle.std.specs.Bool.{Decides}
 use Rattle.std.specs.Prelude.{IfOk}
-use Rattle.osgi_path.specs.Standing.{IsProblemOf}
-use Rattle.osgi_problem.specs.WorldProblems.{the_problem}
+use Rattle.osgi_resolver_path.specs.Standing.{IsProblemOf}
+use Rattle.osgi_resolver_theory.specs.WorldProblems.{the_problem}
 use Rattle.osgi_world.specs.Hopeless.{IsHopeless}
 use Rattle.osgi_world.specs.declared.problem.Problem.{Problem}
 use Rattle.osgi_resolver.proofs.walk.WalkWalker.is_hopeless.Goals as goal

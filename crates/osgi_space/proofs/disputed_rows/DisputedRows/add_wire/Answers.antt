@@ -1,8 +1,8 @@
 -- What the row adds is noted; where that fails, the row is taken back.
 use Rattle.std.proofs.Common.{◌∙◌, sym, subst}
-use Rattle.osgi_sources.specs.computed.Disputes.{AreNoted, IsPossible}
-use Rattle.osgi_wires.specs.Rows.{RowLists}
-use Rattle.osgi_wires.specs.Worlds.{WorldLists}
+use Rattle.osgi_space_sources.specs.computed.Disputes.{AreNoted, IsPossible}
+use Rattle.osgi_space_rows.specs.Rows.{RowLists}
+use Rattle.osgi_space_rows.specs.Worlds.{WorldLists}
 use Rattle.osgi_space.proofs.disputed_rows.DisputedRows.add_wire.Goals as goal
 
 pub invariant_of-self : goal.invariant_of-self

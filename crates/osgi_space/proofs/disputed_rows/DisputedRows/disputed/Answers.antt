@@ -1,8 +1,8 @@
 -- Each possible source is noted.
 use Rattle.std.proofs.Common.{ℕ, sym, subst, BTreeSet}
-use Rattle.osgi_sources.specs.computed.Disputes.{AreDisputed}
-use Rattle.osgi_sources.specs.laws.Noted.{noted-disputed}
-use Rattle.osgi_wires.specs.Worlds.{WorldLists}
+use Rattle.osgi_space_sources.specs.computed.Disputes.{AreDisputed}
+use Rattle.osgi_space_sources.specs.laws.Noted.{noted-disputed}
+use Rattle.osgi_space_rows.specs.Worlds.{WorldLists}
 use Rattle.osgi_space.proofs.disputed_rows.DisputedRows.disputed.Goals as goal
 
 pub returns : goal.returns

@@ -1,12 +1,12 @@
 -- The rows of the whole world are kept.
 use Rattle.std.proofs.Common.{◌∙◌, length, ap, refl, sym, subst}
-use Rattle.osgi_sources.specs.computed.Disputes.{AreNoted}
+use Rattle.osgi_space_sources.specs.computed.Disputes.{AreNoted}
 use Rattle.osgi_space.proofs.Followed.{follows-whole}
-use Rattle.osgi_wires.specs.Agree.{AreRowsOf}
-use Rattle.osgi_wires.specs.Names.{name_of}
-use Rattle.osgi_wires.specs.Rows.{RowLists}
-use Rattle.osgi_wires.specs.Worlds.{WorldLists}
-use Rattle.osgi_wires.specs.declared.named.Named.{Named}
+use Rattle.osgi_space_rows.specs.Agree.{AreRowsOf}
+use Rattle.osgi_space_rows.specs.Names.{name_of}
+use Rattle.osgi_space_rows.specs.Rows.{RowLists}
+use Rattle.osgi_space_rows.specs.Worlds.{WorldLists}
+use Rattle.osgi_space_rows.specs.declared.named.Named.{Named}
 use Rattle.osgi_space.proofs.disputed_rows.DisputedRows.keep.Goals as goal
 
 pub returns : goal.returns

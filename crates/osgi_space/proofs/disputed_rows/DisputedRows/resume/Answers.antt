@@ -5,10 +5,10 @@ use Rattle.osgi_space.proofs.Resumed.{once-of, resumed-noted}
 use Rattle.osgi_world.specs.Lists.{In}
 use Rattle.osgi_world.specs.declared.wiring.Wiring.{Wiring}
 use Rattle.osgi_world.specs.declared.world.Known.{Known}
-use Rattle.osgi_wires.specs.Rows.{OwnExport, RowLists}
-use Rattle.osgi_wires.specs.Worlds.{AreRowsIn}
-use Rattle.osgi_wires.specs.declared.rows.Attachment.{Attachment}
-use Rattle.osgi_wires.specs.declared.rows.Import.{Import}
+use Rattle.osgi_space_rows.specs.Rows.{OwnExport, RowLists}
+use Rattle.osgi_space_rows.specs.Worlds.{AreRowsIn}
+use Rattle.osgi_space_rows.specs.declared.rows.Attachment.{Attachment}
+use Rattle.osgi_space_rows.specs.declared.rows.Import.{Import}
 use Rattle.osgi_space.proofs.disputed_rows.DisputedRows.resume.Goals as goal
 
 pub of_more-requires-clause-named : goal.of_more-requires-clause-named

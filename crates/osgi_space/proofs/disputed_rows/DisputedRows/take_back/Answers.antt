@@ -1,9 +1,9 @@
 -- Fewer rows have fewer possible sources.
 use Rattle.std.proofs.Common.{◌≡◌, ◌∙◌, ap, sym, subst}
-use Rattle.osgi_sources.specs.computed.Disputes.{AreNoted}
-use Rattle.osgi_sources.specs.laws.Noted.{noted-fewer}
-use Rattle.osgi_wires.specs.Rows.{RowLists}
-use Rattle.osgi_wires.specs.Worlds.{WorldLists, with_added}
+use Rattle.osgi_space_sources.specs.computed.Disputes.{AreNoted}
+use Rattle.osgi_space_sources.specs.laws.Noted.{noted-fewer}
+use Rattle.osgi_space_rows.specs.Rows.{RowLists}
+use Rattle.osgi_space_rows.specs.Worlds.{WorldLists, with_added}
 use Rattle.osgi_space.proofs.disputed_rows.DisputedRows.take_back.Goals as goal
 
 pub invariant_of-self : goal.invariant_of-self

@@ -1,6 +1,6 @@
 -- The rows are those of the wirings with all that was added.
 use Rattle.std.proofs.Common.{reverse, subst}
-use Rattle.osgi_wires.specs.Worlds.{AreRowsIn}
+use Rattle.osgi_space_rows.specs.Worlds.{AreRowsIn}
 use Rattle.osgi_uses.specs.States.{SpacesState, wirings_of}
 use Rattle.osgi_uses.proofs.Trails.{rows-along}
 use Rattle.osgi_uses.proofs.spaces.Spaces.disputed_rows.Goals as goal

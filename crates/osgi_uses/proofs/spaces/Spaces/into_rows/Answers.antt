@@ -1,8 +1,8 @@
 -- One step less; without steps, the rows are those of the world.
 use Rattle.std.proofs.Common.{◌≡◌, List, [], length, reverse, refl, ap, sym, ◌∙◌, subst, arith}
 use Rattle.osgi_world.specs.Decisions.{Step}
-use Rattle.osgi_wires.specs.Steps.{with_steps}
-use Rattle.osgi_wires.specs.Worlds.{AreRowsIn}
+use Rattle.osgi_space_rows.specs.Steps.{with_steps}
+use Rattle.osgi_space_rows.specs.Worlds.{AreRowsIn}
 use Rattle.osgi_uses.specs.States.{SpacesState, wirings_of}
 use Rattle.osgi_uses.proofs.Trails.{first-step, no-steps, rows-along, steps-length}
 use Rattle.osgi_uses.proofs.spaces.Spaces.into_rows.Goals as goal

@@ -1,6 +1,6 @@
 -- The rows with a wire more.
 use Rattle.std.proofs.Common.{subst, sym, reverse}
-use Rattle.osgi_wires.specs.Worlds.{WorldLists}
+use Rattle.osgi_space_rows.specs.Worlds.{WorldLists}
 use Rattle.osgi_uses.specs.computed.Trail.{IsTrailOf}
 use Rattle.osgi_uses.proofs.Trails.{trail-more}
 use Rattle.osgi_uses.proofs.spaces.Spaces.wire.Goals as goal

@@ -1,0 +1,171 @@
+//! Operations that the framework does not have yet, which no command of the console says.
+
+use cases_text::text_of;
+use osgi_base::{BundleId, List, ListenerId, Text};
+use osgi_ops::{Kind, Op, Target};
+use std::alloc::{AllocError, Global};
+
+/// Operations that have neither a text nor a list.
+#[derive(Clone, Copy)]
+enum Plain {
+    Hand,
+    EndHand,
+    TakeJob,
+    EndJob,
+    BeginStart,
+    EndStart,
+    BeginStop,
+    EndStop,
+    Uninstall,
+    DropWirings,
+    EndRefresh,
+    BeginLevel,
+    ListLevel,
+    MoveLevel,
+    EndLevel,
+    SetBundleLevel,
+}
+
+/// Operations that have a text.
+#[derive(Clone, Copy)]
+enum Wordy {
+    AddListener,
+    RemoveListener,
+    QueueJob,
+    Print,
+    Fail,
+    Update,
+    Load,
+    WishStart,
+}
+
+const PLAIN: [(&str, Plain); 16] = [
+    ("Hand", Plain::Hand),
+    ("EndHand", Plain::EndHand),
+    ("TakeJob", Plain::TakeJob),
+    ("EndJob", Plain::EndJob),
+    ("BeginStart", Plain::BeginStart),
+    ("EndStart", Plain::EndStart),
+    ("BeginStop", Plain::BeginStop),
+    ("EndStop", Plain::EndStop),
+    ("Uninstall", Plain::Uninstall),
+    ("DropWirings", Plain::DropWirings),
+    ("EndRefresh", Plain::EndRefresh),
+    ("BeginLevel", Plain::BeginLevel),
+    ("ListLevel", Plain::ListLevel),
+    ("MoveLevel", Plain::MoveLevel),
+    ("EndLevel", Plain::EndLevel),
+    ("SetBundleLevel", Plain::SetBundleLevel),
+];
+
+const WORDY: [(&str, Wordy); 8] = [
+    ("AddListener", Wordy::AddListener),
+    ("RemoveListener", Wordy::RemoveListener),
+    ("QueueJob", Wordy::QueueJob),
+    ("Print", Wordy::Print),
+    ("Fail", Wordy::Fail),
+    ("Update", Wordy::Update),
+    ("Load", Wordy::Load),
+    ("WishStart", Wordy::WishStart),
+];
+
+fn plain_named(name: &str) -> Option<Plain> {
+    for (word, plain) in &PLAIN {
+        if *word == name {
+            return Some(*plain);
+        }
+    }
+    None
+}
+
+fn wordy_named(name: &str) -> Option<Wordy> {
+    for (word, wordy) in &WORDY {
+        if *word == name {
+            return Some(*wordy);
+        }
+    }
+    None
+}
+
+fn plain_op(plain: Plain, bundle: BundleId) -> Op {
+    match plain {
+        Plain::Hand => Op::Hand,
+        Plain::EndHand => Op::EndHand {
+            listener: ListenerId(1),
+        },
+        Plain::TakeJob => Op::TakeJob,
+        Plain::EndJob => Op::EndJob,
+        Plain::BeginStart => Op::BeginStart {
+            bundle,
+            transient: true,
+        },
+        Plain::EndStart => Op::EndStart {
+            bundle,
+            failed: true,
+        },
+        Plain::BeginStop => Op::BeginStop {
+            target: Target::Id(bundle),
+            transient: true,
+        },
+        Plain::EndStop => Op::EndStop {
+            bundle,
+            failed: false,
+        },
+        Plain::Uninstall => Op::Uninstall { bundle },
+        Plain::DropWirings => Op::DropWirings,
+        Plain::EndRefresh => Op::EndRefresh,
+        Plain::BeginLevel => Op::BeginLevel { target_level: 2 },
+        Plain::ListLevel => Op::ListLevel { level: 1 },
+        Plain::MoveLevel => Op::MoveLevel { to: 2 },
+        Plain::EndLevel => Op::EndLevel,
+        Plain::SetBundleLevel => Op::SetBundleLevel { bundle, level: 1 },
+    }
+}
+
+fn wordy_op(wordy: Wordy, owner: BundleId, text: Text) -> Op {
+    match wordy {
+        Wordy::AddListener => Op::AddListener {
+            owner,
+            name: text,
+            kind: Kind::Bundle,
+            filter: None,
+        },
+        Wordy::RemoveListener => Op::RemoveListener { owner, name: text },
+        Wordy::QueueJob => Op::QueueJob { owner, name: text },
+        Wordy::Print => Op::Print { owner, text },
+        Wordy::Fail => Op::Fail { owner, text },
+        Wordy::Update => Op::Update {
+            bundle: owner,
+            location: text,
+        },
+        Wordy::Load => Op::Load {
+            bundle: owner,
+            class: text,
+        },
+        Wordy::WishStart => Op::WishStart {
+            target: Target::Name(text),
+            transient: false,
+        },
+    }
+}
+
+/// The operation of this name, about the bundle, that has neither a text nor a list.
+pub fn later(name: &str, bundle: BundleId) -> Option<Op> {
+    Some(plain_op(plain_named(name)?, bundle))
+}
+
+/// The operation of this name, about the bundle, that has a text or a list.
+pub fn later_with_text(
+    alloc: Global,
+    name: &str,
+    bundle: BundleId,
+) -> Result<Option<Op>, AllocError> {
+    if name == "BeginRefresh" {
+        let bundles = List::new(alloc)?;
+        return Ok(Some(Op::BeginRefresh { bundles }));
+    }
+    match wordy_named(name) {
+        Some(wordy) => Ok(Some(wordy_op(wordy, bundle, text_of(alloc, "a text")?))),
+        None => Ok(None),
+    }
+}

@@ -1,0 +1,103 @@
+//! What the machine answers, and its history.
+
+use cases_operations::{add_checked, add_shown, are_shown_alike, entry_of};
+use cases_text::{complain, put, put_shown};
+use osgi_base::Tag;
+use osgi_core::Core;
+use osgi_ops::{Entry, Op, Reply};
+use std::alloc::{AllocError, Global};
+
+/// What the machine answers to an operation.
+fn answered(alloc: Global, core: &mut Core, tag: Tag, op: &Op) -> Result<Reply, AllocError> {
+    core.apply(tag, op.copy(alloc)?)
+}
+
+/// Applies an operation; the entry that it comes to.
+fn applied(alloc: Global, core: &mut Core, tag: Tag, op: Op) -> Result<Entry, AllocError> {
+    let reply = answered(alloc, core, tag, &op);
+    entry_of(tag, Ok(op), reply)
+}
+
+/// Whether an entry is the last of a history.
+fn is_last(alloc: Global, entries: &[Entry], entry: &Entry) -> Result<bool, AllocError> {
+    match entries {
+        [.., last] => are_shown_alike(alloc, last, entry),
+        [] => Ok(false),
+    }
+}
+
+/// Adds an entry, and whether it is the last of the history.
+fn add_compared(
+    alloc: Global,
+    out: &mut String,
+    core: &Core,
+    entry: &Entry,
+) -> Result<(), AllocError> {
+    add_checked(alloc, out, entry)?;
+    let is_recorded = is_last(alloc, core.entries(), entry)?;
+    complain(out, is_recorded, ", not recorded")
+}
+
+/// Adds what the machine answers to an operation, and whether it is the last of the history.
+pub fn add_recorded(
+    alloc: Global,
+    out: &mut String,
+    core: &mut Core,
+    tag: Tag,
+    op: Op,
+) -> Result<(), AllocError> {
+    let entry = applied(alloc, core, tag, op)?;
+    add_compared(alloc, out, core, &entry)
+}
+
+/// The kind of an operation, and the bundle that asked for it where it names one.
+fn kind(op: &Op) -> (&'static str, u32) {
+    match op {
+        Op::Register { owner, .. } => ("register", owner.0),
+        Op::Modify { owner, .. } => ("modify", owner.0),
+        Op::Unregister { owner, .. } => ("unregister", owner.0),
+        Op::Find { asker, .. } => ("find", asker.0),
+        Op::FindAll { asker, .. } => ("findall", asker.0),
+        Op::Get { user, .. } => ("get", user.0),
+        Op::Unget { user, .. } => ("unget", user.0),
+        Op::Install { .. } => ("install", 0),
+        Op::Resolve { .. } => ("resolve", 0),
+        Op::ListBundles => ("bundles", 0),
+        Op::ListServices => ("services", 0),
+        Op::ListWires { .. } => ("wires", 0),
+        _ => ("later", 0),
+    }
+}
+
+/// Adds the tag of an entry.
+fn add_tag(out: &mut String, tag: Tag) -> Result<(), AllocError> {
+    put(out, " | ")?;
+    put_shown(out, &tag.caller)?;
+    put(out, ".")?;
+    put_shown(out, &tag.command)
+}
+
+/// Adds the kind of an operation, after the bundle that asked for it.
+fn add_kind(out: &mut String, op: &Op) -> Result<(), AllocError> {
+    let (kind, bundle) = kind(op);
+    put(out, " ")?;
+    put_shown(out, &bundle)?;
+    put(out, " ")?;
+    put(out, kind)?;
+    put(out, ": ")
+}
+
+fn add_entry(alloc: Global, out: &mut String, entry: &Entry) -> Result<(), AllocError> {
+    add_tag(out, entry.tag)?;
+    add_kind(out, &entry.op)?;
+    add_shown(alloc, out, entry)
+}
+
+/// Adds the entries of a history.
+pub fn add_history(alloc: Global, out: &mut String, entries: &[Entry]) -> Result<(), AllocError> {
+    put_shown(out, &entries.len())?;
+    for entry in entries {
+        add_entry(alloc, out, entry)?;
+    }
+    Ok(())
+}

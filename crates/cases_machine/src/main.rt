@@ -1,0 +1,56 @@
+//! Reads rows, and prints each with what the machine answers to it.
+//!
+//! An empty row, and one that begins with `#`, says nothing. The first word of any other says what it asks for:
+//!
+//! | Row | Asks for |
+//! |---|---|
+//! | `core ENTRIES [LOCATION]` | a new machine whose history has room for so many entries, and whose depot has a bundle at the location, if one is given, of that name and version 1.0.0 |
+//! | `CALLER.NUMBER BUNDLE COMMAND` | what the machine answers to a command of the console, asked by the bundle in that line |
+//! | `CALLER.NUMBER BUNDLE later NAME` | the same of an operation about the bundle, by its name, that the framework does not have yet |
+//! | `CALLER.NUMBER BUNDLE later_with_text NAME` | the same where the operation has a text or a list |
+//! | `entries` | the machine's history |
+//! | `line NAME` | what the console writes of a refusal |
+//! | `refusal NAME`, `many NAME`, `join`, `limits` | numbers and names of refusals, a line that joins, the standard limits |
+//!
+//! Each operation, reply, entry and line of a row is compared with its copy; the answer says so where they differ.
+#![tactic(auto)]
+
+mod depot;
+mod later;
+mod machine;
+mod names;
+mod refusals;
+mod rows;
+
+use cases_text::{Cases, answer_lines};
+use depot::depot_of;
+use osgi_core::Core;
+use osgi_ops::Limits;
+use rows::add_answer;
+use std::alloc::{AllocError, Global};
+use std::io;
+
+/// The machine that rows ask, one after another.
+#[derive(Drop)]
+struct MachineCases<'a> {
+    core: &'a mut Core,
+}
+
+impl Cases for MachineCases<'_> {
+    fn add_answer(
+        &mut self,
+        alloc: Global,
+        out: &mut String,
+        case: &str,
+    ) -> Result<(), AllocError> {
+        add_answer(alloc, out, self.core, case)
+    }
+}
+
+fn main(rt: HostRuntime) -> io::Result<()> {
+    let mut core = Core::new(rt.alloc(), Limits::standard(), depot_of(rt.alloc(), "")?)?;
+    let answered = answer_lines(&rt, &mut MachineCases { core: &mut core });
+    // Its parts are few, and its tables many: a machine that is dropped whole takes minutes of proof.
+    let _ = core.into_parts();
+    answered
+}

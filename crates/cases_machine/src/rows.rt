@@ -1,0 +1,122 @@
+//! What rows ask of the machine.
+
+use crate::depot::depot_of;
+use crate::later::{later, later_with_text};
+use crate::machine::{add_history, add_recorded};
+use crate::names::{add_join, add_limits, add_many};
+use crate::refusals::{Form, add_refusal};
+use cases_operations::asked::asked;
+use cases_operations::{number, split_bundle};
+use cases_text::{put, split_word};
+use osgi_base::{BundleId, Tag};
+use osgi_core::Core;
+use osgi_ops::{Limits, Op};
+use std::alloc::{AllocError, Global};
+use std::mem;
+
+/// Limits with room for so many entries, a million at most.
+fn limited(entries: u32) -> Limits {
+    Limits {
+        budget: 0,
+        handings: 0,
+        entries: u64::from(entries).min(1_000_000),
+    }
+}
+
+/// A new machine with room for so many entries, and the depot of the location.
+fn begin(
+    alloc: Global,
+    out: &mut String,
+    core: &mut Core,
+    entries: u32,
+    location: &str,
+) -> Result<(), AllocError> {
+    let next = Core::new(alloc, limited(entries), depot_of(alloc, location)?)?;
+    let _ = mem::replace(core, next).into_parts();
+    put(out, "begun")
+}
+
+/// The tag that a word writes, as `CALLER.NUMBER`.
+fn tag_of(word: &str) -> Option<Tag> {
+    let (caller, command) = word.split_once('.')?;
+    Some(Tag {
+        caller: number(caller),
+        command: number(command),
+    })
+}
+
+/// Why a name is of no operation.
+const NO_OPERATION: &str = "no such operation";
+
+/// The operation that a row asks for, by a command of the console or by its name; or why it asks for none.
+fn op_of(
+    alloc: Global,
+    bundle: BundleId,
+    text: &str,
+) -> Result<Result<Op, &'static str>, AllocError> {
+    let (word, name) = split_word(text);
+    if word == "later" {
+        Ok(later(name, bundle).ok_or(NO_OPERATION))
+    } else if word == "later_with_text" {
+        Ok(later_with_text(alloc, name, bundle)?.ok_or(NO_OPERATION))
+    } else {
+        asked(alloc, bundle, text)
+    }
+}
+
+/// Asks for the operation that a row says after its tag.
+fn ask_tagged(
+    alloc: Global,
+    out: &mut String,
+    core: &mut Core,
+    tag: Tag,
+    text: &str,
+) -> Result<(), AllocError> {
+    let (bundle, command) = split_bundle(text);
+    match op_of(alloc, bundle, command)? {
+        Ok(op) => add_recorded(alloc, out, core, tag, op),
+        Err(why) => put(out, why),
+    }
+}
+
+/// Asks for the operation of a row that begins with a tag.
+fn ask(
+    alloc: Global,
+    out: &mut String,
+    core: &mut Core,
+    word: &str,
+    text: &str,
+) -> Result<(), AllocError> {
+    match tag_of(word) {
+        Some(tag) => ask_tagged(alloc, out, core, tag, text),
+        None => put(out, "no such row"),
+    }
+}
+
+/// Adds the answer to a row.
+pub fn add_answer(
+    alloc: Global,
+    out: &mut String,
+    core: &mut Core,
+    row: &str,
+) -> Result<(), AllocError> {
+    let (word, rest) = split_word(row);
+    if word == "core" {
+        let (entries, location) = split_word(rest);
+        begin(alloc, out, core, number(entries), location)
+    } else if word == "entries" {
+        add_history(alloc, out, core.entries())
+    } else if word == "refusal" {
+        add_refusal(alloc, out, rest, Form::Name)
+    } else if word == "line" {
+        add_refusal(alloc, out, rest, Form::Line)
+    } else if word == "many" {
+        add_many(out, rest)
+    } else if word == "join" {
+        add_join(alloc, out)
+    } else if word == "limits" {
+        add_limits(out)
+    } else {
+        ask(alloc, out, core, word, rest)
+    }
+}

@@ -1,6 +1,0 @@
--- The fact, from what the definitions give.
-use Rattle.osgi_choice.proofs.Facts.{extensions_are_words}
-use Rattle.osgi_choice.proofs.extensions_are_words.Goals as goal
-
-pub returns : goal.returns
-returns c = extensions_are_words

@@ -1,8 +1,0 @@
--- The wirings so far keep the rules.
-use Rattle.std.proofs.Common.{take}
-use Rattle.osgi_coherence.specs.computed.Growing.{Each}
-use Rattle.osgi_coherence.specs.computed.Holding.{WiringHolds}
-use Rattle.osgi_coherence.proofs.rules.each_holds.Given as goal
-
-abbrev pub invariant-loop-wiring : goal.invariant-loop-wiring
-invariant-loop-wiring l = Each (WiringHolds l.known l.index) (take l.wiring-index l.wiring-items)

@@ -1,6 +1,0 @@
--- A sort keeps the items.
-use Rattle.osgi_coherence.proofs.Found.{same_items}
-use Rattle.osgi_coherence.proofs.sorted.Sorted.of.Goals as goal
-
-pub returns : goal.returns
-returns g c = record { items = same_items c.args.items.items c.sort.new.self.items c.sort.ensures.permutation }

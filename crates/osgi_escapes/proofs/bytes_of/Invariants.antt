@@ -1,6 +1,0 @@
--- Less of the text is left after each byte.
-use Rattle.std.proofs.Common.{length}
-use Rattle.osgi_escapes.proofs.bytes_of.Given as goal
-
-abbrev pub decreases-loop-byte : goal.decreases-loop-byte
-decreases-loop-byte l = length l.rest

@@ -1,7 +1,0 @@
--- None of the wires so far goes to another provider.
-use Rattle.std.proofs.Common.{◌≢◌, Any, take}
-use Rattle.osgi_wires.specs.declared.rows.Import.{Import}
-use Rattle.osgi_hopeless.proofs.providers.has_another.Given as goal
-
-abbrev pub invariant-loop-row : goal.invariant-loop-row
-invariant-loop-row l = ¬ Any (λ (row : Import). row.provider ≢ l.provider) (take l.row-index l.imports)

@@ -1,2 +1,0 @@
--- What values by numbers hold.
-pub mod NumberMaps

@@ -1,4 +1,0 @@
--- Lemmas on one decision more.
-pub mod Before
-pub mod Settling
-pub mod Reasons

@@ -1,6 +1,0 @@
--- The fact, from what the definitions give.
-use Rattle.osgi_onward.proofs.Reasons.{clashes_lead_to_host}
-use Rattle.osgi_onward.proofs.clashes_lead_to_host.Goals as goal
-
-pub returns : goal.returns
-returns c = clashes_lead_to_host

@@ -1,6 +1,0 @@
--- The fact, from what the definitions give.
-use Rattle.osgi_onward.proofs.Reasons.{offers_end_with_host}
-use Rattle.osgi_onward.proofs.offers_end_with_host.Goals as goal
-
-pub returns : goal.returns
-returns c = offers_end_with_host

@@ -1,6 +1,0 @@
--- The fact, from what the definitions give.
-use Rattle.osgi_onward.proofs.Reasons.{only_new_reasons}
-use Rattle.osgi_onward.proofs.only_new_reasons.Goals as goal
-
-pub returns : goal.returns
-returns c = only_new_reasons

@@ -1,6 +1,0 @@
--- The fact, from what the definitions give.
-use Rattle.osgi_onward.proofs.Reasons.{only_touched_are_stuck}
-use Rattle.osgi_onward.proofs.only_touched_are_stuck.Goals as goal
-
-pub returns : goal.returns
-returns c = only_touched_are_stuck

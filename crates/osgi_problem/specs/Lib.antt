@@ -1,2 +1,0 @@
--- The problem of a world.
-pub mod WorldProblems

@@ -1,6 +1,0 @@
--- No service is registered.
-use Rattle.std.proofs.Common.{◌≡◌}
-use Rattle.osgi_registry_cases.proofs.uses.take_back.Given as goal
-
-abbrev pub invariant-loop-uses : goal.invariant-loop-uses
-invariant-loop-uses l = l.registry.issued ≡ l.fn.registry.issued

@@ -1,0 +1,86 @@
+-- What an operation does to the tables, and answers by them.
+use Rattle.std.specs.Prelude.{ℕ, ◌≡◌, ◌<◌, ◌+◌, ◌-◌, ◌^◌, Bool, true, false, is_some, List, ◌∷◌, None, find, length}
+use Rattle.osgi_base.specs.declared.ids.BundleId.{BundleId}
+use Rattle.osgi_bundle.specs.Stands as table
+use Rattle.osgi_ops.specs.Bundles.{Bundle, installed, is_bundle, system, the_system_bundle}
+use Rattle.osgi_ops.specs.Moments.{later, Moment}
+use Rattle.osgi_ops.specs.Operations.{IsReply}
+use Rattle.osgi_ops.specs.Resolved.{current_revision, is_resolved}
+use Rattle.osgi_ops.specs.Soundness.{IsSound}
+use Rattle.osgi_ops.specs.Worlds.{Leaves, with_revision}
+use Rattle.osgi_ops.specs.declared.op.Op.{Op}
+use Rattle.osgi_ops.specs.declared.op.Op.TheVariants as op
+use Rattle.osgi_ops.specs.declared.reply.Reply.{Reply}
+use Rattle.osgi_registry.specs.Stands as registry
+use Rattle.osgi_wiring.specs.States.{BecomesKnown, IsKeptWorld, WiringState}
+use Rattle.osgi_world.specs.declared.revision.Revision.{Revision}
+use Rattle.osgi_world.specs.declared.world.World.{World}
+use Rattle.osgi_reply_services.specs.Served as served
+use Rattle.osgi_reply.specs.declared.tables.Tables.{Tables}
+
+-- the framework has the operation
+abbrev pub is_known : Op → Bool
+is_known (op.Register owner classes object properties) = true
+is_known (op.Modify owner service properties) = true
+is_known (op.Unregister owner service) = true
+is_known (op.Find asker class filter) = true
+is_known (op.FindAll asker class filter) = true
+is_known (op.Get user service) = true
+is_known (op.Unget user service) = true
+is_known (op.Install location) = true
+is_known (op.Resolve bundle) = true
+is_known (op.ListWires bundle) = true
+is_known op.ListBundles = true
+is_known op.ListServices = true
+is_known _ = false
+
+-- what is known of the world where these bundles were installed, and so many ids of revisions were given
+pub record IsWorldOf (list : List Bundle) (world : World) (given : ℕ) : Type 0 where
+  -- each live bundle has a current revision, and no others have one
+  pub current : (b : BundleId) → is_some (current_revision world b) ≡ is_some (find (is_bundle b) (the_system_bundle ∷ list))
+  pub fresh : (b : BundleId) → length list < b.0 → current_revision world b ≡ None
+  pub issued : given ≡ length list
+  pub resolved_system : is_resolved world system ≡ true
+  pub sound : IsSound world
+
+-- table by table the tables are those of the moment's history
+pub record StandsFor (now : Moment) (tables : Tables) : Type 0 where
+  pub depot : tables.depot.rows ≡ now.setting.depot
+  pub budget : tables.budget ≡ now.setting.bounds.budget
+  pub services : registry.StandsFor now.before tables.registry
+  pub bundles : table.StandsFor now.setting.depot now.before now.world tables.bundles
+  pub world : tables.wirings.world ≡ now.world
+  pub known : IsWorldOf (installed now.setting.depot now.before) now.world tables.wirings.issued
+
+-- at each moment that the tables stood for the reply is due, the world is left as it may be, and then the tables stand for the next
+pub record IsReplied (op : Op) (old new : Tables) (reply : Reply) : Type 0 where
+  pub due : (now : Moment) → StandsFor now old → IsReply now op reply
+  pub left : (now : Moment) → StandsFor now old → Leaves now op reply new.wirings.world
+  pub stands : (now : Moment) → StandsFor now old → StandsFor (later now op reply new.wirings.world) new
+
+-- the registry has room, ids of bundles and of revisions are left to be given, and the next bundle has no current revision. One
+-- more than the budget can be counted
+pub record HasRoom (tables : Tables) : Type 0 where
+  pub services : served.HasRoom tables.registry
+  pub bundles : tables.bundles.issued < 4294967295
+  pub revisions : tables.wirings.issued < 4294967295
+  pub fresh : (b : BundleId) → b.0 ≡ tables.bundles.issued + 1 → current_revision tables.wirings.world b ≡ None
+  pub budget : tables.budget < 2 ^ 64 - 1
+
+-- what the tables stood for they stand for
+abbrev pub StandsStill : Tables → Tables → Type 0
+StandsStill old new = (now : Moment) → StandsFor now old → StandsFor now new
+
+-- ---- the wirings when a bundle is installed
+
+-- the bundle's revision becomes known under the next id
+pub record IsBrought (b : BundleId) (revision : Revision) (old new : WiringState) : Type 0 where
+  pub world : new.world ≡ with_revision old.world (record { 0 = old.issued + 1 }) b revision
+  pub known : BecomesKnown old.world new.world (record { id = record { 0 = old.issued + 1 }; bundle = b; current = true; revision = revision })
+  pub kept : IsKeptWorld new.world new.issued
+  pub issued : new.issued ≡ old.issued + 1
+
+-- the world and the ids given are the same
+pub record IsSame (old new : WiringState) : Type 0 where
+  pub world : new.world ≡ old.world
+  pub issued : new.issued ≡ old.issued

@@ -1,0 +1,290 @@
+-- What the registry answers is what is due at each moment that it stands for.
+use Rattle.std.proofs.Common.{◌≡◌, ◌≢◌, ◌+◌, ◌≤◌, ◌<◌, ℕ, inl, inr, List, [], ◌∷◌, ◌++◌, length, map, ap, sym, subst, ◌∙◌, refl, arith}
+use Rattle.std.specs.Prelude.{Bool, true, false, cond, ◌==◌, nat_le, nat_lt, Option, None, Some, Result, Ok, Err, IfOk, IsSomeAnd}
+use Rattle.std.specs.Option.{option_map_or, option_or}
+use Rattle.std.proofs.lemmas.Bool.{eq-eqb, eqb-false, eqb-true, leb-false, leb-true}
+use Rattle.osgi_base.specs.declared.ids.BundleId.{BundleId}
+use Rattle.osgi_base.specs.declared.ids.ServiceId.{ServiceId}
+use Rattle.osgi_model.specs.declared.filter.Filter.{Filter}
+use Rattle.osgi_model.specs.declared.value.Attribute.{Attribute}
+use Rattle.osgi_ops.specs.Classes.{AreRanked, IsFound, IsOf, IsOpenTo}
+use Rattle.osgi_ops.specs.Operations.{Answers, row_of}
+use Rattle.osgi_ops.specs.Properties.{has_twins}
+use Rattle.osgi_ops.specs.Services.{live, live_at, Registered, registered, services, uses, uses_of}
+use Rattle.osgi_ops.specs.declared.limits.TheConstants.{MAX_SERVICES}
+use Rattle.osgi_base.specs.Verdict.{answers, Gives, refuses, Verdict, Where}
+use Rattle.osgi_ops.specs.declared.entry.Entry.{Entry}
+use Rattle.osgi_ops.specs.declared.op.Op.{Op}
+use Rattle.osgi_ops.specs.declared.op.Op.TheVariants as op
+use Rattle.osgi_ops.specs.declared.refusal.Many.TheVariants.{Services}
+use Rattle.osgi_ops.specs.declared.refusal.Refusal.{Refusal}
+use Rattle.osgi_ops.specs.declared.refusal.Refusal.TheVariants.{NoSuchService, BadProperties, NotOwner, TooMany}
+use Rattle.osgi_ops.specs.declared.reply.Reply.{Reply}
+use Rattle.osgi_ops.specs.declared.reply.Reply.TheVariants as answer
+use Rattle.osgi_ops.specs.declared.service.Service.{Service}
+use Rattle.osgi_ops.specs.declared.service.ServiceRow.{ServiceRow}
+use Rattle.osgi_registry.specs.laws.Standing.{Found, nowhere, quiet_find, quiet_find_all, quiet_list, quiet_refused, rows_found, rows_length, rows_services, stands_quiet, there}
+use Rattle.osgi_registry.specs.Rows.{count_of, IsOpenBy, modify_refusal, object_at, refusal_at, register_refusal, RegistryRows, Row, row_at, services_in, twins_refusal, use_count}
+use Rattle.osgi_registry.specs.Stands.{IsRowOf, StandsAfter, StandsFor}
+use Rattle.osgi_reply_services.specs.Served.{IsServed}
+
+-- ---- services
+
+abbrev Others : BundleId → Option Registered → Refusal → Type 0
+Others owner of refusal = IsSomeAnd of (λ r. (r.owner ≢ owner) × (refusal ≡ NotOwner r.owner))
+
+same_owner : (row : Row) (r : Registered) → IsRowOf row r → row.service.owner ≡ r.owner
+same_owner row r is = ap (λ (s : Service). s.owner) is.service
+
+refused_there : (owner : BundleId) (row : Row) (r : Registered) (refusal : Refusal) (rest : List (Refusal → Type 0)) (due : Reply → Type 0) (own : Bool) → (owner.0 == row.service.owner.0) ≡ own → IsRowOf row r →
+    Some refusal ≡ cond own None (Some (NotOwner row.service.owner)) → Gives (Where NoSuchService (Some r ≡ None) ∷ Others owner (Some r) ∷ rest) due (refuses refusal)
+refused_there owner row r refusal rest due true own is e = absurd (cc e)
+refused_there owner row r refusal rest due false own is e =
+    let named : refusal ≡ NotOwner row.service.owner = cc e in
+    let other : r.owner ≡ owner → ⊥ = λ same. eqb-false owner.0 row.service.owner.0 own (ap (λ (b : BundleId). b.0) (sym same ∙ sym (same_owner row r is))) in
+    inr ((λ f called. cc called.1), inl (refusal, (other, named ∙ ap NotOwner (same_owner row r is)), refl))
+
+-- the refusal by the row is the first that is called for
+change_refused : (owner : BundleId) (at : Option Row) (of : Option Registered) (refusal : Refusal) (rest : List (Refusal → Type 0)) (due : Reply → Type 0) → Found at of → Some refusal ≡ refusal_at owner at →
+    Gives (Where NoSuchService (of ≡ None) ∷ Others owner of ∷ rest) due (refuses refusal)
+change_refused owner None (Some r) refusal rest due found e = elim found [ ]
+change_refused owner (Some row) None refusal rest due found e = elim found [ ]
+change_refused owner None None refusal rest due nowhere e =
+    let named : refusal ≡ NoSuchService = cc e in
+    inl (NoSuchService, (refl, refl), ap refuses named)
+change_refused owner (Some row) (Some r) refusal rest due (there is) e = refused_there owner row r refusal rest due (owner.0 == row.service.owner.0) refl is e
+
+passed_there : (owner : BundleId) (row : Row) (r : Registered) (rest : List (Refusal → Type 0)) (due : Reply → Type 0) (v : Verdict Refusal Reply) (own : Bool) → (owner.0 == row.service.owner.0) ≡ own → IsRowOf row r →
+    None ≡ cond own None (Some (NotOwner row.service.owner)) → Gives rest due v → Gives (Where NoSuchService (Some r ≡ None) ∷ Others owner (Some r) ∷ rest) due v
+passed_there owner row r rest due v true own is e issued =
+    let same : r.owner ≡ owner = sym (same_owner row r is) ∙ (λ i. record { 0 = sym (eqb-true owner.0 row.service.owner.0 own) i }) in
+    inr ((λ f called. cc called.1), inr ((λ f called. called.0 same), issued))
+passed_there owner row r rest due v false own is e issued = absurd (cc e)
+
+-- where there is none, neither is
+change_passed : (owner : BundleId) (at : Option Row) (of : Option Registered) (rest : List (Refusal → Type 0)) (due : Reply → Type 0) (v : Verdict Refusal Reply) → Found at of → None ≡ refusal_at owner at → Gives rest due v →
+    Gives (Where NoSuchService (of ≡ None) ∷ Others owner of ∷ rest) due v
+change_passed owner None (Some r) rest due v found e issued = elim found [ ]
+change_passed owner (Some row) None rest due v found e issued = elim found [ ]
+change_passed owner None None rest due v nowhere e issued = absurd (cc e)
+change_passed owner (Some row) (Some r) rest due v (there is) e issued = passed_there owner row r rest due v (owner.0 == row.service.owner.0) refl is e issued
+
+-- ---- each operation
+
+found_now : (history : List Entry) (registry : RegistryRows) (service : ServiceId) → StandsFor history registry → Found (row_at service registry.rows) (live_at service history)
+found_now history registry service stands = rows_found service registry.rows (live history) stands.rows
+
+-- what refuses an operation changes nothing that the registry stands for
+refused_stands : (o : Op) (old new : RegistryRows) (refusal : Refusal) → new ≡ old → StandsAfter o (answer.Refused refusal) old new
+refused_stands o old new refusal same = λ history tag stands.
+    subst (λ r. StandsFor (history ++ record { tag = tag; op = o; reply = answer.Refused refusal } ∷ []) r) (sym same) (stands_quiet history old _ stands (quiet_refused tag o refusal))
+
+-- Register
+room_is : (history : List Entry) (registry : RegistryRows) → StandsFor history registry → length registry.rows ≡ length (live history)
+room_is history registry stands = rows_length registry.rows (live history) stands.rows
+
+register_refused : (properties : List Attribute) (rows : List Row) (count : ℕ) (refusal : Refusal) (due : Reply → Type 0) (twins full : Bool) → has_twins properties ≡ twins → nat_le MAX_SERVICES (length rows) ≡ full → length rows ≡ count →
+    Some refusal ≡ option_or (cond twins (Some BadProperties) None) (cond full (Some (TooMany Services)) None) →
+    Gives (Where BadProperties (has_twins properties ≡ true) ∷ Where (TooMany Services) (MAX_SERVICES ≤ count) ∷ []) due (refuses refusal)
+register_refused properties rows count refusal due true full t f is e =
+    let named : refusal ≡ BadProperties = cc e in
+    inl (BadProperties, (refl, t), ap refuses named)
+register_refused properties rows count refusal due false true t f is e =
+    let named : refusal ≡ TooMany Services = cc e in
+    inr ((λ g called. absurd (cc (called.1, t))), inl (TooMany Services, (refl, rw is at (leb-true _ _ f)), ap refuses named))
+register_refused properties rows count refusal due false false t f is e = absurd (cc e)
+
+register_passed : (properties : List Attribute) (rows : List Row) (count : ℕ) (due : Reply → Type 0) (v : Verdict Refusal Reply) (twins full : Bool) → has_twins properties ≡ twins → nat_le MAX_SERVICES (length rows) ≡ full → length rows ≡ count →
+    None ≡ option_or (cond twins (Some BadProperties) None) (cond full (Some (TooMany Services)) None) → Gives [] due v →
+    Gives (Where BadProperties (has_twins properties ≡ true) ∷ Where (TooMany Services) (MAX_SERVICES ≤ count) ∷ []) due v
+register_passed properties rows count due v true full t f is e issued = absurd (cc e)
+register_passed properties rows count due v false true t f is e issued = absurd (cc e)
+register_passed properties rows count due v false false t f is e issued =
+    let room : length rows < MAX_SERVICES = leb-false _ _ f in
+    inr ((λ g called. absurd (cc (called.1, t))), inr ((λ g called. let c = called.1 in absurd (omega (arith, room, c, is))), issued))
+
+pub served_registered : (owner : BundleId) (classes : List (List ℕ)) (object : List ℕ) (properties : List Attribute) (old new : RegistryRows) (service : ServiceId) → None ≡ register_refusal properties old.rows →
+    service.0 ≡ old.issued + 1 → StandsAfter (op.Register owner classes object properties) (answer.Service service) old new → IsServed (op.Register owner classes object properties) old new (answer.Service service)
+served_registered owner classes object properties old new service none id stands = record {
+  due = λ now stood.
+      let is : answer.Service service ≡ answer.Service (record { 0 = length (registered now.before) + 1 }) = λ i. answer.Service (record { 0 = (id ∙ ap (λ n. n + 1) stood.issued) i }) in
+      (register_passed properties old.rows (length (live now.before)) (Answers now (op.Register owner classes object properties)) (answers (answer.Service service)) (has_twins properties) (nat_le MAX_SERVICES (length old.rows)) refl refl (room_is now.before old stood) none is);
+  stands = stands;
+}
+
+pub served_unregistered : (owner : BundleId) (classes : List (List ℕ)) (object : List ℕ) (properties : List Attribute) (old new : RegistryRows) (refusal : Refusal) → Some refusal ≡ register_refusal properties old.rows →
+    new ≡ old → IsServed (op.Register owner classes object properties) old new (answer.Refused refusal)
+served_unregistered owner classes object properties old new refusal some same = record {
+  due = λ now stood. register_refused properties old.rows (length (live now.before)) refusal (Answers now (op.Register owner classes object properties)) (has_twins properties) (nat_le MAX_SERVICES (length old.rows)) refl refl (room_is now.before old stood) some;
+  stands = refused_stands _ old new refusal same;
+}
+
+-- Modify
+twins_refused : (properties : List Attribute) (refusal : Refusal) (due : Reply → Type 0) (twins : Bool) → has_twins properties ≡ twins → Some refusal ≡ cond twins (Some BadProperties) None →
+    Gives (Where BadProperties (has_twins properties ≡ true) ∷ []) due (refuses refusal)
+twins_refused properties refusal due true t e =
+    let named : refusal ≡ BadProperties = cc e in
+    inl (BadProperties, (refl, t), ap refuses named)
+twins_refused properties refusal due false t e = absurd (cc e)
+
+twins_passed : (properties : List Attribute) (due : Reply → Type 0) (v : Verdict Refusal Reply) (twins : Bool) → has_twins properties ≡ twins → None ≡ cond twins (Some BadProperties) None → Gives [] due v →
+    Gives (Where BadProperties (has_twins properties ≡ true) ∷ []) due v
+twins_passed properties due v true t e issued = absurd (cc e)
+twins_passed properties due v false t e issued = inr ((λ g called. absurd (cc (called.1, t))), issued)
+
+modify_refused : (owner : BundleId) (at : Option Row) (of : Option Registered) (properties : List Attribute) (refusal : Refusal) (due : Reply → Type 0) (first : Option Refusal) → Found at of → refusal_at owner at ≡ first →
+    Some refusal ≡ option_or first (twins_refusal properties) → Gives (Where NoSuchService (of ≡ None) ∷ Others owner of ∷ Where BadProperties (has_twins properties ≡ true) ∷ []) due (refuses refusal)
+modify_refused owner at of properties refusal due None found is e = change_passed owner at of (Where BadProperties (has_twins properties ≡ true) ∷ []) due (refuses refusal) found (sym is) (twins_refused properties refusal due (has_twins properties) refl e)
+modify_refused owner at of properties refusal due (Some other) found is e = change_refused owner at of refusal (Where BadProperties (has_twins properties ≡ true) ∷ []) due found (e ∙ sym is)
+
+modify_passed : (owner : BundleId) (at : Option Row) (of : Option Registered) (properties : List Attribute) (due : Reply → Type 0) (v : Verdict Refusal Reply) (first : Option Refusal) → Found at of → refusal_at owner at ≡ first →
+    None ≡ option_or first (twins_refusal properties) → Gives [] due v → Gives (Where NoSuchService (of ≡ None) ∷ Others owner of ∷ Where BadProperties (has_twins properties ≡ true) ∷ []) due v
+modify_passed owner at of properties due v None found is e issued = change_passed owner at of (Where BadProperties (has_twins properties ≡ true) ∷ []) due v found (sym is) (twins_passed properties due v (has_twins properties) refl e issued)
+modify_passed owner at of properties due v (Some other) found is e issued = absurd (cc e)
+
+pub served_modified : (owner : BundleId) (service : ServiceId) (properties : List Attribute) (old new : RegistryRows) → None ≡ modify_refusal owner service properties old.rows →
+    StandsAfter (op.Modify owner service properties) answer.Done old new → IsServed (op.Modify owner service properties) old new answer.Done
+served_modified owner service properties old new none stands = record {
+  due = λ now stood. modify_passed owner (row_at service old.rows) (live_at service now.before) properties (Answers now (op.Modify owner service properties)) (answers answer.Done) _ (found_now now.before old service stood) refl none refl;
+  stands = stands;
+}
+
+pub served_unmodified : (owner : BundleId) (service : ServiceId) (properties : List Attribute) (old new : RegistryRows) (refusal : Refusal) → Some refusal ≡ modify_refusal owner service properties old.rows → new ≡ old →
+    IsServed (op.Modify owner service properties) old new (answer.Refused refusal)
+served_unmodified owner service properties old new refusal some same = record {
+  due = λ now stood. modify_refused owner (row_at service old.rows) (live_at service now.before) properties refusal (Answers now (op.Modify owner service properties)) _ (found_now now.before old service stood) refl some;
+  stands = refused_stands _ old new refusal same;
+}
+
+-- Unregister
+pub served_taken : (owner : BundleId) (service : ServiceId) (old new : RegistryRows) → None ≡ refusal_at owner (row_at service old.rows) → StandsAfter (op.Unregister owner service) answer.Done old new →
+    IsServed (op.Unregister owner service) old new answer.Done
+served_taken owner service old new none stands = record {
+  due = λ now stood. change_passed owner (row_at service old.rows) (live_at service now.before) [] (Answers now (op.Unregister owner service)) (answers answer.Done) (found_now now.before old service stood) none refl;
+  stands = stands;
+}
+
+pub served_untaken : (owner : BundleId) (service : ServiceId) (old new : RegistryRows) (refusal : Refusal) → Some refusal ≡ refusal_at owner (row_at service old.rows) → new ≡ old →
+    IsServed (op.Unregister owner service) old new (answer.Refused refusal)
+served_untaken owner service old new refusal some same = record {
+  due = λ now stood. change_refused owner (row_at service old.rows) (live_at service now.before) refusal [] (Answers now (op.Unregister owner service)) (found_now now.before old service stood) some;
+  stands = refused_stands _ old new refusal same;
+}
+
+-- Find
+services_now : (history : List Entry) (registry : RegistryRows) → StandsFor history registry → services_in registry.rows ≡ services history
+services_now history registry stands = rows_services registry.rows (live history) stands.rows
+
+-- what is found of services, where others say the same of what is asked
+found_alike : (P Q : Service → Type 0) (list : List Service) (found : Option ServiceId) → ((s : Service) → P s → Q s) → ((s : Service) → Q s → P s) → IsFound P list found → IsFound Q list found
+found_alike P Q list None to back none = λ k d within asked. none k d within (back _ asked)
+found_alike P Q list (Some id) to back best = record {
+  service = best.service;
+  there = best.there;
+  is = best.is;
+  asked = to best.service best.asked;
+  best = λ k d within asked. best.best k d within (back _ asked);
+}
+
+own : BundleId → BundleId → List ℕ → Bool
+own asker registrant class = registrant.0 == asker.0
+
+-- a bundle's own services are those that are assignable to it
+open_there : (asker : BundleId) (class : List ℕ) (filter : Option Filter) (s : Service) → IsOpenBy (own asker) class filter s → IsOpenTo asker class filter s
+unfolding own
+open_there asker class filter s is = (is.0, λ k d within. λ i. record { 0 = eqb-true s.owner.0 asker.0 (is.1 k d within) i })
+
+open_back : (asker : BundleId) (class : List ℕ) (filter : Option Filter) (s : Service) → IsOpenTo asker class filter s → IsOpenBy (own asker) class filter s
+unfolding own
+open_back asker class filter s is = (is.0, λ k d within. eq-eqb s.owner.0 asker.0 (ap (λ (b : BundleId). b.0) (is.1 k d within)))
+
+pub served_found : (asker : BundleId) (class : List ℕ) (filter : Option Filter) (registry : RegistryRows) (found : Option ServiceId) →
+    IsFound (IsOpenBy (λ registrant class. registrant.0 == asker.0) class filter) (services_in registry.rows) found → IsServed (op.Find asker class filter) registry registry (answer.Best found)
+unfolding own
+served_found asker class filter registry found is = record {
+  due = λ now stood. (
+    found,
+    refl,
+    subst (λ list. IsFound (IsOpenTo asker class filter) list found) (services_now now.before registry stood)
+        (found_alike (IsOpenBy (own asker) class filter) (IsOpenTo asker class filter) (services_in registry.rows) found (open_there asker class filter) (open_back asker class filter) is),
+  );
+  stands = λ history tag stood. stands_quiet history registry _ stood (quiet_find tag asker class filter found);
+}
+
+-- FindAll
+pub served_found_all : (asker : BundleId) (class : List ℕ) (filter : Option Filter) (registry : RegistryRows) (found : List ServiceId) → AreRanked (IsOf class filter) (services_in registry.rows) found →
+    IsServed (op.FindAll asker class filter) registry registry (answer.Services found)
+served_found_all asker class filter registry found ranked = record {
+  due = λ now stood.
+      (found, refl, subst (λ list. AreRanked (IsOf class filter) list found) (services_now now.before registry stood) ranked);
+  stands = λ history tag stood. stands_quiet history registry _ stood (quiet_find_all tag asker class filter found);
+}
+
+-- Get
+get_refused : (at : Option Row) (of : Option Registered) (refusal : Refusal) (due : Reply → Type 0) → Found at of → Err refusal ≡ object_at at → Gives (Where NoSuchService (of ≡ None) ∷ []) due (refuses refusal)
+get_refused None (Some r) refusal due found e = elim found [ ]
+get_refused (Some row) None refusal due found e = elim found [ ]
+get_refused None None refusal due nowhere e =
+    let named : refusal ≡ NoSuchService = cc e in
+    inl (NoSuchService, (refl, refl), ap refuses named)
+get_refused (Some row) (Some r) refusal due (there is) e = absurd (cc e)
+
+get_answers : (at : Option Row) (of : Option Registered) (text : List ℕ) → Found at of → Ok text ≡ object_at at →
+    Gives (Where NoSuchService (of ≡ None) ∷ []) (λ reply. IsSomeAnd of (λ r. reply ≡ answer.Object r.object)) (answers (answer.Object text))
+get_answers None (Some r) text found e = elim found [ ]
+get_answers (Some row) None text found e = elim found [ ]
+get_answers None None text nowhere e = absurd (cc e)
+get_answers (Some row) (Some r) text (there is) e =
+    let same : text ≡ row.service.object = cc e in
+    inr ((λ f called. cc called.1), ap answer.Object (same ∙ ap (λ (s : Service). s.object) is.service))
+
+pub served_got : (user : BundleId) (service : ServiceId) (old new : RegistryRows) (text : List ℕ) → Ok text ≡ object_at (row_at service old.rows) → StandsAfter (op.Get user service) (answer.Object text) old new →
+    IsServed (op.Get user service) old new (answer.Object text)
+served_got user service old new text got stands = record {
+  due = λ now stood. get_answers (row_at service old.rows) (live_at service now.before) text (found_now now.before old service stood) got;
+  stands = stands;
+}
+
+pub served_ungotten : (user : BundleId) (service : ServiceId) (old new : RegistryRows) (refusal : Refusal) → Err refusal ≡ object_at (row_at service old.rows) → new ≡ old →
+    IsServed (op.Get user service) old new (answer.Refused refusal)
+served_ungotten user service old new refusal got same = record {
+  due = λ now stood. get_refused (row_at service old.rows) (live_at service now.before) refusal (Answers now (op.Get user service)) (found_now now.before old service stood) got;
+  stands = refused_stands _ old new refusal same;
+}
+
+-- Unget
+count_found : (user : BundleId) (at : Option Row) (of : Option Registered) → Found at of → option_map_or (λ row. count_of user row.uses) at 0 ≡ option_map_or (uses_of user) of 0
+count_found user None (Some r) found = elim found [ ]
+count_found user (Some row) None found = elim found [ ]
+count_found user None None nowhere = refl
+count_found user (Some row) (Some r) (there is) = is.uses user
+
+-- the registry counts the uses of the history
+pub uses_now : (history : List Entry) (registry : RegistryRows) (user : BundleId) (service : ServiceId) → StandsFor history registry → use_count user service registry.rows ≡ uses user service history
+uses_now history registry user service stands = count_found user (row_at service registry.rows) (live_at service history) (found_now history registry service stands)
+
+pub served_ungot : (user : BundleId) (service : ServiceId) (old new : RegistryRows) (value : Bool) → value ≡ nat_lt 0 (use_count user service old.rows) → StandsAfter (op.Unget user service) (answer.Flag value) old new →
+    IsServed (op.Unget user service) old new (answer.Flag value)
+served_ungot user service old new value is stands = record {
+  due = λ now stood. ap answer.Flag (is ∙ ap (nat_lt 0) (uses_now now.before old user service stood));
+  stands = stands;
+}
+
+-- ListServices
+pub served_listed : (registry : RegistryRows) (rows : List ServiceRow) → rows ≡ map row_of (services_in registry.rows) → IsServed op.ListServices registry registry (answer.ServiceRows rows)
+served_listed registry rows are = record {
+  due = λ now stood. ap answer.ServiceRows (are ∙ ap (map row_of) (services_now now.before registry stood));
+  stands = λ history tag stood. stands_quiet history registry _ stood (quiet_list tag rows);
+}
+
+-- ---- what a function answers
+
+-- a refusal, made twice, that a function hands on
+pub by_refused : {E : Type 0} (r : Result (Reply × Reply) E) (P : Reply → Type 0) (refusal : Refusal) → IfOk r (λ x. (x.0 ≡ answer.Refused refusal) × (x.1 ≡ answer.Refused refusal)) → P (answer.Refused refusal) → IfOk r (λ x. P x.0)
+by_refused (Ok x) P refusal is p = subst P (sym is.0) p
+by_refused (Err e) P refusal is p = tt
+
+-- and its two copies are one reply
+pub refused_twice : {E : Type 0} (r : Result (Reply × Reply) E) (refusal : Refusal) → IfOk r (λ x. (x.0 ≡ answer.Refused refusal) × (x.1 ≡ answer.Refused refusal)) → IfOk r (λ x. x.1 ≡ x.0)
+refused_twice (Ok x) refusal is = is.1 ∙ sym is.0
+refused_twice (Err e) refusal is = tt

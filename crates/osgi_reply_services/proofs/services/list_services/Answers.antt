@@ -1,0 +1,6 @@
+-- All services.
+use Rattle.osgi_reply_services.proofs.Serving.{served_listed}
+use Rattle.osgi_reply_services.proofs.services.list_services.Goals as goal
+
+pub returns-clause-served : goal.returns-clause-served
+returns-clause-served c = served_listed c.args.registry.now c.in_ok-rows.rows c.in_ok-rows.ensures.rows

@@ -1,0 +1,46 @@
+-- What was found out of owners.
+use Rattle.std.specs.Prelude.{◌≡◌, List, IsSome, IsTrue, Some, slice_get}
+use Rattle.std.specs.Global.{Vec}
+use Rattle.std.specs.Option.{option_map}
+use Rattle.osgi_base.specs.NumberMaps.{value_at}
+use Rattle.osgi_base.specs.declared.ids.RevisionId.{RevisionId}
+use Rattle.osgi_world.specs.Candidates.{CanBeAsked, IsProblem, candidates, matching}
+use Rattle.osgi_world.specs.Lookups.{is_current}
+use Rattle.osgi_world.specs.declared.problem.Problem.{Problem}
+use Rattle.osgi_world.specs.declared.wiring.CapRef.{CapRef}
+use Rattle.osgi_world.specs.declared.wiring.ReqRef.{ReqRef}
+use Rattle.osgi_world.specs.declared.world.World.{World}
+use Rattle.osgi_resolver_decisions.specs.Sure.{AreSure}
+use Rattle.osgi_resolver_decisions.specs.computed.Asks.{decisions_in, first_due}
+use Rattle.osgi_resolver_decisions.specs.computed.Free.{is_free}
+use Rattle.osgi_resolver_decisions.specs.declared.lists.Lists.{Lists}
+use Rattle.osgi_resolver_decisions.specs.declared.owned.Owned.{Owned}
+
+-- P is a problem in the world
+pub record IsProblemIn (W : World) (P : Problem) : Type 0 where
+  pub world : P.world ≡ W
+  pub is : IsProblem P
+
+-- the candidates of the owner's requirements are listed by their places
+abbrev pub AreListsOf : World → RevisionId → List (Vec CapRef) → Type 0
+AreListsOf W owner lists = (P : Problem) (q : ReqRef) → IsProblemIn W P → q.owner ≡ owner → CanBeAsked P.world.known q → option_map (λ list. list.items) (slice_get lists q.index) ≡ Some (candidates P q)
+
+-- the lists know the owner
+abbrev pub Knows : Lists → RevisionId → Type 0
+Knows lists owner = IsSome (value_at lists.by_owner owner.0)
+
+-- what was found out of the owner is so in the problem
+pub record IsRightOf (P : Problem) (owner : RevisionId) (of : Owned) : Type 0 where
+  pub candidates_are : (q : ReqRef) → q.owner ≡ owner → CanBeAsked P.world.known q → option_map (λ list. list.items) (slice_get of.lists.items q.index) ≡ Some (candidates P q)
+  pub fragments_are : of.fragments.items ≡ matching P owner
+  pub first_is : IsTrue (is_current P.world.known owner) → decisions_in of.first.items ≡ first_due P owner
+  pub free_is : IsTrue (is_current P.world.known owner) → of.is_free ≡ is_free P owner
+  pub sure_is : IsTrue (is_current P.world.known owner) → IsTrue of.is_sure → AreSure P owner
+
+-- what was found out is so in any problem of the world
+abbrev pub AreRight : Lists → Type 0
+AreRight lists = (P : Problem) → IsProblemIn lists.offers P → (owner : RevisionId) (of : Owned) → value_at lists.by_owner owner.0 ≡ Some of → IsRightOf P owner of
+
+-- what was known still is
+abbrev pub KnowsAll : Lists → Lists → Type 0
+KnowsAll old new = (owner : RevisionId) → Knows old owner → Knows new owner

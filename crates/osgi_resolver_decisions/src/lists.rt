@@ -1,0 +1,111 @@
+//! What was found out of owners, as far as it was asked for.
+
+ghost use Rattle.std.specs.Prelude.{◌≡◌, OnOk, IsTrue};
+ghost use Rattle.osgi_world.specs.Candidates.{CanBeAsked, candidates, matching};
+ghost use Rattle.osgi_world.specs.Lookups.{is_current};
+ghost use Rattle.osgi_world.specs.declared.problem.Problem.{Problem};
+ghost use Rattle.osgi_resolver_decisions.specs.Sure.{AreSure};
+ghost use Rattle.osgi_resolver_decisions.specs.computed.Asks.{decisions_in, first_due};
+ghost use Rattle.osgi_resolver_decisions.specs.computed.Free.{is_free};
+ghost use Rattle.osgi_resolver_decisions.specs.computed.Known.{AreListsOf, AreRight, IsProblemIn, Knows, KnowsAll};
+
+use crate::asks::list_at;
+use crate::decision::Decision;
+use crate::owned::{Owned, owned_of};
+use osgi_base::{NumberMap, RevisionId};
+use osgi_candidates::Offers;
+use osgi_world::{CapRef, ReqRef};
+use std::alloc::{AllocError, Global};
+
+/// What a world offers, and what was found out of each owner that was asked about.
+#[derive(Drop)]
+pub struct Lists<'w> {
+    pub offers: Offers<'w>,
+    pub by_owner: NumberMap<Owned>,
+}
+
+impl<'w> Lists<'w> {
+    pub fn new(alloc: Global, offers: Offers<'w>) -> Lists<'w>
+        ensures offers { result.offers ≡ offers.entry }
+        ensures right { AreRight result }
+    {
+        Lists {
+            offers,
+            by_owner: NumberMap::new(alloc),
+        }
+    }
+
+    /// Finds out what is to be known of the owner, unless it is known.
+    pub fn learn(&mut self, alloc: Global, owner: RevisionId) -> Result<(), AllocError>
+        requires right { AreRight self.old }
+        ensures offers { self.new.offers ≡ self.old.offers }
+        ensures right { AreRight self.new }
+        ensures known { OnOk result (Knows self.new owner) }
+        ensures kept { KnowsAll self.old self.new }
+    {
+        if self.by_owner.get(owner.0).is_some() {
+            return Ok(());
+        }
+        let owned = owned_of(alloc, &self.offers, owner)?;
+        self.by_owner.insert(owner.0, owned)?;
+        Ok(())
+    }
+
+    /// The candidates of the requirements of an owner that is known, by their places.
+    pub fn of_owner(&self, owner: RevisionId) -> &[Vec<CapRef>]
+        ensures lists { AreRight self.now → Knows self.now owner → AreListsOf self.now.offers owner result.now }
+    {
+        match self.by_owner.get(owner.0) {
+            Some(owned) => owned.lists.as_slice(),
+            None => &[],
+        }
+    }
+
+    /// The candidates of a requirement whose owner is known.
+    pub fn candidates(&self, requirement: ReqRef) -> &[CapRef]
+        ensures candidates { (P : Problem) → AreRight self.now → IsProblemIn self.now.offers P → Knows self.now requirement.owner → CanBeAsked P.world.known requirement → result.now ≡ candidates P requirement }
+    {
+        list_at(self.of_owner(requirement.owner), requirement.index)
+    }
+
+    /// The fragments that may be attached to an owner that is known, by bundle id.
+    pub fn fragments_for(&self, owner: RevisionId) -> &[RevisionId]
+        ensures fragments { (P : Problem) → AreRight self.now → IsProblemIn self.now.offers P → Knows self.now owner → result.now ≡ matching P owner }
+    {
+        match self.by_owner.get(owner.0) {
+            Some(owned) => owned.fragments.as_slice(),
+            None => &[],
+        }
+    }
+
+    /// The decisions of an owner that is known, as a member of which nothing is decided yet.
+    pub fn first_of(&self, owner: RevisionId) -> &[Decision]
+        ensures first { (P : Problem) → AreRight self.now → IsProblemIn self.now.offers P → Knows self.now owner → IsTrue (is_current P.world.known owner) → decisions_in result.now ≡ first_due P owner }
+    {
+        match self.by_owner.get(owner.0) {
+            Some(owned) => owned.first.as_slice(),
+            None => &[],
+        }
+    }
+
+    /// Whether an owner that is known has no attachment, bundle requirement or import to decide.
+    pub fn is_free(&self, owner: RevisionId) -> bool
+        ensures free { (P : Problem) → AreRight self.now → IsProblemIn self.now.offers P → Knows self.now owner → IsTrue (is_current P.world.known owner) → result ≡ is_free P owner }
+    {
+        match self.by_owner.get(owner.0) {
+            Some(owned) => owned.is_free,
+            None => false,
+        }
+    }
+
+    /// Whether each requirement that is needed of an owner that is known has a candidate, and may have one wire alone. Where the
+    /// answer is false, that need not be so.
+    pub fn is_sure(&self, owner: RevisionId) -> bool
+        ensures sure { IsTrue result → (P : Problem) → AreRight self.now → IsProblemIn self.now.offers P → Knows self.now owner → IsTrue (is_current P.world.known owner) → AreSure P owner }
+    {
+        match self.by_owner.get(owner.0) {
+            Some(owned) => owned.is_sure,
+            None => false,
+        }
+    }
+}

@@ -1,0 +1,106 @@
+-- Constraints that come from settled revisions alone are those that come from no unsettled member.
+use Rattle.std.proofs.Common.{◌≡◌, ◌⊎◌, inl, inr, ℕ, List, [], ◌∷◌, length, refl, sym, subst, arith, IsTrue}
+use Rattle.std.proofs.lemmas.Bool.{false≢true}
+use Rattle.std.specs.BTreeSet.{BTreeSet, contains}
+use Rattle.std.specs.Ordering.{nat_cmp}
+use Rattle.osgi_base.specs.declared.ids.RevisionId.{RevisionId}
+use Rattle.osgi_resolver_theory.proofs.Closure.{Decided, map-dec}
+use Rattle.osgi_resolver_theory.proofs.Complete.{in_force-inside}
+use Rattle.osgi_resolver_theory.proofs.Decide.{clashes-dec}
+use Rattle.osgi_resolver_theory.proofs.Inside.{sources-inside}
+use Rattle.osgi_resolver_theory.proofs.Twos.{stable}
+use Rattle.osgi_resolver_theory.proofs.Views.{in_force-member}
+use Rattle.osgi_space_sources.proofs.Agreeing.{clash-disputed}
+use Rattle.osgi_space_sources.specs.computed.Clashes.{KeepsUsesAmong}
+use Rattle.osgi_space_sources.specs.computed.Disputes.{AreDisputed}
+use Rattle.osgi_resolver_hopeless.proofs.Offering.{no-import-of}
+use Rattle.osgi_resolver_hopeless.proofs.Settling.{away-settled, row-there, settled-away}
+use Rattle.osgi_resolver_hopeless.specs.computed.Clashing.{HasClash, IsWired}
+use Rattle.osgi_resolver_hopeless.specs.computed.Open.{AreUnsettled, Has}
+use Rattle.osgi_space.proofs.Bridge.{clash-from, clash-to, implied-from, implied-to}
+use Rattle.osgi_space_rows.specs.Agree.{AreRowsOf}
+use Rattle.osgi_space_rows.specs.Rows.{RowLists, imports_of, required_by}
+use Rattle.osgi_resolver_theory.proofs.Reasons.{alone-no_clash}
+use Rattle.osgi_world.specs.Candidates.{IsProblem}
+use Rattle.osgi_world.specs.Decisions.{Made}
+use Rattle.osgi_world.specs.DueDecisions.{members}
+use Rattle.osgi_world.specs.Hopeless.{IsSettled}
+use Rattle.osgi_world.specs.Lists.{In}
+use Rattle.osgi_world.specs.Partial.{partial}
+use Rattle.osgi_world.specs.Sources.{Clash, Implied, follows, seen}
+use Rattle.osgi_world.specs.Wirings.{InForce}
+use Rattle.osgi_world.specs.declared.problem.Problem.{Problem}
+
+clash-dec : (P : Problem) (D : Made) → Decided (HasClash P D)
+clash-dec P D = map-dec
+    (λ a. record { member = a.0; seen_by = a.2.0; used = a.2.1; is_member = a.1; implied = a.2.2; clash = a.2.3 })
+    (λ h. (h.member, h.is_member, (h.seen_by, h.used, h.implied, h.clash)))
+    (clashes-dec P D)
+
+module _ (P : Problem) (L : IsProblem P) (D : Made) (set : List ℕ) (are : AreUnsettled P D set) where
+  abbrev IsAway : RevisionId → Type 0
+  IsAway r = ¬ Has set r.0
+
+  settled : (r : RevisionId) → InForce (partial P D) r → IsAway r → IsSettled P D r
+  settled r f away = away-settled P L D set are r f away
+
+  implied-settled : {r e : RevisionId} {u : List ℕ} → InForce (partial P D) r → Implied P.world.known (partial P D) IsAway r e u → InForce (partial P D) e × Implied P.world.known (partial P D) (IsSettled P D) r e u
+  implied-settled {r = r} f (seen {e = e} a s b x) =
+      let g = sources-inside (in_force-inside P L D) f s in
+      (g, seen (settled r f a) s (settled e g b) x)
+  implied-settled f (follows {d = d} before s b x) =
+      let p = implied-settled f before in
+      let g = sources-inside (in_force-inside P L D) p.0 s in
+      (g, follows p.1 s (settled d g b) x)
+
+  module _ (N : ℕ → List ℕ) (R : RowLists) (is : AreRowsOf P.world.known (partial P D) N R) where
+    abbrev pub Breaks : RevisionId → Type 0
+    Breaks m = ¬ KeepsUsesAmong R (λ x. ¬ Has set x) m.0
+
+    pub clash-of : (m : RevisionId) → In m (members P D) → Breaks m → HasClash P D
+    clash-of m i breaks = stable (clash-dec P D) (λ none. breaks (λ e u implied clash.
+        let pair = implied-to P.world.known (partial P D) N R is {A = λ x. ¬ Has set x} {B = IsAway} (λ x away. away) implied in
+        none (record {
+          member = m;
+          seen_by = record { 0 = e };
+          used = N u;
+          is_member = i;
+          implied = (implied-settled (in_force-member P D m i) pair).1;
+          clash = clash-to P.world.known (partial P D) N R is clash;
+        })))
+
+    pub clash-breaks : (h : HasClash P D) → Breaks h.member
+    clash-breaks h keeps =
+        let pair = implied-from P.world.known (partial P D) N R is {A = λ x. ¬ Has set x} (λ x s. settled-away P L D set are x s) h.implied in
+        keeps h.seen_by.0 pair.0 pair.2 (clash-from P.world.known (partial P D) N R is (subst (λ u. Clash P.world.known (partial P D) h.member h.seen_by u) (sym pair.1) h.clash))
+
+without : (keys : List ℕ) → length keys ≡ 0 → keys ≡ []
+without [] none = refl
+without (key ∷ keys) none = absurd (omega (arith, none))
+
+none-in : (disputed : BTreeSet ℕ) (u : ℕ) → disputed.keys ≡ [] → ¬ IsTrue (contains nat_cmp disputed u)
+none-in disputed u none there = false≢true (subst (λ keys. IsTrue (contains nat_cmp (record { keys = keys }) u)) none there)
+
+-- where no package is disputed nothing clashes
+pub none-disputed : (P : Problem) (D : Made) (N : ℕ → List ℕ) (R : RowLists) → AreRowsOf P.world.known (partial P D) N R → (disputed : BTreeSet ℕ) → AreDisputed R disputed → length disputed.keys ≡ 0 → ¬ HasClash P D
+none-disputed P D N R is disputed are none h =
+    let pair = implied-from P.world.known (partial P D) N R is {A = λ x. Unit {0}} (λ x s. tt) h.implied in
+    let c = clash-from P.world.known (partial P D) N R is (subst (λ u. Clash P.world.known (partial P D) h.member h.seen_by u) (sym pair.1) h.clash) in
+    none-in disputed pair.0 (without disputed.keys none) (clash-disputed R disputed are c)
+
+-- what clashes has a wire for a package or a bundle
+pub clash-wired : (P : Problem) (D : Made) (N : ℕ → List ℕ) (R : RowLists) → AreRowsOf P.world.known (partial P D) N R → (h : HasClash P D) → IsWired R h.member.0
+clash-wired P D N R is h = elim (empty-or (imports_of R h.member.0)) [
+  | inr some ↦ inl some
+  | inl no_imports ↦ elim (empty-or (required_by R h.member.0)) [
+    | inr some ↦ inr some
+    | inl no_bundles ↦ absurd (alone-no_clash
+        (λ p y w. let row = is.imports_from h.member.0 y.0 p w in no-import-of R h.member.0 no_imports row.0 y.0 row.2)
+        (λ y b. row-there R h.member.0 y.0 ((is.requires h.member.0 y.0).1 b) no_bundles)
+        h.implied h.clash)
+  ]
+]
+  where
+    empty-or : {X : Type 0} (xs : List X) → (xs ≡ []) ⊎ ¬ (xs ≡ [])
+    empty-or [] = inl refl
+    empty-or (x ∷ xs) = inr (λ e. let f = e in cc)

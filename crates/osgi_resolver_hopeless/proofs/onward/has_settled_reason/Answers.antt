@@ -1,0 +1,21 @@
+-- A wire that is lost, or a clash.
+use Rattle.std.proofs.Common.{refl}
+use Rattle.osgi_space_rules.proofs.OneValue.{not_true}
+use Rattle.osgi_resolver_hopeless.specs.computed.Onward as onward
+use Rattle.osgi_resolver_hopeless.specs.computed.Reasons.{clash, lost}
+use Rattle.osgi_resolver_hopeless.proofs.onward.has_settled_reason.Goals as goal
+
+pub returns-then-branch : goal.returns-then-branch
+returns-then-branch c = record {
+  reason = λ P L t. lost (c.in_ok-has_lost_at.ensures.lost P L c.if-branch.true);
+  all = λ P L h. refl;
+}
+
+pub returns : goal.returns
+returns c = record {
+  reason = λ P L t. clash ((c.in_ok-has_settled_clash.ensures.clash P L).0 t);
+  all = λ P L h. elim h [
+    | onward.lost l ↦ absurd (not_true _ c.if-branch.false (c.in_ok-has_lost_at.ensures.all P L l))
+    | onward.clash k ↦ (c.in_ok-has_settled_clash.ensures.clash P L).1 k
+  ];
+}

@@ -1,0 +1,91 @@
+-- Members that make what is decided hopeless by themselves.
+use Rattle.std.specs.Prelude.{◌≡◌, ◌≢◌, ℕ, ◌<◌, ◌⊎◌, IsTrue, List, [], Option, Some}
+use Rattle.osgi_base.specs.declared.ids.RevisionId.{RevisionId}
+use Rattle.osgi_resolver_path.specs.Standing.{IsProblemOf, Standing, made}
+use Rattle.osgi_resolver_path.specs.declared.wired.Wired.{Wired}
+use Rattle.osgi_world.specs.Candidates.{candidates}
+use Rattle.osgi_world.specs.Decisions.{Made, pick, value_made}
+use Rattle.osgi_world.specs.DueDecisions.{fragments_of, members, payload}
+use Rattle.osgi_world.specs.Lists.{In, Two}
+use Rattle.osgi_world.specs.Lookups.{is_multiple, requirement_count, symbolic_name, IsNeeded}
+use Rattle.osgi_world.specs.Partial.{partial}
+use Rattle.osgi_world.specs.Wirings.{PackageWire}
+use Rattle.osgi_world.specs.declared.problem.Problem.{Problem}
+use Rattle.osgi_world.specs.declared.wiring.CapRef.{CapRef}
+use Rattle.osgi_world.specs.declared.wiring.ReqRef.{ReqRef}
+use Rattle.osgi_world.specs.declared.wiring.Wiring.{Wiring}
+use Rattle.osgi_world.specs.declared.world.Known.{Known}
+
+-- P is a problem of what a search resolves, and m a member of what it has decided
+pub record IsMemberOf (s : Standing) (P : Problem) (m : RevisionId) : Type 0 where
+  pub problem : IsProblemOf s P
+  pub member : In m (members P (made P s))
+
+-- ---- requirements that can get no wire any more
+
+-- the decision on this wire is made, and is no
+abbrev pub IsRefused : Made → RevisionId → ReqRef → CapRef → Type 0
+IsRefused D m q c = value_made D (pick m q c) ≡ Some 1
+
+abbrev pub AreRefused : Made → RevisionId → ReqRef → List CapRef → Type 0
+AreRefused D m q cs = (c : CapRef) → In c cs → IsRefused D m q c
+
+-- the requirement is needed, and has no candidate, or may have several wires, all of which are refused
+pub record CannotBeMet (P : Problem) (D : Made) (m : RevisionId) (q : ReqRef) : Type 0 where
+  pub needed : IsNeeded P.world.known q
+  pub no_wire : (candidates P q ≡ []) ⊎ IsTrue (is_multiple P.world.known q) × AreRefused D m q (candidates P q)
+
+-- the place of a requirement
+abbrev pub place : RevisionId → ℕ → ReqRef
+place owner index = record { owner = owner; index = index }
+
+-- what this owner requires is in the payload of m
+abbrev pub IsOwner : Problem → Made → RevisionId → RevisionId → Type 0
+IsOwner P D m o = (o ≡ m) ⊎ In o (fragments_of P D m)
+
+-- a requirement of this owner cannot be met
+abbrev pub OwnUnmet : Problem → Made → RevisionId → RevisionId → Type 0
+OwnUnmet P D m o = (i : ℕ) × (i < requirement_count P.world.known o) × CannotBeMet P D m (place o i)
+
+-- a requirement of the payload cannot be met
+abbrev pub IsUnmet : Problem → Made → RevisionId → Type 0
+IsUnmet P D m = (q : ReqRef) × In q (payload P D m) × CannotBeMet P D m q
+
+-- ---- all reasons that a member alone gives
+
+-- r has two providers of one package
+pub record TwoProviders (K : List Known) (W : List Wiring) (r : RevisionId) : Type 0 where
+  pub name : List ℕ
+  pub one : RevisionId
+  pub other : RevisionId
+  pub one_wire : PackageWire K W r name one
+  pub other_wire : PackageWire K W r name other
+  pub differ : one ≢ other
+
+-- two revisions have one symbolic name
+abbrev pub SameName : List Known → RevisionId → RevisionId → Type 0
+SameName K e f = symbolic_name K e ≡ symbolic_name K f
+
+-- a requirement of the payload of m cannot be met, or two of its fragments have one symbolic name
+abbrev pub IsAmiss : Problem → Made → RevisionId → Type 0
+IsAmiss P D m = IsUnmet P D m ⊎ Two (SameName P.world.known) (fragments_of P D m)
+
+-- what makes a word hopeless of the member m alone
+pub data IsStuck (P : Problem) (D : Made) (m : RevisionId) : Type 0 where
+  amiss : IsAmiss P D m → IsStuck P D m
+  two_providers : TwoProviders P.world.known (partial P D) m → IsStuck P D m
+
+-- ---- after one decision more
+
+-- r has wires for one package to x and to another provider
+pub record OtherProvider (K : List Known) (W : List Wiring) (r x : RevisionId) : Type 0 where
+  pub name : List ℕ
+  pub other : RevisionId
+  pub one_wire : PackageWire K W r name x
+  pub other_wire : PackageWire K W r name other
+  pub differ : x ≢ other
+
+-- m is stuck; two providers of one package count only where there is a wire, and it goes to one of them
+pub data IsStuckBy (P : Problem) (D : Made) (m : RevisionId) (wired : Option Wired) : Type 0 where
+  by_itself : IsAmiss P D m → IsStuckBy P D m wired
+  by_wire : (w : Wired) → wired ≡ Some w → OtherProvider P.world.known (partial P D) m w.wire.capability.provider → IsStuckBy P D m wired

@@ -1,0 +1,92 @@
+//! Whether a constraint that comes from settled revisions alone clashes.
+
+ghost use Rattle.std.specs.Prelude.{◌↔◌, IfOk, IsTrue};
+ghost use Rattle.osgi_base.specs.declared.ids.RevisionId.{RevisionId};
+ghost use Rattle.osgi_space_sources.specs.computed.Disputes.{AreDisputed};
+ghost use Rattle.osgi_resolver_hopeless.specs.computed.Clashing.{HasClash, IsBroken, IsWired};
+ghost use Rattle.osgi_resolver_hopeless.specs.computed.Open.{AreUnsettled};
+ghost use Rattle.osgi_resolver_path.specs.Standing.{IsProblemOf, made};
+ghost use Rattle.osgi_world.specs.Lists.{In};
+ghost use Rattle.osgi_world.specs.declared.problem.Problem.{Problem};
+
+use crate::settled::unsettled;
+use osgi_base::RevisionId;
+use osgi_resolver_path::Path;
+use osgi_space_rows::Rows;
+use osgi_space_sources::{Among, RevisionSet, keeps_uses};
+use std::alloc::{AllocError, Global};
+use std::collections::BTreeSet;
+
+/// Whether the revision has a wire for a package or for a required bundle.
+fn is_wired(rows: &Rows, revision: u32) -> bool
+    ensures wired { IsTrue result ↔ IsWired rows.now revision }
+{
+    if !rows.imports_of(revision).is_empty() {
+        return true;
+    }
+    !rows.required_by(revision).is_empty()
+}
+
+/// Whether the revision has such a wire, and a violated constraint that comes from other revisions than these alone.
+fn is_broken(
+    alloc: Global,
+    rows: &Rows,
+    disputed: &BTreeSet<u32>,
+    unsettled: &RevisionSet,
+    revision: u32,
+) -> Result<bool, AllocError>
+    requires disputed { AreDisputed rows.now disputed.now }
+    ensures broken { IfOk result (λ answer. IsTrue answer ↔ IsBroken rows.now unsettled.now revision) }
+{
+    if !is_wired(rows, revision) {
+        return Ok(false);
+    }
+    let among = Among::AllBut(unsettled);
+    Ok(!keeps_uses(alloc, rows, disputed, among, revision)?)
+}
+
+/// Whether it is so with one of the members.
+fn is_one_broken(
+    alloc: Global,
+    rows: &Rows,
+    disputed: &BTreeSet<u32>,
+    unsettled: &RevisionSet,
+    members: &[RevisionId],
+) -> Result<bool, AllocError>
+    requires disputed { AreDisputed rows.now disputed.now }
+    ensures broken { IfOk result (λ answer. IsTrue answer ↔ ((m : RevisionId) × In m members.now × IsBroken rows.now unsettled.now m.0)) }
+{
+    for member in members {
+        if is_broken(alloc, rows, disputed, unsettled, member.0)? {
+            return Ok(true);
+        }
+    }
+    Ok(false)
+}
+
+/// Whether a member's implied constraint that comes from settled revisions alone clashes.
+pub fn has_clash(alloc: Global, path: &Path, unsettled: &RevisionSet) -> Result<bool, AllocError>
+    requires unsettled { (P : Problem) → IsProblemOf path.now P → AreUnsettled P (made P path.now) unsettled.now }
+    ensures clash { IfOk result (λ answer. (P : Problem) → IsProblemOf path.now P → IsTrue answer ↔ HasClash P (made P path.now)) }
+{
+    let rows = path.disputed_rows();
+    Ok(is_one_broken(
+        alloc,
+        rows.world_rows().rows(),
+        rows.disputed(),
+        unsettled,
+        path.members(),
+    )?)
+}
+
+/// Whether a member's implied constraint that comes from settled revisions alone clashes. It is looked for only where a package may
+/// have several sources.
+pub fn has_settled_clash(alloc: Global, path: &Path) -> Result<bool, AllocError>
+    ensures clash { IfOk result (λ answer. (P : Problem) → IsProblemOf path.now P → IsTrue answer ↔ HasClash P (made P path.now)) }
+{
+    if path.disputed_rows().disputed().is_empty() {
+        return Ok(false);
+    }
+    let unsettled = unsettled(alloc, path)?;
+    Ok(has_clash(alloc, path, &unsettled)?)
+}

@@ -1,0 +1,8 @@
+-- Those of the fragments so far that are attached.
+use Rattle.std.proofs.Common.{◌≡◌, filter, take}
+use Rattle.osgi_world.specs.Decisions.{attaching, is_yes}
+use Rattle.osgi_resolver_path.specs.computed.Valued.{value_in}
+use Rattle.osgi_resolver_path.proofs.adding.attached.Given as goal
+
+abbrev pub invariant-loop-fragment : goal.invariant-loop-fragment
+invariant-loop-fragment l = l.fragments.items ≡ filter (λ f. is_yes (value_in l.values (attaching l.member f))) (take l.fragment-index l.fragment-items)

@@ -1,0 +1,39 @@
+-- The decision is made with what it adds, and what the lists know is enough.
+use Rattle.std.proofs.Common.{◌≡◌, ◌<◌, ◌∷◌, [], ◌++◌, Ok, Err, List, length, flat_map, refl, sym, ◌∙◌, ap, subst, arith}
+use Rattle.std.proofs.lemmas.Option.{slice_get_read}
+use Rattle.std.specs.Prelude.{OnErr, OnOk, slice_get}
+use Rattle.osgi_resolver_path.specs.computed.Moving.{IsLearnt, IsLonger}
+use Rattle.osgi_resolver_path.specs.computed.Nexts.{IsDecidedWith, IsSameCourse}
+use Rattle.osgi_resolver_path.specs.computed.Steps.{steps_in}
+use Rattle.osgi_resolver_path.proofs.Longer.{is-longer, learnt-more, learnt-still}
+use Rattle.osgi_resolver_path.proofs.moving.longer.Goals as goal
+
+pub returns-clause-learnt : goal.returns-clause-learnt
+returns-clause-learnt c =
+    let old = c.args.course.now in
+    let new = c.decide_with.new.course in
+    let lists = c.args.lists.now in
+    let learnt = c.learn_new.new.lists in
+    let then = c.decide_with.new.lists in
+    let mark = c.mark_of-mark.result in
+    let joining = c.joining_of-joining.result in
+    let yes : IsDecidedWith learnt.offers old new mark joining → new.marks.items ≡ old.marks.items ++ mark ∷ [] → IsLearnt then new = λ by marks. learnt-more lists learnt then old new mark joining c.requires.learnt c.learn_new.ensures.kept c.in_ok-learn_new.ensures.attached c.in_ok-learn_new.ensures.joined c.decide_with.ensures.kept by.ids marks in
+    let no : IsSameCourse old new → IsLearnt then new = λ same. learnt-still lists then old new c.requires.learnt (λ o k. c.decide_with.ensures.kept o (c.learn_new.ensures.kept o k)) same in
+    elim c.decide_with.result as (λ r. OnOk r (IsDecidedWith learnt.offers old new mark joining) → OnOk r (new.marks.items ≡ old.marks.items ++ mark ∷ []) → OnErr r (IsSameCourse old new) → IsLearnt then new) [
+      | Ok x ↦ λ by marks same. yes by marks
+      | Err e ↦ λ by marks same. no same
+    ] c.decide_with.ensures.decided c.decide_with.ensures.marks c.decide_with.ensures.unchanged
+
+pub returns-clause-longer : goal.returns-clause-longer
+returns-clause-longer c =
+    let old = c.args.course.now in
+    let new = c.decide_with.new.course in
+    let lists = c.args.lists.now in
+    let mark = c.mark_of-mark.result in
+    let joining = c.joining_of-joining.result in
+    let count : c.len.result ≡ length old.marks.items = omega arith in
+    let there : slice_get old.queue.items (length old.marks.items) ≡ Rattle.std.proofs.Common.Some c.index-decision.result.now = ap (slice_get old.queue.items) (sym count) ∙ slice_get_read old.queue.items (length old.queue.items) c.len.result c.index-decision.result.now refl (subst (λ n. n < length old.queue.items) (sym count) c.requires.next) c.index-decision.ensures in
+    elim c.decide_with.result as (λ r. OnOk r (IsDecidedWith c.learn_new.new.lists.offers old new mark joining) → OnOk r (new.marks.items ≡ old.marks.items ++ mark ∷ []) → OnOk r (c.decide_with.new.spaces ≡ record c.args.spaces.now { steps = steps_in mark.step ++ c.args.spaces.now.steps }) → OnOk r (IsLonger lists.offers old new c.args.spaces.now c.decide_with.new.spaces c.args.value)) [
+      | Ok x ↦ λ by marks steps. is-longer lists c.learn_new.new.lists.offers old new c.args.spaces.now c.decide_with.new.spaces c.index-decision.result.now c.args.value mark joining c.requires.learnt c.learn_new.ensures.offers there c.mark_of-mark.ensures.mark c.joining_of-joining.ensures.joining steps marks by
+      | Err e ↦ λ by marks steps. steps
+    ] c.decide_with.ensures.decided c.decide_with.ensures.marks c.decide_with.ensures.spaces

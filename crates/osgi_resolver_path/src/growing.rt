@@ -1,0 +1,153 @@
+//! One decision more: who joins, and which decisions are due then.
+
+ghost use Rattle.std.specs.Prelude.{◌≡◌, ◌==◌, ◌||◌, ◌∷◌, ◌++◌, All, IfOk, IsTrue, OnOk, flat_map, reverse};
+ghost use Rattle.osgi_world.specs.Lookups.{is_current};
+ghost use Rattle.std.specs.List.{list_any};
+ghost use Rattle.std.specs.Option.{option_to_list};
+ghost use Rattle.osgi_base.specs.declared.ids.RevisionId.{RevisionId};
+ghost use Rattle.osgi_world.specs.Decisions.{attaching, is_yes, value_made};
+ghost use Rattle.osgi_world.specs.DueDecisions.{fragments_of, is_in_force, provider_of, pull_in};
+ghost use Rattle.osgi_world.specs.declared.problem.Problem.{Problem};
+ghost use Rattle.osgi_resolver_decisions.specs.DecisionOf.{decision_of};
+ghost use Rattle.osgi_resolver_decisions.specs.computed.Asks.{decisions_in, first_due};
+ghost use Rattle.osgi_resolver_path.specs.computed.Courses.{made_of};
+ghost use Rattle.osgi_resolver_decisions.specs.computed.Known.{AreRight, IsProblemIn, Knows, KnowsAll};
+ghost use Rattle.osgi_resolver_path.specs.computed.Placed.{ArePlaces, IsNew};
+ghost use Rattle.osgi_resolver_path.specs.computed.Steps.{steps_in};
+
+use crate::course::{Course, Mark};
+use crate::step::Step;
+use osgi_base::RevisionId;
+use osgi_candidates::Offers;
+use osgi_resolver_decisions::{Decision, Lists};
+use std::alloc::{AllocError, Global};
+
+/// Whether the revision has a wiring.
+fn is_in_force(offers: &Offers, revision: RevisionId) -> bool
+    ensures in_force { result ≡ is_in_force offers.now.wirings revision }
+{
+    offers.is_in_force(revision)
+}
+
+/// Whether the revision does not join: it is in force, or a member.
+fn stays(offers: &Offers, course: &Course, revision: RevisionId) -> bool
+    requires placed { ArePlaces course.now.places course.now.ids.items }
+    ensures stays { result ≡ is_in_force offers.now.wirings revision || list_any (λ k. k.0 == revision.0) course.now.ids.items }
+{
+    is_in_force(offers, revision) || course.has(revision)
+}
+
+/// Who joins the members by a step: the provider of a wire, if it is neither in force nor a member.
+pub fn joining_of(offers: &Offers, course: &Course, step: Option<Step>) -> Option<RevisionId>
+    requires placed { ArePlaces course.now.places course.now.ids.items }
+    ensures joining { (P : Problem) → IsProblemIn offers.now P → course.now.ids.items ++ option_to_list result ≡ pull_in P course.now.ids.items (flat_map provider_of (steps_in step)) }
+    ensures new { IsNew result course.now.ids.items }
+{
+    let Some(Step::Wired { wire, .. }) = step else {
+        return None;
+    };
+    let provider = wire.capability.provider;
+    if stays(offers, course, provider) {
+        None
+    } else {
+        Some(provider)
+    }
+}
+
+/// The value with which a decision was made, if it was.
+pub fn value_of(marks: &[Mark], decision: Decision) -> Option<u64>
+    ensures value { result ≡ value_made (made_of (reverse marks.now)) (decision_of decision) }
+{
+    let mut left = marks.len();
+    while left > 0 {
+        left -= 1;
+        let mark = marks[left];
+        if mark.decision.is_same(decision) {
+            return Some(mark.value);
+        }
+    }
+    None
+}
+
+/// Whether the fragment is attached to the host, once the decision on one fragment has this value.
+fn is_attached(
+    marks: &[Mark],
+    host: RevisionId,
+    decided: RevisionId,
+    value: u64,
+    fragment: RevisionId,
+) -> bool
+    ensures attached { result ≡ is_yes (value_made ((attaching host decided, value) ∷ made_of (reverse marks.now)) (attaching host fragment)) }
+{
+    let on = Decision::Attach {
+        host,
+        fragment: decided,
+    };
+    let decision = Decision::Attach { host, fragment };
+    if on.is_same(decision) {
+        return value == 0;
+    }
+    is_first(value_of(marks, decision))
+}
+
+/// Whether a decision is made with its first value, yes.
+pub fn is_first(value: Option<u64>) -> bool
+    ensures first { result ≡ is_yes value }
+{
+    match value {
+        Some(value) => value == 0,
+        None => false,
+    }
+}
+
+/// The host, and the fragments that are attached to it then.
+pub fn owners_of(
+    alloc: Global,
+    offers: &Offers,
+    marks: &[Mark],
+    host: RevisionId,
+    decided: RevisionId,
+    value: u64,
+) -> Result<Vec<RevisionId>, AllocError>
+    ensures owners { IfOk result (λ owners. (P : Problem) → IsProblemIn offers.now P → owners.items ≡ host ∷ fragments_of P ((attaching host decided, value) ∷ made_of (reverse marks.now)) host) }
+{
+    let fragments = offers.fragments_for(alloc, host)?;
+    let mut owners = Vec::new(alloc);
+    owners.push(host)?;
+    for fragment in &fragments {
+        if is_attached(marks, host, decided, value, *fragment) {
+            owners.push(*fragment)?;
+        }
+    }
+    Ok(owners)
+}
+
+/// Asks for the candidates of all owners.
+pub fn learn_all(alloc: Global, lists: &mut Lists, owners: &[RevisionId]) -> Result<(), AllocError>
+    requires right { AreRight lists.old }
+    ensures offers { lists.new.offers ≡ lists.old.offers }
+    ensures right { AreRight lists.new }
+    ensures kept { KnowsAll lists.old lists.new }
+    ensures known { OnOk result (All (Knows lists.new) owners.now) }
+{
+    for owner in owners {
+        lists.learn(alloc, *owner)?;
+    }
+    Ok(())
+}
+
+/// The decisions of a member of which nothing is decided yet: on its fragments, or where there are none on its requirements.
+pub fn first_of(
+    alloc: Global,
+    lists: &mut Lists,
+    member: RevisionId,
+) -> Result<Vec<Decision>, AllocError>
+    requires right { AreRight lists.old }
+    ensures offers { lists.new.offers ≡ lists.old.offers }
+    ensures right { AreRight lists.new }
+    ensures kept { KnowsAll lists.old lists.new }
+    ensures first { IfOk result (λ list. (P : Problem) → IsProblemIn lists.old.offers P → IsTrue (is_current P.world.known member) → decisions_in list.items ≡ first_due P member) }
+{
+    lists.learn(alloc, member)?;
+    Ok(Vec::from_slice(alloc, lists.first_of(member))?)
+}

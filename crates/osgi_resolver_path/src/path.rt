@@ -1,0 +1,274 @@
+//! The path of a search from the empty word to where it stands.
+
+ghost use Rattle.std.specs.Prelude.{◌≡◌, ◌↔◌, ◌⊎◌, ◌∷◌, [], ◌++◌, IsTrue, IfOk, OnOk, OnErr, MatchOption};
+ghost use Rattle.std.specs.Bool.{Decides};
+ghost use Rattle.osgi_base.specs.declared.ids.RevisionId.{RevisionId};
+ghost use Rattle.osgi_world.specs.Candidates.{candidates};
+ghost use Rattle.osgi_world.specs.ChoiceWords.{IsComplete, width};
+ghost use Rattle.osgi_world.specs.Decisions.{value_made};
+ghost use Rattle.osgi_world.specs.DueDecisions.{fragments_of, members, payload};
+ghost use Rattle.osgi_world.specs.Hopeless.{IsDecided};
+ghost use Rattle.osgi_world.specs.Lists.{In};
+ghost use Rattle.osgi_world.specs.Lookups.{is_effective};
+ghost use Rattle.osgi_world.specs.Partial as partial;
+ghost use Rattle.osgi_world.specs.Wirings.{HasWire};
+ghost use Rattle.osgi_world.specs.declared.problem.Problem.{Problem};
+ghost use Rattle.osgi_space_rows.specs.Worlds.{AreRowsIn};
+ghost use Rattle.osgi_resolver_path.specs.Last.{IsLast};
+ghost use Rattle.osgi_resolver_decisions.specs.Sure.{AreSure};
+ghost use Rattle.osgi_resolver_decisions.specs.DecisionOf.{decision_of};
+ghost use Rattle.osgi_resolver_path.specs.Standing.{HasValue, IsProblemOf, made};
+ghost use Rattle.osgi_resolver_path.specs.Wires.{wired_in};
+ghost use Rattle.osgi_resolver_path.specs.declared.wired.Wired.{Wired};
+
+use crate::course::{Course, Mark};
+use crate::last::Last;
+use crate::{adding, growing, last, moving, step, views};
+use osgi_base::{List, RevisionId};
+use osgi_candidates::Offers;
+use osgi_resolver_decisions::{Decision, Lists};
+use osgi_space::DisputedRows;
+use osgi_space_rows::WorldRows;
+use osgi_uses::Spaces;
+use osgi_world::{CapRef, ReqRef, Wiring, World};
+use std::alloc::{AllocError, Global};
+use std::marker::Model;
+
+/// A search for the resolve of a root, with the decisions that it has made so far. Contracts see the world, the root and the
+/// values of these decisions.
+pub struct Path<'w> {
+    alloc: Global,
+    world: &'w World,
+    root: RevisionId,
+    lists: Lists<'w>,
+    spaces: Spaces<'w>,
+    course: Course,
+}
+
+/// Not derived, so that each exit at which one is dropped is a single call, which is cheap to prove.
+impl Drop for Path<'_> {
+    fn drop(self) {
+        let Path {
+            alloc: _,
+            world: _,
+            root: _,
+            lists: _,
+            spaces: _,
+            course: _,
+        } = self;
+    }
+}
+
+impl<'w> Model for Path<'w> {
+    ghost use Rattle.std.specs.Prelude.{reverse};
+    ghost use Rattle.std.specs.Coded.{codes};
+    ghost use Rattle.osgi_model.specs.contracts.filter.Filter as filter;
+    ghost use Rattle.osgi_model.specs.contracts.value.Value as value;
+    ghost use Rattle.osgi_resolver_path.specs.Standing.{Standing};
+    ghost use Rattle.osgi_resolver_path.specs.computed.Courses.{word_of};
+    ghost use Rattle.osgi_resolver_path.specs.computed.Moving.{IsOnWay};
+
+    ghost Value = { Standing };
+
+    ghost coded = { Prim.hlevel (codes, filter.the_row.coded, value.the_row.coded) };
+
+    ghost view = { λ p. record { world = p.world.now; root = p.root; word = word_of (reverse p.course.marks.items) } };
+
+    ghost invariant = { λ p. IsOnWay p.world.now p.root p.lists p.spaces p.course };
+}
+
+impl<'w> Path<'w> {
+    /// At the empty word. The offers and the rows are those of the world.
+    pub fn new(
+        alloc: Global,
+        world: &'w World,
+        root: RevisionId,
+        offers: Offers<'w>,
+        rows: DisputedRows<'w>,
+    ) -> Result<Path<'w>, AllocError>
+        requires offers { offers ≡ world.now }
+        requires known { rows.known ≡ world.now.known }
+        requires rows { AreRowsIn rows world.now.wirings }
+        ensures empty { IfOk result (λ path. path ≡ record { world = world.now; root = root; word = [] }) }
+    {
+        let mut lists = Lists::new(alloc, offers);
+        let spaces = Spaces::over(alloc, world, rows);
+        let course = moving::begin(alloc, &mut lists, root)?;
+        Ok(Path {
+            alloc,
+            world,
+            root,
+            lists,
+            spaces,
+            course,
+        })
+    }
+
+    /// The rows of the world. What was decided is taken back, for which no memory is needed.
+    pub fn into_rows(self) -> DisputedRows<'w>
+        ensures known { result.known ≡ self.entry.world.known }
+        ensures rows { AreRowsIn result self.entry.world.wirings }
+    {
+        let Path {
+            alloc: _,
+            world: _,
+            root: _,
+            lists: _,
+            spaces,
+            course: _,
+        } = self;
+        spaces.into_rows()
+    }
+
+    /// How many values the next decision has; none where no decision is left.
+    pub fn values(&self) -> u64
+        ensures values { (P : Problem) → IsProblemOf self.now P → result ≡ width P (made P self.now) }
+    {
+        match self.course.next() {
+            Some(decision) => step::arity(&self.lists, decision),
+            None => 0,
+        }
+    }
+
+    /// Whether no decision is left.
+    pub fn is_complete(&self) -> bool
+        ensures complete { (P : Problem) → IsProblemOf self.now P → Decides result (IsComplete P self.now.word) }
+    {
+        self.course.next().is_none()
+    }
+
+    /// Makes the next decision with this value. If memory runs out, nothing changes.
+    pub fn longer(&mut self, value: u64) -> Result<(), AllocError>
+        requires value { HasValue self.old value }
+        ensures word { OnOk result (self.new ≡ record self.old { word = self.old.word ++ value ∷ [] }) }
+        ensures unchanged { OnErr result (self.new ≡ self.old) }
+    {
+        moving::longer(
+            self.alloc,
+            &mut self.lists,
+            &mut self.spaces,
+            &mut self.course,
+            value,
+        )
+    }
+
+    /// Takes the last decision back, and gives its value; None where none is made.
+    pub fn shorter(&mut self) -> Option<u64>
+        ensures word { MatchOption result ((self.old.word ≡ []) × (self.new ≡ self.old)) (λ value. self.old ≡ record self.new { word = self.new.word ++ value ∷ [] }) }
+    {
+        let mark = moving::shorter(&mut self.spaces, &mut self.course)?;
+        Some(mark.value)
+    }
+
+    // ---- where it stands
+
+    pub fn offers(&self) -> &Offers<'w>
+        ensures world { result.now ≡ self.now.world }
+    {
+        &self.lists.offers
+    }
+
+    pub fn root(&self) -> RevisionId
+        ensures root { result ≡ self.now.root }
+    {
+        self.root
+    }
+
+    /// The rows of the wirings that are there, with what is decided.
+    pub fn rows(&self) -> &WorldRows<'w>
+        ensures known { result.now.known ≡ self.now.world.known }
+        ensures rows { (P : Problem) → IsProblemOf self.now P → AreRowsIn result.now (partial.partial P (made P self.now)) }
+    {
+        self.spaces.rows()
+    }
+
+    /// The same rows, with the packages that may be disputed in them.
+    pub fn disputed_rows(&self) -> &DisputedRows<'w>
+        ensures known { result.now.known ≡ self.now.world.known }
+        ensures rows { (P : Problem) → IsProblemOf self.now P → AreRowsIn result.now (partial.partial P (made P self.now)) }
+    {
+        self.spaces.disputed_rows()
+    }
+
+    /// The root, and the revisions that were pulled in, in order.
+    pub fn members(&self) -> &[RevisionId]
+        ensures members { (P : Problem) → IsProblemOf self.now P → result.now ≡ members P (made P self.now) }
+    {
+        self.course.ids.as_slice()
+    }
+
+    /// The members that have an attachment, a bundle requirement or an import left to decide.
+    pub fn undecided(&self, alloc: Global) -> Result<Vec<RevisionId>, AllocError>
+        ensures undecided { IfOk result (λ list. (P : Problem) → IsProblemOf self.now P → (r : RevisionId) → In r list.items ↔ In r (members P (made P self.now)) × ¬ IsDecided P (made P self.now) r) }
+    {
+        views::undecided(alloc, &self.lists, &self.course)
+    }
+
+    /// Whether the member has no attachment, bundle requirement or import left to decide.
+    pub fn is_decided(&self, member: RevisionId) -> bool
+        ensures decided { (P : Problem) → IsProblemOf self.now P → In member (members P (made P self.now)) → Decides result (IsDecided P (made P self.now) member) }
+    {
+        views::is_decided(&self.lists, &self.course, member)
+    }
+
+    /// The fragments that are attached to a member, as far as decided, by bundle id.
+    pub fn fragments(
+        &self,
+        alloc: Global,
+        member: RevisionId,
+    ) -> Result<Vec<RevisionId>, AllocError>
+        ensures fragments { IfOk result (λ list. (P : Problem) → IsProblemOf self.now P → In member (members P (made P self.now)) → list.items ≡ fragments_of P (made P self.now) member) }
+    {
+        views::fragments(alloc, &self.lists, &self.course, member)
+    }
+
+    /// The candidates of an effective requirement of a member's payload.
+    pub fn candidates(&self, requirement: ReqRef) -> &[CapRef]
+        ensures candidates { (P : Problem) (m : RevisionId) → IsProblemOf self.now P → In m (members P (made P self.now)) → In requirement (payload P (made P self.now) m) → IsTrue (is_effective P.world.known requirement) → result.now ≡ candidates P requirement }
+    {
+        self.lists.candidates(requirement)
+    }
+
+    /// Whether each requirement that is needed of an owner of a member's payload has a candidate, and may have one wire alone. Where
+    /// the answer is false, that need not be so.
+    pub fn is_sure(&self, owner: RevisionId) -> bool
+        ensures sure { IsTrue result → (P : Problem) (m : RevisionId) → IsProblemOf self.now P → In m (members P (made P self.now)) → (owner ≡ m) ⊎ In owner (fragments_of P (made P self.now) m) → AreSure P owner }
+    {
+        self.lists.is_sure(owner)
+    }
+
+    /// The marks of the decisions that are made. Their wires are those of the members.
+    pub fn marks(&self) -> &[Mark]
+        ensures wires { (P : Problem) → IsProblemOf self.now P → (w : Wired) → In w (wired_in result.now) ↔ In w.revision (members P (made P self.now)) × HasWire (partial.partial P (made P self.now)) w.revision w.wire }
+    {
+        self.course.marks.as_slice()
+    }
+
+    /// The values of the decisions, in their order.
+    pub fn word(&self, alloc: Global) -> Result<List<u64>, AllocError>
+        ensures word { IfOk result (λ list. list ≡ self.now.word) }
+    {
+        views::word(alloc, self.course.marks.as_slice())
+    }
+
+    /// The last decision that was made; None where none is made.
+    pub fn last(&self) -> Option<Last>
+        ensures last { MatchOption result (self.now.word ≡ []) (λ last. (P : Problem) → IsProblemOf self.now P → IsLast P self.now last) }
+    {
+        last::last_of(&self.course)
+    }
+
+    /// The value with which a decision was made, if it was made.
+    pub fn value_of(&self, decision: Decision) -> Option<u64>
+        ensures value { (P : Problem) → IsProblemOf self.now P → result ≡ value_made (made P self.now) (decision_of decision) }
+    {
+        growing::value_of(self.course.marks.as_slice(), decision)
+    }
+
+    /// The wirings that the decisions add.
+    pub fn added(&self, alloc: Global) -> Result<List<Wiring>, AllocError>
+        ensures added { IfOk result (λ list. (P : Problem) → IsProblemOf self.now P → list ≡ partial.added P (made P self.now)) }
+    {
+        adding::added(alloc, &self.lists, &self.course)
+    }
+}

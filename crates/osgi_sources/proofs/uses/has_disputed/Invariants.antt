@@ -1,9 +1,0 @@
--- None of the packages so far is disputed.
-use Rattle.std.proofs.Common.{Any, take, IsTrue}
-use Rattle.std.specs.BTreeSet.{contains}
-use Rattle.std.specs.Ordering.{nat_cmp}
-use Rattle.osgi_sources.specs.declared.given.Given.{Given}
-use Rattle.osgi_sources.proofs.uses.has_disputed.Given as goal
-
-abbrev pub invariant-loop-given : goal.invariant-loop-given
-invariant-loop-given l = ¬ Any (λ (g : Given). IsTrue (contains nat_cmp l.disputed g.package)) (take l.given-index l.givens)

@@ -1,0 +1,11 @@
+-- The providers of the wires so far were noted, and what was noted before still is.
+use Rattle.std.proofs.Common.{All, take}
+use Rattle.osgi_space_sources.specs.computed.Disputes.{HoldsAll, IsNoted}
+use Rattle.osgi_space_rows.specs.declared.rows.Import.{Import}
+use Rattle.osgi_space_sources.proofs.disputed.note_imports.Given as goal
+
+abbrev pub invariant-loop-row : goal.invariant-loop-row
+invariant-loop-row l = record {
+  noted : All (λ (row : Import). IsNoted l.possible row.imported row.provider) (take l.row-index l.imports);
+  kept : HoldsAll l.fn.possible l.possible;
+}

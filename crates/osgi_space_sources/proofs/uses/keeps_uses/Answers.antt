@@ -1,0 +1,84 @@
+-- Where the revision sees no disputed package none of its constraints is violated.
+use Rattle.std.proofs.Common.{◌↔◌, ◌≡◌, ◌⊎◌, inl, inr, ℕ, List, [], ◌∷◌, length, Any, BTreeSet, refl, sym, subst, arith, Contains, IsTrue}
+use Rattle.std.proofs.lemmas.Bool.{false≢true}
+use Rattle.std.specs.BTreeSet.{contains}
+use Rattle.std.specs.Ordering.{nat_cmp}
+use Rattle.osgi_space_sources.specs.computed.Amongst.{IsAmong}
+use Rattle.osgi_space_sources.specs.computed.Clashes.{HasWires, IsClash, KeepsUsesAmong}
+use Rattle.osgi_space_sources.specs.computed.Pairs.{IsFollowing, IsImplied}
+use Rattle.osgi_space_sources.specs.declared.given.Given.{Given}
+use Rattle.osgi_space_sources.specs.laws.Adding.{any-in, any-of}
+use Rattle.osgi_space_sources.proofs.Alone.{agrees-with-itself}
+use Rattle.osgi_space_sources.proofs.Carried.{space-implied}
+use Rattle.osgi_space_sources.proofs.Givers.{seen-parts}
+use Rattle.osgi_space_sources.proofs.Rows.{some-imported}
+use Rattle.osgi_space_rows.specs.declared.rows.Import.{Import}
+use Rattle.osgi_space_sources.proofs.Agreeing.{clash-disputed}
+use Rattle.osgi_space_sources.specs.laws.Following.{none-implied}
+use Rattle.osgi_space_sources.proofs.uses.keeps_uses.Goals as goal
+
+without : (keys : List ℕ) → length keys ≡ 0 → keys ≡ []
+without [] none = refl
+without (key ∷ keys) none = absurd (omega (arith, none))
+
+none-in : (disputed : BTreeSet ℕ) (u : ℕ) → disputed.keys ≡ [] → ¬ IsTrue (contains nat_cmp disputed u)
+none-in disputed u none there = false≢true (subst (λ keys. IsTrue (contains nat_cmp (record { keys = keys }) u)) none there)
+
+pub returns-then-is_empty : goal.returns-then-is_empty
+returns-then-is_empty c =
+    let keeps : KeepsUsesAmong c.args.rows.now (IsAmong c.args.among) c.args.revision = λ e u implied clash.
+    absurd (none-in c.args.disputed.now u (without c.args.disputed.now.keys (c.is_empty.ensures.0 c.if-is_empty.true)) (clash-disputed c.args.rows.now c.args.disputed.now c.requires.disputed clash)) in
+    record { kept = (λ t. keeps, λ k. refl) }
+
+pub returns-then-not-has : goal.returns-then-not-has
+returns-then-not-has c =
+    let away : ¬ IsAmong c.args.among c.args.revision = λ there. let yes = c.has.ensures.among.1 there in let no = c.if-not-has.true in cc in
+    let keeps : KeepsUsesAmong c.args.rows.now (IsAmong c.args.among) c.args.revision = λ e u implied clash.
+    none-implied c.args.rows.now (IsAmong c.args.among) c.args.revision away (record { «package» = u; source = e }) implied in
+    record { kept = (λ t. keeps, λ k. refl) }
+
+pub returns-then-not-has_wires : goal.returns-then-not-has_wires
+returns-then-not-has_wires c =
+    let none : ¬ HasWires c.args.rows.now c.args.revision = λ has. let yes = c.has_wires.ensures.wires.1 has in let no = c.if-not-has_wires.true in cc in
+    record { kept = (λ t. agrees-with-itself c.args.rows.now c.args.revision none (IsAmong c.args.among), λ k. refl) }
+
+pub returns-then-not-sees_disputed : goal.returns-then-not-sees_disputed
+returns-then-not-sees_disputed c =
+    let R = c.args.rows.now in
+    let r = c.args.revision in
+    let D : ℕ → Type 0 = λ p. IsTrue (contains nat_cmp c.args.disputed.now p) in
+    let givens = c.in_ok-givens.givens.items in
+    let keeps : KeepsUsesAmong R (IsAmong c.args.among) r = λ e u implied clash.
+    let there = clash-disputed R c.args.disputed.now c.requires.disputed clash in
+    let h : Given = record { «package» = u; source = clash.ours } in
+    let sees : Any (λ (row : Import). D row.imported) c.imports_of-imports.result.now ⊎ Any (λ (g : Given). D g.package) c.as_slice.result.now =
+    elim ((seen-parts R r h).1 clash.ours_in) [
+      | inl wired ↦ inl (subst (λ xs. Any (λ (row : Import). D row.imported) xs) (sym c.imports_of-imports.ensures.rows) ((some-imported R (λ p x. D p) r).1 (u, clash.ours, wired, there)))
+      | inr unwired ↦ inr (subst (λ xs. Any (λ (g : Given). D g.package) xs) (sym c.as_slice.ensures.value) (any-of (λ (g : Given). D g.package) givens h ((c.in_ok-givens.ensures.sources h).1 unwired) there))
+    ] in
+    let yes = c.sees_disputed.ensures.disputed.1 sees in
+    let no = c.if-not-sees_disputed.true in cc in
+    record { kept = (λ t. keeps, λ k. refl) }
+
+pub returns : goal.returns
+returns c =
+    let R = c.args.rows.now in
+    let r = c.args.revision in
+    let P : Given → Type 0 = λ g. IsClash R r g in
+    let A = IsAmong c.args.among in
+    let pairs = c.in_ok-found.found.items.items in
+    let imports = c.imports_of-imports.result.now in
+    let givens = c.in_ok-givens.givens.items in
+    let there : A r = c.has.ensures.among.0 c.if-not-has.false in
+    let following : (g : Given) → Contains pairs g ↔ IsFollowing R A imports givens g =
+    subst (λ xs. (g : Given) → Contains pairs g ↔ IsFollowing R A imports xs g) c.as_slice-2.ensures.value c.in_ok-found.ensures.following in
+    let implied : (g : Given) → Contains pairs g ↔ IsImplied R A r g = λ g.
+    let carried = space-implied R A r there imports c.imports_of-imports.ensures.rows givens c.in_ok-givens.ensures.sources g in
+    (λ at. carried.0 ((following g).0 at), λ i. (following g).1 (carried.1 i)) in
+    let kept : IsTrue c.in_ok-are_kept.field-0 ↔ ¬ Any P pairs = subst (λ xs. IsTrue c.in_ok-are_kept.field-0 ↔ ¬ Any P xs) c.as_slice-3.ensures.value c.in_ok-are_kept.ensures.kept in
+    record {
+      kept = (
+        λ t e u i clash. kept.0 t (any-of P pairs (record { «package» = u; source = e }) ((implied (record { «package» = u; source = e })).1 i) clash),
+        λ keeps. kept.1 (λ any. keeps any.1.source any.1.package ((implied any.1).0 (any-in P pairs any)) any.4),
+      );
+    }

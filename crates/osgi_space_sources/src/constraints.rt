@@ -1,0 +1,188 @@
+//! The constraints that the `uses` of exports imply.
+
+ghost use Rattle.std.specs.Prelude.{◌↔◌, Contains, IfOk, IsTrue};
+ghost use Rattle.osgi_space_sources.specs.computed.Adds.{Adds};
+ghost use Rattle.osgi_space_sources.specs.computed.Amongst.{IsAmong};
+ghost use Rattle.osgi_space_sources.specs.computed.Collected.{IsCollected};
+ghost use Rattle.osgi_space_sources.specs.computed.Exact.{given_cmp};
+ghost use Rattle.osgi_space_sources.specs.computed.Pairs.{IsFollowing, IsImplied, IsNext, IsOwnUse, IsUse, IsUseAmong, IsUseOfSome, IsUseOfWired, MayUse};
+ghost use Rattle.osgi_space_sources.specs.declared.given.Given.{Given};
+
+use crate::among::Among;
+use crate::found::Found;
+use crate::given::Given;
+use crate::package_sources::sources_of;
+use crate::space::unwired_of;
+use osgi_space_rows::{Import, Rows};
+use std::alloc::{AllocError, Global};
+
+/// Adds the packages that an owner's own exports of the package use, as the exporter sees them.
+fn add_own_uses(
+    found: &mut Found<Given>,
+    rows: &Rows,
+    exporter: u32,
+    owner: u32,
+    package: u32,
+) -> Result<(), AllocError>
+    requires collected { IsCollected given_cmp found.old }
+    ensures collected { IfOk result (λ _. IsCollected given_cmp found.new) }
+    ensures added { IfOk result (λ _. Adds (IsOwnUse rows.now exporter owner «package») found.old.items.items found.new.items.items) }
+{
+    for row in rows.uses_of(owner, package) {
+        found.add(Given {
+            package: row.used,
+            source: exporter,
+        })?;
+    }
+    Ok(())
+}
+
+/// Adds the packages that the exporter's exports of the package use, as it sees them.
+fn add_uses(
+    found: &mut Found<Given>,
+    rows: &Rows,
+    exporter: u32,
+    package: u32,
+) -> Result<(), AllocError>
+    requires collected { IsCollected given_cmp found.old }
+    ensures collected { IfOk result (λ _. IsCollected given_cmp found.new) }
+    ensures added { IfOk result (λ _. Adds (IsUse rows.now exporter «package») found.old.items.items found.new.items.items) }
+{
+    add_own_uses(found, rows, exporter, exporter, package)?;
+    for row in rows.attached_to(exporter) {
+        add_own_uses(found, rows, exporter, row.fragment, package)?;
+    }
+    Ok(())
+}
+
+/// Whether the exporter's exports of the package may use packages: its own do, or it has fragments, whose exports may.
+fn may_use(rows: &Rows, exporter: u32, package: u32) -> bool
+    ensures uses { IsTrue result ↔ MayUse rows.now exporter «package» }
+{
+    if !rows.uses_of(exporter, package).is_empty() {
+        return true;
+    }
+    !rows.attached_to(exporter).is_empty()
+}
+
+/// Adds what the export of the package by its source uses, if constraints may come from the source.
+fn add_uses_among(
+    found: &mut Found<Given>,
+    rows: &Rows,
+    among: Among,
+    given: Given,
+) -> Result<(), AllocError>
+    requires collected { IsCollected given_cmp found.old }
+    ensures collected { IfOk result (λ _. IsCollected given_cmp found.new) }
+    ensures added { IfOk result (λ _. Adds (IsUseAmong rows.now (IsAmong among.entry) given) found.old.items.items found.new.items.items) }
+{
+    if !may_use(rows, given.source, given.package) {
+        return Ok(());
+    }
+    if !among.has(given.source) {
+        return Ok(());
+    }
+    add_uses(found, rows, given.source, given.package)?;
+    Ok(())
+}
+
+/// Adds what the exports of packages by their sources use, of the sources from which constraints may come.
+fn add_uses_of_all(
+    found: &mut Found<Given>,
+    rows: &Rows,
+    among: Among,
+    givens: &[Given],
+) -> Result<(), AllocError>
+    requires collected { IsCollected given_cmp found.old }
+    ensures collected { IfOk result (λ _. IsCollected given_cmp found.new) }
+    ensures added { IfOk result (λ _. Adds (IsUseOfSome rows.now (IsAmong among.entry) givens.now) found.old.items.items found.new.items.items) }
+{
+    for given in givens {
+        add_uses_among(found, rows, among, *given)?;
+    }
+    Ok(())
+}
+
+/// Adds what the exports by the providers of these wires use, of the providers from which constraints may come.
+fn add_uses_of_imports(
+    found: &mut Found<Given>,
+    rows: &Rows,
+    among: Among,
+    imports: &[Import],
+) -> Result<(), AllocError>
+    requires collected { IsCollected given_cmp found.old }
+    ensures collected { IfOk result (λ _. IsCollected given_cmp found.new) }
+    ensures added { IfOk result (λ _. Adds (IsUseOfWired rows.now (IsAmong among.entry) imports.now) found.old.items.items found.new.items.items) }
+{
+    for row in imports {
+        let given = Given {
+            package: row.imported,
+            source: row.provider,
+        };
+        add_uses_among(found, rows, among, given)?;
+    }
+    Ok(())
+}
+
+/// Adds the constraints that follow from one at once: what the exports of its package use, by its sources for the one that sees it.
+fn add_next(
+    alloc: Global,
+    found: &mut Found<Given>,
+    rows: &Rows,
+    among: Among,
+    pair: Given,
+) -> Result<(), AllocError>
+    requires collected { IsCollected given_cmp found.old }
+    ensures collected { IfOk result (λ _. IsCollected given_cmp found.new) }
+    ensures added { IfOk result (λ _. Adds (IsNext rows.now (IsAmong among.entry) pair) found.old.items.items found.new.items.items) }
+{
+    let imports = rows.imports_for(pair.source, pair.package);
+    if !imports.is_empty() {
+        return Ok(add_uses_of_imports(found, rows, among, imports)?);
+    }
+    let sources = sources_of(alloc, rows, pair.source, pair.package)?;
+    add_uses_of_all(found, rows, among, sources.as_slice())?;
+    Ok(())
+}
+
+/// The constraints that these wires and these sources of packages imply, and those that follow from them.
+pub(crate) fn constraints_from(
+    alloc: Global,
+    rows: &Rows,
+    among: Among,
+    imports: &[Import],
+    givens: &[Given],
+) -> Result<Found<Given>, AllocError>
+    ensures collected { IfOk result (λ found. IsCollected given_cmp found) }
+    ensures following { IfOk result (λ found. (g : Given) → Contains found.items.items g ↔ IsFollowing rows.now (IsAmong among.entry) imports.now givens.now g) }
+{
+    let mut found = Found::new(alloc);
+    add_uses_of_imports(&mut found, rows, among, imports)?;
+    add_uses_of_all(&mut found, rows, among, givens)?;
+    for next in 0..usize::MAX {
+        if next >= found.items.len() {
+            return Ok(found);
+        }
+        let pair = found.items[next];
+        add_next(alloc, &mut found, rows, among, pair)?;
+    }
+    Ok(found)
+}
+
+/// The constraints of the revision: the packages, each with the revision that sees it.
+pub fn constraints_of(
+    alloc: Global,
+    rows: &Rows,
+    among: Among,
+    revision: u32,
+) -> Result<Found<Given>, AllocError>
+    ensures collected { IfOk result (λ found. IsCollected given_cmp found) }
+    ensures implied { IfOk result (λ found. (g : Given) → Contains found.items.items g ↔ IsImplied rows.now (IsAmong among.entry) revision g) }
+{
+    if !among.has(revision) {
+        return Ok(Found::new(alloc));
+    }
+    let givens = unwired_of(alloc, rows, revision)?;
+    let imports = rows.imports_of(revision);
+    Ok(constraints_from(alloc, rows, among, imports, givens.as_slice())?)
+}

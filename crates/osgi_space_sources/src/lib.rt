@@ -1,0 +1,28 @@
+//! Where packages come from, and what `uses` implies, by the rows of wirings.
+#![tactic(auto)]
+
+mod among;
+mod bundles;
+mod clash;
+mod constraints;
+mod disputed;
+mod found;
+mod given;
+mod package_sources;
+mod revision_set;
+mod space;
+mod uses;
+
+pub use among::Among;
+pub use bundles::reached_bundles;
+pub use clash::clashes;
+pub use constraints::constraints_of;
+pub use disputed::{
+    Possible, note_fragment, note_fragments, note_imports, note_known, possible_sources,
+};
+pub use found::Found;
+pub use given::Given;
+pub use package_sources::{imports_elsewhere, sources_of};
+pub use revision_set::RevisionSet;
+pub use space::space_of;
+pub use uses::{all_keep_uses, keeps_uses};

@@ -1,7 +1,0 @@
--- The fragments so far are added.
-use Rattle.std.proofs.Common.{take, [], ◌∷◌}
-use Rattle.osgi_wires.specs.Worlds.{AddsWirings}
-use Rattle.osgi_wires.proofs.world_rows.WorldRows.add_fragments.Given as goal
-
-abbrev pub invariant-loop-fragment : goal.invariant-loop-fragment
-invariant-loop-fragment l = AddsWirings l.initial.self l.self (record { revision = l.host; wires = []; fragments = take l.fragment-index l.fragments } ∷ [])
