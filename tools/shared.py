@@ -1,0 +1,60 @@
+"""What all tools share: how they end, which program they ask, and their words that are checked alike."""
+import argparse
+import os
+import re
+import shutil
+import subprocess
+import sys
+
+OSGI = os.path.join(os.path.dirname(os.path.dirname(os.path.realpath(__file__))), "osgi")
+MOST = 1_000_000_000  # the greatest budget
+
+
+def end_quietly(main):
+    """Runs a tool and ends with its status. Ctrl-C ends it with 130, and a pipe that nobody reads any more with 141."""
+    try:
+        try:
+            status = main()
+        finally:
+            sys.stdout.flush()
+    except KeyboardInterrupt:
+        status = 130
+    except BrokenPipeError:
+        nothing = os.open(os.devnull, os.O_WRONLY)
+        os.dup2(nothing, 1)  # what is left to be written goes nowhere
+        os.dup2(nothing, 2)
+        status = 141
+    sys.exit(status)
+
+
+def budget(text):
+    """The limit on the effort of a resolve, of the word of `--budget`."""
+    if not re.fullmatch("[0-9]{1,10}", text) or not 1 <= int(text) <= MOST:
+        raise argparse.ArgumentTypeError(f"the budget is a number from 1 to {MOST}")
+    return int(text)
+
+
+def refuse_jars(parser, paths):
+    """Ends the tool if one of these is a jar, which the program does not read."""
+    for path in filter(os.path.isfile, paths):
+        try:
+            with open(path, "rb") as it:
+                is_jar = it.read(2) == b"PK"
+        except OSError as fault:
+            parser.error(f"{path}: {fault.strerror}")
+        if is_jar:
+            parser.error(f"{path} is a jar: make a folder of it by tools/unpack")
+
+
+def find_program(parser, path):
+    """The program at this path. It is asked once, so that no other command is taken for it."""
+    program = shutil.which(os.path.abspath(path)) or parser.error(f"no program: {path}")
+    try:
+        ran = subprocess.run([program, "run"], input=b"bundles\n", stdout=subprocess.PIPE, check=False)
+    except OSError as fault:
+        parser.exit(2, f"{parser.prog}: {path} cannot be run: {fault.strerror}\n")
+    if ran.returncode not in (0, 1):
+        parser.exit(ran.returncode, f"{parser.prog}: the program ended with status {ran.returncode}\n")
+    if not re.fullmatch(rb"bundle 0 32 0 system\.bundle \S+\n", ran.stdout):
+        parser.exit(2, f"{parser.prog}: {path} is another program: it does not reply as this framework does\n")
+    return program
