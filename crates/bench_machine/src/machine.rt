@@ -26,7 +26,7 @@ fn run_line(alloc: Global, core: &mut Core, line: &Line) -> Result<bool, AllocEr
         caller: 0,
         command: line.number,
     };
-    let reply = core.apply(tag, command.copy(alloc)?.into_op(SYSTEM))?;
+    let reply = core.apply(tag, command.op_of(alloc, SYSTEM)?)?;
     Ok(!reply.is_refusal())
 }
 

@@ -3,8 +3,8 @@
 //!     bench_space chain|row|wide COUNT consistent|sources TIMES
 //!
 //! A world of COUNT bundles is made, and the question is asked TIMES times: whether the wirings are consistent, or which packages
-//! each revision sees, with all their sources. A line is printed before and one after: the clock is whoever reads them. The second
-//! line says how often the wirings were consistent, or how many sources there were.
+//! each revision sees, with all their sources. A line is printed before and one after: the clock is whoever reads them. The
+//! second line says how often the wirings were consistent, or how many sources there were.
 //!
 //! In a `chain` each bundle imports the package of the bundle before it, and its own package uses that one. In a `row` each
 //! bundle requires the one before with reexport. In a `wide` world each bundle has 50 packages, each of which uses all of these

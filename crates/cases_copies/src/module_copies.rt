@@ -2,11 +2,10 @@
 
 use crate::copies::{one, put_named};
 use cases_text::{put, put_shown, text_of};
-use osgi_base::{Copied, List, RevisionId, Text};
-use osgi_version::VersionRange;
+use osgi_base::{Copied, List, RevisionId, Shared, Text};
 use osgi_world::{
     CapRef, Capability, Choice, Known, ManifestFault, ManifestKind, Policy, Problem, ReqRef,
-    Requirement, Revision, Wire, Wiring, World, known_system, system_revision,
+    Requirement, Revision, SharedRange, Wire, Wiring, World, known_system, system_revision,
 };
 use std::alloc::{AllocError, Global};
 
@@ -27,9 +26,9 @@ fn capability(alloc: Global) -> Result<Capability, AllocError> {
     Ok(Capability {
         namespace,
         name,
-        attributes: List::from(Vec::new(alloc)),
-        uses: List::from(Vec::new(alloc)),
-        mandatory: List::from(Vec::new(alloc)),
+        attributes: Shared::new(alloc, List::new(alloc)?)?,
+        uses: Shared::new(alloc, List::new(alloc)?)?,
+        mandatory: Shared::new(alloc, List::new(alloc)?)?,
     })
 }
 
@@ -39,10 +38,10 @@ fn requirement(alloc: Global) -> Result<Requirement, AllocError> {
     Ok(Requirement {
         namespace,
         name,
-        range: VersionRange::at_least_zero(),
+        range: SharedRange::at_least_zero(),
         from_name: None,
-        from_range: VersionRange::at_least_zero(),
-        equal: List::from(Vec::new(alloc)),
+        from_range: SharedRange::at_least_zero(),
+        equal: Shared::new(alloc, List::new(alloc)?)?,
         filter: None,
         optional: true,
         multiple: false,

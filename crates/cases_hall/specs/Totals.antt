@@ -14,5 +14,5 @@ abbrev pub CanMake : ℕ → List (Entry ℕ Answer) → Type 0
 CanMake limit history = length history ≤ limit
 
 -- it is full where it has as many
-abbrev pub Gives : ℕ → List (Entry ℕ Answer) → ℕ → Answer → Type 0
-Gives limit history op reply = length history ≡ limit
+abbrev pub GivesTotal : ℕ → List (Entry ℕ Answer) → ℕ → Answer → Type 0
+GivesTotal limit history op reply = length history ≡ limit

@@ -1,7 +1,7 @@
 //! A machine that counts.
 
 ghost use Rattle.std.specs.Prelude.{◌≡◌, ◌≤◌, [], length};
-ghost use Rattle.cases_hall.specs.Totals.{is_total, CanMake, Gives};
+ghost use Rattle.cases_hall.specs.Totals.{is_total, CanMake, GivesTotal};
 
 use osgi_base::Tag;
 use osgi_hall::{Entry, Machine};
@@ -57,7 +57,7 @@ impl Machine for Counter {
 
     ghost is_recorded = { is_total };
 
-    ghost gives = { Gives };
+    ghost gives = { GivesTotal };
 
     fn recorded(reply: &Answer) -> bool {
         match reply {

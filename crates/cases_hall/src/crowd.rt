@@ -1,6 +1,6 @@
 //! Many callers at once, each in a thread of its own, and every answer compared with the history.
 
-ghost use Rattle.std.specs.Prelude.{◌≡◌, ◌+◌, ◌≤◌, All, IfOk, vec_len};
+ghost use Rattle.std.specs.Prelude.{◌≡◌, ◌+◌, ◌≤◌, All, IfOk, OnOk, vec_len};
 ghost use Rattle.osgi_hall.specs.Passes.{IsPassOf, IsSamePass};
 
 use crate::counter::{Answer, Counter};
@@ -158,7 +158,7 @@ fn split_all(
     callers: u32,
 ) -> Result<Vec<Pass<Counter>>, AllocError>
     requires hall { IsPassOf hall.now first.old }
-    requires first { (first.old.caller ≡ 0) × (first.old.made + callers ≤ 4294967295) }
+    requires first { (first.old.caller ≡ 0) × (first.old.made + callers ≤ u32.MAX) }
     ensures hall { IfOk result (λ v. IsPassOf hall.now first.new × All (λ p. IsPassOf hall.now p) v.items) }
     ensures first { IfOk result (λ v. (first.new.caller ≡ 0) × (vec_len v ≡ callers) × (first.new.out ≡ first.old.out + callers)) }
 {
@@ -177,8 +177,8 @@ fn join_all(
 ) -> Result<Vec<Caller>, AllocError>
     requires hall { IsPassOf hall.now first.old × All (λ t. IsPassOf hall.now t.0) ended.items }
     requires first { first.old.caller ≡ 0 }
-    ensures hall { IfOk result (λ _. IsPassOf hall.now first.new) }
-    ensures first { IfOk result (λ _. (first.new.caller ≡ 0) × (first.old.out ≡ first.new.out + vec_len ended)) }
+    ensures hall { OnOk result (IsPassOf hall.now first.new) }
+    ensures first { OnOk result ((first.new.caller ≡ 0) × (first.old.out ≡ first.new.out + vec_len ended)) }
 {
     let mut callers = Vec::new(alloc);
     while let Some((pass, totals)) = ended.pop() {

@@ -2,7 +2,7 @@
 
 use cases_text::text_of;
 use osgi_base::{BundleId, List, ListenerId, Text};
-use osgi_ops::{Kind, Op, Target};
+use osgi_ops::{Kind, Op, Scope, Target};
 use std::alloc::{AllocError, Global};
 
 /// Operations that have neither a text nor a list.
@@ -149,6 +149,17 @@ fn wordy_op(wordy: Wordy, owner: BundleId, text: Text) -> Op {
     }
 }
 
+/// A registration of a service whose users do not share one object.
+fn factory(alloc: Global, owner: BundleId) -> Result<Op, AllocError> {
+    Ok(Op::Register {
+        owner,
+        classes: List::new(alloc)?,
+        object: text_of(alloc, "a text")?,
+        scope: Scope::Bundle,
+        properties: List::new(alloc)?,
+    })
+}
+
 /// The operation of this name, about the bundle, that has neither a text nor a list.
 pub fn later(name: &str, bundle: BundleId) -> Option<Op> {
     Some(plain_op(plain_named(name)?, bundle))
@@ -163,6 +174,9 @@ pub fn later_with_text(
     if name == "BeginRefresh" {
         let bundles = List::new(alloc)?;
         return Ok(Some(Op::BeginRefresh { bundles }));
+    }
+    if name == "Factory" {
+        return Ok(Some(factory(alloc, bundle)?));
     }
     match wordy_named(name) {
         Some(wordy) => Ok(Some(wordy_op(wordy, bundle, text_of(alloc, "a text")?))),

@@ -2,6 +2,7 @@
 
 use crate::packages::{push_capability, push_requirement};
 use cases_text::push_bytes;
+use osgi_base::Shared;
 use osgi_filter::print;
 use osgi_model::Filter;
 use osgi_world::{Capability, Requirement};
@@ -21,12 +22,16 @@ fn push_flags(out: &mut String, requirement: &Requirement) -> Result<(), AllocEr
     Ok(())
 }
 
-fn push_filter(alloc: Global, out: &mut String, filter: &Option<Filter>) -> Result<(), AllocError> {
+fn push_filter(
+    alloc: Global,
+    out: &mut String,
+    filter: &Option<Shared<Filter>>,
+) -> Result<(), AllocError> {
     let Some(filter) = filter else {
         return Ok(());
     };
     out.push_str(" filter ")?;
-    push_bytes(out, print(alloc, filter)?.bytes())
+    push_bytes(out, print(alloc, filter.get())?.bytes())
 }
 
 /// Adds a requirement: its namespace, what every requirement says, what it is besides, and its filter.

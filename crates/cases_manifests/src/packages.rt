@@ -42,7 +42,7 @@ pub fn push_requirement(
     out.push(' ')?;
     push_exporter(alloc, out, requirement)?;
     out.push(' ')?;
-    push_attributes(alloc, out, requirement.equal.items())?;
+    push_attributes(alloc, out, requirement.equal.get().items())?;
     out.push_str(if requirement.optional {
         " optional"
     } else {
@@ -58,11 +58,11 @@ pub fn push_capability(
 ) -> Result<(), AllocError> {
     push_bytes(out, capability.name.bytes())?;
     out.push(' ')?;
-    push_attributes(alloc, out, capability.attributes.items())?;
+    push_attributes(alloc, out, capability.attributes.get().items())?;
     out.push_str(" uses ")?;
-    push_texts(out, capability.uses.items())?;
+    push_texts(out, capability.uses.get().items())?;
     out.push_str(" mandatory ")?;
-    push_texts(out, capability.mandatory.items())
+    push_texts(out, capability.mandatory.get().items())
 }
 
 fn push_fault(out: &mut String, fault: PackageFault) -> Result<(), AllocError> {

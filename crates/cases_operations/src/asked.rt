@@ -25,7 +25,7 @@ fn op_by(
     content: &Content,
 ) -> Result<Result<Op, &'static str>, AllocError> {
     match content {
-        Content::Run(command) => Ok(Ok(command.copy(alloc)?.into_op(bundle))),
+        Content::Run(command) => Ok(Ok(command.op_of(alloc, bundle)?)),
         Content::Empty => Ok(Err("nothing")),
         Content::Bad | Content::Join => Ok(Err("syntax")),
     }

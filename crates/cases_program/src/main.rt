@@ -11,9 +11,9 @@
 //!
 //! An answer is `STATUS "WRITTEN" .. | LINE; LINE .. | ENTRY; ENTRY ..`, or ends in `no session`. The text that was written is
 //! followed by `flushed`, where all of it was, or by how far it was, by the faults that the ends counted, where there are any,
-//! and by what the source has left, where it has. A line is `LANE.NUMBER WHAT`, an entry `CALLER.LINE by BUNDLE OPERATION: REPLY`.
-//! Many lines or entries are shown by their number. Where a copy of a session's lines or entries is another than these, that is
-//! said at the end.
+//! and by what the source has left, where it has. A line is `LANE.NUMBER WHAT`, an entry `CALLER.LINE by BUNDLE OPERATION:
+//! REPLY`. Many lines or entries are shown by their number. Where a copy of a session's lines or entries is another than these,
+//! that is said at the end.
 #![tactic(auto)]
 
 mod answers;

@@ -6,7 +6,7 @@ use crate::assignable::Assignable;
 use crate::uses::get;
 use osgi_base::{BundleId, List, ServiceId, Text};
 use osgi_model::{Attributes, Filter};
-use osgi_ops::{Op, Refusal, Reply, Service, ServiceRow};
+use osgi_ops::{Op, Refusal, Reply, Scope, Service, ServiceRow};
 use osgi_registry::{Registry, ranking};
 use std::alloc::{AllocError, Global};
 
@@ -69,15 +69,16 @@ fn register(
     owner: BundleId,
     classes: &List<Text>,
     object: &Text,
+    scope: Scope,
     properties: &Attributes,
 ) -> Result<Reply, AllocError>
-    requires { registry.old.issued < 4294967295 }
+    requires { registry.old.issued < u32.MAX }
     ensures issued { registry.new.issued ≤ registry.old.issued + 1 }
 {
     let classes = classes.copy(alloc)?;
     let object = object.copy(alloc)?;
     let properties = properties.copy(alloc)?;
-    Ok(registered(registry.register(owner, classes, object, properties)?))
+    Ok(registered(registry.register(owner, classes, object, scope, properties)?))
 }
 
 fn modify(
@@ -159,7 +160,7 @@ pub fn reply_to(
     op: &Op,
     assignable: Assignable<'_>,
 ) -> Result<Reply, AllocError>
-    requires { registry.old.issued < 4294967295 }
+    requires { registry.old.issued < u32.MAX }
     ensures issued { registry.new.issued ≤ registry.old.issued + 1 }
 {
     match op {
@@ -167,8 +168,9 @@ pub fn reply_to(
             owner,
             classes,
             object,
+            scope,
             properties,
-        } => register(alloc, registry, *owner, classes, object, properties),
+        } => register(alloc, registry, *owner, classes, object, *scope, properties),
         Op::Modify {
             owner,
             service,

@@ -1,6 +1,6 @@
 //! A registry beside the entries that its calls leave.
 
-ghost use Rattle.std.specs.Prelude.{◌≡◌, ◌+◌, ◌<◌, ◌≤◌};
+ghost use Rattle.std.specs.Prelude.{◌≡◌, ◌+◌, ◌-◌, ◌^◌, ◌<◌, ◌≤◌};
 
 use crate::assignable::Assignable;
 use crate::calls::reply_to;
@@ -22,7 +22,7 @@ pub struct Trial {
     entries: Vec<Entry>,
     /// How many calls are left.
     left: u32,
-    ghost ids_left: { registry.issued + left ≤ 4294967295 },
+    ghost ids_left: { registry.issued + left ≤ 2 ^ 32 - 1 },
 }
 
 impl Trial {
@@ -112,7 +112,7 @@ fn ask(
     op: &Op,
     assignable: Assignable<'_>,
 ) -> Result<(), AllocError>
-    requires { registry.old.issued < 4294967295 }
+    requires { registry.old.issued < u32.MAX }
     ensures issued { registry.new.issued ≤ registry.old.issued + 1 }
 {
     let reply = reply_to(alloc, registry, op, assignable);

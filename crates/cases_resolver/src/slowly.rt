@@ -1,9 +1,7 @@
 //! What the slow search answers for a root in a world.
 
 ghost use Rattle.std.specs.Prelude.{◌^◌, ◌-◌, ◌<◌, ℕ, IfOk};
-ghost use Rattle.osgi_world.specs.Candidates.{AreOrdered, IsUnresolved};
-ghost use Rattle.osgi_world.specs.Consistency.{Consistent};
-ghost use Rattle.osgi_world.specs.Wirings.{IsWorld};
+ghost use Rattle.osgi_world.specs.Candidates.{IsResolvable};
 ghost use Rattle.osgi_resolver_theory.specs.WorldProblems.{the_problem};
 ghost use Rattle.osgi_candidates.specs.Following.{Covers};
 ghost use Rattle.osgi_resolver_search.specs.Outcomes.{IsOutcome};
@@ -26,18 +24,15 @@ pub enum FirstWord {
     Spent { visited: u64 },
 }
 
-/// Searches all words of the problem of resolving the root, without what a resolve keeps of the world and without leaving hopeless
-/// words out.
+/// Searches all words of the problem of resolving the root, without what a resolve keeps of the world and without leaving
+/// hopeless words out.
 pub fn first_word_slowly(
     alloc: Global,
     world: &World,
     root: RevisionId,
     budget: u64,
 ) -> Result<FirstWord, AllocError>
-    requires is_world { IsWorld world.now.known world.now.wirings }
-    requires ordered { AreOrdered world.now.known world.now.wirings }
-    requires consistent { Consistent world.now.known world.now.wirings }
-    requires unresolved { IsUnresolved world.now.known world.now.wirings root }
+    requires resolvable { IsResolvable world.now root }
     requires budget { budget < 2 ^ 64 - 1 }
     ensures first { IfOk result (IsFirstWord (the_problem world.now root) budget) }
 {
@@ -54,10 +49,7 @@ fn first_word_over(
     root: RevisionId,
     budget: u64,
 ) -> Result<FirstWord, AllocError>
-    requires is_world { IsWorld world.now.known world.now.wirings }
-    requires ordered { AreOrdered world.now.known world.now.wirings }
-    requires consistent { Consistent world.now.known world.now.wirings }
-    requires unresolved { IsUnresolved world.now.known world.now.wirings root }
+    requires resolvable { IsResolvable world.now root }
     requires budget { budget < 2 ^ 64 - 1 }
     requires covers { Covers index.now world.now.known world.now.wirings }
     ensures first { IfOk result (IsFirstWord (the_problem world.now root) budget) }

@@ -10,8 +10,8 @@ use crate::seen::{Seen, look_at};
 use osgi_resolver_search::{Outcome, Walker};
 use std::alloc::AllocError;
 
-/// Looks at the word where the walker stands, and then at all that extend it, in their order. Where the search goes on, the walker
-/// stands there again.
+/// Looks at the word where the walker stands, and then at all that extend it, in their order. Where the search goes on, the
+/// walker stands there again.
 fn look_below<W: Walker>(walker: &mut W, budget: u64, visited: u64) -> Result<Seen, AllocError>
     requires problem { IsProblem (W.problem walker.old) }
     requires word { IsWord (W.problem walker.old) (W.word walker.old) }

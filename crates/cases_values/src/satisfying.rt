@@ -2,12 +2,12 @@
 
 use crate::attributes::attributes_of;
 use cases_text::{put_shown, split_at, split_word, text_of, value_if_any, value_or};
-use osgi_base::{List, Text};
+use osgi_base::{List, Shared, Text};
 use osgi_capability::satisfies;
 use osgi_filter::parse;
 use osgi_model::Attributes;
 use osgi_version::{Version, VersionRange};
-use osgi_world::{Capability, Requirement};
+use osgi_world::{Capability, Requirement, SharedRange};
 use std::alloc::{AllocError, Global};
 
 /// None where the word is `-`.
@@ -20,11 +20,12 @@ fn name_of(alloc: Global, word: &str) -> Result<Option<Text>, AllocError> {
 }
 
 /// A range; at least 0.0.0 where it is none.
-fn range_of(alloc: Global, word: &str) -> Result<VersionRange, AllocError> {
-    value_or(
+fn range_of(alloc: Global, word: &str) -> Result<SharedRange, AllocError> {
+    let range = value_or(
         VersionRange::parse(alloc, word.as_bytes()),
         VersionRange::at_least_zero(),
-    )
+    )?;
+    SharedRange::of(alloc, range)
 }
 
 /// A version; 0.0.0 where it is none.
@@ -44,20 +45,20 @@ fn listed(alloc: Global, word: &str) -> Result<Attributes, AllocError> {
 }
 
 /// The requirement of this namespace and name that asks for nothing else.
-fn named(alloc: Global, namespace: Text, name: Text) -> Requirement {
-    Requirement {
+fn named(alloc: Global, namespace: Text, name: Text) -> Result<Requirement, AllocError> {
+    Ok(Requirement {
         namespace,
         name,
-        range: VersionRange::at_least_zero(),
+        range: SharedRange::at_least_zero(),
         from_name: None,
-        from_range: VersionRange::at_least_zero(),
-        equal: List::from(Vec::new(alloc)),
+        from_range: SharedRange::at_least_zero(),
+        equal: Shared::new(alloc, List::new(alloc)?)?,
         filter: None,
         optional: false,
         multiple: false,
         reexport: false,
         effective: true,
-    }
+    })
 }
 
 /// The requirement that is written `NAMESPACE NAME RANGE`.
@@ -65,7 +66,7 @@ fn asked(alloc: Global, text: &str) -> Result<Requirement, AllocError> {
     let (namespace, rest) = split_word(text);
     let (name, range) = split_word(rest);
     let namespace = text_of(alloc, namespace)?;
-    let mut requirement = named(alloc, namespace, text_of(alloc, name)?);
+    let mut requirement = named(alloc, namespace, text_of(alloc, name)?)?;
     requirement.range = range_of(alloc, range)?;
     Ok(requirement)
 }
@@ -89,8 +90,11 @@ fn ask_conditions(
     text: &str,
 ) -> Result<(), AllocError> {
     let (attributes, filter) = split_word(text);
-    requirement.equal = listed(alloc, attributes)?;
-    requirement.filter = value_if_any(parse(alloc, filter.as_bytes()))?;
+    requirement.equal = Shared::new(alloc, listed(alloc, attributes)?)?;
+    requirement.filter = match value_if_any(parse(alloc, filter.as_bytes()))? {
+        Some(filter) => Some(Shared::new(alloc, filter)?),
+        None => None,
+    };
     Ok(())
 }
 
@@ -105,24 +109,31 @@ fn requirement(alloc: Global, text: &str) -> Result<Requirement, AllocError> {
 }
 
 /// Names with commas between; none where the word is `-`.
-fn add_names(alloc: Global, names: &mut List<Text>, word: &str) -> Result<(), AllocError> {
+fn names_of(alloc: Global, word: &str) -> Result<List<Text>, AllocError> {
+    let mut names = List::new(alloc)?;
     for name in word.split(',') {
         if name != "-" {
             names.push(text_of(alloc, name)?)?;
         }
     }
-    Ok(())
+    Ok(names)
 }
 
-/// The capability of this namespace and name that says nothing else.
-fn offered(alloc: Global, namespace: Text, name: Text) -> Capability {
-    Capability {
+/// The capability of this namespace and name with these names and attributes.
+fn offered(
+    alloc: Global,
+    subject: (Text, Text),
+    mandatory: List<Text>,
+    attributes: Attributes,
+) -> Result<Capability, AllocError> {
+    let (namespace, name) = subject;
+    Ok(Capability {
         namespace,
         name,
-        attributes: List::from(Vec::new(alloc)),
-        uses: List::from(Vec::new(alloc)),
-        mandatory: List::from(Vec::new(alloc)),
-    }
+        attributes: Shared::new(alloc, attributes)?,
+        uses: Shared::new(alloc, List::new(alloc)?)?,
+        mandatory: Shared::new(alloc, mandatory)?,
+    })
 }
 
 /// The capability that is written `NAMESPACE NAME MANDATORY ATTRIBUTES`.
@@ -130,11 +141,9 @@ fn capability(alloc: Global, text: &str) -> Result<Capability, AllocError> {
     let (namespace, rest) = split_word(text);
     let (name, rest) = split_word(rest);
     let (mandatory, attributes) = split_word(rest);
-    let namespace = text_of(alloc, namespace)?;
-    let mut capability = offered(alloc, namespace, text_of(alloc, name)?);
-    add_names(alloc, &mut capability.mandatory, mandatory)?;
-    capability.attributes = listed(alloc, attributes)?;
-    Ok(capability)
+    let subject = (text_of(alloc, namespace)?, text_of(alloc, name)?);
+    let mandatory = names_of(alloc, mandatory)?;
+    offered(alloc, subject, mandatory, listed(alloc, attributes)?)
 }
 
 /// Whether a capability satisfies a requirement, for a provider that is written `NAME VERSION`.

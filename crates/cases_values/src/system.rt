@@ -16,7 +16,7 @@ fn put_capability(
     put(out, " ")?;
     put_text(out, &capability.name)?;
     put(out, ": ")?;
-    put_attributes(alloc, out, &capability.attributes)
+    put_attributes(alloc, out, capability.attributes.get())
 }
 
 fn put_capabilities(

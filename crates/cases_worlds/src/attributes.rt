@@ -4,6 +4,7 @@ use crate::numbers::text_of;
 use osgi_base::{List, Text};
 use osgi_model::{Attribute, Attributes, Value};
 use osgi_version::{Version, VersionRange};
+use osgi_world::SharedRange;
 use std::alloc::{AllocError, Global};
 
 /// A version; 0.0.0 where it is none.
@@ -15,10 +16,10 @@ pub fn version(alloc: Global, text: &str) -> Result<Version, AllocError> {
 }
 
 /// A range; at least 0.0.0 where it is none.
-pub fn range(alloc: Global, text: &str) -> Result<VersionRange, AllocError> {
+pub fn range(alloc: Global, text: &str) -> Result<SharedRange, AllocError> {
     match VersionRange::parse(alloc, text.as_bytes())? {
-        Ok(range) => Ok(range),
-        Err(_) => Ok(VersionRange::at_least_zero()),
+        Ok(range) => SharedRange::of(alloc, range),
+        Err(_) => Ok(SharedRange::at_least_zero()),
     }
 }
 

@@ -2,11 +2,10 @@
 
 use crate::attributes::{add_attributes, add_version, mandatory, names, range};
 use crate::numbers::text_of;
-use osgi_base::{List, Text};
+use osgi_base::{List, Shared, Text};
 use osgi_filter::parse;
 use osgi_model::{Attributes, Filter};
-use osgi_version::VersionRange;
-use osgi_world::{Capability, Requirement};
+use osgi_world::{Capability, Requirement, SharedRange};
 use std::alloc::{AllocError, Global};
 
 /// The namespace of what a word is for; other names are namespaces of their own.
@@ -50,14 +49,14 @@ pub fn capability(alloc: Global, word: &str, text: &str) -> Result<Capability, A
     Ok(Capability {
         namespace,
         name,
-        attributes,
-        uses: names(alloc, uses)?,
-        mandatory,
+        attributes: Shared::new(alloc, attributes)?,
+        uses: Shared::new(alloc, names(alloc, uses)?)?,
+        mandatory: Shared::new(alloc, mandatory)?,
     })
 }
 
 /// The symbolic name of an exporter that is written `NAME:RANGE`, and its versions; none where the text is empty.
-fn exporter(alloc: Global, text: &str) -> Result<(Option<Text>, VersionRange), AllocError> {
+fn exporter(alloc: Global, text: &str) -> Result<(Option<Text>, SharedRange), AllocError> {
     let (name, span) = cut_at(text, ':');
     let range = range(alloc, span)?;
     if name.is_empty() {
@@ -71,9 +70,13 @@ fn conditions(
     alloc: Global,
     others: &str,
     filter: &str,
-) -> Result<(Attributes, Option<Filter>), AllocError> {
+) -> Result<(Attributes, Option<Shared<Filter>>), AllocError> {
     let equal = attributes(alloc, "", others)?;
-    Ok((equal, parse(alloc, filter.as_bytes())?.ok()))
+    let filter = match parse(alloc, filter.as_bytes())? {
+        Ok(filter) => Some(Shared::new(alloc, filter)?),
+        Err(_) => None,
+    };
+    Ok((equal, filter))
 }
 
 /// The requirement that is written `NAME:RANGE@EXPORTER:RANGE{NAME=TEXT}/FLAGS?FILTER` after its word. All after the name may
@@ -93,7 +96,7 @@ pub fn requirement(alloc: Global, word: &str, text: &str) -> Result<Requirement,
         range: range(alloc, span)?,
         from_name,
         from_range,
-        equal,
+        equal: Shared::new(alloc, equal)?,
         filter,
         optional: flags.contains('o'),
         multiple: flags.contains('m'),

@@ -4,11 +4,12 @@ use Rattle.std.specs.BTreeMap.{get}
 use Rattle.std.specs.Borrow.{Fml, LendsSo, MutBor, RattleType}
 use Rattle.std.specs.Ordering.{nat_cmp}
 use Rattle.osgi_base.specs.declared.number_map.NumberMap.{NumberMap}
+use Rattle.osgi_base.specs.declared.number_map.TheConstants.{LOW}
 use Rattle.osgi_base.specs.contracts.number_map.NumberMap.{the_row}
 
 -- the value of the number
 abbrev pub value_at : {T : Type 0} → NumberMap T → ℕ → Option T
-value_at map number = cond (ltb number 65536) (slice_index_or map.low.items number None) (get nat_cmp map.high number)
+value_at map number = cond (ltb number LOW) (slice_index_or map.low.items number None) (get nat_cmp map.high number)
 
 -- the number has this value, and each other number the one that it had
 abbrev pub Puts : {T : Type 0} → NumberMap T → NumberMap T → ℕ → T → Type 0

@@ -76,7 +76,7 @@ impl<T: Drop> NumberMap<T> {
     /// Makes a place for the small number, which has no value yet if the place is new.
     fn reach(&mut self, number: u32) -> Result<(), AllocError>
         ensures reached { OnOk result (number < length self.new.low.items) }
-        ensures kept { HoldsSame self.old self.new }
+        ensures unchanged { HoldsSame self.old self.new }
     {
         while self.low.len() <= number as usize {
             self.low.push(None)?;

@@ -17,8 +17,8 @@ use Rattle.std.proofs.lemmas.List.Kept.{AllPairs-from_increasing}
 use Rattle.std.proofs.lemmas.List.Sums.{position_or_len_is}
 use Rattle.std.proofs.lemmas.Option.{slice_get_past, slice_get_read}
 use Rattle.osgi_base.specs.declared.ids.BundleId.{BundleId}
-use Rattle.osgi_bundle.specs.computed.Kept.{bundle_under, name_cmp, name_of, named, row_in}
-use Rattle.osgi_bundle.specs.Rows.{id_of, is_bundle, IsTwin, row_at}
+use Rattle.osgi_bundle.specs.computed.Kept.{bundle_under, name_cmp, bundle_name, named, row_in}
+use Rattle.osgi_bundle.specs.Rows.{bundle_number, has_bundle_id, IsTwin, row_at}
 use Rattle.osgi_bundle.specs.declared.directory.BundleName.{BundleName}
 use Rattle.osgi_bundle.specs.declared.kept.BundleKept.{BundleKept}
 use Rattle.osgi_ops.specs.declared.refusal.Refusal.{Refusal}
@@ -59,42 +59,42 @@ any_of : {X : Type 0} (xs : List X) (i : ℕ) → i < length xs → X
 any_of [] i within = absurd (omega (arith, within))
 any_of (x ∷ xs) i within = x
 
-absent : (bundle : BundleId) (rows : List BundleKept) → ((k : ℕ) (d : BundleKept) → k < length rows → ¬ (id_of (get_or rows k d) ≡ bundle.0)) → row_at bundle rows ≡ None
+absent : (bundle : BundleId) (rows : List BundleKept) → ((k : ℕ) (d : BundleKept) → k < length rows → ¬ (bundle_number (get_or rows k d) ≡ bundle.0)) → row_at bundle rows ≡ None
 absent bundle [] none = refl
 absent bundle (row ∷ rest) none =
-    rw (ne_eqb (id_of row) bundle.0 (none 0 row (omega arith))) (absent bundle rest (λ k d within. none (suc k) d (omega (arith, within))))
+    rw (ne_eqb (bundle_number row) bundle.0 (none 0 row (omega arith))) (absent bundle rest (λ k d within. none (suc k) d (omega (arith, within))))
 
-module _ (rows : List BundleKept) (rising : IsStrictlyIncreasing (map id_of rows)) where
-  pub ids_rise : (i j : ℕ) (d : BundleKept) → i < j → j < length rows → id_of (get_or rows i d) < id_of (get_or rows j d)
+module _ (rows : List BundleKept) (rising : IsStrictlyIncreasing (map bundle_number rows)) where
+  pub ids_rise : (i j : ℕ) (d : BundleKept) → i < j → j < length rows → bundle_number (get_or rows i d) < bundle_number (get_or rows j d)
   ids_rise i j d before within =
-      let later = AllPairs-from_increasing (map id_of rows) rising i j 0 before (subst (λ n. j < n) (sym (length-map rows id_of)) within) in
-      subst (λ n. n < id_of (get_or rows j d)) (get_or-map id_of rows i d 0 (omega (arith, before, within))) (subst (λ n. get_or (map id_of rows) i 0 < n) (get_or-map id_of rows j d 0 within) later)
+      let later = AllPairs-from_increasing (map bundle_number rows) rising i j 0 before (subst (λ n. j < n) (sym (length-map rows bundle_number)) within) in
+      subst (λ n. n < bundle_number (get_or rows j d)) (get_or-map bundle_number rows i d 0 (omega (arith, before, within))) (subst (λ n. get_or (map bundle_number rows) i 0 < n) (get_or-map bundle_number rows j d 0 within) later)
 
-  ids_do_not_fall : (i j : ℕ) (d : BundleKept) → i ≤ j → j < length rows → id_of (get_or rows i d) ≤ id_of (get_or rows j d)
-  ids_do_not_fall i j d before within = grind (arith, ids_rise i j d, λ (same : i ≡ j). ap (λ k. id_of (get_or rows k d)) same)
+  ids_do_not_fall : (i j : ℕ) (d : BundleKept) → i ≤ j → j < length rows → bundle_number (get_or rows i d) ≤ bundle_number (get_or rows j d)
+  ids_do_not_fall i j d before within = grind (arith, ids_rise i j d, λ (same : i ≡ j). ap (λ k. bundle_number (get_or rows k d)) same)
 
-  comparisons_rise : (id : ℕ) → IsNonDecreasingBy (λ row. ordering_index (nat_cmp (id_of row) id)) rows
+  comparisons_rise : (id : ℕ) → IsNonDecreasingBy (λ row. ordering_index (nat_cmp (bundle_number row) id)) rows
   comparisons_rise id i j d before within =
       let rise = ids_do_not_fall i j d before within in
       grind (arith, nat_tests)
 
-  found_at : (bundle : BundleId) (i : ℕ) (d : BundleKept) → i < length rows → id_of (get_or rows i d) ≡ bundle.0 → row_at bundle rows ≡ slice_get rows i
+  found_at : (bundle : BundleId) (i : ℕ) (d : BundleKept) → i < length rows → bundle_number (get_or rows i d) ≡ bundle.0 → row_at bundle rows ≡ slice_get rows i
   found_at bundle i d within is =
-      find_at (is_bundle bundle) rows
-      ∙ ap (slice_get rows) (position_or_len_is (is_bundle bundle) rows i d (omega (arith, within)) (λ k before. ne_eqb (id_of (get_or rows k d)) bundle.0 (λ same. omega (arith, ids_rise k i d before within, is, same)))
-      (λ w. eq-eqb (id_of (get_or rows i d)) bundle.0 is))
+      find_at (has_bundle_id bundle) rows
+      ∙ ap (slice_get rows) (position_or_len_is (has_bundle_id bundle) rows i d (omega (arith, within)) (λ k before. ne_eqb (bundle_number (get_or rows k d)) bundle.0 (λ same. omega (arith, ids_rise k i d before within, is, same)))
+      (λ w. eq-eqb (bundle_number (get_or rows i d)) bundle.0 is))
 
-  missed_by : (bundle : BundleId) (i k : ℕ) (d : BundleKept) → IsPartitionPoint (λ row. nat_cmp (id_of row) bundle.0 ≡ Less) (λ row. nat_cmp (id_of row) bundle.0 ≡ Greater) rows i → k < length rows →
-      (k < i) ⊎ (i ≤ k) → ¬ (id_of (get_or rows k d) ≡ bundle.0)
+  missed_by : (bundle : BundleId) (i k : ℕ) (d : BundleKept) → IsPartitionPoint (λ row. nat_cmp (bundle_number row) bundle.0 ≡ Less) (λ row. nat_cmp (bundle_number row) bundle.0 ≡ Greater) rows i → k < length rows →
+      (k < i) ⊎ (i ≤ k) → ¬ (bundle_number (get_or rows k d) ≡ bundle.0)
   missed_by bundle i k d parted within (inl before) same =
-      let below : id_of (get_or rows k d) < bundle.0 = ranked _ bundle.0 _ (sym (parted.0 k d (omega arith) before)) in
+      let below : bundle_number (get_or rows k d) < bundle.0 = ranked _ bundle.0 _ (sym (parted.0 k d (omega arith) before)) in
       omega (arith, below, same)
   missed_by bundle i k d parted within (inr after) same =
-      let above : bundle.0 < id_of (get_or rows k d) = ranked _ bundle.0 _ (sym (parted.1 k d after within)) in
+      let above : bundle.0 < bundle_number (get_or rows k d) = ranked _ bundle.0 _ (sym (parted.1 k d after within)) in
       omega (arith, above, same)
 
   -- a binary search by id ends at the bundle's row, if it is live
-  pub searched : (bundle : BundleId) (r : Result ℕ ℕ) → IsSearchInRange r (length rows) → IsBinarySearchResult (λ row. nat_cmp (id_of row) bundle.0) rows r → row_in rows (result_ok r) ≡ row_at bundle rows
+  pub searched : (bundle : BundleId) (r : Result ℕ ℕ) → IsSearchInRange r (length rows) → IsBinarySearchResult (λ row. nat_cmp (bundle_number row) bundle.0) rows r → row_in rows (result_ok r) ≡ row_at bundle rows
   searched bundle (Ok i) within equal = let d = any_of rows i within in sym (found_at bundle i d within (ranked _ bundle.0 _ (sym (equal d))))
   searched bundle (Err i) within parted = sym (absent bundle rows (λ k d inside. missed_by bundle i k d (parted (comparisons_rise bundle.0)) inside (cases_lt k i)))
 
@@ -109,13 +109,13 @@ none_found None none = refl
 none_found (Some r) none = absurd (cc none)
 
 -- the bundle of a name and version that is found is a twin
-pub twin_of : (name : List ℕ) (version : Version) (rows : List BundleKept) (bundle : BundleId) → bundle_under name_cmp name_of (named name version) rows ≡ Some bundle → IsTwin name version rows (DuplicateBundle bundle)
+pub twin_of : (name : List ℕ) (version : Version) (rows : List BundleKept) (bundle : BundleId) → bundle_under name_cmp bundle_name (named name version) rows ≡ Some bundle → IsTwin name version rows (DuplicateBundle bundle)
 twin_of name version rows bundle found =
     let key = named name version in
-    let test : BundleKept → Bool = λ r. eq_by_cmp name_cmp key (name_of r) in
+    let test : BundleKept → Bool = λ r. eq_by_cmp name_cmp key (bundle_name r) in
     let row = found_bundle (find test rows) bundle found in
     let passes = some_passes test rows row.0 row.1 in
-    let same : key ≡ name_of row.0 = (decides_name key (name_of row.0)).0 passes.1 in
+    let same : key ≡ bundle_name row.0 = (decides_name key (bundle_name row.0)).0 passes.1 in
     record {
       other = row.0;
       live = passes.0;
@@ -125,12 +125,20 @@ twin_of name version rows bundle found =
     }
 
 -- no row has a name with a version that is not found
-pub none_named : (key : BundleName) (rows : List BundleKept) → bundle_under name_cmp name_of key rows ≡ None → All (λ r. ¬ (key ≡ name_of r)) rows
+pub none_named : (key : BundleName) (rows : List BundleKept) → bundle_under name_cmp bundle_name key rows ≡ None → All (λ r. ¬ (key ≡ bundle_name r)) rows
 none_named key rows none = λ k d within same.
-    let fails = none_passes (λ r. eq_by_cmp name_cmp key (name_of r)) rows (none_found _ none) k d within in
-    absurd (cc (fails, (decides_name key (name_of (get_or rows k d))).1 same))
+    let fails = none_passes (λ r. eq_by_cmp name_cmp key (bundle_name r)) rows (none_found _ none) k d within in
+    absurd (cc (fails, (decides_name key (bundle_name (get_or rows k d))).1 same))
 
 -- where none is found there is no twin
-pub no_twin : (name : List ℕ) (version : Version) (rows : List BundleKept) (refusal : Refusal) → bundle_under name_cmp name_of (named name version) rows ≡ None → ¬ (IsTwin name version rows refusal)
+-- where no bundle is one, none is found under its name
+pub free_name : (name : List ℕ) (version : Version) (rows : List BundleKept) → ((refusal : Refusal) → ¬ IsTwin name version rows refusal) → bundle_under name_cmp bundle_name (named name version) rows ≡ None
+free_name name version rows none = by (bundle_under name_cmp bundle_name (named name version) rows) refl
+  where
+    by : (o : Option BundleId) → bundle_under name_cmp bundle_name (named name version) rows ≡ o → bundle_under name_cmp bundle_name (named name version) rows ≡ None
+    by None e = e
+    by (Some bundle) e = absurd (none (DuplicateBundle bundle) (twin_of name version rows bundle e))
+
+pub no_twin : (name : List ℕ) (version : Version) (rows : List BundleKept) (refusal : Refusal) → bundle_under name_cmp bundle_name (named name version) rows ≡ None → ¬ (IsTwin name version rows refusal)
 no_twin name version rows refusal none twin =
-    All-contains (λ r. ¬ (named name version ≡ name_of r)) rows twin.other (none_named (named name version) rows none) twin.live (λ i. named (sym twin.same_name i) (sym twin.same_version i))
+    All-contains (λ r. ¬ (named name version ≡ bundle_name r)) rows twin.other (none_named (named name version) rows none) twin.live (λ i. named (sym twin.same_name i) (sym twin.same_version i))

@@ -9,7 +9,8 @@ use Rattle.std.specs.Str.{bytes_eq}
 use Rattle.std.proofs.lemmas.Bool.Decides.{Decides-and, Decides-like}
 use Rattle.std.proofs.lemmas.Map.Text.{is_eq-slice_cmp}
 use Rattle.std.proofs.lemmas.Slice.Eq.{bytes_eq-Decides}
-use Rattle.osgi_bundle.specs.computed.Kept.{name_cmp, text_cmp}
+use Rattle.osgi_base.specs.computed.Texts.{text_cmp}
+use Rattle.osgi_bundle.specs.computed.Kept.{name_cmp}
 use Rattle.osgi_bundle.specs.declared.directory.BundleName.{BundleName}
 use Rattle.osgi_version.specs.Comparing.{exact_version, version_cmp, version_ties, version_total}
 use Rattle.osgi_version.specs.declared.version.Version.{Version}

@@ -11,8 +11,8 @@ use Rattle.std.proofs.lemmas.List.Sums.{position_or_len_is}
 use Rattle.std.proofs.lemmas.Map.Text.{is_eq-slice_cmp}
 use Rattle.std.proofs.lemmas.Option.{slice_get_within}
 use Rattle.std.proofs.lemmas.Slice.Eq.{bytes_eq-Decides}
-use Rattle.osgi_bundle.specs.computed.Kept.{text_cmp}
-use Rattle.osgi_bundle.specs.computed.Places.{AreFirstPlaces, place_of}
+use Rattle.osgi_base.specs.computed.Texts.{text_cmp}
+use Rattle.osgi_bundle.specs.computed.Places.{AreFirstPlaces, depot_place}
 use Rattle.osgi_ops.specs.Depots.{is_at as is_at_location, row_number, stored_at}
 use Rattle.osgi_ops.specs.declared.depot.DepotRow.{DepotRow}
 use Rattle.osgi_bundle.proofs.Finding.{none_passes}
@@ -26,13 +26,13 @@ none_of f None none = refl
 none_of f (Some x) none = absurd (cc none)
 
 -- the row at the place that a location has
-pub row_there : (location : List ℕ) (rows : List DepotRow) (n : ℕ) → place_of location rows ≡ Some n → (row : DepotRow) × (find (is_at_location location) rows ≡ Some row) × (row_number rows location ≡ n) × (slice_get rows n ≡ Some row)
+pub row_there : (location : List ℕ) (rows : List DepotRow) (n : ℕ) → depot_place location rows ≡ Some n → (row : DepotRow) × (find (is_at_location location) rows ≡ Some row) × (row_number rows location ≡ n) × (slice_get rows n ≡ Some row)
 row_there location rows n is =
     let found = some_of (λ (row : DepotRow). row_number rows location) (find (is_at_location location) rows) n is in
     (found.0, found.1, found.2, ap (slice_get rows) (sym found.2) ∙ sym (find_at (is_at_location location) rows) ∙ found.1)
 
 -- no row where the location has no place
-pub nothing_there : (location : List ℕ) (rows : List DepotRow) → place_of location rows ≡ None → stored_at rows location ≡ None
+pub nothing_there : (location : List ℕ) (rows : List DepotRow) → depot_place location rows ≡ None → stored_at rows location ≡ None
 nothing_there location rows is = ap (option_map (λ (row : DepotRow). row.stored)) (none_of (λ (row : DepotRow). row_number rows location) (find (is_at_location location) rows) is)
 
 -- ---- one more row
@@ -58,7 +58,7 @@ place_by rows row location None false none is = refl
 place_by rows row location (Some found) here some is = ap Some (number_found rows row found location some)
 
 -- a location has the place that it had, else the new row's if that is its
-place_push : (rows : List DepotRow) (row : DepotRow) (location : List ℕ) → place_of location (rows ++ row ∷ []) ≡ option_or (place_of location rows) (cond (is_at_location location row) (Some (length rows)) None)
+place_push : (rows : List DepotRow) (row : DepotRow) (location : List ℕ) → depot_place location (rows ++ row ∷ []) ≡ option_or (depot_place location rows) (cond (is_at_location location row) (Some (length rows)) None)
 place_push rows row location =
     ap (option_map (λ (r : DepotRow). row_number (rows ++ row ∷ []) location)) (find-append (is_at_location location) rows (row ∷ []))
     ∙ place_by rows row location (find (is_at_location location) rows) (is_at_location location row) refl refl

@@ -6,8 +6,9 @@ use Rattle.std.proofs.lemmas.List.{map-append}
 use Rattle.std.proofs.lemmas.List.Elements.{All-map, All-push, All-weaker}
 use Rattle.std.proofs.lemmas.List.Kept.{AllPairs-from_increasing}
 use Rattle.std.proofs.lemmas.List.Quantifiers.{all_pairs_push}
-use Rattle.osgi_bundle.specs.computed.Kept.{AddsFirst, bundle_under, HoldsSame, IsKept, location_of, name_cmp, name_of, named, text_cmp}
-use Rattle.osgi_bundle.specs.Rows.{AreApart, AreInOrder, id_of, TableRows}
+use Rattle.osgi_base.specs.computed.Texts.{text_cmp}
+use Rattle.osgi_bundle.specs.computed.Kept.{AddsFirst, bundle_under, HoldsSame, IsKept, location_of, name_cmp, bundle_name, named}
+use Rattle.osgi_bundle.specs.Rows.{AreApart, AreInOrder, bundle_number, TableRows}
 use Rattle.osgi_bundle.specs.declared.directory.Directory.{Directory}
 use Rattle.osgi_bundle.specs.declared.kept.BundleKept.{BundleKept}
 use Rattle.osgi_bundle.proofs.Finding.{none_named}
@@ -17,37 +18,37 @@ first_stays : (P : BundleKept → Type 0) (rows more : List BundleKept) → IsSo
 first_stays P [] more first = absurd first
 first_stays P (row ∷ rest) more first = first
 
-rising_push : (issued : ℕ) (rows : List BundleKept) (row : BundleKept) → IsStrictlyIncreasing (map id_of rows) → All (λ r. id_of r ≤ issued) rows → id_of row ≡ issued + 1 → IsStrictlyIncreasing (map id_of (rows ++ row ∷ []))
+rising_push : (issued : ℕ) (rows : List BundleKept) (row : BundleKept) → IsStrictlyIncreasing (map bundle_number rows) → All (λ r. bundle_number r ≤ issued) rows → bundle_number row ≡ issued + 1 → IsStrictlyIncreasing (map bundle_number (rows ++ row ∷ []))
 rising_push issued rows row rising given next =
-    let below : All (λ n. n ≤ issued) (map id_of rows) = All-map (λ n. n ≤ issued) id_of rows given in
+    let below : All (λ n. n ≤ issued) (map bundle_number rows) = All-map (λ n. n ≤ issued) bundle_number rows given in
     let pairs =
-    all_pairs_push (λ x y. x < y) (map id_of rows) (id_of row) (AllPairs-from_increasing (map id_of rows) rising) (λ k d within. omega (arith, below k d within, next)) in
-    subst IsStrictlyIncreasing (sym (map-append id_of rows (row ∷ []))) (λ k within. pairs k (k + 1) 0 (omega arith) within)
+    all_pairs_push (λ x y. x < y) (map bundle_number rows) (bundle_number row) (AllPairs-from_increasing (map bundle_number rows) rising) (λ k d within. omega (arith, below k d within, next)) in
+    subst IsStrictlyIncreasing (sym (map-append bundle_number rows (row ∷ []))) (λ k within. pairs k (k + 1) 0 (omega arith) within)
 
-pub order_push : (old : TableRows) (row : BundleKept) → AreInOrder old → id_of row ≡ old.issued + 1 → AreInOrder (record { rows = old.rows ++ row ∷ []; issued = old.issued + 1 })
+pub order_push : (old : TableRows) (row : BundleKept) → AreInOrder old → bundle_number row ≡ old.issued + 1 → AreInOrder (record { rows = old.rows ++ row ∷ []; issued = old.issued + 1 })
 order_push old row order next = record {
   first = first_stays _ old.rows (row ∷ []) order.first;
   rising = rising_push old.issued old.rows row order.rising order.issued next;
   issued =
-      All-push (λ r. id_of r ≤ old.issued + 1) old.rows row (All-weaker (λ r. id_of r ≤ old.issued) (λ r. id_of r ≤ old.issued + 1) (λ r le. omega (arith, le)) old.rows order.issued)
+      All-push (λ r. bundle_number r ≤ old.issued + 1) old.rows row (All-weaker (λ r. bundle_number r ≤ old.issued) (λ r. bundle_number r ≤ old.issued + 1) (λ r le. omega (arith, le)) old.rows order.issued)
       (omega (arith, next));
 }
 
-pub apart_push : (rows : List BundleKept) (row : BundleKept) → AreApart rows → bundle_under name_cmp name_of (name_of row) rows ≡ None → AreApart (rows ++ row ∷ [])
+pub apart_push : (rows : List BundleKept) (row : BundleKept) → AreApart rows → bundle_under name_cmp bundle_name (bundle_name row) rows ≡ None → AreApart (rows ++ row ∷ [])
 apart_push rows row apart none =
     all_pairs_push (λ a b. a.name ≡ b.name → ¬ (a.version ≡ b.version)) rows row apart
-    (λ k d within name version. none_named (name_of row) rows none k d within (λ i. named (sym name i) (sym version i)))
+    (λ k d within name version. none_named (bundle_name row) rows none k d within (λ i. named (sym name i) (sym version i)))
 
 -- what is true of the fields stays so when a row is added to the rows and to the directory
-pub kept_push : (old : TableRows) (row : BundleKept) (before after : Directory) → IsKept old before → id_of row ≡ old.issued + 1 → bundle_under name_cmp name_of (name_of row) old.rows ≡ None →
-    AddsFirst text_cmp before.locations after.locations row.location row.bundle → AddsFirst name_cmp before.names after.names (name_of row) row.bundle →
+pub kept_push : (old : TableRows) (row : BundleKept) (before after : Directory) → IsKept old before → bundle_number row ≡ old.issued + 1 → bundle_under name_cmp bundle_name (bundle_name row) old.rows ≡ None →
+    AddsFirst text_cmp before.locations after.locations row.location row.bundle → AddsFirst name_cmp before.names after.names (bundle_name row) row.bundle →
     IsKept (record { rows = old.rows ++ row ∷ []; issued = old.issued + 1 }) after
 kept_push old row before after kept next none locations names = record {
   in_order = order_push old row kept.in_order next;
   apart = apart_push old.rows row kept.apart none;
   index = record {
     locations = index_push text_cmp location_of before.locations after.locations old.rows row kept.index.locations locations;
-    names = index_push name_cmp name_of before.names after.names old.rows row kept.index.names names;
+    names = index_push name_cmp bundle_name before.names after.names old.rows row kept.index.names names;
   };
 }
 
@@ -58,6 +59,6 @@ kept_same table before after kept locations names = record {
   apart = kept.apart;
   index = record {
     locations = index_same text_cmp location_of before.locations after.locations table.rows kept.index.locations locations;
-    names = index_same name_cmp name_of before.names after.names table.rows kept.index.names names;
+    names = index_same name_cmp bundle_name before.names after.names table.rows kept.index.names names;
   };
 }

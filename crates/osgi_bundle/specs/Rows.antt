@@ -21,25 +21,25 @@ pub record TableRows : Type 0 where
   pub rows : List BundleKept
   pub issued : ℕ
 
-abbrev pub id_of : BundleKept → ℕ
-id_of row = row.bundle.0
+abbrev pub bundle_number : BundleKept → ℕ
+bundle_number row = row.bundle.0
 
 -- the system bundle, from the empty location, stands first; the ids rise, and all of them were given
 pub record AreInOrder (table : TableRows) : Type 0 where
   pub first : IsSomeAnd (slice_get table.rows 0) (λ row. (row.bundle ≡ system) × (row.location ≡ []))
-  pub rising : IsStrictlyIncreasing (map id_of table.rows)
-  pub issued : All (λ row. id_of row ≤ table.issued) table.rows
+  pub rising : IsStrictlyIncreasing (map bundle_number table.rows)
+  pub issued : All (λ row. bundle_number row ≤ table.issued) table.rows
 
 -- no two live bundles have the same name and the same version
 abbrev pub AreApart : List BundleKept → Type 0
 AreApart rows = AllPairs (λ a b. a.name ≡ b.name → ¬ (a.version ≡ b.version)) rows
 
-abbrev pub is_bundle : BundleId → BundleKept → Bool
-is_bundle id row = id_of row == id.0
+abbrev pub has_bundle_id : BundleId → BundleKept → Bool
+has_bundle_id id row = bundle_number row == id.0
 
 -- the row of the bundle, if it is live
 abbrev pub row_at : BundleId → List BundleKept → Option BundleKept
-row_at id rows = find (is_bundle id) rows
+row_at id rows = find (has_bundle_id id) rows
 
 abbrev pub has_location : List ℕ → BundleKept → Bool
 has_location location row = bytes_eq row.location location
@@ -71,7 +71,7 @@ new_row id location name version fragment row = record {
 
 -- the row with this state, if it is that of the bundle
 abbrev pub set_in : BundleId → ℕ → BundleKept → BundleKept
-set_in id state row = if is_bundle id row then record row { state = state } else row
+set_in id state row = if has_bundle_id id row then record row { state = state } else row
 
 -- the rows where the state of the bundle is this
 abbrev pub with_state : BundleId → ℕ → List BundleKept → List BundleKept
@@ -109,6 +109,6 @@ abbrev pub install_refusals : List ℕ → Version → List BundleKept → List 
 install_refusals name version rows = IsTwin name version rows ∷ Where (TooMany Bundles) (MAX_BUNDLES < length rows) ∷ []
 
 -- an answer as a verdict
-abbrev pub verdict_of : Result BundleId Refusal → Verdict Refusal BundleId
-verdict_of (Ok id) = answers id
+abbrev pub verdict_of : {A : Type 0} → Result A Refusal → Verdict Refusal A
+verdict_of (Ok answer) = answers answer
 verdict_of (Err refusal) = refuses refusal

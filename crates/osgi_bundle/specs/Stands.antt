@@ -6,7 +6,7 @@ use Rattle.osgi_base.specs.declared.ids.Tag.{Tag}
 use Rattle.osgi_bundle.specs.Rows.{TableRows}
 use Rattle.osgi_bundle.specs.declared.kept.BundleKept.{BundleKept}
 use Rattle.osgi_ops.specs.Bundles.{Bundle, bundles, installed, state_of, the_system_bundle}
-use Rattle.osgi_ops.specs.Depots.{revision_at, row_number}
+use Rattle.osgi_ops.specs.Depots.{stored_revision, row_number}
 use Rattle.osgi_ops.specs.Moments.{first_world}
 use Rattle.osgi_ops.specs.Resolved.{current_revision, is_in_use}
 use Rattle.osgi_ops.specs.Worlds.{with_revision}
@@ -47,14 +47,14 @@ StandsForNone table = (depot : List DepotRow) → StandsFor depot [] first_world
 -- what is kept of a bundle says what the depot has at its location
 pub record IsOfDepot (depot : List DepotRow) (location name : List ℕ) (version : Version) (fragment : Bool) (row : ℕ) : Type 0 where
   pub revision : Revision
-  pub is : revision_at depot location ≡ Some revision
+  pub is : stored_revision depot location ≡ Some revision
   pub has_name : name ≡ revision.name
   pub has_version : version ≡ revision.version
   pub has_host : fragment ≡ is_some revision.host
   pub number : row ≡ row_number depot location
 
 -- the bundle has no current revision, and no wiring is of the revision that it is to get, or has it as a fragment
-pub record IsNew (world : World) (revision : RevisionId) (bundle : BundleId) : Type 0 where
+pub record IsNewBundle (world : World) (revision : RevisionId) (bundle : BundleId) : Type 0 where
   pub no_current : current_revision world bundle ≡ None
   pub unused : is_in_use world.wirings revision ≡ false
 
@@ -62,5 +62,5 @@ pub record IsNew (world : World) (revision : RevisionId) (bundle : BundleId) : T
 -- there, which becomes known
 abbrev pub StandsAfter : List ℕ → List ℕ → Version → Bool → ℕ → BundleId → TableRows → TableRows → Type 0
 StandsAfter location name version fragment row id old new =
-    (depot : List DepotRow) (history : List Entry) (world : World) (revision : RevisionId) (tag : Tag) (of : IsOfDepot depot location name version fragment row) → IsNew world revision id → StandsFor depot history world old →
+    (depot : List DepotRow) (history : List Entry) (world : World) (revision : RevisionId) (tag : Tag) (of : IsOfDepot depot location name version fragment row) → IsNewBundle world revision id → StandsFor depot history world old →
     StandsFor depot (history ++ record { tag = tag; op = op.Install location; reply = answer.Bundle id false } ∷ []) (with_revision world revision id of.revision) new

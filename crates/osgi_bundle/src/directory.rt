@@ -3,7 +3,8 @@
 ghost use Rattle.std.specs.Prelude.{◌≡◌, List, ℕ, None, IfOk, OnOk, OnErr};
 ghost use Rattle.std.specs.BTreeMap.{get};
 ghost use Rattle.std.specs.Option.{option_copied};
-ghost use Rattle.osgi_bundle.specs.computed.Kept.{AddsFirst, HoldsSame, name_cmp, named, text_cmp};
+ghost use Rattle.osgi_base.specs.computed.Texts.{text_cmp};
+ghost use Rattle.osgi_bundle.specs.computed.Kept.{AddsFirst, HoldsSame, name_cmp, named};
 ghost use Rattle.osgi_bundle.specs.declared.directory.BundleName.{BundleName};
 
 use osgi_base::{BundleId, Text};
@@ -62,8 +63,8 @@ impl Directory {
         self.names.get(name).copied()
     }
 
-    /// Adds a bundle under its name and version, and under its location unless another stands there. If memory runs out, it stands
-    /// under neither.
+    /// Adds a bundle under its name and version, and under its location unless another stands there. If memory runs out, it
+    /// stands under neither.
     pub fn add(
         &mut self,
         location: &Text,

@@ -60,7 +60,7 @@ impl IndexedDepot {
 
 /// The number of the first row of each location.
 fn first_places(alloc: Global, rows: &[DepotRow]) -> Result<BTreeMap<Text, u32>, AllocError>
-    requires fit { length rows.now < 4294967295 }
+    requires fit { length rows.now < u32.MAX }
     ensures places { IfOk result (λ places. AreFirstPlaces places rows.now) }
 {
     let mut places = BTreeMap::new(alloc);

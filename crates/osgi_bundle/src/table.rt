@@ -3,12 +3,13 @@
 ghost use Rattle.std.specs.Prelude.{◌≡◌, ◌+◌, ◌<◌, ◌≤◌, [], ◌∷◌, ◌++◌, length, slice_get, None, Some, IfOk, OnOk, OnErr};
 ghost use Rattle.std.specs.Option.{option_copied};
 ghost use Rattle.osgi_base.specs.Verdict.{Gives};
-ghost use Rattle.osgi_bundle.specs.computed.Kept.{bundle_under, name_cmp, name_of, row_in};
-ghost use Rattle.osgi_bundle.specs.Rows.{AreApart, AreInOrder, bundle_from, id_of, install_refusals, IsSettable, new_row, resolved_state, row_at, state_at, verdict_of, with_state};
+ghost use Rattle.osgi_bundle.specs.computed.Kept.{bundle_under, name_cmp, bundle_name, row_in};
+ghost use Rattle.osgi_bundle.specs.Rows.{AreApart, AreInOrder, bundle_from, bundle_number, install_refusals, IsSettable, IsTwin, new_row, resolved_state, row_at, state_at, verdict_of, with_state};
 ghost use Rattle.osgi_bundle.specs.Stands.{first_table, kept_of, StandsAfter, StandsForNone};
 ghost use Rattle.osgi_ops.specs.Bundles.{the_system_bundle};
 ghost use Rattle.osgi_ops.specs.Moments.{first_world};
 ghost use Rattle.osgi_ops.specs.declared.limits.TheConstants.{MAX_BUNDLES};
+ghost use Rattle.osgi_ops.specs.declared.refusal.Refusal.{Refusal};
 
 use crate::directory::{BundleName, Directory};
 use crate::kept::BundleKept;
@@ -141,13 +142,35 @@ impl Table {
         fragment: bool,
         row: u32,
     ) -> Result<Result<BundleId, Refusal>, AllocError>
-        requires ids_left { self.old.issued < 4294967295 }
+        requires ids_left { self.old.issued < u32.MAX }
         ensures answer { IfOk result (λ answer. Gives (install_refusals name version self.old.rows) (λ id. id.0 ≡ self.old.issued + 1) (verdict_of answer)) }
         ensures rows { IfOk result (λ answer. IfOk answer (λ id. self.new.rows ≡ self.old.rows ++ new_row id location name version fragment row ∷ [])) }
         ensures issued { IfOk result (λ answer. OnOk answer (self.new.issued ≡ self.old.issued + 1)) }
         ensures stands { IfOk result (λ answer. IfOk answer (λ id. StandsAfter location name version fragment row id self.old self.new)) }
         ensures refused { IfOk result (λ answer. OnErr answer (self.new ≡ self.old)) }
         ensures unchanged { OnErr result (self.new ≡ self.old) }
+    {
+        match self.make(location, name, version, fragment, row)? {
+            Ok(made) => {
+                let bundle = made.bundle;
+                self.insert(made)?;
+                Ok(Ok(bundle))
+            }
+            Err(refusal) => Ok(Err(refusal)),
+        }
+    }
+
+    /// The bundle as it is installed under the next id.
+    pub fn make(
+        &self,
+        location: Text,
+        name: Text,
+        version: Version,
+        fragment: bool,
+        row: u32,
+    ) -> Result<Result<BundleKept, Refusal>, AllocError>
+        requires ids_left { self.now.issued < u32.MAX }
+        ensures answer { IfOk result (λ answer. Gives (install_refusals name version self.now.rows) (λ made. made ≡ new_row (record { 0 = self.now.issued + 1 }) location name version fragment row) (verdict_of answer)) }
     {
         let key = BundleName::of(self.alloc, &name, &version)?;
         if let Some(bundle) = self.directory.of_name(&key) {
@@ -158,9 +181,8 @@ impl Table {
                 kind: Many::Bundles,
             }));
         }
-        let bundle = BundleId(self.issued + 1);
-        let installed = BundleKept {
-            bundle,
+        Ok(Ok(BundleKept {
+            bundle: BundleId(self.issued + 1),
             location,
             name,
             version,
@@ -168,9 +190,22 @@ impl Table {
             row,
             state: INSTALLED,
             by: None,
-        };
-        self.add(key, installed)?;
-        Ok(Ok(bundle))
+        }))
+    }
+
+    /// Inserts a bundle that was made, under the next id.
+    pub fn insert(&mut self, made: BundleKept) -> Result<(), AllocError>
+        requires next { made.bundle.0 ≡ self.old.issued + 1 }
+        requires is_new { made ≡ new_row made.bundle made.location made.name made.version made.fragment made.row }
+        requires apart { (refusal : Refusal) → ¬ IsTwin made.name made.version self.old.rows refusal }
+        ensures rows { OnOk result (self.new.rows ≡ self.old.rows ++ made ∷ []) }
+        ensures issued { OnOk result (self.new.issued ≡ self.old.issued + 1) }
+        ensures stands { OnOk result (StandsAfter made.location made.name made.version made.fragment made.row made.bundle self.old self.new) }
+        ensures unchanged { OnErr result (self.new ≡ self.old) }
+    {
+        let key = BundleName::of(self.alloc, &made.name, &made.version)?;
+        self.add(key, made)?;
+        Ok(())
     }
 
     /// Sets whether a bundle is resolved. It has to be live, and not up.
@@ -190,8 +225,8 @@ impl Table {
     /// Adds a bundle under the next id. Memory is taken first.
     fn add(&mut self, key: BundleName, row: BundleKept) -> Result<(), AllocError>
         requires next { row.bundle.0 ≡ self.old.issued + 1 }
-        requires named { key ≡ name_of row }
-        requires fresh { bundle_under name_cmp name_of key self.old.rows ≡ None }
+        requires named { key ≡ bundle_name row }
+        requires fresh { bundle_under name_cmp bundle_name key self.old.rows ≡ None }
         ensures rows { OnOk result (self.new.rows ≡ self.old.rows ++ row ∷ []) }
         ensures issued { OnOk result (self.new.issued ≡ self.old.issued + 1) }
         ensures unchanged { OnErr result (self.new ≡ self.old) }

@@ -9,7 +9,7 @@ use Rattle.std.proofs.Math.Seq.{drop-append_seam}
 use Rattle.std.proofs.lemmas.List.{append-nil, take_all}
 use Rattle.std.proofs.lemmas.List.Folds.{find-append}
 use Rattle.osgi_base.specs.declared.ids.RevisionId.{RevisionId}
-use Rattle.osgi_candidates.specs.Following.{AreOwnersKnown, Covers, Follows}
+use Rattle.osgi_candidates.specs.Following.{AreOwnersKnown, Covers, CoversFirst}
 use Rattle.osgi_candidates.specs.computed.Halfway.{IsHalfway}
 use Rattle.osgi_candidates.specs.computed.Holding.{AreHeld, IsElsewhere}
 use Rattle.osgi_candidates.specs.computed.InUses.{AreInUse, HasRevision, IsUsedBy}
@@ -223,11 +223,11 @@ count_known i (Some k) h = refl
 
 pub owners_known : (K : List Known) (W : List Wiring) → Consistent K W → AreOwnersKnown K W
 owners_known K W consistent g i w j =
-    let offer = consistent.coherent.offered g.revision w (record { wiring = g; stands = i; revision = refl; has = j }) in
+    let offer = consistent.coherent.rules.offered g.revision w (record { wiring = g; stands = i; revision = refl; has = j }) in
     count_known w.capability.index (known_at K w.capability.owner) offer.has.1
 
 -- an index that covers a world follows it
-pub follows_covered : (index : OfferIndex) (K : List Known) (W : List Wiring) → AreOwnersKnown K W → Covers index K W → Follows index K W
+pub follows_covered : (index : OfferIndex) (K : List Known) (W : List Wiring) → AreOwnersKnown K W → Covers index K W → CoversFirst index K W
 follows_covered index K W owners covers = record {
   known = K;
   later_known = [];
@@ -240,11 +240,11 @@ follows_covered index K W owners covers = record {
 }
 
 -- the same of a consistent world
-pub follows_consistent : (index : OfferIndex) (K : List Known) (W : List Wiring) → Consistent K W → Covers index K W → Follows index K W
+pub follows_consistent : (index : OfferIndex) (K : List Known) (W : List Wiring) → Consistent K W → Covers index K W → CoversFirst index K W
 follows_consistent index K W consistent covers = follows_covered index K W (owners_known K W consistent) covers
 
 -- an index that follows a world follows it as it grows
-pub follows_more : (index : OfferIndex) (K D : List Known) (W V : List Wiring) → Follows index K W → Follows index (K ++ D) (W ++ V)
+pub follows_more : (index : OfferIndex) (K D : List Known) (W V : List Wiring) → CoversFirst index K W → CoversFirst index (K ++ D) (W ++ V)
 follows_more index K D W V f = record {
   known = f.known;
   later_known = f.later_known ++ D;
@@ -257,15 +257,15 @@ follows_more index K D W V f = record {
 }
 
 -- as more revisions become known
-pub follows_known : (index : OfferIndex) (K D : List Known) (W : List Wiring) → Follows index K W → Follows index (K ++ D) W
-follows_known index K D W f = subst (λ (V : List Wiring). Follows index (K ++ D) V) (append-nil W) (follows_more index K D W [] f)
+pub follows_known : (index : OfferIndex) (K D : List Known) (W : List Wiring) → CoversFirst index K W → CoversFirst index (K ++ D) W
+follows_known index K D W f = subst (λ (V : List Wiring). CoversFirst index (K ++ D) V) (append-nil W) (follows_more index K D W [] f)
 
 -- as more wirings come into force
-pub follows_wirings : (index : OfferIndex) (K : List Known) (W V : List Wiring) → Follows index K W → Follows index K (W ++ V)
-follows_wirings index K W V f = subst (λ (L : List Known). Follows index L (W ++ V)) (append-nil K) (follows_more index K [] W V f)
+pub follows_wirings : (index : OfferIndex) (K : List Known) (W V : List Wiring) → CoversFirst index K W → CoversFirst index K (W ++ V)
+follows_wirings index K W V f = subst (λ (L : List Known). CoversFirst index L (W ++ V)) (append-nil K) (follows_more index K [] W V f)
 
 -- an index of nothing follows each world
-pub follows_none : (index : OfferIndex) → index.known ≡ 0 → index.wirings ≡ 0 → HasNone index.names → ((r : RevisionId) → get nat_cmp index.held.wirings r.0 ≡ None) → index.in_use.keys ≡ [] → (K : List Known) (W : List Wiring) → Follows index K W
+pub follows_none : (index : OfferIndex) → index.known ≡ 0 → index.wirings ≡ 0 → HasNone index.names → ((r : RevisionId) → get nat_cmp index.held.wirings r.0 ≡ None) → index.in_use.keys ≡ [] → (K : List Known) (W : List Wiring) → CoversFirst index K W
 follows_none index known wirings names held in_use K W = record {
   known = [];
   later_known = K;
@@ -286,7 +286,7 @@ follows_none index known wirings names held in_use K W = record {
 -- ---- following
 
 -- all known revisions are added
-pub halfway_is : (old new : OfferIndex) (K : List Known) (W : List Wiring) → Follows old K W → AreOnce K → new.known ≡ length K → new.wirings ≡ old.wirings → new.held ≡ old.held → new.in_use ≡ old.in_use →
+pub halfway_is : (old new : OfferIndex) (K : List Known) (W : List Wiring) → CoversFirst old K W → AreOnce K → new.known ≡ length K → new.wirings ≡ old.wirings → new.held ≡ old.held → new.in_use ≡ old.in_use →
     ((D : List Known) → AreOnce (D ++ drop old.known K) → AreNames D old.names → AreNames (D ++ drop old.known K) new.names) → IsHalfway new K W
 halfway_is old new K W f once known wirings held in_use added =
     let c = f.covers in

@@ -5,12 +5,12 @@ use Rattle.std.specs.BTreeMap.{is_at}
 use Rattle.std.proofs.lemmas.Cmp.{eq_by_cmp_equiv}
 use Rattle.std.proofs.lemmas.Map.Views.{tells_apart}
 use Rattle.std.proofs.lemmas.Option.{slice_get_within}
+use Rattle.osgi_base.specs.computed.Texts.{text_cmp}
 use Rattle.osgi_base.specs.declared.ids.RevisionId.{RevisionId}
 use Rattle.osgi_candidates.specs.computed.Names.{GrowsBy, capability_added, fragment_added, place_at, values_of}
 use Rattle.osgi_candidates.specs.declared.names.Place.{Place}
 use Rattle.osgi_resolver_theory.proofs.Lists.{in-append_cases, in-append_left, in-append_right}
 use Rattle.osgi_space_rules.proofs.Exact.{text_exact, text_total}
-use Rattle.osgi_space_rules.specs.computed.Keys.{text_cmp}
 use Rattle.osgi_space_rows.specs.computed.Groups.{Adds}
 use Rattle.osgi_space_rows.specs.declared.grouped.Grouped.{Grouped}
 use Rattle.osgi_world.specs.Lists.{In}

@@ -2,7 +2,7 @@
 use Rattle.std.proofs.Common.{◌≡◌, ◌==◌, ◌⊎◌, inl, inr, ℕ, ◌+◌, ◌<◌, ◌≤◌, List, [], ◌∷◌, ◌++◌, length, take, get_or, refl, sym, ap, subst, arith}
 use Rattle.std.specs.Prelude.{false, IsTrue, Option, None, Some, find}
 use Rattle.std.specs.Option.{option_map, option_map_or}
-use Rattle.osgi_candidates.specs.computed.Choices.{AddsAsked, AddsChoice, AddsChoices, AreChoices, IsBelow, IsChoice, place_of}
+use Rattle.osgi_candidates.specs.computed.Choices.{AddsAsked, AddsChoice, AddsChoices, AreChoices, IsBelow, IsChoice, requirement_ref}
 use Rattle.osgi_candidates.specs.computed.Collecting.{AreCandidates}
 use Rattle.osgi_candidates.specs.computed.Fitting.{IsFit}
 use Rattle.osgi_candidates.proofs.Answering.{same_candidate}
@@ -49,11 +49,11 @@ module _ (w : World) where
   below-split : (i j : ℕ) → j < i + 1 → (j < i) ⊎ (j ≡ i)
   below-split i j h = grind (arith, h)
 
-  pub below_more : (k : Known) (i : ℕ) (a b d : List Choice) → AddsAsked w (IsBelow k i) a b → AddsChoice w (place_of k.id i) b d → AddsAsked w (IsBelow k (i + 1)) a d
+  pub below_more : (k : Known) (i : ℕ) (a b d : List Choice) → AddsAsked w (IsBelow k i) a b → AddsChoice w (requirement_ref k.id i) b d → AddsAsked w (IsBelow k (i + 1)) a d
   below_more k i a b d x y =
-      asked_like a d (λ q. IsBelow k i q ⊎ (q ≡ place_of k.id i)) (IsBelow k (i + 1))
-      (λ q at h. elim (below-split i q.index at.1) [ inl less ↦ inl (at.0, less) | inr e ↦ inr (ref-eq q (place_of k.id i) at.0 e) ])
-      (asked_two a b d (IsBelow k i) (λ q. q ≡ place_of k.id i) x y)
+      asked_like a d (λ q. IsBelow k i q ⊎ (q ≡ requirement_ref k.id i)) (IsBelow k (i + 1))
+      (λ q at h. elim (below-split i q.index at.1) [ inl less ↦ inl (at.0, less) | inr e ↦ inr (ref-eq q (requirement_ref k.id i) at.0 e) ])
+      (asked_two a b d (IsBelow k i) (λ q. q ≡ requirement_ref k.id i) x y)
 
   pub below_all : (k : Known) (i n : ℕ) (a b : List Choice) → n ≤ i → AddsAsked w (IsBelow k i) a b → AddsAsked w (λ q. IsTrue k.current × IsBelow k n q) a b
   below_all k i n a b past x = asked_like a b (IsBelow k i) (λ q. IsTrue k.current × IsBelow k n q) (λ q at h. (at.1.0, (let l : q.index < n = at.1.1 in omega (arith, l, past)))) x

@@ -76,7 +76,7 @@ module _ (w : World) (fit : IsFit w) (names : KnownNames) (are : AreNames w.know
 
   pub proposed : (q : ReqRef) (c : CapRef) → IsCandidate (bare w) q c → IsProposed c
   proposed q c x = elim x.stands [
-    | inl o ↦ elim o.1.has.0 [ inl own ↦ inl (sym own) | inr a ↦ inr (asks_host w.known c.owner c.provider (fit.consistent.coherent.attached c.provider c.owner a)) ]
+    | inl o ↦ elim o.1.has.0 [ inl own ↦ inl (sym own) | inr a ↦ inr (asks_host w.known c.owner c.provider (fit.consistent.coherent.rules.attached c.provider c.owner a)) ]
     | inr n ↦ elim n.1 [ inl own ↦ inl (sym own) | inr m ↦ inr (asks_host w.known c.owner c.provider ((matching_is w fit c.owner c.provider).0 m).1) ]
   ]
 

@@ -8,6 +8,7 @@ use Rattle.std.specs.Ordering.{nat_cmp}
 use Rattle.std.proofs.lemmas.Cmp.{eq_by_cmp_equiv, nat_cmp_total}
 use Rattle.std.proofs.lemmas.Map.Lookups.{exact_unsigned}
 use Rattle.std.proofs.lemmas.Map.Views.{tells_apart}
+use Rattle.osgi_base.specs.computed.Texts.{text_cmp}
 use Rattle.osgi_base.specs.declared.ids.RevisionId.{RevisionId}
 use Rattle.osgi_candidates.specs.computed.Holding.{AreElsewhere, AreFragments, AreHeld, Holds, IsElsewhere, PutsElsewhere}
 use Rattle.osgi_candidates.specs.declared.held.Held.{Held}
@@ -16,7 +17,6 @@ use Rattle.osgi_resolver_theory.proofs.Lists.{in-append_left, in-append_right}
 use Rattle.osgi_space_rules.proofs.Exact.{inserted, text_exact, text_total}
 use Rattle.osgi_space_rules.proofs.Grow.{in_either}
 use Rattle.osgi_space_rules.specs.computed.Growing.{Grows, Has, Nothing}
-use Rattle.osgi_space_rules.specs.computed.Keys.{text_cmp}
 use Rattle.osgi_world.specs.Lists.{In}
 use Rattle.osgi_world.specs.Wirings.{InForce, IsExport}
 use Rattle.osgi_world.specs.declared.wiring.Wire.{Wire}

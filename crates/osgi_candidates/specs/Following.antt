@@ -24,7 +24,7 @@ pub record Covers (index : OfferIndex) (K : List Known) (W : List Wiring) : Type
 
 -- the index covers the first of the known revisions and the first of the wirings; the wires of these go to capabilities of such
 -- revisions
-pub record Follows (index : OfferIndex) (K : List Known) (W : List Wiring) : Type 0 where
+pub record CoversFirst (index : OfferIndex) (K : List Known) (W : List Wiring) : Type 0 where
   pub known : List Known
   pub later_known : List Known
   pub wirings : List Wiring

@@ -3,7 +3,7 @@
 ghost use Rattle.std.specs.Prelude.{◌≡◌, ◌↔◌, IfOk, IsTrue, OnOk};
 ghost use Rattle.osgi_candidates.specs.computed.Choices.{AddsChoice, AddsChoices, AreChoices};
 ghost use Rattle.osgi_candidates.specs.computed.Fitting.{IsFit};
-ghost use Rattle.osgi_world.specs.Candidates.{AreOrdered, CanBeAsked, IsProblem, IsUnresolved};
+ghost use Rattle.osgi_world.specs.Candidates.{CanBeAsked, IsProblem, IsResolvable};
 ghost use Rattle.osgi_world.specs.Consistency.{Consistent};
 ghost use Rattle.osgi_world.specs.Wirings.{IsWorld};
 
@@ -16,10 +16,7 @@ use std::alloc::{AllocError, Global};
 
 /// The problem of resolving the root: the candidates of each effective requirement of each current revision are listed.
 pub fn problem(alloc: Global, world: World, root: RevisionId) -> Result<Problem, AllocError>
-    requires is_world { IsWorld world.known world.wirings }
-    requires ordered { AreOrdered world.known world.wirings }
-    requires consistent { Consistent world.known world.wirings }
-    requires unresolved { IsUnresolved world.known world.wirings root }
+    requires resolvable { IsResolvable world root }
     ensures world { IfOk result (λ problem. problem.world ≡ world) }
     ensures root { IfOk result (λ problem. problem.root ≡ root) }
     ensures problem { IfOk result IsProblem }

@@ -1,7 +1,7 @@
 //! What a world offers, kept from one resolve to the next.
 
 ghost use Rattle.std.specs.Prelude.{List, OnErr, OnOk};
-ghost use Rattle.osgi_candidates.specs.Following.{Covers, Follows};
+ghost use Rattle.osgi_candidates.specs.Following.{Covers, CoversFirst};
 ghost use Rattle.osgi_candidates.specs.computed.Halfway.{IsHalfway};
 ghost use Rattle.osgi_world.specs.Consistency.{Consistent};
 ghost use Rattle.osgi_world.specs.Wirings.{IsWorld};
@@ -42,7 +42,7 @@ impl Drop for OfferIndex {
 impl OfferIndex {
     /// The index of nothing. It can follow each world.
     pub fn new(alloc: Global) -> OfferIndex
-        ensures follows { (K : List Known) (W : List Wiring) → Follows result K W }
+        ensures follows { (K : List Known) (W : List Wiring) → CoversFirst result K W }
     {
         OfferIndex {
             known: 0,
@@ -55,12 +55,12 @@ impl OfferIndex {
 
     /// Adds what is new in the world. If memory runs out, it is the index of nothing again.
     pub fn follow(&mut self, alloc: Global, world: &World) -> Result<(), AllocError>
-        requires follows { Follows self.old world.now.known world.now.wirings }
+        requires follows { CoversFirst self.old world.now.known world.now.wirings }
         requires is_world { IsWorld world.now.known world.now.wirings }
         requires consistent { Consistent world.now.known world.now.wirings }
         ensures covers { OnOk result (Covers self.new world.now.known world.now.wirings) }
-        ensures follows { Follows self.new world.now.known world.now.wirings }
-        ensures nothing { OnErr result ((K : List Known) (W : List Wiring) → Follows self.new K W) }
+        ensures follows { CoversFirst self.new world.now.known world.now.wirings }
+        ensures nothing { OnErr result ((K : List Known) (W : List Wiring) → CoversFirst self.new K W) }
     {
         match self.add_new(alloc, world) {
             Ok(()) => Ok(()),
@@ -72,7 +72,7 @@ impl OfferIndex {
     }
 
     fn add_new(&mut self, alloc: Global, world: &World) -> Result<(), AllocError>
-        requires follows { Follows self.old world.now.known world.now.wirings }
+        requires follows { CoversFirst self.old world.now.known world.now.wirings }
         requires is_world { IsWorld world.now.known world.now.wirings }
         ensures covers { OnOk result (Covers self.new world.now.known world.now.wirings) }
     {
@@ -83,7 +83,7 @@ impl OfferIndex {
 
     /// Adds the revisions that became known.
     fn add_known(&mut self, alloc: Global, world: &World) -> Result<(), AllocError>
-        requires follows { Follows self.old world.now.known world.now.wirings }
+        requires follows { CoversFirst self.old world.now.known world.now.wirings }
         requires is_world { IsWorld world.now.known world.now.wirings }
         ensures halfway { OnOk result (IsHalfway self.new world.now.known world.now.wirings) }
     {

@@ -42,7 +42,7 @@ impl Offers<'_> {
             };
         }
         match self.known.capability(capability.owner, capability.index) {
-            Some(offered) => version_in(alloc, &offered.attributes),
+            Some(offered) => version_in(alloc, offered.attributes.get()),
             None => Ok(Version::numbered(0, 0, 0)),
         }
     }

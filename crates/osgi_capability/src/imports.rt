@@ -9,8 +9,8 @@ ghost use Rattle.osgi_version.specs.RangeValues.{is_within, range_parts};
 
 use osgi_base::Text;
 use osgi_model::{Attribute, Value};
-use osgi_version::{Version, VersionRange};
-use osgi_world::{Capability, Requirement};
+use osgi_version::Version;
+use osgi_world::{Capability, Requirement, SharedRange};
 
 /// The value of the first attribute of this name.
 pub fn value_named<'a>(attributes: &'a [Attribute], name: &[u8]) -> Option<&'a Value>
@@ -25,7 +25,7 @@ pub fn value_named<'a>(attributes: &'a [Attribute], name: &[u8]) -> Option<&'a V
 }
 
 /// Whether the version that a value is, 0.0.0 where it is none, is within the range.
-fn is_within(range: &VersionRange, value: Option<&Value>) -> bool
+fn is_within(range: &SharedRange, value: Option<&Value>) -> bool
     ensures within { result ≡ is_within (range_parts range.now) (version_of (option_copied value.entry)) }
 {
     match value {
@@ -68,7 +68,7 @@ fn is_listed(attributes: &[Attribute], name: &[u8]) -> bool
 }
 
 /// Whether the range is the one that stands where none is given.
-fn is_any_version(range: &VersionRange) -> bool
+fn is_any_version(range: &SharedRange) -> bool
     ensures any { result ≡ is_at_least_zero (range_parts range.now) }
 {
     range.is_at_least_zero()
@@ -87,7 +87,7 @@ fn is_given(import: &Requirement, name: &[u8]) -> bool
     if name == b"bundle-symbolic-name".as_slice() {
         return import.from_name.is_some();
     }
-    is_listed(import.equal.items(), name)
+    is_listed(import.equal.get().items(), name)
 }
 
 /// Whether the import gives all attributes of these names.
@@ -122,9 +122,9 @@ pub fn fits_import(
 ) -> bool
     ensures fits { result ≡ fits_import import.now export.now name.now version.now }
 {
-    let attributes = export.attributes.items();
+    let attributes = export.attributes.get().items();
     is_within(&import.range, value_named(attributes, b"version"))
         && is_exporter(import, name, version)
-        && have_all_equal(attributes, import.equal.items())
-        && gives_all(import, export.mandatory.items())
+        && have_all_equal(attributes, import.equal.get().items())
+        && gives_all(import, export.mandatory.get().items())
 }

@@ -1,12 +1,11 @@
 //! Whether a capability satisfies a requirement, by its namespace.
 
 ghost use Rattle.std.specs.Prelude.{◌≡◌, ◌↔◌, IsTrue};
-ghost use Rattle.std.specs.Option.{option_copied};
 ghost use Rattle.osgi_capability.specs.computed.Satisfied.{fits_filter, is_satisfied, meets};
 ghost use Rattle.osgi_world.specs.Satisfaction.{Satisfies};
 
 use crate::imports::fits_import;
-use osgi_base::Text;
+use osgi_base::{Shared, Text};
 use osgi_filter::{Case, matches};
 use osgi_model::{Attributes, Filter};
 use osgi_version::Version;
@@ -52,15 +51,15 @@ fn meets(requirement: &Requirement, capability: &Capability, name: &Text, versio
     if namespace == b"osgi.wiring.package".as_slice() {
         return fits_import(requirement, capability, name, version);
     }
-    fits_filter(requirement.filter.as_ref(), &capability.attributes)
+    fits_filter(&requirement.filter, capability.attributes.get())
 }
 
 /// Whether the attributes are such as the filter, if there is one, asks for.
-fn fits_filter(filter: Option<&Filter>, attributes: &Attributes) -> bool
-    ensures fits { result ≡ fits_filter (option_copied filter.entry) attributes.now }
+fn fits_filter(filter: &Option<Shared<Filter>>, attributes: &Attributes) -> bool
+    ensures fits { result ≡ fits_filter filter.now attributes.now }
 {
     match filter {
-        Some(filter) => matches(filter, attributes, Case::Keep),
+        Some(filter) => matches(filter.get(), attributes, Case::Keep),
         None => true,
     }
 }

@@ -19,7 +19,7 @@ use Rattle.osgi_version.specs.Ranges.{IsReadableRange, plain}
 use Rattle.osgi_version.specs.RangeValues.{range_parts}
 use Rattle.osgi_version.specs.Versions.{blank}
 use Rattle.osgi_package.specs.Only.{IsOnly}
-use Rattle.osgi_package.specs.Parameters.{HasValue, IsAttribute, directive_value, is_double, version_text}
+use Rattle.osgi_package.specs.Parameters.{IsReadableAttribute, IsAttribute, directive_value, is_double, version_text}
 use Rattle.osgi_package.specs.laws.Verdicts.{first_only, rest_only}
 use Rattle.osgi_clause.specs.ClauseFaults.{HasNone}
 use Rattle.osgi_clause.specs.Walks.{IsTheFirst}
@@ -189,17 +189,17 @@ required_capability clause filter first second filtered is_first is_second path 
 
 -- ---- capabilities
 
-pub all_values : (typed : List Typed) (attributes : List Attribute) → AllZip IsAttribute typed attributes → All HasValue typed
-all_values [] [] are = All-nil HasValue
+pub all_values : (typed : List Typed) (attributes : List Attribute) → AllZip IsAttribute typed attributes → All IsReadableAttribute typed
+all_values [] [] are = All-nil IsReadableAttribute
 all_values [] (a ∷ attributes) are = absurd are
 all_values (t ∷ typed) [] are = absurd are
-all_values (t ∷ typed) (a ∷ attributes) are = All-cons HasValue t typed (a, are.0) (all_values typed attributes are.1)
+all_values (t ∷ typed) (a ∷ attributes) are = All-cons IsReadableAttribute t typed (a, are.0) (all_values typed attributes are.1)
 
-pub values_all : (typed : List Typed) → All HasValue typed → (attributes : List Attribute) × AllZip IsAttribute typed attributes
+pub values_all : (typed : List Typed) → All IsReadableAttribute typed → (attributes : List Attribute) × AllZip IsAttribute typed attributes
 values_all [] all = ([], tt)
 values_all (t ∷ typed) all =
-    let first = All-head HasValue t typed all in
-    let rest = values_all typed (All-tail HasValue t typed all) in
+    let first = All-head IsReadableAttribute t typed all in
+    let rest = values_all typed (All-tail IsReadableAttribute t typed all) in
     (first.0 ∷ rest.0, (first.1, rest.1))
 
 same_some : {A : Type 0} (a b : A) → ◌≡◌ {A = Option A} (Some a) (Some b) → b ≡ a
@@ -227,7 +227,7 @@ module _ (clause : Clause) where
   IsDouble = list_any is_double clause.attributes ≡ true
 
   abbrev Unvalued : Type 0
-  Unvalued = ¬ All HasValue clause.attributes
+  Unvalued = ¬ All IsReadableAttribute clause.attributes
 
   abbrev after_values : List (ManifestKind → Type 0)
   after_values = Where fault.ReservedNamespace (IsReserved clause) ∷ []
@@ -257,7 +257,7 @@ module _ (clause : Clause) where
 
   record AreGood (attributes : List Attribute) : Type 0 where
     pub plain : list_any is_double clause.attributes ≡ false
-    pub all : All HasValue clause.attributes
+    pub all : All IsReadableAttribute clause.attributes
     pub are : IsOnly (AllZip IsAttribute clause.attributes) attributes
 
   are_good : (r : Result (List Attribute) ManifestKind) (attributes : List Attribute) → AreAttributesRead clause r → r ≡ Ok attributes → AreGood attributes

@@ -22,7 +22,7 @@ use Rattle.osgi_package.specs.laws.Splits.{no_item}
 use Rattle.osgi_package.specs.laws.Verdicts.{first_only, rest_only}
 use Rattle.osgi_clause.specs.ClauseFaults.{AreFine, HasNone, clauses_of}
 use Rattle.osgi_clause.specs.Walks.{IsFirstFaulty, IsTheFirst, Walked}
-use Rattle.osgi_clause.specs.computed.Packages.{IsPlainLen, fault_in, or_repeated_of, place_of}
+use Rattle.osgi_clause.specs.computed.Packages.{IsPlainLen, fault_in, or_repeated_of, clause_place}
 use Rattle.osgi_clause.specs.Faults.{kind_of}
 use Rattle.osgi_clause.specs.Directives.{Repeats}
 use Rattle.osgi_clause.proofs.Made.{heads, tails}
@@ -136,7 +136,7 @@ module _ {X : Type 0} (Says : List Clause → Clause → Verdict PackageKind (Li
         fine = subst (AreFine faults) (sym split.before_is) (given_fine is.given once_before);
         first = subst (λ l. IsTheFirst (faults l split.item.clause) (kind_of unversioned found.kind)) (sym split.before_is)
             (subst (λ c. IsTheFirst (faults is.before c) (kind_of unversioned found.kind)) (sym split.clause_is) first);
-        at = ap place_of (ap (slice_get items) number ∙ got_at items split.first split.item split.others split.is);
+        at = ap clause_place (ap (slice_get items) number ∙ got_at items split.first split.item split.others split.is);
       }
 
   repeated_in : (clauses before rest : List ClauseAt) (made : List X) → clauses ≡ before ++ rest → Once (clauses_of before) →

@@ -13,7 +13,7 @@ use Rattle.osgi_package.specs.declared.fault.PackageKind.{PackageKind}
 use Rattle.osgi_package.specs.declared.fault.PackageKind.TheVariants as package_fault
 use Rattle.osgi_package.specs.Exports.{SaysExports}
 use Rattle.osgi_package.specs.Imports.{SaysImports}
-use Rattle.osgi_package.specs.Parameters.{HasValue, directive_value, is_double, version_text}
+use Rattle.osgi_package.specs.Parameters.{IsReadableAttribute, directive_value, is_double, version_text}
 use Rattle.osgi_clause.specs.Directives.{Repeats}
 
 -- a symbolic name: one or more letters, digits, `_` and `-`, and more such after each `.`
@@ -72,6 +72,6 @@ abbrev pub provided_faults : List Clause → Clause → List (ManifestKind → T
 provided_faults before clause =
     Where fault.BadClause (Repeats clause)
     ∷ Where fault.DoubleType (list_any is_double clause.attributes ≡ true)
-    ∷ Where fault.BadValue (¬ All HasValue clause.attributes)
+    ∷ Where fault.BadValue (¬ All IsReadableAttribute clause.attributes)
     ∷ Where fault.ReservedNamespace (list_any is_reserved clause.paths ≡ true)
     ∷ []

@@ -9,13 +9,13 @@ ghost use Rattle.osgi_clause.specs.computed.Templates.{IsBundleOf, bundle_of, di
 
 use crate::fault::ClauseFault;
 use crate::members::{ClauseReader, members};
-use crate::ranges::{any_range, range};
+use crate::ranges::any_range;
 use crate::repeats::repeats;
-use osgi_base::{List, Text};
+use osgi_base::{List, Shared, Text};
 use osgi_header::{Clause, ClauseAt};
-use osgi_package::{is_directed, version_text};
+use osgi_package::{is_directed, range, version_text};
 use osgi_version::VersionRange;
-use osgi_world::{ManifestKind, Requirement};
+use osgi_world::{ManifestKind, Requirement, SharedRange};
 use std::alloc::{AllocError, Global};
 
 /// A requirement of a bundle in this range, for which there is no name yet.
@@ -31,10 +31,10 @@ fn bundle_in(
     Ok(Requirement {
         namespace,
         name: Text::empty(),
-        range,
+        range: SharedRange::of(alloc, range)?,
         from_name: None,
-        from_range,
-        equal,
+        from_range: SharedRange::of(alloc, from_range)?,
+        equal: Shared::new(alloc, equal)?,
         filter: None,
         optional: false,
         multiple: false,

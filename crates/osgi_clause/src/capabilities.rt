@@ -12,7 +12,7 @@ use crate::fault::ClauseFault;
 use crate::members::{ClauseReader, members};
 use crate::namespaces::has_reserved;
 use crate::repeats::repeats;
-use osgi_base::{List, Text};
+use osgi_base::{List, Shared, Text};
 use osgi_header::{Clause, ClauseAt};
 use osgi_model::Attributes;
 use osgi_package::{has_double, read_attributes};
@@ -44,9 +44,9 @@ fn capability(alloc: Global, attributes: Attributes) -> Result<Capability, Alloc
     Ok(Capability {
         namespace: Text::empty(),
         name: Text::empty(),
-        attributes,
-        uses,
-        mandatory,
+        attributes: Shared::new(alloc, attributes)?,
+        uses: Shared::new(alloc, uses)?,
+        mandatory: Shared::new(alloc, mandatory)?,
     })
 }
 

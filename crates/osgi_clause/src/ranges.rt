@@ -1,18 +1,11 @@
 //! Ranges of versions, read from the texts of clauses.
 
 ghost use Rattle.std.specs.Prelude.{IfOk};
-ghost use Rattle.osgi_package.specs.computed.ImportReader.{IsRangeOf};
 ghost use Rattle.osgi_clause.specs.computed.Templates.{IsAnyRange};
 
+use osgi_package::range;
 use osgi_version::VersionRange;
 use std::alloc::{AllocError, Global};
-
-/// The range that a text reads as; none where it reads as none.
-pub fn range(alloc: Global, text: &[u8]) -> Result<Option<VersionRange>, AllocError>
-    ensures range { IfOk result (IsRangeOf text.now) }
-{
-    Ok(VersionRange::parse(alloc, text)?.ok())
-}
 
 /// The range of all versions, which the empty text reads as.
 pub fn any_range(alloc: Global) -> Result<VersionRange, AllocError>

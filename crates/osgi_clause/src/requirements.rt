@@ -13,27 +13,27 @@ use crate::members::{ClauseReader, members};
 use crate::namespaces::has_reserved;
 use crate::ranges::any_ranges;
 use crate::repeats::repeats;
-use osgi_base::{List, Text};
+use osgi_base::{List, Shared, Text};
 use osgi_filter::parse;
 use osgi_header::{Clause, ClauseAt};
 use osgi_model::Filter;
 use osgi_package::{directive_value, is_directed};
 use osgi_version::VersionRange;
-use osgi_world::{ManifestKind, Requirement};
+use osgi_world::{ManifestKind, Requirement, SharedRange};
 use std::alloc::{AllocError, Global};
 
 /// The filter that the clause gives, if it gives one; or that its text reads as none.
 fn filter(
     alloc: Global,
     clause: &Clause,
-) -> Result<Result<Option<Filter>, ManifestKind>, AllocError>
+) -> Result<Result<Option<Shared<Filter>>, ManifestKind>, AllocError>
     ensures filter { IfOk result (IsFilterRead (package_spec.directive_value (codes "filter") clause.now)) }
 {
     let Some(text) = directive_value(b"filter", clause) else {
         return Ok(Ok(None));
     };
     match parse(alloc, text.bytes())? {
-        Ok(filter) => Ok(Ok(Some(filter))),
+        Ok(filter) => Ok(Ok(Some(Shared::new(alloc, filter)?))),
         Err(_) => Ok(Err(ManifestKind::BadFilter)),
     }
 }
@@ -42,26 +42,26 @@ fn filter(
 fn requirement(
     alloc: Global,
     clause: &Clause,
-    filter: Option<Filter>,
+    filter: Option<Shared<Filter>>,
     ranges: (VersionRange, VersionRange),
-) -> Requirement
-    ensures required { result ≡ required_of clause.now filter ranges.0 ranges.1 }
+) -> Result<Requirement, AllocError>
+    ensures required { IfOk result (λ r. r ≡ required_of clause.now filter ranges.0 ranges.1) }
 {
     let (range, from_range) = ranges;
-    Requirement {
+    let equal = List::new(alloc)?;
+    Ok(Requirement {
         namespace: Text::empty(),
         name: Text::empty(),
-        range,
+        range: SharedRange::of(alloc, range)?,
         from_name: None,
-        from_range,
-        // Without a `?`, so that there is no exit at which all of these would be dropped.
-        equal: List::from(Vec::new(alloc)),
+        from_range: SharedRange::of(alloc, from_range)?,
+        equal: Shared::new(alloc, equal)?,
         filter,
         optional: is_directed(b"resolution", b"optional", clause),
         multiple: false,
         reexport: false,
         effective: takes_part(clause),
-    }
+    })
 }
 
 /// The clauses of Require-Capability.
@@ -93,7 +93,7 @@ impl ClauseReader for RequiredCapabilities {
             return Ok(Err(ManifestKind::ReservedNamespace));
         }
         let ranges = any_ranges(alloc)?;
-        Ok(Ok(requirement(alloc, clause, filter, ranges)))
+        Ok(Ok(requirement(alloc, clause, filter, ranges)?))
     }
 
     fn takes(_clause: &Clause) -> bool {

@@ -26,22 +26,22 @@ use Rattle.osgi_syntax.specs.laws.Spaces.{EndsWord}
 use Rattle.osgi_syntax.specs.laws.Splitting.{begins, after_word-ends}
 use Rattle.osgi_syntax.specs.laws.Whole.{ends_all, first_separated, HasFirstWord, separated_words, whole_quoted}
 use Rattle.osgi_console.specs.Console as says
-use Rattle.osgi_console.specs.computed.LineReader.{alone, command_by, command_of, location_of, modify_of, name_of, only_word_of, register_of, verb_of, verbs, search_of}
+use Rattle.osgi_console.specs.computed.LineReader.{alone, command_by, command_of, location_of, modify_of, verb_name, register_of, verb_of, verbs, search_of}
 use Rattle.osgi_syntax.specs.PropertyReader.{properties_of}
 use Rattle.osgi_base.specs.Parts.{part_len}
-use Rattle.osgi_syntax.specs.Splitting.{after_spaces, after_word, first_word, words_of}
+use Rattle.osgi_syntax.specs.Splitting.{after_spaces, after_word, first_word, only_word_of, words_of}
 use Rattle.osgi_base.specs.QuoteReader.{quoted_of}
-use Rattle.osgi_syntax.specs.WordReader.{bundle_id_of, classes_of, id_of}
+use Rattle.osgi_syntax.specs.WordReader.{bundle_id_of, classes_of, service_id_of}
 use Rattle.osgi_syntax.specs.Lines.{IsFilterEnd}
 use Rattle.osgi_syntax.specs.LineWords.{IsLineWord}
 use Rattle.osgi_syntax.specs.Words.{AreSpaces, IsBundleId, IsClass, IsId, IsSeparated}
 
 -- ---- the first word
 
-verb_sound : (word : List ℕ) (v : Verb) → verb_of word ≡ Some v → name_of v ≡ word
-verb_sound word v e = same_text (name_of v) word (passes_found (λ v. bytes_eq (name_of v) word) verbs v e)
+verb_sound : (word : List ℕ) (v : Verb) → verb_of word ≡ Some v → verb_name v ≡ word
+verb_sound word v e = same_text (verb_name v) word (passes_found (λ v. bytes_eq (verb_name v) word) verbs v e)
 
-whole_name : (v : Verb) → IsLineWord (name_of v)
+whole_name : (v : Verb) → IsLineWord (verb_name v)
 whole_name verb.Register = record { some = omega arith; scanned = refl }
 whole_name verb.Modify = record { some = omega arith; scanned = refl }
 whole_name verb.Unregister = record { some = omega arith; scanned = refl }
@@ -56,15 +56,15 @@ whole_name verb.Bundles = record { some = omega arith; scanned = refl }
 whole_name verb.Services = record { some = omega arith; scanned = refl }
 
 -- a line with such a first word has one
-has_word : (v : Verb) (line : List ℕ) → name_of v ≡ first_word line → 0 < length (after_spaces line)
+has_word : (v : Verb) (line : List ℕ) → verb_name v ≡ first_word line → 0 < length (after_spaces line)
 has_word v line named =
     omega (arith, (whole_name v).some, ap length named, length-take (part_len 32 Bare (after_spaces line)) (after_spaces line))
 
 -- where a verb's name and other words part a line, it is the line's first word
 named_front : (IsEnd : List ℕ → Type 0) (v : Verb) (words : List (List ℕ)) (line : List ℕ) → ((end : List ℕ) → IsEnd end → EndsWord end) →
-    (separated : IsSeparated IsEnd (name_of v ∷ words) (32 ∷ line)) → HasFirstWord line (name_of v) separated.1
+    (separated : IsSeparated IsEnd (verb_name v ∷ words) (32 ∷ line)) → HasFirstWord line (verb_name v) separated.1
 named_front IsEnd v words line end separated =
-    let prefix = first_separated IsEnd (name_of v) words (32 ∷ line) end (whole_name v) separated in
+    let prefix = first_separated IsEnd (verb_name v) words (32 ∷ line) end (whole_name v) separated in
     record { some = prefix.some; first = prefix.first; remainder = prefix.remainder }
 
 -- ---- the arguments
@@ -76,24 +76,24 @@ record IsOnly {A : Type 0} (Is : List ℕ → A → Type 0) (arguments : List (L
   id : Is word it
 
 -- of a kind of ids: what they are read as, the words that they are, and that reading gives only those
-module _ {A : Type 0} (id_of : List ℕ → Option A) (Is : List ℕ → A → Type 0) (sound : (word : List ℕ) (id : A) → id_of word ≡ Some id → Is word id) where
-  only : (arguments : List (List ℕ)) (id : A) → option_and_then id_of (only_word_of arguments) ≡ Some id → IsOnly Is arguments id
+module _ {A : Type 0} (service_id_of : List ℕ → Option A) (Is : List ℕ → A → Type 0) (sound : (word : List ℕ) (id : A) → service_id_of word ≡ Some id → Is word id) where
+  only : (arguments : List (List ℕ)) (id : A) → option_and_then service_id_of (only_word_of arguments) ≡ Some id → IsOnly Is arguments id
   only [] id e = absurd (cc e)
   only (word ∷ []) id e = record { word = word; is = refl; id = sound word id e }
   only (word ∷ second ∷ rest) id e = absurd (cc e)
 
   -- a command that is made from an id alone
-  only_command : (name : List ℕ) (make : A → Command) (arguments : List (List ℕ)) (c : Command) → option_map make (option_and_then id_of (only_word_of arguments)) ≡ Some c →
+  only_command : (name : List ℕ) (make : A → Command) (arguments : List (List ℕ)) (c : Command) → option_map make (option_and_then service_id_of (only_word_of arguments)) ≡ Some c →
       ((word : List ℕ) (id : A) → Is word id → says.AreWordsOf (name ∷ word ∷ []) (make id)) → says.AreWordsOf (name ∷ arguments) c
   only_command name make arguments c e said =
-      let read = mapped make (option_and_then id_of (only_word_of arguments)) c e in
+      let read = mapped make (option_and_then service_id_of (only_word_of arguments)) c e in
       let alone = only arguments read.value read.was in
       subst (λ l. says.AreWordsOf (name ∷ l) c) (sym alone.is)
       (subst (says.AreWordsOf (name ∷ alone.word ∷ [])) read.is (said alone.word read.value alone.id))
 
-id_command : (name : List ℕ) (make : ServiceId → Command) (arguments : List (List ℕ)) (c : Command) → option_map make (option_and_then id_of (only_word_of arguments)) ≡ Some c →
+id_command : (name : List ℕ) (make : ServiceId → Command) (arguments : List (List ℕ)) (c : Command) → option_map make (option_and_then service_id_of (only_word_of arguments)) ≡ Some c →
     ((word : List ℕ) (service : ServiceId) → IsId word service → says.AreWordsOf (name ∷ word ∷ []) (make service)) → says.AreWordsOf (name ∷ arguments) c
-id_command = only_command id_of IsId id_sound
+id_command = only_command service_id_of IsId id_sound
 
 bundle_command : (name : List ℕ) (make : BundleId → Command) (arguments : List (List ℕ)) (c : Command) → option_map make (option_and_then bundle_id_of (only_word_of arguments)) ≡ Some c →
     ((word : List ℕ) (bundle : BundleId) → IsBundleId word bundle → says.AreWordsOf (name ∷ word ∷ []) (make bundle)) → says.AreWordsOf (name ∷ arguments) c
@@ -116,7 +116,7 @@ register_sound (names ∷ quoted ∷ words) c e =
 modify_sound : (arguments : List (List ℕ)) (c : Command) → modify_of arguments ≡ Some c → says.AreWordsOf (codes "modify" ∷ arguments) c
 modify_sound [] c e = absurd (cc e)
 modify_sound (id ∷ words) c e =
-    option_and_then_some (λ service. option_map (command.Modify service) (properties_of words)) (id_of id) c e
+    option_and_then_some (λ service. option_map (command.Modify service) (properties_of words)) (service_id_of id) c e
     (λ service is behind_id.
     let read = mapped (command.Modify service) (properties_of words) c behind_id in
     rw (← read.is) (says.modify (id_sound id service is) (properties_sound words read.value read.was)))
@@ -128,26 +128,26 @@ alone_sound name of c (word ∷ rest) e said =
     absurd (cc (e, cond-false (length (word ∷ rest) == 0) (Some of) None (ne_eqb _ 0 (λ none. absurd (omega (arith, none))))))
 
 -- a command in words alone
-said_in_words : (v : Verb) (line : List ℕ) (c : Command) → name_of v ≡ first_word line → says.AreWordsOf (name_of v ∷ words_of (after_word line)) c → says.Says line c
+said_in_words : (v : Verb) (line : List ℕ) (c : Command) → verb_name v ≡ first_word line → says.AreWordsOf (verb_name v ∷ words_of (after_word line)) c → says.Says line c
 said_in_words v line c named are =
     let some : 0 < length (after_spaces line) = has_word v line named in
-    let words : words_of line ≡ name_of v ∷ words_of (after_word line) = (begins line some).words ∙ ap (λ l. l ∷ words_of (after_word line)) (sym named) in
+    let words : words_of line ≡ verb_name v ∷ words_of (after_word line) = (begins line some).words ∙ ap (λ l. l ∷ words_of (after_word line)) (sym named) in
     says.in_words are (subst (λ l. IsSeparated AreSpaces l (32 ∷ line)) words (words_separate line))
 
 -- a command with a class, and a filter or none
-said_of_class : (v : Verb) (make : List ℕ → Option Filter → Command) (line : List ℕ) (c : Command) → name_of v ≡ first_word line →
+said_of_class : (v : Verb) (make : List ℕ → Option Filter → Command) (line : List ℕ) (c : Command) → verb_name v ≡ first_word line →
     option_map (λ w. make w.class w.filter) (search_of (after_word line)) ≡ Some c →
-    ((class : List ℕ) (filter : Option Filter) → IsClass class → IsSeparated (IsFilterEnd filter) (name_of v ∷ class ∷ []) (32 ∷ line) → says.Says line (make class filter)) → says.Says line c
+    ((class : List ℕ) (filter : Option Filter) → IsClass class → IsSeparated (IsFilterEnd filter) (verb_name v ∷ class ∷ []) (32 ∷ line) → says.Says line (make class filter)) → says.Says line c
 said_of_class v make line c named e said =
     let read = mapped (λ (w : Search). make w.class w.filter) (search_of (after_word line)) c e in
     let wanted = wanted_sound (after_word line) read.value (after_word-ends line) read.was in
-    let separated : IsSeparated (IsFilterEnd read.value.filter) (name_of v ∷ read.value.class ∷ []) (32 ∷ line)
+    let separated : IsSeparated (IsFilterEnd read.value.filter) (verb_name v ∷ read.value.class ∷ []) (32 ∷ line)
     = subst (λ l. IsSeparated (IsFilterEnd read.value.filter) (l ∷ read.value.class ∷ []) (32 ∷ line)) (sym named)
     (first_separates (IsFilterEnd read.value.filter) (read.value.class ∷ []) line wanted.separated) in
     subst (says.Says line) read.is (said read.value.class read.value.filter wanted.class separated)
 
 -- a command of a location
-said_of_location : (line : List ℕ) (c : Command) → name_of verb.Install ≡ first_word line → option_map command.Install (location_of (after_word line)) ≡ Some c → says.Says line c
+said_of_location : (line : List ℕ) (c : Command) → verb_name verb.Install ≡ first_word line → option_map command.Install (location_of (after_word line)) ≡ Some c → says.Says line c
 said_of_location line c named e =
     let read = mapped command.Install (location_of (after_word line)) c e in
     let alone = location_sound (after_word line) read.value (after_word-ends line) read.was in
@@ -155,7 +155,7 @@ said_of_location line c named e =
     = subst (λ l. IsSeparated AreSpaces (l ∷ read.value ∷ []) (32 ∷ line)) (sym named) (first_separates AreSpaces (read.value ∷ []) line alone.separated) in
     subst (says.Says line) read.is (says.in_words (says.install alone.location) separated)
 
-says_by : (v : Verb) (line : List ℕ) (c : Command) → name_of v ≡ first_word line → command_by v (after_word line) ≡ Some c → says.Says line c
+says_by : (v : Verb) (line : List ℕ) (c : Command) → verb_name v ≡ first_word line → command_by v (after_word line) ≡ Some c → says.Says line c
 says_by verb.Register line c named e = said_in_words verb.Register line c named (register_sound (words_of (after_word line)) c e)
 says_by verb.Modify line c named e = said_in_words verb.Modify line c named (modify_sound (words_of (after_word line)) c e)
 says_by verb.Unregister line c named e =
@@ -185,7 +185,7 @@ command_sound line c e =
 
 -- ---- what says a command is read
 
-verb_read : (v : Verb) → verb_of (name_of v) ≡ Some v
+verb_read : (v : Verb) → verb_of (verb_name v) ≡ Some v
 verb_read verb.Register = refl
 verb_read verb.Modify = refl
 verb_read verb.Unregister = refl
@@ -200,7 +200,7 @@ verb_read verb.Bundles = refl
 verb_read verb.Services = refl
 
 -- a line's first word is this one, and so the command is read from what follows it
-read_by : (v : Verb) (line rest : List ℕ) (c : Command) → HasFirstWord line (name_of v) rest → command_by v rest ≡ Some c → command_of line ≡ Some c
+read_by : (v : Verb) (line rest : List ℕ) (c : Command) → HasFirstWord line (verb_name v) rest → command_by v rest ≡ Some c → command_of line ≡ Some c
 read_by v line rest c prefix by = rw (prefix.first, prefix.remainder, verb_read v) by
 
 -- the one argument of a text of one word
@@ -208,8 +208,8 @@ only_word_read : (word text : List ℕ) → IsLineWord word → IsSeparated AreS
 only_word_read word text whole separated = ap only_word_of (separated_words (word ∷ []) text (whole, tt) separated)
 
 only_id_read : (word : List ℕ) (service : ServiceId) (text : List ℕ) → IsId word service → IsSeparated AreSpaces (word ∷ []) text →
-    option_and_then id_of (only_word_of (words_of text)) ≡ Some service
-only_id_read word service text is separated = ap (option_and_then id_of) (only_word_read word text (whole_id word service is) separated) ∙ id_read word service is
+    option_and_then service_id_of (only_word_of (words_of text)) ≡ Some service
+only_id_read word service text is separated = ap (option_and_then service_id_of) (only_word_read word text (whole_id word service is) separated) ∙ id_read word service is
 
 only_bundle_read : (word : List ℕ) (bundle : BundleId) (text : List ℕ) → IsBundleId word bundle → IsSeparated AreSpaces (word ∷ []) text →
     option_and_then bundle_id_of (only_word_of (words_of text)) ≡ Some bundle
@@ -220,7 +220,7 @@ only_bundle_read word bundle text is separated =
 record HasVerb (words : List (List ℕ)) (c : Command) : Type 0 where
   verb : Verb
   arguments : List (List ℕ)
-  is : words ≡ name_of verb ∷ arguments
+  is : words ≡ verb_name verb ∷ arguments
   read : (text : List ℕ) → IsSeparated AreSpaces arguments text → command_by verb text ≡ Some c
 
 has_verb : (words : List (List ℕ)) (c : Command) → says.AreWordsOf words c → HasVerb words c
@@ -291,7 +291,7 @@ has_verb words c says.services = record {
 
 words_read : (words : List (List ℕ)) (line : List ℕ) (c : Command) → HasVerb words c → IsSeparated AreSpaces words (32 ∷ line) → command_of line ≡ Some c
 words_read words line c has separated =
-    let named : IsSeparated AreSpaces (name_of has.verb ∷ has.arguments) (32 ∷ line) = subst (λ l. IsSeparated AreSpaces l (32 ∷ line)) has.is separated in
+    let named : IsSeparated AreSpaces (verb_name has.verb ∷ has.arguments) (32 ∷ line) = subst (λ l. IsSeparated AreSpaces l (32 ∷ line)) has.is separated in
     read_by has.verb line named.1 c (named_front AreSpaces has.verb has.arguments line ends_all named) (has.read named.1 named.5)
 
 pub command_read : (line : List ℕ) (c : Command) → says.Says line c → command_of line ≡ Some c

@@ -4,7 +4,7 @@ ghost use Rattle.std.specs.Prelude.{◌≡◌, ◌==◌, length, None, Some, IfO
 ghost use Rattle.std.specs.List.{position};
 ghost use Rattle.std.specs.Option.{option_map};
 ghost use Rattle.osgi_filter.specs.computed.Reader.{read_filter};
-ghost use Rattle.osgi_console.specs.computed.LineReader.{command_by, command_of, is_space, location_of, modify_of, name_of, only_bundle_of, only_id_of, only_word_of, register_of, verb_of, search_of};
+ghost use Rattle.osgi_console.specs.computed.LineReader.{command_by, command_of, is_space, location_of, modify_of, verb_name, only_bundle_of, only_id_of, register_of, verb_of, search_of};
 ghost use Rattle.osgi_syntax.specs.Splitting.{words_of};
 
 use osgi_base::quoted::quoted;
@@ -13,7 +13,7 @@ use osgi_filter::parse;
 use osgi_model::Filter;
 use osgi_session::Command;
 use osgi_syntax::properties::properties;
-use osgi_syntax::{bundle_id, class, classes, id, skip_spaces, split_word, split_words};
+use osgi_syntax::{bundle_id, class, classes, id, only_word, skip_spaces, split_word, split_words};
 use std::alloc::{AllocError, Global};
 
 /// The commands, by their first words.
@@ -50,7 +50,7 @@ const VERBS: [Verb; 12] = [
 
 impl Verb {
     fn name(self) -> &'static [u8]
-        ensures name { result.now ≡ name_of self }
+        ensures name { result.now ≡ verb_name self }
     {
         match self {
             Verb::Register => b"register",
@@ -125,17 +125,6 @@ fn modify(alloc: Global, text: &[u8]) -> Result<Option<Command>, AllocError>
         service,
         properties,
     }))
-}
-
-/// The one argument, where there is one and no other.
-fn only_word(text: &[u8]) -> Option<&[u8]>
-    ensures word { MatchOption result (only_word_of (words_of text.now) ≡ None) (λ word. only_word_of (words_of text.now) ≡ Some word.now) }
-{
-    let (word, rest) = split_word(text)?;
-    match split_word(rest) {
-        Some(_) => None,
-        None => Some(word),
-    }
 }
 
 /// The one argument, which is the id of a service.

@@ -39,7 +39,7 @@ fn line(alloc: Global, number: u32, text: &[u8]) -> Result<Line, AllocError>
 ///
 /// A line ends by LF or CRLF; the last one need not. Lines are numbered from 1.
 pub fn parse(alloc: Global, bytes: &[u8]) -> Result<List<Line>, AllocError>
-    requires few { length bytes.now < 4294967295 }
+    requires few { length bytes.now < u32.MAX }
     ensures reads { IfOk result (AreLinesOf bytes.now) }
     ensures only { (others : List Line) → AreLinesOf bytes.now others → IfOk result (λ all. all ≡ others) }
 {
@@ -47,7 +47,7 @@ pub fn parse(alloc: Global, bytes: &[u8]) -> Result<List<Line>, AllocError>
 }
 
 fn read_lines(alloc: Global, bytes: &[u8]) -> Result<List<Line>, AllocError>
-    requires few { length bytes.now < 4294967295 }
+    requires few { length bytes.now < u32.MAX }
     ensures lines { IfOk result (λ all. all ≡ numbered 1 (lines bytes.now)) }
 {
     let mut all = List::new(alloc)?;

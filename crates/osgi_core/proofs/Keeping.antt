@@ -12,7 +12,7 @@ use Rattle.osgi_bundle.specs.Stands as bundle
 use Rattle.osgi_bundle.specs.Stands.{StandsForNone}
 use Rattle.osgi_core.specs.Sound.{IsSoundlyTold, IsTrulyUnresolvable}
 use Rattle.osgi_ops.specs.Bundles.{installed, the_system_bundle}
-use Rattle.osgi_ops.specs.Legal.{IsAllowed, IsAllowedNow, IsStep}
+use Rattle.osgi_ops.specs.Legal.{IsAllowed, IsAllowedNow, IsAskedAt, IsStep}
 use Rattle.osgi_ops.specs.Moments.{first_world, Moment, moment, Told, world_after}
 use Rattle.osgi_ops.specs.Operations.{IsReply}
 use Rattle.osgi_ops.specs.Resolved.{current_revision, is_resolved}
@@ -22,6 +22,7 @@ use Rattle.osgi_ops.specs.Soundness.{IsSound}
 use Rattle.osgi_ops.specs.declared.depot.Depot.{Depot}
 use Rattle.osgi_ops.specs.declared.entry.Entry.{Entry}
 use Rattle.osgi_ops.specs.declared.limits.Limits.{Limits}
+use Rattle.osgi_ops.specs.declared.limits.TheConstants.{MAX_BUDGET, MAX_ENTRIES}
 use Rattle.osgi_ops.specs.declared.op.Op.{Op}
 use Rattle.osgi_ops.specs.declared.op.Op.TheVariants as op
 use Rattle.osgi_ops.specs.declared.refusal.Refusal.TheVariants.{Unresolvable}
@@ -86,7 +87,7 @@ kept_none setting tables depot budget services bundles world issued kept =
     }
 
 -- the tables of a history within its limit have room
-pub has_room : (now : Moment) (tables : Tables) → StandsFor now tables → length now.before < 1000000 → now.setting.bounds.budget ≤ 1000000000 → HasRoom tables
+pub has_room : (now : Moment) (tables : Tables) → StandsFor now tables → length now.before < MAX_ENTRIES → now.setting.bounds.budget ≤ MAX_BUDGET → HasRoom tables
 has_room now tables stands short least = record {
   services = record {
     ids = omega (arith, short, stands.services.issued, length-registered now.before);
@@ -141,26 +142,33 @@ told_push setting history before after tag o reply soundly allowed sound =
           truly (moment setting told tag) b cause (subst (λ r. IsReply (moment setting told tag) (op.Resolve b) r) said (subst (λ p. IsReply (moment setting told tag) p reply) is here.replied)));
     }
 
+-- the next operation is asked for at a moment of a history that replays
+asked_now : (setting : Setting) (history : List Entry) (tables : Tables) (tag : Tag) (o : Op) → IsKept setting history tables → IsAskedAt (record { tag = tag; op = o }) (next setting history tables tag)
+asked_now setting history tables tag o kept =
+    let replayed = kept.told.replayed in
+    record { tag = refl; told = record { told = replayed.told; tells = replayed.tells; ends = replayed.ends; allowed = replayed.allowed } }
+
 -- an operation that was replied to was allowed
-pub allowed : (setting : Setting) (history : List Entry) (old new : Tables) (tag : Tag) (o : Op) (reply : Reply) → IsKept setting history old → length history < setting.bounds.entries → IsReplied o old new reply →
+pub allowed : (setting : Setting) (history : List Entry) (old new : Tables) (tag : Tag) (o : Op) (reply : Reply) → IsKept setting history old → length history < setting.bounds.entries → IsReplied (record { tag = tag; op = o }) old new reply →
     IsAllowedNow (next setting history old tag) o reply new.wirings.world
 allowed setting history old new tag o reply kept room replied =
     let now = next setting history old tag in
-    record { room = room; replied = replied.due now (kept.stands tag); left = replied.left now (kept.stands tag) }
+    let here = asked_now setting history old tag o kept in
+    record { room = room; replied = replied.due now here (kept.stands tag); left = replied.left now here (kept.stands tag) }
 
 -- one more entry, with what was replied
-pub kept_push : (setting : Setting) (history : List Entry) (old new : Tables) (tag : Tag) (o : Op) (reply : Reply) → IsKept setting history old → length history < setting.bounds.entries → IsReplied o old new reply →
+pub kept_push : (setting : Setting) (history : List Entry) (old new : Tables) (tag : Tag) (o : Op) (reply : Reply) → IsKept setting history old → length history < setting.bounds.entries → IsReplied (record { tag = tag; op = o }) old new reply →
     IsKept setting (history ++ record { tag = tag; op = o; reply = reply } ∷ []) new
 kept_push setting history old new tag o reply kept room replied =
-    let stands = replied.stands (next setting history old tag) (kept.stands tag) in
+    let stands = replied.stands (next setting history old tag) (asked_now setting history old tag o kept) (kept.stands tag) in
     record {
       stands = λ other. record { depot = stands.depot; budget = stands.budget; services = stands.services; bundles = stands.bundles; world = refl; known = stands.known };
       told = told_push setting history old.wirings.world new.wirings.world tag o reply kept.told (allowed setting history old new tag o reply kept room replied) stands.known.sound;
     }
 
 -- the depot stays
-pub depot_stays : (setting : Setting) (history : List Entry) (old new : Tables) (tag : Tag) (o : Op) (reply : Reply) → IsKept setting history old → IsReplied o old new reply → new.depot.rows ≡ setting.depot
-depot_stays setting history old new tag o reply kept replied = (replied.stands (next setting history old tag) (kept.stands tag)).depot
+pub depot_stays : (setting : Setting) (history : List Entry) (old new : Tables) (tag : Tag) (o : Op) (reply : Reply) → IsKept setting history old → IsReplied (record { tag = tag; op = o }) old new reply → new.depot.rows ≡ setting.depot
+depot_stays setting history old new tag o reply kept replied = (replied.stands (next setting history old tag) (asked_now setting history old tag o kept) (kept.stands tag)).depot
 
 -- what still stands is as it was in all that contracts see
 pub still_kept : (setting : Setting) (history : List Entry) (old new : Tables) → IsKept setting history old → StandsStill old new → (new.depot.rows ≡ setting.depot) × (new.wirings.world ≡ old.wirings.world) × IsKept setting history new
@@ -202,16 +210,16 @@ stays_same limits history after old new kept still is =
     λ i. record { setting = same_setting limits old.depot new.depot k.0 i; entries = is i; world = k.1 i }
 
 -- an operation was recorded
-pub recorded_setting : (limits : Limits) (history : List Entry) (old new : Tables) (tag : Tag) (o : Op) (reply : Reply) → IsKept (setting_of limits old.depot) history old → IsReplied o old new reply → setting_of limits new.depot ≡ setting_of limits old.depot
+pub recorded_setting : (limits : Limits) (history : List Entry) (old new : Tables) (tag : Tag) (o : Op) (reply : Reply) → IsKept (setting_of limits old.depot) history old → IsReplied (record { tag = tag; op = o }) old new reply → setting_of limits new.depot ≡ setting_of limits old.depot
 recorded_setting limits history old new tag o reply kept replied = same_setting limits old.depot new.depot (depot_stays (setting_of limits old.depot) history old new tag o reply kept replied)
 
-pub recorded_kept : (limits : Limits) (history after : List Entry) (old new : Tables) (tag : Tag) (o : Op) (reply : Reply) → IsKept (setting_of limits old.depot) history old → length history < limits.entries → IsReplied o old new reply →
+pub recorded_kept : (limits : Limits) (history after : List Entry) (old new : Tables) (tag : Tag) (o : Op) (reply : Reply) → IsKept (setting_of limits old.depot) history old → length history < limits.entries → IsReplied (record { tag = tag; op = o }) old new reply →
     after ≡ history ++ record { tag = tag; op = o; reply = reply } ∷ [] → IsKept (setting_of limits new.depot) after new
 recorded_kept limits history after old new tag o reply kept room replied is =
     subst (λ (s : Setting). IsKept s after new) (sym (recorded_setting limits history old new tag o reply kept replied))
     (subst (λ (h : List Entry). IsKept (setting_of limits old.depot) h new) (sym is) (kept_push (setting_of limits old.depot) history old new tag o reply kept room replied))
 
-pub recorded_step : (limits : Limits) (history after : List Entry) (old new : Tables) (tag : Tag) (o : Op) (reply : Reply) → IsKept (setting_of limits old.depot) history old → length history < limits.entries → IsReplied o old new reply →
+pub recorded_step : (limits : Limits) (history after : List Entry) (old new : Tables) (tag : Tag) (o : Op) (reply : Reply) → IsKept (setting_of limits old.depot) history old → length history < limits.entries → IsReplied (record { tag = tag; op = o }) old new reply →
     after ≡ history ++ record { tag = tag; op = o; reply = reply } ∷ [] → IsStep (next (setting_of limits old.depot) history old tag) after new.wirings.world o reply
 recorded_step limits history after old new tag o reply kept room replied is = record {
   full = λ full. absurd (omega (arith, room, full));

@@ -10,7 +10,7 @@ use Rattle.osgi_depot.specs.computed.Rows.{AreRowsOf, IsStoredAt}
 use Rattle.osgi_ops.specs.declared.depot.DepotRow.{DepotRow}
 use Rattle.osgi_ops.specs.declared.depot.Stored.{Stored}
 use Rattle.osgi_ops.specs.declared.depot.Stored.TheVariants as stored
-use Rattle.osgi_outside.specs.Shelves.{Row}
+use Rattle.osgi_outside.specs.Shelves.{ShelfRow}
 
 -- ---- failures
 
@@ -34,7 +34,7 @@ failures_push rows location kept =
 
 -- ---- rows
 
-pub no_rows : (limit : ℕ) (told : Option (List Row)) (from to : ℕ) → from ≤ to → AreRowsOf limit told [] from to []
+pub no_rows : (limit : ℕ) (told : Option (List ShelfRow)) (from to : ℕ) → from ≤ to → AreRowsOf limit told [] from to []
 no_rows limit told from to less = record {
   locations_are = refl;
   read = All-same (λ (row : DepotRow). IsStored told row.location row.stored) (take limit []) [] (take_all limit [] (omega arith)) (All-nil (λ (row : DepotRow). IsStored told row.location row.stored));
@@ -42,7 +42,7 @@ no_rows limit told from to less = record {
   failed = less;
 }
 
-module _ (limit : ℕ) (told : Option (List Row)) (locations : List (List ℕ)) (location : List ℕ) (from mid to : ℕ) (rows : List DepotRow) (kept : Stored)
+module _ (limit : ℕ) (told : Option (List ShelfRow)) (locations : List (List ℕ)) (location : List ℕ) (from mid to : ℕ) (rows : List DepotRow) (kept : Stored)
     (are : AreRowsOf limit told locations from mid rows) (at : IsStoredAt limit told location (length rows) mid to kept) where
   abbrev Good : DepotRow → Type 0
   Good row = IsStored told row.location row.stored
@@ -76,18 +76,18 @@ module _ (limit : ℕ) (told : Option (List Row)) (locations : List (List ℕ)) 
     failed = subst (AreWithin from to) (sym (failures_push rows location kept)) (within_append from mid to (failures rows) (option_to_list (failure_of kept)) are.failed at.failed);
   }
 
-length_rows : (limit : ℕ) (told : Option (List Row)) (locations : List (List ℕ)) (from to : ℕ) (rows : List DepotRow) → AreRowsOf limit told locations from to rows →
+length_rows : (limit : ℕ) (told : Option (List ShelfRow)) (locations : List (List ℕ)) (from to : ℕ) (rows : List DepotRow) → AreRowsOf limit told locations from to rows →
     length rows ≡ length locations
 length_rows limit told locations from to rows are = sym (length-map rows (λ (row : DepotRow). row.location)) ∙ ap length are.locations_are
 
 -- the row of the location with the number `i`
-pub rows_more : (limit : ℕ) (told told_then : Option (List Row)) (locations : List (List ℕ)) (i : ℕ) (location copy : List ℕ) (from mid to : ℕ) (rows more : List DepotRow) (kept : Stored) →
+pub rows_more : (limit : ℕ) (told told_then : Option (List ShelfRow)) (locations : List (List ℕ)) (i : ℕ) (location copy : List ℕ) (from mid to : ℕ) (rows more : List DepotRow) (kept : Stored) →
     i < length locations → location ≡ get_or locations i location → copy ≡ location → told_then ≡ told → AreRowsOf limit told (take i locations) from mid rows →
     IsStoredAt limit told_then location i mid to kept → more ≡ rows ++ record { location = copy; stored = kept } ∷ [] → AreRowsOf limit told (take (i + 1) locations) from to more
 rows_more limit told told_then locations i location copy from mid to rows more kept below is same told_is are at pushed =
     let count : i ≡ length rows = sym (length_rows limit told (take i locations) from mid rows are ∙ length-take-le i locations (omega arith)) in
     let now : IsStoredAt limit told location (length rows) mid to kept
-    = subst (λ n. IsStoredAt limit told location n mid to kept) count (subst (λ (t : Option (List Row)). IsStoredAt limit t location i mid to kept) told_is at) in
+    = subst (λ n. IsStoredAt limit told location n mid to kept) count (subst (λ (t : Option (List ShelfRow)). IsStoredAt limit t location i mid to kept) told_is at) in
     let there : more ≡ rows ++ record { location = location; stored = kept } ∷ [] = pushed ∙ ap (λ l. rows ++ record { location = l; stored = kept } ∷ []) same in
     let here : take i locations ++ location ∷ [] ≡ take (i + 1) locations = sym (take_more locations i location below ∙ ap (λ l. take i locations ++ l ∷ []) (sym is)) in
     subst (λ (l : List DepotRow). AreRowsOf limit told (take (i + 1) locations) from to l) (sym there)

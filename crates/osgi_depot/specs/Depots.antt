@@ -11,7 +11,7 @@ use Rattle.osgi_ops.specs.declared.depot.Stored.{Stored}
 use Rattle.osgi_ops.specs.declared.depot.Stored.TheVariants as stored
 use Rattle.osgi_ops.specs.declared.limits.TheConstants.{MAX_LOCATIONS}
 use Rattle.osgi_outside.specs.Causes.{Rose}
-use Rattle.osgi_outside.specs.Shelves.{IsAsTold, KeepsLimits, Row}
+use Rattle.osgi_outside.specs.Shelves.{IsAsTold, KeepsLimits, ShelfRow}
 use Rattle.osgi_outside.specs.declared.shelf.Found.TheVariants as found
 use Rattle.osgi_session.specs.declared.command.Command.TheVariants as command
 use Rattle.osgi_session.specs.declared.line.Content.{Content}
@@ -40,14 +40,14 @@ locations_in lines = firsts (filter_map (λ (line : Line). location_in line.cont
 -- ---- what comes of reading a folder
 
 -- the folder that was found at a location: it is within the limits, and it is the one that the shelf has there, if the shelf exposes that
-pub record IsFoundAt (told : Option (List Row)) (location : List ℕ) (folder : Folder) : Type 0 where
+pub record IsFoundAt (told : Option (List ShelfRow)) (location : List ℕ) (folder : Folder) : Type 0 where
   pub as_told : IsAsTold told location (found.Folder folder)
   pub within : KeepsLimits (found.Folder folder)
 
 -- what is stored of a location that was read: the revision that its folder means, with the text of its manifest; the manifest's fault; that
 -- there is no folder; that it is too large, with its bytes and files; or that the read failed, and then the shelf's count of faults rose
 -- from the first number to the second. It was not skipped
-abbrev pub IsStored : Option (List Row) → List ℕ → Stored → Type 0
+abbrev pub IsStored : Option (List ShelfRow) → List ℕ → Stored → Type 0
 IsStored told location (stored.Read revision manifest) =
     (folder : Folder) × IsFoundAt told location folder × Means folder revision × IsSomeAnd (file_at manifest_path folder) (λ (file : File). manifest ≡ file.bytes)
 IsStored told location (stored.Bad fault) = (folder : Folder) × IsFoundAt told location folder × IsManifestFault folder fault
@@ -78,7 +78,7 @@ AreWithin from to (failure ∷ rest) = (from ≤ failure.0) × AreWithin failure
 -- the rows are the depot of these lines, read from a shelf that exposes these folders or none, while its count of faults went from one
 -- number to the other: a row for each location, in order; those up to the limit were read, and those beyond it were skipped; and the reads
 -- that failed raised the count one after another
-pub record IsDepotOf (lines : List Line) (told : Option (List Row)) (from to : ℕ) (rows : List DepotRow) : Type 0 where
+pub record IsDepotOf (lines : List Line) (told : Option (List ShelfRow)) (from to : ℕ) (rows : List DepotRow) : Type 0 where
   pub locations : map (λ (row : DepotRow). row.location) rows ≡ locations_in lines
   pub read : All (λ (row : DepotRow). IsStored told row.location row.stored) (take MAX_LOCATIONS rows)
   pub skipped : All (λ (row : DepotRow). row.stored ≡ stored.Skipped) (drop MAX_LOCATIONS rows)

@@ -37,7 +37,7 @@ fn keep_folder(alloc: Global, folder: &Folder) -> Result<Stored, AllocError>
 
 /// What is kept of what was found, where the shelf's count of faults went from one number to the other.
 pub fn keep(alloc: Global, found: Found, before: u64, after: u64) -> Result<Stored, AllocError>
-    ensures kept { IfOk result (IsKept found before after) }
+    ensures stored { IfOk result (IsKept found before after) }
 {
     match found {
         Found::Folder(folder) => keep_folder(alloc, &folder),

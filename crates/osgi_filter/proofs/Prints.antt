@@ -6,7 +6,7 @@ use Rattle.std.proofs.lemmas.List.{append-nil}
 use Rattle.osgi_model.specs.declared.filter.Test.{Test}
 use Rattle.osgi_model.specs.declared.filter.Filter.{Filter}
 use Rattle.osgi_model.specs.declared.filter.Filter.TheFolds.{fold-roll-Filter}
-use Rattle.osgi_model.specs.Filters.{is_plain, IsCut, end, plain, escaped, star, IsTest, equal, present, pieces, approx, at_least, at_most, IsFilter, AreFilters, item, negated, all, any, none, more, ReadsFilter}
+use Rattle.osgi_model.specs.Filters.{is_plain, HasPieces, end, plain, escaped, star, IsTest, equal, present, pieces, approx, at_least, at_most, IsFilter, AreFilters, item, negated, all, any, none, more, ReadsFilter}
 use Rattle.osgi_model.specs.FilterTexts.{value_text, starred, test_text, filter_text}
 use Rattle.osgi_filter.specs.laws.ValueReading.{star_only, star_alone}
 
@@ -19,7 +19,7 @@ plain_always false b h = weaker (b == 40 || b == 41 || b == 92) (b == 42) h
     weaker false true h = refl
     weaker false false h = refl
 
-value_cuts : (cut : Bool) (value : List ℕ) → IsCut cut (value_text value) value []
+value_cuts : (cut : Bool) (value : List ℕ) → HasPieces cut (value_text value) value []
 value_cuts cut [] = end
 value_cuts cut (b ∷ bs) =
     elim (cases_Bool (is_plain true b)) [
@@ -27,7 +27,7 @@ value_cuts cut (b ∷ bs) =
       | inr h ↦ rw h (escaped b (value_text bs) bs [] (value_cuts cut bs))
     ]
 
-value_then : (value rest piece : List ℕ) (others : List (List ℕ)) → IsCut true rest piece others → IsCut true (value_text value ++ 42 ∷ rest) value (piece ∷ others)
+value_then : (value rest piece : List ℕ) (others : List (List ℕ)) → HasPieces true rest piece others → HasPieces true (value_text value ++ 42 ∷ rest) value (piece ∷ others)
 value_then [] rest piece others k = star rest piece others refl k
 value_then (b ∷ bs) rest piece others k =
     elim (cases_Bool (is_plain true b)) [
@@ -35,7 +35,7 @@ value_then (b ∷ bs) rest piece others k =
       | inr h ↦ rw h (escaped b (value_text bs ++ 42 ∷ rest) bs (piece ∷ others) (value_then bs rest piece others k))
     ]
 
-starred_cuts : (others : List (List ℕ)) (piece : List ℕ) → IsCut true (starred (piece ∷ others)) piece others
+starred_cuts : (others : List (List ℕ)) (piece : List ℕ) → HasPieces true (starred (piece ∷ others)) piece others
 starred_cuts [] piece = value_cuts true piece
 starred_cuts (next ∷ others) piece = value_then piece (starred (next ∷ others)) next others (starred_cuts others next)
 

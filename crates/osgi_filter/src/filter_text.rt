@@ -7,7 +7,7 @@ ghost use Rattle.osgi_model.specs.declared.filter.Filter.{Filter};
 
 use crate::fault::FilterFault;
 use crate::filters::whole_at;
-use crate::stop::Stop;
+use osgi_base::Stop;
 use osgi_model::Filter;
 use std::alloc::{AllocError, Global};
 
@@ -20,7 +20,7 @@ pub fn parse(alloc: Global, bytes: &[u8]) -> Result<Result<Filter, FilterFault>,
 {
     match whole_at(alloc, bytes) {
         Ok(filter) => Ok(Ok(filter)),
-        Err(Stop::Left(left)) => Ok(Err(FilterFault {
+        Err(Stop::Fault(left)) => Ok(Err(FilterFault {
             at: (bytes.len() - left) as u64,
         })),
         Err(Stop::Memory) => Err(AllocError),

@@ -1,13 +1,12 @@
 //! Filters: items, and what is made of them.
 
 ghost use Rattle.std.specs.Prelude.{◌≡◌, []};
-ghost use Rattle.osgi_filter.specs.computed.Given.{Gives};
+ghost use Rattle.osgi_filter.specs.computed.Given.{ReadsAs};
 ghost use Rattle.osgi_filter.specs.computed.Reader.{is_composing, opens, listing, composed_at, filter_at, not_at, inside, level_at, whole_at};
 
 use crate::items::item_at;
 use crate::scan::{after, skip};
-use crate::stop::Stop;
-use osgi_base::{Boxed, List};
+use osgi_base::{Boxed, List, Stop};
 use osgi_model::{Filter, MAX_LEVELS};
 use std::alloc::Global;
 
@@ -25,19 +24,19 @@ fn opens(bytes: &[u8]) -> bool
 
 /// A filter of at most so many levels, and what is left after it.
 #[cycle(filters)]
-fn filter_at(alloc: Global, levels: u32, bytes: &[u8]) -> Result<(Filter, &[u8]), Stop>
-    ensures filter { Gives (λ x. (x.0, x.1.now)) result (filter_at levels bytes.now) }
+fn filter_at(alloc: Global, levels: u32, bytes: &[u8]) -> Result<(Filter, &[u8]), Stop<usize>>
+    ensures filter { ReadsAs (λ x. (x.0, x.1.now)) result (filter_at levels bytes.now) }
 {
     if levels == 0 {
-        return Err(Stop::Left(bytes.len()));
+        return Err(Stop::Fault(bytes.len()));
     }
     level_at(alloc, levels - 1, bytes)
 }
 
 /// A filter over others of at most so many levels.
 #[cycle(filters)]
-fn level_at(alloc: Global, levels: u32, bytes: &[u8]) -> Result<(Filter, &[u8]), Stop>
-    ensures filter { Gives (λ x. (x.0, x.1.now)) result (level_at (filter_at levels) bytes.now) }
+fn level_at(alloc: Global, levels: u32, bytes: &[u8]) -> Result<(Filter, &[u8]), Stop<usize>>
+    ensures filter { ReadsAs (λ x. (x.0, x.1.now)) result (level_at (filter_at levels) bytes.now) }
 {
     let inner = after(b'(', bytes)?;
     inside(alloc, levels, inner)
@@ -45,11 +44,11 @@ fn level_at(alloc: Global, levels: u32, bytes: &[u8]) -> Result<(Filter, &[u8]),
 
 /// What follows a `(`. A name may begin as a composed filter does, so that is told by the `(` of its first operand.
 #[cycle(filters)]
-fn inside(alloc: Global, levels: u32, bytes: &[u8]) -> Result<(Filter, &[u8]), Stop>
-    ensures filter { Gives (λ x. (x.0, x.1.now)) result (inside (filter_at levels) bytes.now) }
+fn inside(alloc: Global, levels: u32, bytes: &[u8]) -> Result<(Filter, &[u8]), Stop<usize>>
+    ensures filter { ReadsAs (λ x. (x.0, x.1.now)) result (inside (filter_at levels) bytes.now) }
 {
     match bytes {
-        [] => Err(Stop::Left(0)),
+        [] => Err(Stop::Fault(0)),
         [sign, remainder @ ..] => {
             if is_composing(*sign) {
                 let operands = skip(remainder);
@@ -64,8 +63,13 @@ fn inside(alloc: Global, levels: u32, bytes: &[u8]) -> Result<(Filter, &[u8]), S
 
 /// The operands of a `!`, `&` or `|`.
 #[cycle(filters)]
-fn composed_at(alloc: Global, levels: u32, sign: u8, bytes: &[u8]) -> Result<(Filter, &[u8]), Stop>
-    ensures filter { Gives (λ x. (x.0, x.1.now)) result (composed_at (filter_at levels) sign bytes.now) }
+fn composed_at(
+    alloc: Global,
+    levels: u32,
+    sign: u8,
+    bytes: &[u8],
+) -> Result<(Filter, &[u8]), Stop<usize>>
+    ensures filter { ReadsAs (λ x. (x.0, x.1.now)) result (composed_at (filter_at levels) sign bytes.now) }
 {
     if sign == b'!' {
         return not_at(alloc, levels, bytes);
@@ -79,8 +83,8 @@ fn composed_at(alloc: Global, levels: u32, sign: u8, bytes: &[u8]) -> Result<(Fi
 }
 
 #[cycle(filters)]
-fn not_at(alloc: Global, levels: u32, bytes: &[u8]) -> Result<(Filter, &[u8]), Stop>
-    ensures filter { Gives (λ x. (x.0, x.1.now)) result (not_at (filter_at levels) bytes.now) }
+fn not_at(alloc: Global, levels: u32, bytes: &[u8]) -> Result<(Filter, &[u8]), Stop<usize>>
+    ensures filter { ReadsAs (λ x. (x.0, x.1.now)) result (not_at (filter_at levels) bytes.now) }
 {
     let (one, remainder) = filter_at(alloc, levels, bytes)?;
     let rest = after(b')', skip(remainder))?;
@@ -88,8 +92,12 @@ fn not_at(alloc: Global, levels: u32, bytes: &[u8]) -> Result<(Filter, &[u8]), S
 }
 
 #[cycle(filters)]
-fn operands_at(alloc: Global, levels: u32, bytes: &[u8]) -> Result<(List<Filter>, &[u8]), Stop>
-    ensures filters { Gives (λ x. (x.0, x.1.now)) result (listing (filter_at levels) [] bytes.now) }
+fn operands_at(
+    alloc: Global,
+    levels: u32,
+    bytes: &[u8],
+) -> Result<(List<Filter>, &[u8]), Stop<usize>>
+    ensures filters { ReadsAs (λ x. (x.0, x.1.now)) result (listing (filter_at levels) [] bytes.now) }
 {
     let mut filters = List::new(alloc)?;
     let mut rest = skip(bytes);
@@ -101,16 +109,16 @@ fn operands_at(alloc: Global, levels: u32, bytes: &[u8]) -> Result<(List<Filter>
         filters.push(one)?;
         rest = skip(remainder);
     }
-    Err(Stop::Left(0))
+    Err(Stop::Fault(0))
 }
 
 /// The filter that a text is, with white space round it.
-pub fn whole_at(alloc: Global, bytes: &[u8]) -> Result<Filter, Stop>
-    ensures filter { Gives (λ filter. filter) result (whole_at bytes.now) }
+pub fn whole_at(alloc: Global, bytes: &[u8]) -> Result<Filter, Stop<usize>>
+    ensures filter { ReadsAs (λ filter. filter) result (whole_at bytes.now) }
 {
     let (filter, remainder) = filter_at(alloc, MAX_LEVELS, skip(bytes))?;
     match skip(remainder) {
         [] => Ok(filter),
-        rest => Err(Stop::Left(rest.len())),
+        rest => Err(Stop::Fault(rest.len())),
     }
 }

@@ -1,9 +1,9 @@
 //! Filters: read from their texts, exactly by their grammar, printed, and matched against attributes.
 //!
-//! `reading` has `parse`, `printing` has `print`, `matching` has `matches`. A text is read from left to right: `scan` has
-//! bytes, white space and names, `values` the values of items, `items` whole items, `filters` what is made of them. `stop`
-//! says why a part of a text was not read, `fault` why a whole text was not. `passing` has what an item says of a value, with
-//! `pieces`, `approx` and `ordered` below it; `case` says how names are compared.
+//! `filter_text` has `parse`, `printing` has `print`, `matching` has `matches`. A text is read from left to right: `scan` has
+//! bytes, white space and names, `values` the values of items, `items` whole items, `filters` what is made of them. Where
+//! they stop, the fault is the number of bytes left there; `fault` says why a whole text was not read. `passing` has what an
+//! item says of a value, with `pieces`, `approx` and `ordered` below it; `case` says how names are compared.
 #![tactic(auto)]
 
 mod approx;
@@ -18,7 +18,6 @@ mod passing;
 mod pieces;
 mod printing;
 mod scan;
-mod stop;
 mod values;
 
 pub use case::Case;

@@ -108,7 +108,8 @@ fn print_filter(out: &mut Vec<u8>, filter: &Filter) -> Result<(), AllocError>
     Ok(())
 }
 
-/// The filter's text, without white space but for that inside names and values. Where some text reads as the filter, this one does too.
+/// The filter's text, without white space but for that inside names and values. Where some text reads as the filter, this one
+/// does too.
 pub fn print(alloc: Global, filter: &Filter) -> Result<Text, AllocError>
     ensures prints { IfOk result (λ t. t ≡ filter_text filter.now) }
     ensures reads_back { (text : List ℕ) → ReadsFilter text filter.now → IfOk result (λ t. ReadsFilter t filter.now) }

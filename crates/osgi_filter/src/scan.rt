@@ -3,11 +3,10 @@
 ghost use Rattle.std.specs.Prelude.{◌≡◌, []};
 ghost use Rattle.osgi_version.specs.Bytes.{is_blank};
 ghost use Rattle.osgi_model.specs.Filters.{is_item_name_byte, is_plain};
-ghost use Rattle.osgi_filter.specs.computed.Given.{Gives};
+ghost use Rattle.osgi_filter.specs.computed.Given.{ReadsAs};
 ghost use Rattle.osgi_filter.specs.computed.Reader.{skip, name_at, after};
 
-use crate::stop::Stop;
-use osgi_base::Text;
+use osgi_base::{Stop, Text};
 use std::alloc::Global;
 
 /// White space.
@@ -50,18 +49,18 @@ pub fn skip(bytes: &[u8]) -> &[u8]
 }
 
 /// What is left after the wanted byte.
-pub fn after(wanted: u8, bytes: &[u8]) -> Result<&[u8], Stop>
-    ensures rest { Gives (λ rest. rest.now) result (after wanted bytes.now) }
+pub fn after(wanted: u8, bytes: &[u8]) -> Result<&[u8], Stop<usize>>
+    ensures rest { ReadsAs (λ rest. rest.now) result (after wanted bytes.now) }
 {
     match bytes {
         [b, rest @ ..] if *b == wanted => Ok(rest),
-        _ => Err(Stop::Left(bytes.len())),
+        _ => Err(Stop::Fault(bytes.len())),
     }
 }
 
 /// The bytes of a name without the white space after it, and what is left after that.
-pub fn name_at(alloc: Global, bytes: &[u8]) -> Result<(Text, &[u8]), Stop>
-    ensures name { Gives (λ x. (x.0, x.1.now)) result (name_at [] [] bytes.now) }
+pub fn name_at(alloc: Global, bytes: &[u8]) -> Result<(Text, &[u8]), Stop<usize>>
+    ensures name { ReadsAs (λ x. (x.0, x.1.now)) result (name_at [] [] bytes.now) }
 {
     let mut end = 0;
     for (at, b) in bytes.iter().enumerate() {
@@ -72,5 +71,5 @@ pub fn name_at(alloc: Global, bytes: &[u8]) -> Result<(Text, &[u8]), Stop>
             end = at + 1;
         }
     }
-    Err(Stop::Left(0))
+    Err(Stop::Fault(0))
 }

@@ -19,8 +19,8 @@ use Rattle.osgi_hall.specs.declared.board.View.{View}
 use Rattle.osgi_hall.specs.declared.board.View.TheVariants.{Live, Spent}
 use Rattle.osgi_hall.specs.Histories.{BeginsWith, calls_by}
 use Rattle.osgi_hall.specs.computed.Lists.{total, Each}
-use Rattle.osgi_hall.specs.computed.Stages.{HasPlace, places_of, place_of, noted_of, IsOut, InTurn, stage_of, held, live}
-use Rattle.osgi_hall.specs.computed.Kept.{Fits, Sound, AtHome, WithSomeone, Kept}
+use Rattle.osgi_hall.specs.computed.Stages.{HasPlace, places_of, stage_place, noted_of, IsOut, InTurn, stage_of, held, live}
+use Rattle.osgi_hall.specs.computed.Kept.{IsSeated, Sound, AtHome, WithSomeone, Kept}
 use Rattle.osgi_hall.specs.computed.Steps.{first_view, staged, told, drawn, Knows, found, entries_in, noted, given}
 use Rattle.osgi_hall.proofs.Tallies.{total_set, total_few, at_below, Each-append, Each-map, begins_more, begins_trans, by_append, by_all, by_others}
 
@@ -82,7 +82,7 @@ module _ {M O R Z : Type 0} (entries : M → List (Entry O R)) (setting : M → 
       → (k'.made ≡ k.made) × (k'.out ≡ k.out) × (k'.ended ≡ k.ended)
       → mine id suffix
       → ws ≡ high' % 2 ^ 64 ∷ low' % 2 ^ 64 ∷ length (r.all ++ suffix) ∷ []
-      → Fits CanMake z (r.all ++ suffix) low' high' id k'
+      → IsSeated CanMake z (r.all ++ suffix) low' high' id k'
       → ((j : ℕ) (v : View O R Z) → j ≢ id → get_elem? s.views j ≡ some v → InTurn r.low r.high r.all (stage_of v) → InTurn low' high' (r.all ++ suffix) (stage_of v))
       → ((p : ℕ) → HasPlace k'.stage p → (j : ℕ) (v : View O R Z) → j ≢ id → get_elem? s.views j ≡ some v → HasPlace (stage_of v) p → ⊥)
       → ((p : ℕ) → low' ≤ p → p < high' → HasPlace k'.stage p ⊎ ((r.low ≤ p) × (p < r.high) × (HasPlace k.stage p → ⊥)))
@@ -167,7 +167,7 @@ module _ {M O R Z : Type 0} (entries : M → List (Entry O R)) (setting : M → 
       → (j : ℕ) (v : View O R Z) → j ≢ id → get_elem? s.views j ≡ some v → HasPlace (stage_of v) p → ⊥
   alone_at s r id p k at has j v n there h = n (r.apart j id p v (Live k) there at h has)
 
-  pub fits_at : (s : St) (r : Rule s) (id : ℕ) (k : Known O R Z) → get_elem? s.views id ≡ some (Live k) → Fits CanMake z r.all r.low r.high id k
+  pub fits_at : (s : St) (r : Rule s) (id : ℕ) (k : Known O R Z) → get_elem? s.views id ≡ some (Live k) → IsSeated CanMake z r.all r.low r.high id k
   fits_at s r id k at = r.each id (Live k) at
 
   higher : (low high : ℕ) (all all' : List (Entry O R)) (st : Stage O R) → all ≡ all' → InTurn low high all st → InTurn low (high + 1) all' st
@@ -275,13 +275,13 @@ module _ {M O R Z : Type 0} (entries : M → List (Entry O R)) (setting : M → 
   finds slots id me k p is waits s r _ at _ =
       let at' : get_elem? s.views id ≡ some (Live k) = at ∙ ap some is in
       let fits = fits_at s r id k at' in
-      let place : place_of (stage_of me.0) ≡ p = ap (λ (v : View O R Z). place_of (stage_of v)) is ∙ ap place_of waits in
+      let place : stage_place (stage_of me.0) ≡ p = ap (λ (v : View O R Z). stage_place (stage_of v)) is ∙ ap stage_place waits in
       let word : get_or s.words 1 0 ≡ r.low % 2 ^ 64 = ap (λ (l : List ℕ). get_or l 1 0) r.words in
       let turn : (r.low ≤ p) × (p < r.high) = subst (InTurn r.low r.high r.all) waits fits.turn in
       let has : HasPlace k.stage p = subst (λ (st : Stage O R). HasPlace st p) (sym waits) refl in
       let nothing : r.all ≡ r.all ++ [] = sym (append-nil r.all) in
       let count : places_of k.stage ≡ 1 = ap places_of waits in
-      dite (ℕ_discrete (get_or s.words 1 0) (place_of (stage_of me.0) % 2 ^ 64))
+      dite (ℕ_discrete (get_or s.words 1 0) (stage_place (stage_of me.0) % 2 ^ 64))
       (λ hit. let here : r.low ≡ p = served s r p turn.0 turn.1 (sym word ∙ (hit ∙ ap (λ (n : ℕ). n % 2 ^ 64) place)) in ⊎_elim
       (λ (h : AtHome entries setting z r.all s). let x : M = h.0 in let k' : Known O R Z = record k { stage = Has p (entries x) } in (
         Live k',
@@ -349,11 +349,11 @@ module _ {M O R Z : Type 0} (entries : M → List (Entry O R)) (setting : M → 
       let has : HasPlace k.stage r.low = subst (λ (st : Stage O R). HasPlace st r.low) (sym stage) turn.0 in
       let out : IsOut k.stage = subst IsOut (sym stage) tt in
       let count : places_of k.stage ≡ 1 = ap places_of stage in
-      let place : place_of k.stage ≡ p = ap place_of stage in
+      let place : stage_place k.stage ≡ p = ap stage_place stage in
       let all' : List (Entry O R) = r.all ++ suffix in
       let xs_is : entries x ≡ all' = grown ∙ ap (λ (l : List (Entry O R)). l ++ suffix) turn.2 in
       let added : drop (length (noted_of k.stage)) (entries x) ≡ suffix = (λ i. drop (length (noted_of (stage i))) (grown i)) ∙ drop-append_seam es suffix in
-      let k' : Known O R Z = record k { stage = Done (place_of k.stage); seen = entries x; own = k.own ++ drop (length (noted_of k.stage)) (entries x) } in
+      let k' : Known O R Z = record k { stage = Done (stage_place k.stage); seen = entries x; own = k.own ++ drop (length (noted_of k.stage)) (entries x) } in
       let is_z : setting x ≡ z = one_is (setting x) z (set_is ∙ fits.setting) in
       let own' : mine id suffix = subst (λ (c : ℕ). mine c suffix) fits.caller own in
       let own_all : calls_by id all' ≡ k'.own = by_append id r.all suffix ∙ (λ i. fits.own_all i ++ (by_all id suffix own' ∙ sym added) i) in
@@ -477,12 +477,12 @@ module _ {M O R Z : Type 0} where
 module _ {M O R Z : Type 0} (entries : M → List (Entry O R)) (setting : M → Z) where
   -- the load found the caller's place, so it has the machine
   pub took : (m m1 m2 m3 : Me (Option M) (View O R Z)) (k : Known O R Z) (r p : ℕ) → m ≡ (Live k, []) → m1 ≡ (staged (Waits p) m.0, m.1) → m2 ≡ m1
-      → (r ≡ place_of (stage_of m2.0) % 2 ^ 64 → (x : M) × (m3 ≡ (staged (Has (place_of (stage_of m2.0)) (entries x)) m2.0, (0, Some x) ∷ m2.1)) × Knows entries setting m2.0 x)
+      → (r ≡ stage_place (stage_of m2.0) % 2 ^ 64 → (x : M) × (m3 ≡ (staged (Has (stage_place (stage_of m2.0)) (entries x)) m2.0, (0, Some x) ∷ m2.1)) × Knows entries setting m2.0 x)
       → r ≡ p % 2 ^ 64
       → (x : M) × (m3 ≡ (staged (Has p (entries x)) m.0, (0, Some x) ∷ [])) × Knows entries setting m.0 x
   took m m1 m2 m3 k r p is drew same saw e =
       let now : m2 ≡ (queued k p, []) = queued_at m m1 m2 k p is drew same in
-      let place : place_of (stage_of m2.0) ≡ p = ap (λ (y : Me (Option M) (View O R Z)). place_of (stage_of y.0)) now in
+      let place : stage_place (stage_of m2.0) ≡ p = ap (λ (y : Me (Option M) (View O R Z)). stage_place (stage_of y.0)) now in
       let t = saw (e ∙ ap (λ (n : ℕ). n % 2 ^ 64) (sym place)) in (
         t.0,
         t.1 ∙ ((λ i. (staged (Has (place i) (entries t.0)) ((now i).0), (0, Some t.0) ∷ (now i).1)) ∙ ap (λ (y : Me (Option M) (View O R Z)). (staged (Has p (entries t.0)) y.0, (0, Some t.0) ∷ [])) (sym is)),

@@ -98,8 +98,8 @@ impl<M: Machine> Hall<M> {
         }
     }
 
-    /// Waits for a turn, and has the machine do one operation, tagged with the pass's caller and this command. If the machine runs
-    /// out of memory nothing is recorded.
+    /// Waits for a turn, and has the machine do one operation, tagged with the pass's caller and this command. If the machine
+    /// runs out of memory nothing is recorded.
     pub fn call<R: Wait>(
         &self,
         rt: &R,
@@ -125,9 +125,9 @@ impl<M: Machine> Hall<M> {
     /// Makes a pass for another caller, which has seen what this one has. If memory runs out the pass stays as it was.
     pub fn split(&self, pass: &mut Pass<M>) -> Result<Pass<M>, AllocError>
         requires hall { IsPassOf self.now pass.old }
-        requires first { (pass.old.caller ≡ 0) × (pass.old.made < 4294967295) }
+        requires first { (pass.old.caller ≡ 0) × (pass.old.made < u32.MAX) }
         ensures new { IfOk result (λ fresh. fresh ≡ new_pass pass.old) }
-        ensures made { IfOk result (λ _. pass.new ≡ after_split pass.old) }
+        ensures made { OnOk result (pass.new ≡ after_split pass.old) }
         ensures legal { IfOk result (λ fresh. IsLegal M.can_make fresh × IsLegal M.can_make pass.new) }
         ensures unchanged { OnErr result (pass.new ≡ pass.old) }
     {
@@ -224,8 +224,8 @@ impl<M: Machine> Hall<M> {
         unreachable!()
     }
 
-    /// Waits for as long as this place is served, and maybe not that long. Short turns are waited for awake, since to sleep and to
-    /// be woken takes longer than they do.
+    /// Waits for as long as this place is served, and maybe not that long. Short turns are waited for awake, since to sleep and
+    /// to be woken takes longer than they do.
     fn wait_while_served<R: Wait>(&self, rt: &R, place: u64) {
         let shared = &self.table.shared;
         for _ in 0..MAX_YIELDS {

@@ -7,8 +7,8 @@ use Rattle.std.proofs.lemmas.Option.{option_and_then_some}
 use Rattle.osgi_header.specs.declared.clause.Clause.{Clause}
 use Rattle.osgi_header.specs.declared.clause.Pair.{Pair}
 use Rattle.osgi_header.specs.declared.clause.Typed.{Typed}
-use Rattle.osgi_header.specs.declared.parameters.Part.{Part}
-use Rattle.osgi_header.specs.declared.parameters.Part.TheVariants.{Path, Directive, Attribute}
+use Rattle.osgi_header.specs.declared.parameters.ClausePart.{ClausePart}
+use Rattle.osgi_header.specs.declared.parameters.ClausePart.TheVariants.{Path, Directive, Attribute}
 use Rattle.osgi_base.specs.declared.parts.QuoteState.TheVariants.{Bare}
 use Rattle.osgi_header.proofs.PartReading.{directive as is_directive, IsPart, part_read, part_sound, path as is_path, plain as is_plain, typed as is_typed}
 use Rattle.osgi_header.proofs.Scanning.{joined_scan, part_in_clause, part_in_value}
@@ -86,7 +86,7 @@ used_directive clause pair = and_left (length (clause.directives ++ pair ∷ [])
 used_attribute : (clause : Clause) (one : Typed) → is_fresh (with_part clause (Attribute one)) ≡ false
 used_attribute clause one = and_right (length clause.directives == 0) (length (clause.attributes ++ one ∷ []) == 0) (pushed_some clause.attributes one)
 
-goes_on_by : (clause : Clause) (text : List ℕ) (texts : List (List ℕ)) (part : Part) (whole : Clause) → is_fresh clause ≡ false → IsPart text part →
+goes_on_by : (clause : Clause) (text : List ℕ) (texts : List (List ℕ)) (part : ClausePart) (whole : Clause) → is_fresh clause ≡ false → IsPart text part →
     cond (may_take clause part) (clause_after (with_part clause part) texts) None ≡ Some whole →
     ((next : Clause) → is_fresh next ≡ false → clause_after next texts ≡ Some whole → GoesOn next texts whole) → GoesOn clause (text ∷ texts) whole
 goes_on_by clause text texts (Path name) whole used is e later =
@@ -164,7 +164,7 @@ onto_path clause text name texts whole (is_path is) more = record {
   are_attributes = more.are_attributes;
 }
 
-gathers_by : (clause : Clause) (text : List ℕ) (texts : List (List ℕ)) (part : Part) (whole : Clause) → IsPart text part →
+gathers_by : (clause : Clause) (text : List ℕ) (texts : List (List ℕ)) (part : ClausePart) (whole : Clause) → IsPart text part →
     cond (may_take clause part) (clause_after (with_part clause part) texts) None ≡ Some whole →
     ((next : Clause) → clause_after next texts ≡ Some whole → Gathers next texts whole) → Gathers clause (text ∷ texts) whole
 gathers_by clause text texts (Path name) whole is e later =
@@ -199,7 +199,7 @@ gathered text name texts whole (is_path is) more all joined = record {
 }
 
 -- the first part is a path
-first_by : (text : List ℕ) (texts : List (List ℕ)) (part : Part) (whole : Clause) → IsPart text part →
+first_by : (text : List ℕ) (texts : List (List ℕ)) (part : ClausePart) (whole : Clause) → IsPart text part →
     cond (may_take empty_clause part) (clause_after (with_part empty_clause part) texts) None ≡ Some whole →
     (all : List ℕ) → all ≡ join_with_byte 59 (text ∷ texts) → IsClause all whole
 first_by text texts (Path name) whole is e all joined = gathered text name texts whole is (gathers (with_part empty_clause (Path name)) texts whole e) all joined
@@ -230,7 +230,7 @@ paths_read clause (text ∷ texts) (path ∷ paths) more fresh are =
     ∙ paths_read (with_part clause (Path path)) texts paths more fresh are.1
     ∙ ap (λ l. clause_after (record { paths = l; directives = clause.directives; attributes = clause.attributes }) more) (append_assoc clause.paths (path ∷ []) paths)
 
-take_part : (clause : Clause) (text : List ℕ) (texts : List (List ℕ)) (part : Part) → IsPart text part → may_take clause part ≡ true →
+take_part : (clause : Clause) (text : List ℕ) (texts : List (List ℕ)) (part : ClausePart) → IsPart text part → may_take clause part ≡ true →
     clause_after clause (text ∷ texts) ≡ clause_after (with_part clause part) texts
 take_part clause text texts part is may =
     ap (option_and_then (λ p. cond (may_take clause p) (clause_after (with_part clause p) texts) None)) (part_read text part is)
@@ -260,7 +260,7 @@ paths_some (text ∷ texts) [] are some = absurd are
 paths_some (text ∷ texts) (path ∷ paths) are some = omega arith
 
 -- no separator stands outside quotes in any of the parts
-whole_paths : (separator : ℕ) (texts paths more : List (List ℕ)) → ((text : List ℕ) (part : Part) → IsPart text part → scan separator Bare text ≡ Some Bare) → ArePaths texts paths →
+whole_paths : (separator : ℕ) (texts paths more : List (List ℕ)) → ((text : List ℕ) (part : ClausePart) → IsPart text part → scan separator Bare text ≡ Some Bare) → ArePaths texts paths →
     AreWhole separator more → AreWhole separator (texts ++ more)
 whole_paths separator [] [] more one are whole = whole
 whole_paths separator [] (path ∷ paths) more one are whole = absurd are
@@ -269,14 +269,14 @@ whole_paths separator (text ∷ texts) (path ∷ paths) more one are whole =
     (one text (Path path) (is_path are.0), whole_paths separator texts paths more one are.1 whole)
 
 whole_parameters : (separator : ℕ) {texts : List (List ℕ)} {directives : List Pair} {attributes : List Typed} →
-    ((text : List ℕ) (part : Part) → IsPart text part → scan separator Bare text ≡ Some Bare) → AreParameters texts directives attributes → AreWhole separator texts
+    ((text : List ℕ) (part : ClausePart) → IsPart text part → scan separator Bare text ≡ Some Bare) → AreParameters texts directives attributes → AreWhole separator texts
 whole_parameters separator one none = tt
 whole_parameters separator one (directive {text = text} {pair = pair} is more) = (one text (Directive pair) (is_directive is), whole_parameters separator one more)
 whole_parameters separator one (plain {text = text} {typed = it} is more) = (one text (Attribute it) (is_plain is), whole_parameters separator one more)
 whole_parameters separator one (typed {text = text} {typed = it} is more) = (one text (Attribute it) (is_typed is), whole_parameters separator one more)
 
 whole_parts : (separator : ℕ) (text : List ℕ) (clause : Clause) (is : IsClause text clause) →
-    ((text : List ℕ) (part : Part) → IsPart text part → scan separator Bare text ≡ Some Bare) → AreWhole separator (is.paths ++ is.parameters)
+    ((text : List ℕ) (part : ClausePart) → IsPart text part → scan separator Bare text ≡ Some Bare) → AreWhole separator (is.paths ++ is.parameters)
 whole_parts separator text clause is one =
     whole_paths separator is.paths clause.paths is.parameters one is.are_paths (whole_parameters separator one is.are_parameters)
 

@@ -7,21 +7,21 @@ use Rattle.std.proofs.lemmas.Bool.{cond-false, cond-true}
 use Rattle.std.proofs.lemmas.List.{drop-drop, drop-map, length-map, length-take-le, take-map}
 use Rattle.std.proofs.lemmas.List.Sums.{prefix_len-le-length}
 use Rattle.std.proofs.lemmas.List.Elements.{All-cons, All-head, All-nil, All-tail}
-use Rattle.osgi_header.specs.declared.lines.Line as code
+use Rattle.osgi_header.specs.declared.lines.LineAt.{LineAt}
 use Rattle.osgi_header.proofs.Fronts.{prefix_len-fail, prefix_len-pass}
 use Rattle.osgi_header.specs.computed.HeaderReader.{BeginsWithGroup, following, group, groups_of, leading, line_seen, lines_seen}
-use Rattle.osgi_header.specs.Lines.{another, AreGrouped, at_end, continues, Group, header, Line, none, StopsGroup}
+use Rattle.osgi_header.specs.Lines.{another, AreGrouped, at_end, continues, Group, header, PhysicalLine, none, StopsGroup}
 
 -- ---- what is taken together is the lines of one header
 
-record Behind (lines : List Line) : Type 0 where
-  after : List Line
+record Behind (lines : List PhysicalLine) : Type 0 where
+  after : List PhysicalLine
   is : lines ≡ leading lines ++ after
   all : AllPass continues (leading lines)
   stops : StopsGroup after
   grouped : AreGrouped after (following lines)
 
-behind_pass : (line : Line) (rest : List Line) → continues line ≡ true → Behind rest → Behind (line ∷ rest)
+behind_pass : (line : PhysicalLine) (rest : List PhysicalLine) → continues line ≡ true → Behind rest → Behind (line ∷ rest)
 behind_pass line rest e more =
     let lead : leading (line ∷ rest) ≡ line ∷ leading rest = cond-true (continues line) _ _ e in
     let follow : following (line ∷ rest) ≡ following rest = cond-true (continues line) _ _ e in
@@ -33,7 +33,7 @@ behind_pass line rest e more =
       grouped = subst (AreGrouped more.after) (sym follow) more.grouped;
     }
 
-behind_fail : (line : Line) (rest : List Line) → continues line ≡ false → Behind rest → Behind (line ∷ rest)
+behind_fail : (line : PhysicalLine) (rest : List PhysicalLine) → continues line ≡ false → Behind rest → Behind (line ∷ rest)
 behind_fail line rest e more =
     let lead : leading (line ∷ rest) ≡ [] = cond-false (continues line) _ _ e in
     let follow : following (line ∷ rest) ≡ group line (leading rest) ∷ following rest = cond-false (continues line) _ _ e in
@@ -47,15 +47,15 @@ behind_fail line rest e more =
       grouped = subst (AreGrouped (line ∷ rest)) (sym follow) (subst (λ l. AreGrouped (line ∷ l) (group line (leading rest) ∷ following rest)) (sym more.is) here);
     }
 
-behind_by : (line : Line) (rest : List Line) (test : Bool) → continues line ≡ test → Behind rest → Behind (line ∷ rest)
+behind_by : (line : PhysicalLine) (rest : List PhysicalLine) (test : Bool) → continues line ≡ test → Behind rest → Behind (line ∷ rest)
 behind_by line rest true e more = behind_pass line rest e more
 behind_by line rest false e more = behind_fail line rest e more
 
-remainder : (lines : List Line) → Behind lines
+remainder : (lines : List PhysicalLine) → Behind lines
 remainder [] = record { after = []; is = refl; all = All-nil (λ l. continues l ≡ true); stops = at_end; grouped = none }
 remainder (line ∷ rest) = behind_by line rest (continues line) refl (remainder rest)
 
-pub grouped : (lines : List Line) → AreGrouped lines (groups_of lines)
+pub grouped : (lines : List PhysicalLine) → AreGrouped lines (groups_of lines)
 grouped [] = none
 grouped (line ∷ rest) =
     let more = remainder rest in
@@ -63,21 +63,21 @@ grouped (line ∷ rest) =
 
 -- ---- and no other lines are
 
-leading-front : (more rest : List Line) → AllPass continues more → StopsGroup rest → leading (more ++ rest) ≡ more
+leading-front : (more rest : List PhysicalLine) → AllPass continues more → StopsGroup rest → leading (more ++ rest) ≡ more
 leading-front [] [] all at_end = refl
 leading-front [] (line ∷ rest) all (another e) = cond-false (continues line) _ _ e
 leading-front (line ∷ more) rest all stops =
     cond-true (continues line) _ _ (All-head (λ l. continues l ≡ true) line more all)
     ∙ ap (λ l. line ∷ l) (leading-front more rest (All-tail (λ l. continues l ≡ true) line more all) stops)
 
-following-front : (more rest : List Line) → AllPass continues more → StopsGroup rest → following (more ++ rest) ≡ groups_of rest
+following-front : (more rest : List PhysicalLine) → AllPass continues more → StopsGroup rest → following (more ++ rest) ≡ groups_of rest
 following-front [] [] all at_end = refl
 following-front [] (line ∷ rest) all (another e) = cond-false (continues line) _ _ e
 following-front (line ∷ more) rest all stops =
     cond-true (continues line) _ _ (All-head (λ l. continues l ≡ true) line more all)
     ∙ following-front more rest (All-tail (λ l. continues l ≡ true) line more all) stops
 
-pub only_groups : {lines : List Line} {groups : List Group} → AreGrouped lines groups → groups ≡ groups_of lines
+pub only_groups : {lines : List PhysicalLine} {groups : List Group} → AreGrouped lines groups → groups ≡ groups_of lines
 only_groups none = refl
 only_groups (header {rest = rest} {groups = groups} first more all stops are) =
     ap (λ l. group first more ∷ l) (only_groups are ∙ sym (following-front more rest all stops))
@@ -85,35 +85,35 @@ only_groups (header {rest = rest} {groups = groups} first more all stops are) =
 
 -- ---- the lines of one header, cut off
 
-leading-take : (lines : List Line) → leading lines ≡ take (prefix_len continues lines) lines
+leading-take : (lines : List PhysicalLine) → leading lines ≡ take (prefix_len continues lines) lines
 leading-take [] = refl
 leading-take (line ∷ rest) = leading_by line rest (continues line) refl (leading-take rest)
   where
-    leading_by : (line : Line) (rest : List Line) (test : Bool) → continues line ≡ test → leading rest ≡ take (prefix_len continues rest) rest →
+    leading_by : (line : PhysicalLine) (rest : List PhysicalLine) (test : Bool) → continues line ≡ test → leading rest ≡ take (prefix_len continues rest) rest →
         leading (line ∷ rest) ≡ take (prefix_len continues (line ∷ rest)) (line ∷ rest)
     leading_by line rest true e more =
         cond-true (continues line) _ _ e ∙ ap (λ l. line ∷ l) more ∙ ap (λ n. take n (line ∷ rest)) (sym (prefix_len-pass continues line rest e))
     leading_by line rest false e more = cond-false (continues line) _ _ e ∙ ap (λ n. take n (line ∷ rest)) (sym (prefix_len-fail continues line rest e))
 
-following-drop : (lines : List Line) → following lines ≡ groups_of (drop (prefix_len continues lines) lines)
+following-drop : (lines : List PhysicalLine) → following lines ≡ groups_of (drop (prefix_len continues lines) lines)
 following-drop [] = refl
 following-drop (line ∷ rest) = following_by line rest (continues line) refl (following-drop rest)
   where
-    following_by : (line : Line) (rest : List Line) (test : Bool) → continues line ≡ test → following rest ≡ groups_of (drop (prefix_len continues rest) rest) →
+    following_by : (line : PhysicalLine) (rest : List PhysicalLine) (test : Bool) → continues line ≡ test → following rest ≡ groups_of (drop (prefix_len continues rest) rest) →
         following (line ∷ rest) ≡ groups_of (drop (prefix_len continues (line ∷ rest)) (line ∷ rest))
     following_by line rest true e more =
         cond-true (continues line) _ _ e ∙ more ∙ ap (λ n. groups_of (drop n (line ∷ rest))) (sym (prefix_len-pass continues line rest e))
     following_by line rest false e more =
         cond-false (continues line) _ _ e ∙ ap (λ n. groups_of (drop n (line ∷ rest))) (sym (prefix_len-fail continues line rest e))
 
-seen_take : (n : ℕ) (lines : List code.Line) → lines_seen (take n lines) ≡ take n (lines_seen lines)
+seen_take : (n : ℕ) (lines : List LineAt) → lines_seen (take n lines) ≡ take n (lines_seen lines)
 seen_take n lines = sym (take-map line_seen n lines)
 
-seen_drop : (n : ℕ) (lines : List code.Line) → lines_seen (drop n lines) ≡ drop n (lines_seen lines)
+seen_drop : (n : ℕ) (lines : List LineAt) → lines_seen (drop n lines) ≡ drop n (lines_seen lines)
 seen_drop n lines = sym (drop-map line_seen n lines)
 
 -- lines that begin with this one and those that continue it
-pub groups_cut : (first : code.Line) (remainder : List code.Line) (n : ℕ) → n ≡ prefix_len continues (lines_seen remainder) →
+pub groups_cut : (first : LineAt) (remainder : List LineAt) (n : ℕ) → n ≡ prefix_len continues (lines_seen remainder) →
     groups_of (lines_seen (first ∷ remainder)) ≡ group (line_seen first) (lines_seen (take n remainder)) ∷ groups_of (lines_seen (drop n remainder))
 groups_cut first remainder n is =
     ap (λ l. group (line_seen first) l ∷ following (lines_seen remainder)) (leading-take (lines_seen remainder) ∙ ap (λ k. take k (lines_seen remainder)) (sym is) ∙ sym (seen_take n remainder))
@@ -121,19 +121,19 @@ groups_cut first remainder n is =
     (following-drop (lines_seen remainder) ∙ ap (λ k. groups_of (drop k (lines_seen remainder))) (sym is) ∙ ap groups_of (sym (seen_drop n remainder)))
 
 -- the rest of a list of lines, cut at its first
-pub cut_first : (rest : List code.Line) (d : code.Line) → 1 ≤ length rest → rest ≡ get_or rest 0 d ∷ take (length rest - 1) (drop 1 rest)
+pub cut_first : (rest : List LineAt) (d : LineAt) → 1 ≤ length rest → rest ≡ get_or rest 0 d ∷ take (length rest - 1) (drop 1 rest)
 cut_first [] d some = absurd (omega (arith, some))
 cut_first (line ∷ rest) d some =
     let len : length (line ∷ rest) - 1 ≡ length rest = omega arith in
     ap (λ l. line ∷ l) (sym (ap (λ n. take n rest) len ∙ take-length rest))
 
 -- the lines of the header that begins at an index
-pub begins_group : (lines rest : List code.Line) (start n : ℕ) (d : code.Line) → start ≤ length lines → rest ≡ drop start lines → 1 ≤ length rest →
+pub begins_group : (lines rest : List LineAt) (start n : ℕ) (d : LineAt) → start ≤ length lines → rest ≡ drop start lines → 1 ≤ length rest →
     n ≡ prefix_len continues (lines_seen (take (length rest - 1) (drop 1 rest))) →
     BeginsWithGroup lines start (line_seen (get_or rest 0 d)) (take n (take (length rest - 1) (drop 1 rest)))
 begins_group lines rest start n d within is some count =
-    let first : code.Line = get_or rest 0 d in
-    let remainder : List code.Line = take (length rest - 1) (drop 1 rest) in
+    let first : LineAt = get_or rest 0 d in
+    let remainder : List LineAt = take (length rest - 1) (drop 1 rest) in
     let split : rest ≡ first ∷ remainder = cut_first rest d some in
     let seen_len : length (lines_seen remainder) ≡ length remainder = length-map remainder line_seen in
     let most : n ≤ length remainder = omega (arith, count, seen_len, prefix_len-le-length continues (lines_seen remainder)) in
@@ -147,5 +147,5 @@ begins_group lines rest start n d within is some count =
       within = omega (arith, within, most, len, ap length split, ap length is, length-drop start lines);
     }
 
-pub count_within : (remainder : List code.Line) (n : ℕ) → n ≡ prefix_len continues (lines_seen remainder) → n ≤ length remainder
+pub count_within : (remainder : List LineAt) (n : ℕ) → n ≡ prefix_len continues (lines_seen remainder) → n ≤ length remainder
 count_within remainder n is = omega (arith, is, length-map remainder line_seen, prefix_len-le-length continues (lines_seen remainder))

@@ -13,13 +13,14 @@ use Rattle.osgi_header.specs.declared.fault.HeaderFault.{HeaderFault}
 use Rattle.osgi_header.specs.declared.fault.HeaderKind.{HeaderKind}
 use Rattle.osgi_header.specs.declared.fault.HeaderKind.TheVariants.{BadName, BadUtf8, LongLine, NoColon}
 use Rattle.osgi_header.specs.declared.header.Header.{Header}
+use Rattle.osgi_header.specs.declared.unfolding.TheConstants.{MAX_LINE_LEN}
 use Rattle.osgi_header.proofs.Grouping.{grouped, only_groups}
 use Rattle.osgi_header.proofs.LineReading.{only_lines}
 use Rattle.osgi_base.specs.laws.Places.{Fails, Found, found, nowhere, position-front, position-none, somewhere}
 use Rattle.osgi_base.specs.laws.Scans.{other_byte}
 use Rattle.osgi_header.specs.computed.HeaderReader.{counted, first_long, groups_of, header_by, header_of, headers_by, headers_from, headers_onto, if_short, is_colon, is_header_name, is_long, parsed, parsed_at, without_space}
-use Rattle.osgi_header.specs.Headers.{AreHeaders, AreHeadersOf, bad_name, bad_utf8, bare, first_long as is_first_long, is_header_name_byte, IsGroupFault, IsHeader, IsHeaderFault, IsHeaderName, IsHeaderValue, IsNamed, IsShort, more_long, no_colon, spaced}
-use Rattle.osgi_header.specs.Lines.{AreGrouped, AreLines, Group, joined, Line}
+use Rattle.osgi_header.specs.Headers.{AreHeaders, AreHeadersOf, bad_name, bad_utf8, bare, first_long as is_first_long, is_header_name_byte, IsGroupFault, IsHeader, IsHeaderFault, IsHeaderName, IsHeaderValue, HasHeaderName, IsShort, more_long, no_colon, spaced}
+use Rattle.osgi_header.specs.Lines.{AreGrouped, AreLines, Group, joined, PhysicalLine}
 
 -- ---- one header more
 
@@ -92,10 +93,10 @@ value_read remainder value (bare stops) = bare_value value stops
 
 -- what joined lines are read as
 data IsParsed (text : List ℕ) : Result Header HeaderKind → Type 0 where
-  parsed_as : (one : Header) (remainder : List ℕ) → IsNamed text one.name remainder → IsHeaderValue remainder one.value → IsUtf8 text → IsParsed text (Ok one)
+  parsed_as : (one : Header) (remainder : List ℕ) → HasHeaderName text one.name remainder → IsHeaderValue remainder one.value → IsUtf8 text → IsParsed text (Ok one)
   colonless : All (λ b. b ≢ 58) text → IsParsed text (Err NoColon)
   misnamed : (name remainder : List ℕ) → text ≡ name ++ 58 ∷ remainder → All (λ b. b ≢ 58) name → ¬ IsHeaderName name → IsParsed text (Err BadName)
-  misspelled : (name remainder : List ℕ) → IsNamed text name remainder → ¬ IsUtf8 text → IsParsed text (Err BadUtf8)
+  misspelled : (name remainder : List ℕ) → HasHeaderName text name remainder → ¬ IsUtf8 text → IsParsed text (Err BadUtf8)
 
 -- the answer where the name and the bytes pass or do not
 abbrev answer : Bool → Bool → List ℕ → List ℕ → Result Header HeaderKind
@@ -139,7 +140,7 @@ not_utf8 : (text : List ℕ) (test : Bool) → is_utf8 text ≡ test → ¬ IsUt
 not_utf8 text true e none = absurd (none (IsUtf8-from_is_utf8 text e))
 not_utf8 text false e none = refl
 
-parsed_named : (text name remainder : List ℕ) → IsNamed text name remainder → parsed text ≡ answer true (is_utf8 text) name remainder
+parsed_named : (text name remainder : List ℕ) → HasHeaderName text name remainder → parsed text ≡ answer true (is_utf8 text) name remainder
 parsed_named text name remainder is =
     ap parsed is.is ∙ parsed_split name remainder (name_no_colon name is.named)
     ∙ ap (λ t. answer t (is_utf8 (name ++ 58 ∷ remainder)) name remainder) (name_read name is.named)
@@ -159,39 +160,39 @@ is_parsed text r (misspelled name remainder named no_utf8) =
 
 -- ---- lines that are too long
 
-not_long : (line : Line) → is_long line ≡ false → IsShort line
-not_long line e = ltb-false 65536 (length line.text) e
+not_long : (line : PhysicalLine) → is_long line ≡ false → IsShort line
+not_long line e = ltb-false MAX_LINE_LEN (length line.text) e
 
-short_is : (line : Line) → IsShort line → is_long line ≡ false
-short_is line short = le-ltb 65536 (length line.text) short
+short_is : (line : PhysicalLine) → IsShort line → is_long line ≡ false
+short_is line short = le-ltb MAX_LINE_LEN (length line.text) short
 
 -- what is known of the first line that is too long
-data FirstLong (lines : List Line) : Option ℕ → Type 0 where
+data FirstLong (lines : List PhysicalLine) : Option ℕ → Type 0 where
   none_long_in : All IsShort lines → FirstLong lines None
-  long_at : (before : List Line) (line : Line) (rest : List Line) → lines ≡ before ++ line ∷ rest → All IsShort before → 65536 < length line.text → FirstLong lines (Some line.at)
+  long_at : (before : List PhysicalLine) (line : PhysicalLine) (rest : List PhysicalLine) → lines ≡ before ++ line ∷ rest → All IsShort before → MAX_LINE_LEN < length line.text → FirstLong lines (Some line.at)
 
-long_later : (line : Line) (rest : List Line) (at : Option ℕ) → IsShort line → FirstLong rest at → FirstLong (line ∷ rest) at
+long_later : (line : PhysicalLine) (rest : List PhysicalLine) (at : Option ℕ) → IsShort line → FirstLong rest at → FirstLong (line ∷ rest) at
 long_later line rest at short (none_long_in all) = none_long_in (All-cons IsShort line rest short all)
 long_later line rest at short (long_at before one remainder is all over) = long_at (line ∷ before) one remainder (ap (λ l. line ∷ l) is) (All-cons IsShort line before short all) over
 
-long_by : (line : Line) (rest : List Line) (test : Bool) → is_long line ≡ test → FirstLong rest (first_long rest) → FirstLong (line ∷ rest) (first_long (line ∷ rest))
+long_by : (line : PhysicalLine) (rest : List PhysicalLine) (test : Bool) → is_long line ≡ test → FirstLong rest (first_long rest) → FirstLong (line ∷ rest) (first_long (line ∷ rest))
 long_by line rest true e more =
     subst (FirstLong (line ∷ rest)) (sym (cond-true (is_long line) (Some line.at) (first_long rest) e))
-    (long_at [] line rest refl (All-nil IsShort) (ltb-true 65536 (length line.text) e))
+    (long_at [] line rest refl (All-nil IsShort) (ltb-true MAX_LINE_LEN (length line.text) e))
 long_by line rest false e more =
     subst (FirstLong (line ∷ rest)) (sym (cond-false (is_long line) (Some line.at) (first_long rest) e)) (long_later line rest (first_long rest) (not_long line e) more)
 
-long_is : (lines : List Line) → FirstLong lines (first_long lines)
+long_is : (lines : List PhysicalLine) → FirstLong lines (first_long lines)
 long_is [] = none_long_in (All-nil IsShort)
 long_is (line ∷ rest) = long_by line rest (is_long line) refl (long_is rest)
 
-none_long : (lines : List Line) → All IsShort lines → first_long lines ≡ None
+none_long : (lines : List PhysicalLine) → All IsShort lines → first_long lines ≡ None
 none_long [] all = refl
 none_long (line ∷ rest) all =
     cond-false (is_long line) _ _ (short_is line (All-head IsShort line rest all)) ∙ none_long rest (All-tail IsShort line rest all)
 
-one_long : (before : List Line) (line : Line) (rest : List Line) → All IsShort before → 65536 < length line.text → first_long (before ++ line ∷ rest) ≡ Some line.at
-one_long [] line rest all over = cond-true (is_long line) _ _ (lt-ltb 65536 (length line.text) over)
+one_long : (before : List PhysicalLine) (line : PhysicalLine) (rest : List PhysicalLine) → All IsShort before → MAX_LINE_LEN < length line.text → first_long (before ++ line ∷ rest) ≡ Some line.at
+one_long [] line rest all over = cond-true (is_long line) _ _ (lt-ltb MAX_LINE_LEN (length line.text) over)
 one_long (first ∷ before) line rest all over =
     cond-false (is_long first) _ _ (short_is first (All-head IsShort first before all)) ∙ one_long before line rest (All-tail IsShort first before all) over
 
@@ -202,7 +203,7 @@ abbrev IsRead : Group → Result Header HeaderFault → Type 0
 IsRead lines (Ok header) = IsHeader lines header
 IsRead lines (Err fault) = IsGroupFault lines fault
 
-more_by : (lines : Group) (one : Header) (remainder : List ℕ) (at : Option ℕ) → IsShort lines.first → IsNamed (joined lines) one.name remainder → IsHeaderValue remainder one.value →
+more_by : (lines : Group) (one : Header) (remainder : List ℕ) (at : Option ℕ) → IsShort lines.first → HasHeaderName (joined lines) one.name remainder → IsHeaderValue remainder one.value →
     IsUtf8 (joined lines) → FirstLong lines.more at → IsRead lines (if_short one at)
 more_by lines one remainder None short named valued utf8 (none_long_in all) =
     record { remainder = remainder; named = named; value = valued; utf8 = utf8; short = short; all_short = all }
@@ -218,7 +219,7 @@ parsed_by lines r short (misspelled name remainder named no_utf8) = bad_utf8 nam
 read_by : (lines : Group) (test : Bool) → is_long lines.first ≡ test → IsRead lines (header_of lines)
 read_by lines true e =
     subst (IsRead lines) (sym (cond-true (is_long lines.first) (Err (record { kind = LongLine; at = lines.first.at })) (header_by lines (parsed (joined lines))) e))
-    (is_first_long (ltb-true 65536 (length lines.first.text) e))
+    (is_first_long (ltb-true MAX_LINE_LEN (length lines.first.text) e))
 read_by lines false e =
     subst (IsRead lines) (sym (cond-false (is_long lines.first) (Err (record { kind = LongLine; at = lines.first.at })) (header_by lines (parsed (joined lines))) e))
     (parsed_by lines (parsed (joined lines)) (not_long lines.first e) (parsed_is (joined lines)))
@@ -239,7 +240,7 @@ abbrev named_header : List ℕ → List ℕ → Header
 named_header name remainder = record { name = name; value = without_space remainder }
 
 fault_read : (lines : Group) (fault : HeaderFault) → IsGroupFault lines fault → header_of lines ≡ Err fault
-fault_read lines fault (is_first_long over) = cond-true (is_long lines.first) _ _ (lt-ltb 65536 (length lines.first.text) over)
+fault_read lines fault (is_first_long over) = cond-true (is_long lines.first) _ _ (lt-ltb MAX_LINE_LEN (length lines.first.text) over)
 fault_read lines fault (no_colon short none) = short_first lines (Err NoColon) short (colonless none)
 fault_read lines fault (bad_name name remainder short is none no_name) = short_first lines (Err BadName) short (misnamed name remainder is none no_name)
 fault_read lines fault (bad_utf8 name remainder short named no_utf8) = short_first lines (Err BadUtf8) short (misspelled name remainder named no_utf8)
@@ -338,7 +339,7 @@ fault_answer (lines ∷ before) faulty rest fault are is =
 
 -- ---- what the reader answers
 
-answer_by : (bytes : List ℕ) (lines : List Line) (r : Result (List Header) HeaderFault) → AreLines 0 bytes lines → headers_from (groups_of lines) ≡ r →
+answer_by : (bytes : List ℕ) (lines : List PhysicalLine) (r : Result (List Header) HeaderFault) → AreLines 0 bytes lines → headers_from (groups_of lines) ≡ r →
     MatchResult (counted r) (AreHeadersOf bytes) (IsHeaderFault bytes)
 answer_by bytes lines (Ok all) are is = record {
   lines = lines;
@@ -362,13 +363,13 @@ answer_by bytes lines (Err fault) are is =
       is = found.is;
     }
 
-pub answer_reads : (bytes : List ℕ) (lines : List Line) (r : Result (Result (List Header) HeaderFault) AllocError) → AreLines 0 bytes lines →
+pub answer_reads : (bytes : List ℕ) (lines : List PhysicalLine) (r : Result (Result (List Header) HeaderFault) AllocError) → AreLines 0 bytes lines →
     IfOk r (λ a. a ≡ counted (headers_from (groups_of lines))) → IfOk r (λ a. MatchResult a (AreHeadersOf bytes) (IsHeaderFault bytes))
 answer_reads bytes lines (Ok a) are is =
     subst (λ b. MatchResult b (AreHeadersOf bytes) (IsHeaderFault bytes)) (sym is) (answer_by bytes lines (headers_from (groups_of lines)) are refl)
 answer_reads bytes lines (Err e) are is = tt
 
-headers_only : (bytes : List ℕ) (lines : List Line) (others : List Header) → AreLines 0 bytes lines → AreHeadersOf bytes others →
+headers_only : (bytes : List ℕ) (lines : List PhysicalLine) (others : List Header) → AreLines 0 bytes lines → AreHeadersOf bytes others →
     counted (headers_from (groups_of lines)) ≡ Ok others
 headers_only bytes lines others are is =
     ap (λ l. counted (headers_from (groups_of l))) (only_lines bytes lines is.lines are is.are_lines)
@@ -376,19 +377,19 @@ headers_only bytes lines others are is =
     ∙ ap counted (headers_read is.groups is.all is.are_headers)
     ∙ ap Ok (sym is.count)
 
-pub answer_only : (bytes : List ℕ) (lines : List Line) (r : Result (Result (List Header) HeaderFault) AllocError) → AreLines 0 bytes lines →
+pub answer_only : (bytes : List ℕ) (lines : List PhysicalLine) (r : Result (Result (List Header) HeaderFault) AllocError) → AreLines 0 bytes lines →
     IfOk r (λ a. a ≡ counted (headers_from (groups_of lines))) → (others : List Header) → AreHeadersOf bytes others → IfOk r (λ a. a ≡ Ok others)
 answer_only bytes lines (Ok a) are is others headers = is ∙ headers_only bytes lines others are headers
 answer_only bytes lines (Err e) are is others headers = tt
 
-fault_only : (bytes : List ℕ) (lines : List Line) (fault : HeaderFault) → AreLines 0 bytes lines → IsHeaderFault bytes fault →
+fault_only : (bytes : List ℕ) (lines : List PhysicalLine) (fault : HeaderFault) → AreLines 0 bytes lines → IsHeaderFault bytes fault →
     counted (headers_from (groups_of lines)) ≡ Err fault
 fault_only bytes lines fault are is =
     ap (λ l. counted (headers_from (groups_of l))) (only_lines bytes lines is.lines are is.are_lines)
     ∙ ap (λ g. counted (headers_from g)) (sym (only_groups is.are_grouped))
     ∙ ap counted (fault_answer is.before is.faulty is.rest fault is.are_headers is.is)
 
-pub answer_only_fault : (bytes : List ℕ) (lines : List Line) (r : Result (Result (List Header) HeaderFault) AllocError) → AreLines 0 bytes lines →
+pub answer_only_fault : (bytes : List ℕ) (lines : List PhysicalLine) (r : Result (Result (List Header) HeaderFault) AllocError) → AreLines 0 bytes lines →
     IfOk r (λ a. a ≡ counted (headers_from (groups_of lines))) → (other : HeaderFault) → IsHeaderFault bytes other → IfOk r (λ a. a ≡ Err other)
 answer_only_fault bytes lines (Ok a) are is other fault = is ∙ fault_only bytes lines other are fault
 answer_only_fault bytes lines (Err e) are is other fault = tt

@@ -6,10 +6,10 @@ use Rattle.std.proofs.Math.Seq.{drop-append_seam, take-append_seam}
 use Rattle.std.proofs.lemmas.Bool.{cond-false, cond-true, eqb-false, eqb-true, ne_eqb}
 use Rattle.std.proofs.lemmas.List.{length-take-le, map-append, take-append-drop}
 use Rattle.std.proofs.lemmas.List.Sums.{prefix_len-le-length}
-use Rattle.osgi_header.specs.declared.lines.Line as code
+use Rattle.osgi_header.specs.declared.lines.LineAt.{LineAt}
 use Rattle.osgi_header.proofs.Fronts.{fronts, prefix_len-fail, prefix_len-front, prefix_len-pass}
 use Rattle.osgi_header.specs.computed.HeaderReader.{after_end, line_seen, lines_seen, without_line_feed}
-use Rattle.osgi_header.specs.Lines.{AreLines, BeginsWithLine, cr, crlf, empty_line, EndsLine, EndsSection, is_line_byte, lf, Line, next, no_bytes, nothing, over}
+use Rattle.osgi_header.specs.Lines.{AreLines, BeginsWithLine, cr, crlf, empty_line, EndsLine, EndsSection, is_line_byte, lf, PhysicalLine, next, no_bytes, nothing, over}
 
 -- ---- a line split off
 
@@ -77,10 +77,10 @@ pub begins-len : (bytes text left : List ℕ) (is : BeginsWithLine bytes text le
 begins-len bytes text left is =
     omega (arith, ap length is.is, length-append text (is.end ++ left), length-append is.end left)
 
-pub lines_more : (bytes rest text left : List ℕ) (so_far pushed : List code.Line) (line : code.Line) → length rest ≤ length bytes → BeginsWithLine rest text left →
+pub lines_more : (bytes rest text left : List ℕ) (so_far pushed : List LineAt) (line : LineAt) → length rest ≤ length bytes → BeginsWithLine rest text left →
     line_seen line ≡ record { at = length bytes - length rest; text = text } → pushed ≡ so_far ++ line ∷ [] →
-    ((others : List Line) → AreLines (length bytes - length rest) rest others → AreLines 0 bytes (lines_seen so_far ++ others)) →
-    (others : List Line) → AreLines (length bytes - length left) left others → AreLines 0 bytes (lines_seen pushed ++ others)
+    ((others : List PhysicalLine) → AreLines (length bytes - length rest) rest others → AreLines 0 bytes (lines_seen so_far ++ others)) →
+    (others : List PhysicalLine) → AreLines (length bytes - length left) left others → AreLines 0 bytes (lines_seen pushed ++ others)
 lines_more bytes rest text left so_far pushed line within is seen added read others are =
     let len = begins-len rest text left is in
     let place : length bytes - length left ≡ (length bytes - length rest) + (length text + length is.end) = omega (arith, len, within) in
@@ -90,8 +90,8 @@ lines_more bytes rest text left so_far pushed line within is seen added read oth
     = ap (λ l. lines_seen l ++ others) added ∙ ap (λ l. l ++ others) (map-append line_seen so_far (line ∷ [])) ∙ append_assoc (lines_seen so_far) (line_seen line ∷ []) others in
     rw all (read (line_seen line ∷ others) (subst (λ l. AreLines (length bytes - length rest) rest (l ∷ others)) (sym seen) here))
 
-pub lines_end : (bytes rest : List ℕ) (so_far : List code.Line) → EndsSection rest →
-    ((others : List Line) → AreLines (length bytes - length rest) rest others → AreLines 0 bytes (lines_seen so_far ++ others)) → AreLines 0 bytes (lines_seen so_far)
+pub lines_end : (bytes rest : List ℕ) (so_far : List LineAt) → EndsSection rest →
+    ((others : List PhysicalLine) → AreLines (length bytes - length rest) rest others → AreLines 0 bytes (lines_seen so_far ++ others)) → AreLines 0 bytes (lines_seen so_far)
 lines_end bytes rest so_far ends read = subst (AreLines 0 bytes) (append-nil (lines_seen so_far)) (read [] (over ends))
 
 -- ---- no other lines
@@ -141,12 +141,12 @@ not_both first second text left same ends is =
     let none = section_len first ends in
     omega (arith, some, len, none, ap (prefix_len is_line_byte) same)
 
-cons_same : (at other : ℕ) (text another : List ℕ) (lines others : List Line) → at ≡ other → text ≡ another → lines ≡ others →
+cons_same : (at other : ℕ) (text another : List ℕ) (lines others : List PhysicalLine) → at ≡ other → text ≡ another → lines ≡ others →
     record { at = at; text = text } ∷ lines ≡ record { at = other; text = another } ∷ others
 cons_same at other text another lines others e f g =
     ap (λ n. record { at = n; text = text } ∷ lines) e ∙ ap (λ t. record { at = other; text = t } ∷ lines) f ∙ ap (λ l. record { at = other; text = another } ∷ l) g
 
-lines_same : {at other : ℕ} {bytes another : List ℕ} {lines others : List Line} → at ≡ other → bytes ≡ another → AreLines at bytes lines → AreLines other another others → lines ≡ others
+lines_same : {at other : ℕ} {bytes another : List ℕ} {lines others : List PhysicalLine} → at ≡ other → bytes ≡ another → AreLines at bytes lines → AreLines other another others → lines ≡ others
 lines_same e f (over ends) (over ends_too) = refl
 lines_same {bytes = bytes} {another = another} e f (over ends) (next {text = text} {left = left} is more) = absurd (not_both bytes another text left f ends is)
 lines_same {bytes = bytes} {another = another} e f (next {text = text} {left = left} is more) (over ends) = absurd (not_both another bytes text left (sym f) ends is)
@@ -160,5 +160,5 @@ lines_same {at = at} {other = other} {bytes = bytes} {another = another} e f (ne
     = omega (arith, e, ap length f, begins-len bytes text left is, begins-len another text_too left_too is_too, ap length same_left, ap length same_text) in
     cons_same at other text text_too lines others e same_text (lines_same place same_left more more_too)
 
-pub only_lines : (bytes : List ℕ) (lines others : List Line) → AreLines 0 bytes lines → AreLines 0 bytes others → lines ≡ others
+pub only_lines : (bytes : List ℕ) (lines others : List PhysicalLine) → AreLines 0 bytes lines → AreLines 0 bytes others → lines ≡ others
 only_lines bytes lines others first second = lines_same refl refl first second

@@ -13,7 +13,7 @@ use Rattle.std.proofs.lemmas.Map.Text.{is_eq-slice_cmp}
 use Rattle.std.specs.declared.alloc.Global.{Global}
 use Rattle.std.specs.declared.vec.Vec.{Vec}
 use Rattle.osgi_header.specs.declared.header.Header.{Header}
-use Rattle.osgi_header.specs.Headers.{counting, same_name}
+use Rattle.osgi_header.specs.Headers.{counting, have_one_name}
 
 -- a header taken from the end of those that are left
 pub record Taken (headers left fewer : List Header) (header : Header) : Type 0 where
@@ -30,16 +30,16 @@ taken headers left fewer header is prefix =
       prefix = sym (ap (take (length fewer)) split ∙ take-append_seam fewer (header ∷ remainder));
     }
 
-kept_by : (header : Header) (remainder kept next : List Header) (again : Bool) → list_any (same_name header) remainder ≡ again → reverse kept ≡ counting remainder →
+kept_by : (header : Header) (remainder kept next : List Header) (again : Bool) → list_any (have_one_name header) remainder ≡ again → reverse kept ≡ counting remainder →
     next ≡ cond (not again) (kept ++ header ∷ []) kept → reverse next ≡ counting (header ∷ remainder)
-kept_by header remainder kept next true e so_far is = ap reverse is ∙ so_far ∙ sym (cond-true (list_any (same_name header) remainder) _ _ e)
+kept_by header remainder kept next true e so_far is = ap reverse is ∙ so_far ∙ sym (cond-true (list_any (have_one_name header) remainder) _ _ e)
 kept_by header remainder kept next false e so_far is =
-    ap reverse is ∙ reverse-append kept (header ∷ []) ∙ ap (λ l. header ∷ l) so_far ∙ sym (cond-false (list_any (same_name header) remainder) _ _ e)
+    ap reverse is ∙ reverse-append kept (header ∷ []) ∙ ap (λ l. header ∷ l) so_far ∙ sym (cond-false (list_any (have_one_name header) remainder) _ _ e)
 
-pub kept_more : (header : Header) (remainder kept next : List Header) (counts : Bool) → counts ≡ not (list_any (same_name header) remainder) → reverse kept ≡ counting remainder →
+pub kept_more : (header : Header) (remainder kept next : List Header) (counts : Bool) → counts ≡ not (list_any (have_one_name header) remainder) → reverse kept ≡ counting remainder →
     next ≡ cond counts (kept ++ header ∷ []) kept → reverse next ≡ counting (header ∷ remainder)
 kept_more header remainder kept next counts e so_far is =
-    kept_by header remainder kept next (list_any (same_name header) remainder) refl so_far (is ∙ ap (λ t. cond t (kept ++ header ∷ []) kept) e)
+    kept_by header remainder kept next (list_any (have_one_name header) remainder) refl so_far (is ∙ ap (λ t. cond t (kept ++ header ∷ []) kept) e)
 
 -- ---- the names that were seen
 
@@ -73,6 +73,6 @@ names_more keys more key header remainder low are added = λ q.
 
 -- a name counts where no header after it has it
 pub counts_is : (keys : List Key) (key : Key) (header : Header) (remainder : List Header) (counts : Bool) → key.items ≡ str_to_ascii_lowercase header.name → AreNames keys remainder →
-    counts ≡ not (is_key keys key.items) → counts ≡ not (list_any (same_name header) remainder)
+    counts ≡ not (is_key keys key.items) → counts ≡ not (list_any (have_one_name header) remainder)
 counts_is keys key header remainder counts low are is =
     is ∙ ap not (are key) ∙ ap (λ l. not (is_named l remainder)) low

@@ -9,8 +9,8 @@ use Rattle.std.proofs.lemmas.Option.{cond_some}
 use Rattle.osgi_base.specs.laws.Scans.{other_byte}
 use Rattle.osgi_base.specs.laws.Quoting.{quoted_read, quoted_sound}
 use Rattle.osgi_header.proofs.Trimming.{trimmed-is, trims}
-use Rattle.osgi_header.specs.computed.ClauseReader.{begins_with_quote, name_if, name_of, path_if, path_of, trimmed, value_from, parameter_value}
-use Rattle.osgi_header.specs.Clauses.{bare, is_bare_byte, is_parameter_name_byte, is_path_byte, IsParameterName, IsPath, IsSpelled, IsValue, quoted}
+use Rattle.osgi_header.specs.computed.ClauseReader.{begins_with_quote, name_if, parameter_name, path_if, path_of, trimmed, value_from, parameter_value}
+use Rattle.osgi_header.specs.Clauses.{bare, is_unquoted_byte, is_parameter_name_byte, is_path_byte, IsParameterName, IsPath, IsSpelled, IsValue, quoted}
 use Rattle.osgi_header.specs.Spaces.{is_space_or_tab, IsTrimmed}
 
 -- what holds of blanks and of each byte of what they stand round
@@ -59,12 +59,12 @@ path_sound text path e =
 pub path_read : (text path : List ℕ) → IsPath text path → path_of text ≡ Some path
 path_read text path is = ap path_if (trimmed-is text path is.trimmed) ∙ some_read is_path_byte path is.some is.bytes
 
-pub name_sound : (text name : List ℕ) → name_of text ≡ Some name → IsParameterName text name
+pub name_sound : (text name : List ℕ) → parameter_name text ≡ Some name → IsParameterName text name
 name_sound text name e =
     let is = some_sound is_parameter_name_byte (trimmed text) name e in
     record { trimmed = rw (← is.is) (trims text); some = is.some; bytes = is.bytes }
 
-pub name_read : (text name : List ℕ) → IsParameterName text name → name_of text ≡ Some name
+pub name_read : (text name : List ℕ) → IsParameterName text name → parameter_name text ≡ Some name
 name_read text name is = ap name_if (trimmed-is text name is.trimmed) ∙ some_read is_parameter_name_byte name is.some is.bytes
 
 -- ---- values
@@ -72,18 +72,18 @@ name_read text name is = ap name_if (trimmed-is text name is.trimmed) ∙ some_r
 spelled_by : (spelled value : List ℕ) (test : Bool) → begins_with_quote spelled ≡ test → value_from spelled ≡ Some value → IsSpelled spelled value
 spelled_by spelled value true quote e = quoted (quoted_sound spelled value (sym (cond-true (begins_with_quote spelled) _ _ quote) ∙ e))
 spelled_by spelled value false other e =
-    let read = cond_some (list_all is_bare_byte spelled) spelled value (sym (cond-false (begins_with_quote spelled) _ _ other) ∙ e) in
-    rw (← read.1) (bare (AllPass-from_list_all is_bare_byte spelled read.0))
+    let read = cond_some (list_all is_unquoted_byte spelled) spelled value (sym (cond-false (begins_with_quote spelled) _ _ other) ∙ e) in
+    rw (← read.1) (bare (AllPass-from_list_all is_unquoted_byte spelled read.0))
 
-no_quote : (text : List ℕ) → AllPass is_bare_byte text → begins_with_quote text ≡ false
+no_quote : (text : List ℕ) → AllPass is_unquoted_byte text → begins_with_quote text ≡ false
 no_quote [] all = refl
-no_quote (b ∷ rest) all = other_byte is_bare_byte 34 b refl (All-head (λ x. is_bare_byte x ≡ true) b rest all)
+no_quote (b ∷ rest) all = other_byte is_unquoted_byte 34 b refl (All-head (λ x. is_unquoted_byte x ≡ true) b rest all)
 
 spelled_read : (spelled value : List ℕ) → IsSpelled spelled value → value_from spelled ≡ Some value
 spelled_read spelled value (quoted is) =
     cond-true (begins_with_quote spelled) _ _ (ap begins_with_quote is.is) ∙ quoted_read spelled value is
 spelled_read spelled value (bare all) =
-    cond-false (begins_with_quote value) _ _ (no_quote value all) ∙ cond-true (list_all is_bare_byte value) _ _ (list_all-from_AllPass is_bare_byte value all)
+    cond-false (begins_with_quote value) _ _ (no_quote value all) ∙ cond-true (list_all is_unquoted_byte value) _ _ (list_all-from_AllPass is_unquoted_byte value all)
 
 pub value_sound : (text value : List ℕ) → parameter_value text ≡ Some value → IsValue text value
 value_sound text value e = record {

@@ -42,6 +42,7 @@ pub data IsFaulty : List ℕ → List ℕ → HeaderKind → Type 0 where
   unended : {text : List ℕ} → IsOpen text → IsFaulty text [] OpenQuote
   bad : {text rest : List ℕ} → IsClosed text → FollowsText rest → ((clause : Clause) → ¬ IsClause text clause) → IsFaulty text rest BadClause
 
+-- with a `,` (44) after it
 abbrev pub with_comma : List ℕ → List ℕ
 with_comma text = text ++ 44 ∷ []
 

@@ -32,13 +32,13 @@ pub record IsParameterName (text name : List ℕ) : Type 0 where
   pub bytes : AllPass is_parameter_name_byte name
 
 -- any byte other than `,`, `;` and `"`
-abbrev pub is_bare_byte : ℕ → Bool
-is_bare_byte b = not ((b == 44) || (b == 59) || (b == 34))
+abbrev pub is_unquoted_byte : ℕ → Bool
+is_unquoted_byte b = not ((b == 44) || (b == 59) || (b == 34))
 
 -- what stands for a value, and the value: a quoted text, or any number of such bytes as they stand
 pub data IsSpelled : List ℕ → List ℕ → Type 0 where
   quoted : {spelled value : List ℕ} → IsQuoted spelled value → IsSpelled spelled value
-  bare : {value : List ℕ} → AllPass is_bare_byte value → IsSpelled value value
+  bare : {value : List ℕ} → AllPass is_unquoted_byte value → IsSpelled value value
 
 pub record IsValue (text value : List ℕ) : Type 0 where
   pub spelled : List ℕ

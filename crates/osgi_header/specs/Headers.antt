@@ -5,7 +5,8 @@ use Rattle.std.specs.Str.{str_eq_ignore_ascii_case}
 use Rattle.osgi_header.specs.declared.fault.HeaderFault.{HeaderFault}
 use Rattle.osgi_header.specs.declared.fault.HeaderKind.TheVariants.{BadName, BadUtf8, LongLine, NoColon}
 use Rattle.osgi_header.specs.declared.header.Header.{Header}
-use Rattle.osgi_header.specs.Lines.{AreGrouped, AreLines, Group, joined, Line}
+use Rattle.osgi_header.specs.declared.unfolding.TheConstants.{MAX_LINE_LEN}
+use Rattle.osgi_header.specs.Lines.{AreGrouped, AreLines, Group, joined, PhysicalLine}
 
 -- a letter, a digit, `-` or `_`
 abbrev pub is_header_name_byte : ℕ → Bool
@@ -26,18 +27,18 @@ pub data IsHeaderValue : List ℕ → List ℕ → Type 0 where
   bare : {value : List ℕ} → ((rest : List ℕ) → value ≢ 32 ∷ rest) → IsHeaderValue value value
 
 -- the text is a name, a colon and something after it. No name has a colon, so it is the first one
-pub record IsNamed (text name remainder : List ℕ) : Type 0 where
+pub record HasHeaderName (text name remainder : List ℕ) : Type 0 where
   pub is : text ≡ name ++ 58 ∷ remainder
   pub named : IsHeaderName name
 
--- at most 65,536 bytes
-abbrev pub IsShort : Line → Type 0
-IsShort line = length line.text ≤ 65536
+-- no more bytes than a line may have
+abbrev pub IsShort : PhysicalLine → Type 0
+IsShort line = length line.text ≤ MAX_LINE_LEN
 
 -- the header that a group of lines is
 pub record IsHeader (lines : Group) (header : Header) : Type 0 where
   pub remainder : List ℕ
-  pub named : IsNamed (joined lines) header.name remainder
+  pub named : HasHeaderName (joined lines) header.name remainder
   pub value : IsHeaderValue remainder header.value
   pub utf8 : IsUtf8 (joined lines)
   pub short : IsShort lines.first
@@ -46,14 +47,14 @@ pub record IsHeader (lines : Group) (header : Header) : Type 0 where
 -- what is wrong with a group of lines that is no header. A line that is too long is at fault where it stands, and all else
 -- where the first line does; the first place counts, and there the first of these kinds
 pub data IsGroupFault : Group → HeaderFault → Type 0 where
-  first_long : {lines : Group} → 65536 < length lines.first.text → IsGroupFault lines (record { kind = LongLine; at = lines.first.at })
+  first_long : {lines : Group} → MAX_LINE_LEN < length lines.first.text → IsGroupFault lines (record { kind = LongLine; at = lines.first.at })
   no_colon : {lines : Group} → IsShort lines.first → All (λ b. b ≢ 58) (joined lines) → IsGroupFault lines (record { kind = NoColon; at = lines.first.at })
   bad_name : {lines : Group} (name remainder : List ℕ) → IsShort lines.first → joined lines ≡ name ++ 58 ∷ remainder → All (λ b. b ≢ 58) name → ¬ IsHeaderName name →
       IsGroupFault lines (record { kind = BadName; at = lines.first.at })
-  bad_utf8 : {lines : Group} (name remainder : List ℕ) → IsShort lines.first → IsNamed (joined lines) name remainder → ¬ IsUtf8 (joined lines) →
+  bad_utf8 : {lines : Group} (name remainder : List ℕ) → IsShort lines.first → HasHeaderName (joined lines) name remainder → ¬ IsUtf8 (joined lines) →
       IsGroupFault lines (record { kind = BadUtf8; at = lines.first.at })
-  more_long : {lines : Group} (name remainder : List ℕ) (before : List Line) (long : Line) (rest : List Line) → IsShort lines.first → IsNamed (joined lines) name remainder →
-      IsUtf8 (joined lines) → lines.more ≡ before ++ long ∷ rest → All IsShort before → 65536 < length long.text →
+  more_long : {lines : Group} (name remainder : List ℕ) (before : List PhysicalLine) (long : PhysicalLine) (rest : List PhysicalLine) → IsShort lines.first → HasHeaderName (joined lines) name remainder →
+      IsUtf8 (joined lines) → lines.more ≡ before ++ long ∷ rest → All IsShort before → MAX_LINE_LEN < length long.text →
       IsGroupFault lines (record { kind = LongLine; at = long.at })
 
 -- each group is one of the headers, in order
@@ -63,17 +64,17 @@ AreHeaders (group ∷ groups) (header ∷ headers) = IsHeader group header × Ar
 AreHeaders _ _ = ⊥
 
 -- names are compared without ASCII case
-abbrev pub same_name : Header → Header → Bool
-same_name header other = str_eq_ignore_ascii_case header.name other.name
+abbrev pub have_one_name : Header → Header → Bool
+have_one_name header other = str_eq_ignore_ascii_case header.name other.name
 
 -- the headers that count: of those with one name the last, where it stands
 abbrev pub counting : List Header → List Header
 counting [] = []
-counting (header ∷ headers) = if list_any (same_name header) headers then counting headers else header ∷ counting headers
+counting (header ∷ headers) = if list_any (have_one_name header) headers then counting headers else header ∷ counting headers
 
 -- the headers of a manifest's main section
 pub record AreHeadersOf (bytes : List ℕ) (headers : List Header) : Type 0 where
-  pub lines : List Line
+  pub lines : List PhysicalLine
   pub groups : List Group
   pub all : List Header
   pub are_lines : AreLines 0 bytes lines
@@ -83,7 +84,7 @@ pub record AreHeadersOf (bytes : List ℕ) (headers : List Header) : Type 0 wher
 
 -- the fault of the first group of lines that is no header
 pub record IsHeaderFault (bytes : List ℕ) (fault : HeaderFault) : Type 0 where
-  pub lines : List Line
+  pub lines : List PhysicalLine
   pub before : List Group
   pub faulty : Group
   pub rest : List Group

@@ -3,7 +3,7 @@ use Rattle.std.specs.Prelude.{ℕ, ◌≡◌, ◌≢◌, ◌+◌, ◌<◌, ◌==
 use Rattle.std.specs.List.{AllPass, concat}
 
 -- a line: the place of its first byte, and its bytes without its end
-pub record Line : Type 0 where
+pub record PhysicalLine : Type 0 where
   pub at : ℕ
   pub text : List ℕ
 
@@ -33,9 +33,9 @@ pub data EndsSection : List ℕ → Type 0 where
   empty_line : {b : ℕ} {rest : List ℕ} → is_line_byte b ≡ false → EndsSection (b ∷ rest)
 
 -- the lines of the main section of these bytes, the first of which stands at this place
-pub data AreLines : ℕ → List ℕ → List Line → Type 0 where
+pub data AreLines : ℕ → List ℕ → List PhysicalLine → Type 0 where
   over : {at : ℕ} {bytes : List ℕ} → EndsSection bytes → AreLines at bytes []
-  next : {at : ℕ} {bytes text left : List ℕ} {lines : List Line} (begins : BeginsWithLine bytes text left) →
+  next : {at : ℕ} {bytes text left : List ℕ} {lines : List PhysicalLine} (begins : BeginsWithLine bytes text left) →
       AreLines (at + (length text + length begins.end)) left lines → AreLines at bytes (record { at = at; text = text } ∷ lines)
 
 -- a line that begins with a space continues the line before it, also where nothing follows the space: such a line is
@@ -44,23 +44,23 @@ abbrev pub begins_with_space : List ℕ → Bool
 begins_with_space [] = false
 begins_with_space (b ∷ rest) = b == 32
 
-abbrev pub continues : Line → Bool
+abbrev pub continues : PhysicalLine → Bool
 continues line = begins_with_space line.text
 
 -- the lines of one header: the first, and those that continue it
 pub record Group : Type 0 where
-  pub first : Line
-  pub more : List Line
+  pub first : PhysicalLine
+  pub more : List PhysicalLine
 
 -- what follows a header's lines: nothing, or a line that continues none
-pub data StopsGroup : List Line → Type 0 where
+pub data StopsGroup : List PhysicalLine → Type 0 where
   at_end : StopsGroup []
-  another : {line : Line} {rest : List Line} → continues line ≡ false → StopsGroup (line ∷ rest)
+  another : {line : PhysicalLine} {rest : List PhysicalLine} → continues line ≡ false → StopsGroup (line ∷ rest)
 
 -- the lines, header by header. The first line of all begins a header whatever it begins with
-pub data AreGrouped : List Line → List Group → Type 0 where
+pub data AreGrouped : List PhysicalLine → List Group → Type 0 where
   none : AreGrouped [] []
-  header : {rest : List Line} {groups : List Group} (first : Line) (more : List Line) → AllPass continues more → StopsGroup rest → AreGrouped rest groups →
+  header : {rest : List PhysicalLine} {groups : List Group} (first : PhysicalLine) (more : List PhysicalLine) → AllPass continues more → StopsGroup rest → AreGrouped rest groups →
       AreGrouped (first ∷ more ++ rest) (record { first = first; more = more } ∷ groups)
 
 -- a header's lines in one: those that continue the first go without the space at their start

@@ -9,7 +9,7 @@ ghost use Rattle.osgi_header.specs.computed.ClauseReader.{all_or_fault, clause_o
 use crate::blanks::is_blank;
 use crate::clause::{Clause, ClauseAt, ReadClauses};
 use crate::fault::{HeaderFault, HeaderKind};
-use crate::parameters::{Part, read_part};
+use crate::parameters::{ClausePart, read_part};
 use crate::parts::{is_open, split_part};
 use osgi_base::List;
 use std::alloc::{AllocError, Global};
@@ -25,25 +25,25 @@ fn empty(alloc: Global) -> Result<Clause, AllocError>
 }
 
 /// Whether the part may follow the clause so far: a path before all parameters, a parameter after a path.
-fn may_take(clause: &Clause, part: &Part) -> bool
+fn may_take(clause: &Clause, part: &ClausePart) -> bool
     ensures may { result ≡ may_take clause.now part.now }
 {
     match part {
-        Part::Path(_) => {
+        ClausePart::Path(_) => {
             clause.directives.items().is_empty() && clause.attributes.items().is_empty()
         }
-        Part::Directive(_) | Part::Attribute(_) => !clause.paths.items().is_empty(),
+        ClausePart::Directive(_) | ClausePart::Attribute(_) => !clause.paths.items().is_empty(),
     }
 }
 
 /// The clause with a part more.
-fn with_part(mut clause: Clause, part: Part) -> Result<Clause, AllocError>
+fn with_part(mut clause: Clause, part: ClausePart) -> Result<Clause, AllocError>
     ensures longer { IfOk result (λ longer. longer ≡ with_part clause part) }
 {
     match part {
-        Part::Path(path) => clause.paths.push(path)?,
-        Part::Directive(directive) => clause.directives.push(directive)?,
-        Part::Attribute(attribute) => clause.attributes.push(attribute)?,
+        ClausePart::Path(path) => clause.paths.push(path)?,
+        ClausePart::Directive(directive) => clause.directives.push(directive)?,
+        ClausePart::Attribute(attribute) => clause.attributes.push(attribute)?,
     }
     Ok(clause)
 }

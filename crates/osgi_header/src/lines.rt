@@ -9,7 +9,7 @@ use std::alloc::{AllocError, Global};
 
 /// A line: the place where it begins, and its bytes without its end.
 #[derive(Clone, Copy)]
-pub struct Line<'a> {
+pub struct LineAt<'a> {
     pub at: u64,
     pub text: &'a [u8],
 }
@@ -58,14 +58,14 @@ fn split_line(bytes: &[u8]) -> Option<(&[u8], &[u8])>
 }
 
 /// All lines of the main section, in order.
-pub fn read_lines<'a>(alloc: Global, bytes: &'a [u8]) -> Result<Vec<Line<'a>>, AllocError>
+pub fn read_lines<'a>(alloc: Global, bytes: &'a [u8]) -> Result<Vec<LineAt<'a>>, AllocError>
     ensures lines { IfOk result (λ lines. AreLines 0 bytes.now (lines_seen lines.items)) }
 {
     let mut lines = Vec::new(alloc);
     let mut rest = bytes;
     while let Some((text, left)) = split_line(rest) {
         let at = (bytes.len() - rest.len()) as u64;
-        lines.push(Line { at, text })?;
+        lines.push(LineAt { at, text })?;
         rest = left;
     }
     Ok(lines)

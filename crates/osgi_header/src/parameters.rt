@@ -2,8 +2,8 @@
 
 ghost use Rattle.std.specs.Prelude.{◌≡◌, IfOk};
 ghost use Rattle.std.specs.List.{list_all, position};
-ghost use Rattle.osgi_header.specs.Clauses.{is_bare_byte, is_parameter_name_byte, is_path_byte};
-ghost use Rattle.osgi_header.specs.computed.ClauseReader.{attribute_of, directive_of, ends_kind, ends_name, name_of, parameter_of, part_of, path_of, typed_of, parameter_value};
+ghost use Rattle.osgi_header.specs.Clauses.{is_unquoted_byte, is_parameter_name_byte, is_path_byte};
+ghost use Rattle.osgi_header.specs.computed.ClauseReader.{attribute_of, directive_of, ends_kind, ends_name, parameter_name, parameter_of, part_of, path_of, typed_of, parameter_value};
 
 use crate::blanks::trim;
 use crate::clause::{Pair, Typed};
@@ -13,7 +13,7 @@ use std::alloc::{AllocError, Global};
 
 /// A part of a clause.
 #[derive(Drop)]
-pub enum Part {
+pub enum ClausePart {
     Path(Text),
     Directive(Pair),
     Attribute(Typed),
@@ -33,7 +33,7 @@ fn has_name_bytes(text: &[u8]) -> bool
 }
 
 fn has_bare_bytes(text: &[u8]) -> bool
-    ensures all { result ≡ list_all is_bare_byte text.now }
+    ensures all { result ≡ list_all is_unquoted_byte text.now }
 {
     text.iter().all(|b| !matches!(*b, b',' | b';' | b'"'))
 }
@@ -51,7 +51,7 @@ fn path(alloc: Global, text: &[u8]) -> Result<Option<Text>, AllocError>
 
 /// The name of a parameter; none where the text is none.
 fn name(alloc: Global, text: &[u8]) -> Result<Option<Text>, AllocError>
-    ensures name { IfOk result (λ name. name ≡ name_of text.now) }
+    ensures name { IfOk result (λ name. name ≡ parameter_name text.now) }
 {
     let name = trim(text);
     if name.is_empty() || !has_name_bytes(name) {
@@ -74,11 +74,11 @@ fn value(alloc: Global, text: &[u8]) -> Result<Option<Text>, AllocError>
     Ok(Some(Text::of(alloc, value)?))
 }
 
-fn directive(alloc: Global, name: Text, spelled: &[u8]) -> Result<Option<Part>, AllocError>
+fn directive(alloc: Global, name: Text, spelled: &[u8]) -> Result<Option<ClausePart>, AllocError>
     ensures directive { IfOk result (λ part. part ≡ directive_of name spelled.now) }
 {
     match value(alloc, spelled)? {
-        Some(value) => Ok(Some(Part::Directive(Pair { name, value }))),
+        Some(value) => Ok(Some(ClausePart::Directive(Pair { name, value }))),
         None => Ok(None),
     }
 }
@@ -88,11 +88,11 @@ fn attribute(
     name: Text,
     kind: Text,
     spelled: &[u8],
-) -> Result<Option<Part>, AllocError>
+) -> Result<Option<ClausePart>, AllocError>
     ensures attribute { IfOk result (λ part. part ≡ attribute_of name kind spelled.now) }
 {
     match value(alloc, spelled)? {
-        Some(value) => Ok(Some(Part::Attribute(Typed { name, kind, value }))),
+        Some(value) => Ok(Some(ClausePart::Attribute(Typed { name, kind, value }))),
         None => Ok(None),
     }
 }
@@ -104,7 +104,7 @@ fn kind_end(text: &[u8]) -> Option<usize>
 }
 
 /// An attribute with a type, from what follows the `:` between name and type.
-fn typed_attribute(alloc: Global, name: Text, rest: &[u8]) -> Result<Option<Part>, AllocError>
+fn typed_attribute(alloc: Global, name: Text, rest: &[u8]) -> Result<Option<ClausePart>, AllocError>
     ensures attribute { IfOk result (λ part. part ≡ typed_of name rest.now) }
 {
     let Some(end) = kind_end(rest) else {
@@ -119,7 +119,7 @@ fn typed_attribute(alloc: Global, name: Text, rest: &[u8]) -> Result<Option<Part
 }
 
 /// A parameter by its name and what follows that.
-fn parameter(alloc: Global, name: Text, rest: &[u8]) -> Result<Option<Part>, AllocError>
+fn parameter(alloc: Global, name: Text, rest: &[u8]) -> Result<Option<ClausePart>, AllocError>
     ensures part { IfOk result (λ part. part ≡ parameter_of name rest.now) }
 {
     match rest {
@@ -137,11 +137,11 @@ fn name_end(text: &[u8]) -> Option<usize>
 }
 
 /// A part of a clause: a path, or a parameter, which has a `:` or `=` after its name. None where the text is none.
-pub fn read_part(alloc: Global, text: &[u8]) -> Result<Option<Part>, AllocError>
+pub fn read_part(alloc: Global, text: &[u8]) -> Result<Option<ClausePart>, AllocError>
     ensures part { IfOk result (λ part. part ≡ part_of text.now) }
 {
     let Some(end) = name_end(text) else {
-        return Ok(path(alloc, text)?.map(Part::Path));
+        return Ok(path(alloc, text)?.map(ClausePart::Path));
     };
     let (prefix, rest) = text.split_at(end);
     match name(alloc, prefix)? {

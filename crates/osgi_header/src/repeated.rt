@@ -28,7 +28,7 @@ fn push_if(kept: &mut Vec<Header>, header: Header, counts: bool) -> Result<(), A
 
 /// The headers that count: those whose name does not come again after them, in whatever case.
 pub fn keep_last(alloc: Global, headers: Vec<Header>) -> Result<Vec<Header>, AllocError>
-    ensures kept { IfOk result (λ kept. kept.items ≡ counting headers.items) }
+    ensures counting { IfOk result (λ kept. kept.items ≡ counting headers.items) }
 {
     let mut left = headers;
     let mut seen = BTreeSet::new(alloc);

@@ -9,7 +9,7 @@ ghost use Rattle.osgi_header.specs.computed.HeaderReader.{counted, first_long, g
 
 use crate::fault::{HeaderFault, HeaderKind};
 use crate::header::Header;
-use crate::lines::{Line, read_lines};
+use crate::lines::{LineAt, read_lines};
 use crate::repeated::keep_last;
 use osgi_base::{List, Text};
 use std::alloc::{AllocError, Global};
@@ -18,21 +18,21 @@ use std::str;
 /// The most bytes of a line, without its end.
 const MAX_LINE_LEN: usize = 65_536;
 
-fn is_long(line: &Line) -> bool
+fn is_long(line: &LineAt) -> bool
     ensures long { result ≡ is_long (line_seen line.now) }
 {
     line.text.len() > MAX_LINE_LEN
 }
 
 /// Whether a line goes on with the line before it.
-fn continues(line: &Line) -> bool
+fn continues(line: &LineAt) -> bool
     ensures continues { result ≡ continues (line_seen line.now) }
 {
     matches!(line.text, [b' ', ..])
 }
 
 /// How many lines at the start go on with the line before them.
-fn continued(lines: &[Line]) -> usize
+fn continued(lines: &[LineAt]) -> usize
     ensures count { result ≡ prefix_len continues (lines_seen lines.now) }
 {
     for (count, line) in lines.iter().enumerate() {
@@ -44,7 +44,7 @@ fn continued(lines: &[Line]) -> usize
 }
 
 /// The place of the first line that is too long.
-fn first_long(lines: &[Line]) -> Option<u64>
+fn first_long(lines: &[LineAt]) -> Option<u64>
     ensures place { result ≡ first_long (lines_seen lines.now) }
 {
     for line in lines {
@@ -56,7 +56,7 @@ fn first_long(lines: &[Line]) -> Option<u64>
 }
 
 /// A header's lines in one: the first, and those that go on with it, each without the space at its start.
-fn join(alloc: Global, first: &Line, more: &[Line]) -> Result<Vec<u8>, AllocError>
+fn join(alloc: Global, first: &LineAt, more: &[LineAt]) -> Result<Vec<u8>, AllocError>
     ensures joined { IfOk result (λ text. text.items ≡ joined (group (line_seen first.now) (lines_seen more.now))) }
 {
     let mut text = first.text.to_vec(alloc)?;
@@ -130,8 +130,8 @@ fn parse_header(alloc: Global, text: &[u8]) -> Result<Result<Header, HeaderKind>
 /// Reads the header of a first line and those that go on with it; where they are none, their first fault.
 fn read_header(
     alloc: Global,
-    first: &Line,
-    more: &[Line],
+    first: &LineAt,
+    more: &[LineAt],
 ) -> Result<Result<Header, HeaderFault>, AllocError>
     ensures header { IfOk result (λ header. header ≡ header_of (group (line_seen first.now) (lines_seen more.now))) }
 {
@@ -156,9 +156,9 @@ fn read_header(
 
 /// The lines of the header that begins at an index: the first, and those that go on with it. None where no line is left.
 fn header_lines<'s, 'a>(
-    lines: &'s [Line<'a>],
+    lines: &'s [LineAt<'a>],
     start: usize,
-) -> Option<(&'s Line<'a>, &'s [Line<'a>])>
+) -> Option<(&'s LineAt<'a>, &'s [LineAt<'a>])>
     requires within { start ≤ length lines.now }
     ensures header { MatchOption result (drop start lines.now ≡ []) (λ s. BeginsWithGroup lines.now start (line_seen s.0.now) s.1.now) }
 {
@@ -173,7 +173,7 @@ fn header_lines<'s, 'a>(
 /// Reads the headers of the lines, in order, the repeated ones too.
 fn read_headers(
     alloc: Global,
-    lines: &[Line],
+    lines: &[LineAt],
 ) -> Result<Result<Vec<Header>, HeaderFault>, AllocError>
     ensures headers { IfOk result (λ all. items_read all ≡ headers_from (groups_of (lines_seen lines.now))) }
 {
@@ -192,7 +192,7 @@ fn read_headers(
 /// Reads the headers of the lines, of repeated ones the last.
 fn read_counting(
     alloc: Global,
-    lines: &[Line],
+    lines: &[LineAt],
 ) -> Result<Result<List<Header>, HeaderFault>, AllocError>
     ensures headers { IfOk result (λ all. all ≡ counted (headers_from (groups_of (lines_seen lines.now)))) }
 {

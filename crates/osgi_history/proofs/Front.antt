@@ -8,7 +8,7 @@ use Rattle.std.proofs.lemmas.List.Elements.{filter-append}
 use Rattle.osgi_base.specs.declared.ids.BundleId.{BundleId}
 use Rattle.osgi_base.specs.declared.ids.ServiceId.{ServiceId}
 use Rattle.osgi_ops.specs.Replies.{is_accepted}
-use Rattle.osgi_ops.specs.Services.{is_live, is_service, Registered, registered_after, registered_by, uses_of}
+use Rattle.osgi_ops.specs.Services.{is_live, is_service, Registered, registered_after, registered_by, uses_held}
 use Rattle.osgi_ops.specs.declared.op.Op.{Op}
 use Rattle.osgi_ops.specs.declared.op.Op.TheVariants.{Register}
 use Rattle.osgi_ops.specs.declared.reply.Reply.{Reply}
@@ -34,7 +34,7 @@ length_if true r = refl
 length_if false r = refl
 
 count_by_one : (earlier : ℕ) (op : Op) (reply : Reply) (since : List Entry) → length (registered_by earlier op reply since) ≡ one_if (is_registration op reply)
-count_by_one earlier (Register owner classes object properties) reply since = length_if (is_accepted reply) _
+count_by_one earlier (Register owner classes object scope properties) reply since = length_if (is_accepted reply) _
 count_by_one earlier op reply since = refl
 
 pub live-cons : (earlier : ℕ) (e : Entry) (since : List Entry) → live_after earlier (e ∷ since) ≡ newly earlier e since ++ live_after (earlier + one_if (is_registration e.op e.reply)) since
@@ -62,19 +62,19 @@ is_that new service = option_eq (λ a b. nat_eq a.0 b.0) new (Some service)
 
 -- how often the user holds the first of the services that has the id
 abbrev pub uses_in : BundleId → ServiceId → List Registered → ℕ
-uses_in user service list = option_map_or (uses_of user) (find (is_service service) list) 0
+uses_in user service list = option_map_or (uses_held user) (find (is_service service) list) 0
 
-held_of : (user : BundleId) (service : ServiceId) (r : Registered) → r.service.0 ≡ service.0 → uses_of user r ≡ held user service r.since
+held_of : (user : BundleId) (service : ServiceId) (r : Registered) → r.service.0 ≡ service.0 → uses_held user r ≡ held user service r.since
 held_of user service r same = let of : ℕ → ℕ = λ n. held user (record { 0 = n }) r.since in ap of same
 
 first_uses : (user : BundleId) (service : ServiceId) (r : Registered) (rest : List Registered) (same : Bool) → nat_eq r.service.0 service.0 ≡ same →
     uses_in user service (r ∷ rest) ≡ cond same (held user service r.since) (uses_in user service rest)
 first_uses user service r rest true is =
     let e : r.service.0 ≡ service.0 = eqb-true r.service.0 service.0 is in
-    ap (λ o. option_map_or (uses_of user) o 0) (cond-true (nat_eq service.0 r.service.0) (Some r) (find (is_service service) rest) (eq-eqb service.0 r.service.0 (sym e)))
+    ap (λ o. option_map_or (uses_held user) o 0) (cond-true (nat_eq service.0 r.service.0) (Some r) (find (is_service service) rest) (eq-eqb service.0 r.service.0 (sym e)))
     ∙ held_of user service r e
 first_uses user service r rest false is =
-    ap (λ o. option_map_or (uses_of user) o 0) (cond-false (nat_eq service.0 r.service.0) (Some r) (find (is_service service) rest) (ne_eqb service.0 r.service.0 (λ e. eqb-false r.service.0 service.0 is (sym e))))
+    ap (λ o. option_map_or (uses_held user) o 0) (cond-false (nat_eq service.0 r.service.0) (Some r) (find (is_service service) rest) (ne_eqb service.0 r.service.0 (λ e. eqb-false r.service.0 service.0 is (sym e))))
 
 one_uses : (user : BundleId) (service : ServiceId) (r : Registered) (rest : List Registered) (live : Bool) (new : Option ServiceId) (same : Bool) →
     option_to_list new ≡ ids_of (cond live (r ∷ []) []) → is_that new service ≡ same →
@@ -96,8 +96,8 @@ uses_with user service r rest false (Some new) same ids is = absurd (cc)
 uses_by : (user : BundleId) (service : ServiceId) (earlier : ℕ) (op : Op) (reply : Reply) (since : List Entry) (rest : List Registered) (new : Option ServiceId) (same : Bool) →
     option_to_list new ≡ ids_of (filter is_live (registered_by earlier op reply since)) → is_that new service ≡ same →
     uses_in user service (filter is_live (registered_by earlier op reply since) ++ rest) ≡ cond same (held user service since) (uses_in user service rest)
-uses_by user service earlier (Register owner classes object properties) reply since rest new same ids is =
-    uses_with user service (record { service = record { 0 = earlier + 1 }; owner = owner; classes = classes; object = object; given = properties; since = since }) rest (is_accepted reply) new same ids is
+uses_by user service earlier (Register owner classes object scope properties) reply since rest new same ids is =
+    uses_with user service (record { service = record { 0 = earlier + 1 }; owner = owner; classes = classes; object = object; scope = scope; given = properties; since = since }) rest (is_accepted reply) new same ids is
 uses_by user service earlier op reply since rest None same ids is = ap (λ b. cond b (held user service since) (uses_in user service rest)) is
 uses_by user service earlier op reply since rest (Some new) same ids is = absurd (cc)
 

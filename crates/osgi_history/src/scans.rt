@@ -39,7 +39,7 @@ fn is_registration(entry: &Entry) -> bool
 
 /// The service that the entry registered after so many earlier ones, where the entries since leave it live.
 fn registered(earlier: u64, entry: &Entry, since: &[Entry]) -> Option<ServiceId>
-    requires countable { earlier < 18446744073709551615 }
+    requires countable { earlier < u64.MAX }
     ensures registered { option_to_list result ≡ map (λ r. r.service) (filter is_live (registered_by earlier entry.now.op entry.now.reply since.now)) }
 {
     if !is_registration(entry) {

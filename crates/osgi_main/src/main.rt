@@ -3,7 +3,7 @@
 
 use osgi_base::Text;
 use osgi_outside::{DirShelf, OpenGate, StdSink, StdSource};
-use osgi_program::framework_main;
+use osgi_program::{FAULTY_WORDS, NO_MEMORY, framework_main};
 use std::io::{ErrorKind, writer};
 use std::process::ExitCode;
 use std::rt::Env;
@@ -24,7 +24,7 @@ fn words(rt: &(impl Env + AllocGlobal)) -> io::Result<Vec<Text>> {
 fn main(rt: HostRuntime) -> ExitCode {
     let words = match words(&rt) {
         Ok(words) => words,
-        Err(error) if error.kind() == ErrorKind::OutOfMemory => return ExitCode::from(5),
+        Err(error) if error.kind() == ErrorKind::OutOfMemory => return ExitCode::from(NO_MEMORY),
         // A word that is no text is a faulty command line, as no word at all is.
         Err(_) => Vec::new(rt.alloc()),
     };
@@ -40,7 +40,7 @@ fn main(rt: HostRuntime) -> ExitCode {
         &mut shelf,
         &OpenGate,
     );
-    if finished.status == 2 {
+    if finished.status == FAULTY_WORDS {
         // Where standard error takes nothing, the status alone has to say it.
         let _ = eprintln!(rt; "{USAGE}");
     }

@@ -11,8 +11,8 @@ use Rattle.osgi_header.specs.Headers.{AreHeadersOf, IsHeaderFault}
 use Rattle.osgi_package.specs.Only.{IsOnly}
 use Rattle.osgi_manifest.specs.computed.Answers.{Stops, in_header}
 use Rattle.osgi_manifest.specs.computed.Readings.{AnswersOnly, IsStopAt, SaysText, line, said}
-use Rattle.osgi_manifest.specs.declared.stop.Stop.{Stop}
-use Rattle.osgi_manifest.specs.declared.stop.Stop.TheVariants.{Fault, Memory}
+use Rattle.osgi_base.specs.declared.stop.Stop.{Stop}
+use Rattle.osgi_base.specs.declared.stop.Stop.TheVariants.{Fault, Memory}
 use Rattle.osgi_manifest.specs.Manifests.{IsRevisionOf, SaysManifest, file_at, headers, lines, manifest_faults, manifest_path, missing}
 use Rattle.osgi_manifest.proofs.Stages.{refuses_only}
 use Rattle.osgi_world.specs.declared.manifest_fault.ManifestFault.{ManifestFault}
@@ -21,7 +21,7 @@ use Rattle.osgi_world.specs.declared.manifest_fault.ManifestKind.TheVariants as 
 use Rattle.osgi_world.specs.declared.revision.Revision.{Revision}
 
 -- a stop at a fault that is the only one
-pub stops : (Says : Verdict ManifestFault Revision → Type 0) (kind : ManifestKind) (at : ℕ) (stop : Stop) → IsStopAt kind at stop → IsOnly Says (refuses (in_header [] kind at)) →
+pub stops : (Says : Verdict ManifestFault Revision → Type 0) (kind : ManifestKind) (at : ℕ) (stop : Stop ManifestFault) → IsStopAt kind at stop → IsOnly Says (refuses (in_header [] kind at)) →
     AnswersOnly Says (Err stop)
 stops Says kind at (Fault found) is only = subst (λ f. IsOnly Says (refuses f)) (sym is) only
 stops Says kind at Memory is only = tt
@@ -101,14 +101,14 @@ text_decides folder file there v is = record { holds = by v is.holds; only = onl
         is.only w (said (subst (λ (f : File). AreHeadersOf f.bytes hs) (same_file other file (sym at ∙ there)) are) given)
 
 -- an answer of the one is an answer of the other
-pub text_answers : (folder : Folder) (file : File) → file_at manifest_path folder ≡ Some file → (r : Result Revision Stop) → AnswersOnly (SaysText folder file.bytes) r →
+pub text_answers : (folder : Folder) (file : File) → file_at manifest_path folder ≡ Some file → (r : Result Revision (Stop ManifestFault)) → AnswersOnly (SaysText folder file.bytes) r →
     AnswersOnly (SaysManifest folder) r
 text_answers folder file there (Ok revision) is = text_decides folder file there (answers revision) is
 text_answers folder file there (Err (Fault found)) is = text_decides folder file there (refuses found) is
 text_answers folder file there (Err Memory) is = tt
 
 pub said_answers : (folder : Folder) (text : List ℕ) (hs : List Header) → AreHeadersOf text hs → ((others : List Header) → AreHeadersOf text others → others ≡ hs) →
-    ((f : HeaderFault) → ¬ IsHeaderFault text f) → (r : Result Revision Stop) → AnswersOnly (Gives (manifest_faults folder hs) (IsRevisionOf folder hs)) r →
+    ((f : HeaderFault) → ¬ IsHeaderFault text f) → (r : Result Revision (Stop ManifestFault)) → AnswersOnly (Gives (manifest_faults folder hs) (IsRevisionOf folder hs)) r →
     AnswersOnly (SaysText folder text) r
 said_answers folder text hs are one none (Ok revision) is = said_only folder text hs are one none (answers revision) is
 said_answers folder text hs are one none (Err (Fault found)) is = said_only folder text hs are one none (refuses found) is
@@ -117,12 +117,12 @@ said_answers folder text hs are one none (Err Memory) is = tt
 -- ---- the headers
 
 -- where a step stopped, no revision was made
-pub stop_answers : (folder : Folder) (hs : List Header) (stop : Stop) → Stops (manifest_faults folder hs) stop →
+pub stop_answers : (folder : Folder) (hs : List Header) (stop : Stop ManifestFault) → Stops (manifest_faults folder hs) stop →
     AnswersOnly (Gives (manifest_faults folder hs) (IsRevisionOf folder hs)) (Err stop)
 stop_answers folder hs (Fault found) is = refuses_only (manifest_faults folder hs) (IsRevisionOf folder hs) found is
 stop_answers folder hs Memory is = tt
 
 -- what is handed on of a stop
-pub answers_on : (Says : Verdict ManifestFault Revision → Type 0) (r : Result Revision Stop) (given : Stop) → IsErrAnd r (λ stop. stop ≡ given) → AnswersOnly Says (Err given) → AnswersOnly Says r
+pub answers_on : (Says : Verdict ManifestFault Revision → Type 0) (r : Result Revision (Stop ManifestFault)) (given : Stop ManifestFault) → IsErrAnd r (λ stop. stop ≡ given) → AnswersOnly Says (Err given) → AnswersOnly Says r
 answers_on Says (Ok revision) given handed is = absurd handed
 answers_on Says (Err stop) given handed is = subst (λ s. AnswersOnly Says (Err s)) (sym handed) is

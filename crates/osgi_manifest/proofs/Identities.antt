@@ -9,11 +9,11 @@ use Rattle.osgi_world.specs.declared.revision.Revision.{Revision}
 use Rattle.osgi_clause.specs.Lone.{IsLone, SaysHost}
 use Rattle.osgi_manifest.specs.computed.Lone.{IsNamedAs}
 use Rattle.osgi_clause.specs.declared.naming.Naming.{Naming}
-use Rattle.osgi_manifest.specs.Manifests.{HasHost, IsNamed}
+use Rattle.osgi_manifest.specs.Manifests.{HasHost, SaysName}
 use Rattle.osgi_manifest.specs.Values.{AreClausesIn}
 
 pub named_holds : (headers : List Header) (naming : Naming) (revision : Revision) → IsNamedAs headers naming → revision.name ≡ naming.name → revision.singleton ≡ naming.singleton →
-    revision.attach ≡ naming.attach → IsNamed headers revision
+    revision.attach ≡ naming.attach → SaysName headers revision
 named_holds headers naming revision has name singleton attach = record {
   clause = has.2.0;
   one = subst (AreClausesIn headers (codes "Bundle-SymbolicName")) has.2.1 has.1;
@@ -22,7 +22,7 @@ named_holds headers naming revision has name singleton attach = record {
   attach = attach ∙ has.2.2.attach;
 }
 
-pub named_only : (headers : List Header) (revision : Revision) → IsNamed headers revision →
+pub named_only : (headers : List Header) (revision : Revision) → SaysName headers revision →
     IsNamedAs headers (record { name = revision.name; singleton = revision.singleton; attach = revision.attach })
 named_only headers revision named =
     (named.clause ∷ [], named.one, (named.clause, refl, record { name = named.name; singleton = named.singleton; attach = named.attach }))

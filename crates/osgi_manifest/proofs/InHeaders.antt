@@ -23,8 +23,8 @@ use Rattle.osgi_manifest.specs.computed.Answers.{AnswersHeader, GoesOn, IsMadeIn
 use Rattle.osgi_clause.specs.Walks.{IsFirstFaulty, Walked}
 use Rattle.osgi_clause.specs.declared.fault.ClauseFault.{ClauseFault}
 use Rattle.osgi_clause.specs.laws.FirstFaults.{called_only}
-use Rattle.osgi_manifest.specs.declared.stop.Stop.{Stop}
-use Rattle.osgi_manifest.specs.declared.stop.Stop.TheVariants.{Fault, Memory}
+use Rattle.osgi_base.specs.declared.stop.Stop.{Stop}
+use Rattle.osgi_base.specs.declared.stop.Stop.TheVariants.{Fault, Memory}
 use Rattle.osgi_manifest.specs.Values.{header_value}
 use Rattle.osgi_manifest.proofs.ValueFaults.{clause_fault, no_fault, text_fault}
 
@@ -39,17 +39,17 @@ module _ {A : Type 0} (faults : List Clause → Clause → List (ManifestKind �
   abbrev IsMadeBy : Option (List ℕ) → A → Type 0
   IsMadeBy value made = (clauses : List Clause) × AreIn value clauses × Makes clauses made
 
-  abbrev AnswersBy : Option (List ℕ) → Result A Stop → Type 0
+  abbrev AnswersBy : Option (List ℕ) → Result A (Stop ManifestFault) → Type 0
   AnswersBy value (Ok made) = ((found : ManifestFault) → ¬ InValueBy value found) × IsOnly (IsMadeBy value) made
   AnswersBy value (Err (Fault fault)) = IsOnly (InValueBy value) fault × (¬ AreIn value [])
   AnswersBy value (Err Memory) = ⊤
 
-  stopped : (value : Option (List ℕ)) (fault : ManifestFault) (r : Result A Stop) → IsOnly (InValueBy value) fault → ¬ AreIn value [] → StopsAt fault r → AnswersBy value r
+  stopped : (value : Option (List ℕ)) (fault : ManifestFault) (r : Result A (Stop ManifestFault)) → IsOnly (InValueBy value) fault → ¬ AreIn value [] → StopsAt fault r → AnswersBy value r
   stopped value fault (Ok made) is some stops = absurd stops
   stopped value fault (Err (Fault found)) is some stops = (subst (IsOnly (InValueBy value)) (sym stops) is, some)
   stopped value fault (Err Memory) is some stops = tt
 
-  went_on : (value : Option (List ℕ)) (made : A) (r : Result A Stop) → ((found : ManifestFault) → ¬ InValueBy value found) → IsOnly (IsMadeBy value) made → GoesOn made r → AnswersBy value r
+  went_on : (value : Option (List ℕ)) (made : A) (r : Result A (Stop ManifestFault)) → ((found : ManifestFault) → ¬ InValueBy value found) → IsOnly (IsMadeBy value) made → GoesOn made r → AnswersBy value r
   went_on value made r uncalled is goes = subst (AnswersBy value) (sym goes) (uncalled, is)
 
   -- ---- without the header
@@ -60,13 +60,13 @@ module _ {A : Type 0} (faults : List Clause → Clause → List (ManifestKind �
       only : (other : A) → IsMadeBy None other → other ≡ made
       only other (clauses, none, makes) = is.only other (subst (λ l. Makes l other) none makes)
 
-  missing : (r : Result A Stop) (walked : Result A ClauseFault) → Walked faults Makes [] walked → IsStopOf name outside None walked r → AnswersBy None r
+  missing : (r : Result A (Stop ManifestFault)) (walked : Result A ClauseFault) → Walked faults Makes [] walked → IsStopOf name outside None walked r → AnswersBy None r
   missing r (Ok made) walked is = went_on None made r (λ found called. called.1) (empty_only made walked.1) is
   missing r (Err fault) walked is = absurd (no_item walked.before walked.clause walked.rest walked.is)
 
   -- ---- with the header
 
-  module _ (value : List ℕ) (read : ReadClauses) (reads : IsOnly (AreReadFrom value) read) (r : Result A Stop) where
+  module _ (value : List ℕ) (read : ReadClauses) (reads : IsOnly (AreReadFrom value) read) (r : Result A (Stop ManifestFault)) where
     fault_only : (kind : ManifestKind) (at : ℕ) → IsValueFault faults outside value kind at →
         ((k : ManifestKind) (n : ℕ) → IsValueFault faults outside value k n → (k ≡ kind) × (n ≡ at)) → IsOnly (InValueBy (Some value)) (in_header name kind at)
     fault_only kind at has one = record { holds = (refl, has); only = only }
@@ -112,24 +112,24 @@ module _ {A : Type 0} (faults : List Clause → Clause → List (ManifestKind �
         let one = text_fault faults outside value read reads fault e walked.0 in
         stopped (Some value) (in_header name outside fault.at) r (fault_only outside fault.at one.0 one.1) (λ are. cc ((clauses_are [] (Some fault) e are).0)) is
 
-  answer_by : (value : Option (List ℕ)) (read : ReadClauses) (walked : Result A ClauseFault) (r : Result A Stop) →
+  answer_by : (value : Option (List ℕ)) (read : ReadClauses) (walked : Result A ClauseFault) (r : Result A (Stop ManifestFault)) →
       MatchOption value (read ≡ no_clauses) (λ text. IsOnly (AreReadFrom text) read) → Walked faults Makes read.clauses walked → IsStopOf name outside read.fault walked r → AnswersBy value r
   answer_by None read walked r is made stops =
       missing r walked (subst (λ (o : ReadClauses). Walked faults Makes o.clauses walked) is made) (subst (λ (o : ReadClauses). IsStopOf name outside o.fault walked r) is stops)
   answer_by (Some value) read walked r is made stops = there value read is r read.fault refl walked made stops
 
-  pub header_answer : (headers : List Header) (read : ReadClauses) (walked : Result A ClauseFault) (r : Result A Stop) → IsReadIn name headers read →
+  pub header_answer : (headers : List Header) (read : ReadClauses) (walked : Result A ClauseFault) (r : Result A (Stop ManifestFault)) → IsReadIn name headers read →
       Walked faults Makes read.clauses walked → IsStopOf name outside read.fault walked r → AnswersHeader faults outside Makes headers name r
   header_answer headers read walked (Ok made) is walks stops = answer_by (header_value name headers) read walked (Ok made) is walks stops
   header_answer headers read walked (Err (Fault fault)) is walks stops = answer_by (header_value name headers) read walked (Err (Fault fault)) is walks stops
   header_answer headers read walked (Err Memory) is walks stops = tt
 
   -- the same as a step of reading, of a header that may have nothing
-  pub header_step : (headers : List Header) (read : ReadClauses) (walked : Result A ClauseFault) (r : Result A Stop) → IsReadIn name headers read →
+  pub header_step : (headers : List Header) (read : ReadClauses) (walked : Result A ClauseFault) (r : Result A (Stop ManifestFault)) → IsReadIn name headers read →
       Walked faults Makes read.clauses walked → IsStopOf name outside read.fault walked r → IsStep (InValue headers name faults outside ∷ []) (IsOnly (IsMadeIn Makes headers name)) r
   header_step headers read walked r is walks stops = by r (header_answer headers read walked r is walks stops)
     where
-      by : (r : Result A Stop) → AnswersHeader faults outside Makes headers name r → IsStep (InValue headers name faults outside ∷ []) (IsOnly (IsMadeIn Makes headers name)) r
+      by : (r : Result A (Stop ManifestFault)) → AnswersHeader faults outside Makes headers name r → IsStep (InValue headers name faults outside ∷ []) (IsOnly (IsMadeIn Makes headers name)) r
       by (Ok made) answer = (inr (answer.0, tt), answer.1)
       by (Err (Fault fault)) answer = called_only (InValue headers name faults outside) [] (λ (fine : Unit {0}). ⊤) fault answer.0
       by (Err Memory) answer = tt

@@ -7,8 +7,8 @@ use Rattle.osgi_package.specs.Only.{IsOnly}
 use Rattle.osgi_world.specs.declared.manifest_fault.ManifestFault.{ManifestFault}
 use Rattle.osgi_manifest.specs.computed.Answers.{CallNone, IsStep, Stops}
 use Rattle.osgi_clause.specs.Walks.{IsTheFirst}
-use Rattle.osgi_manifest.specs.declared.stop.Stop.{Stop}
-use Rattle.osgi_manifest.specs.declared.stop.Stop.TheVariants.{Fault, Memory}
+use Rattle.osgi_base.specs.declared.stop.Stop.{Stop}
+use Rattle.osgi_base.specs.declared.stop.Stop.TheVariants.{Fault, Memory}
 use Rattle.osgi_clause.specs.laws.FirstFaults.{not_both, same_refusal}
 
 -- ---- conditions, and others after them
@@ -90,12 +90,12 @@ refuses_only conditions answer refusal is =
 
 module _ (conditions rest : List (ManifestFault → Type 0)) where
   -- a fault of the first step is that of both
-  step_fails : (stop : Stop) → Stops conditions stop → Stops (conditions ++ rest) stop
+  step_fails : (stop : Stop ManifestFault) → Stops conditions stop → Stops (conditions ++ rest) stop
   step_fails (Fault fault) is = first_stays conditions rest (λ (fine : Unit {0}). ⊤) fault is
   step_fails Memory is = tt
 
   -- where the first step has none, that of the second is
-  then_fails : (stop : Stop) → CallNone conditions → Stops rest stop → Stops (conditions ++ rest) stop
+  then_fails : (stop : Stop ManifestFault) → CallNone conditions → Stops rest stop → Stops (conditions ++ rest) stop
   then_fails (Fault fault) uncalled is = others_decide conditions rest (λ (fine : Unit {0}). ⊤) (refuses fault) uncalled is
   then_fails Memory uncalled is = tt
 
@@ -115,7 +115,7 @@ NoneBefore (suc n) [] = ⊤
 NoneBefore (suc n) (step ∷ steps) = CallNone step × NoneBefore n steps
 
 -- the step at this place stops
-abbrev pub StopsAt : ℕ → List (List (ManifestFault → Type 0)) → Stop → Type 0
+abbrev pub StopsAt : ℕ → List (List (ManifestFault → Type 0)) → Stop ManifestFault → Type 0
 StopsAt zero [] stop = ⊥
 StopsAt zero (step ∷ steps) stop = Stops step stop
 StopsAt (suc n) [] stop = ⊥
@@ -125,19 +125,19 @@ pub none_of_all : (steps : List (List (ManifestFault → Type 0))) → NoneOf st
 none_of_all [] none = tt
 none_of_all (step ∷ steps) none = none_of_both step (all_of steps) none.0 (none_of_all steps none.1)
 
-stops_at : (n : ℕ) (steps : List (List (ManifestFault → Type 0))) (stop : Stop) → NoneBefore n steps → StopsAt n steps stop → Stops (all_of steps) stop
+stops_at : (n : ℕ) (steps : List (List (ManifestFault → Type 0))) (stop : Stop ManifestFault) → NoneBefore n steps → StopsAt n steps stop → Stops (all_of steps) stop
 stops_at zero [] stop none is = absurd is
 stops_at zero (step ∷ steps) stop none is = step_fails step (all_of steps) stop is
 stops_at (suc n) [] stop none is = absurd is
 stops_at (suc n) (step ∷ steps) stop none is = then_fails step (all_of steps) stop none.0 (stops_at n steps stop none.1 is)
 
 -- what is handed on of a step
-pub handed_on : {A : Type 0} (conditions : List (ManifestFault → Type 0)) (Reads : A → Type 0) (r : Result A Stop) (given : Stop) →
+pub handed_on : {A : Type 0} (conditions : List (ManifestFault → Type 0)) (Reads : A → Type 0) (r : Result A (Stop ManifestFault)) (given : Stop ManifestFault) →
     IsErrAnd r (λ stop. stop ≡ given) → Stops conditions given → IsStep conditions Reads r
 handed_on conditions Reads (Ok read) given handed is = absurd handed
 handed_on conditions Reads (Err stop) given handed is = subst (Stops conditions) (sym handed) is
 
 -- where the steps before a place have none, the fault of the step there is that of all
-pub stopped : {A : Type 0} (steps : List (List (ManifestFault → Type 0))) (n : ℕ) (Reads : A → Type 0) (r : Result A Stop) (given : Stop) →
+pub stopped : {A : Type 0} (steps : List (List (ManifestFault → Type 0))) (n : ℕ) (Reads : A → Type 0) (r : Result A (Stop ManifestFault)) (given : Stop ManifestFault) →
     IsErrAnd r (λ stop. stop ≡ given) → NoneBefore n steps → StopsAt n steps given → IsStep (all_of steps) Reads r
 stopped steps n Reads r given handed none is = handed_on (all_of steps) Reads r given handed (stops_at n steps given none is)

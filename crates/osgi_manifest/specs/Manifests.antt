@@ -85,7 +85,7 @@ manifest_faults folder headers =
     ∷ []
 
 -- what Bundle-SymbolicName says
-pub record IsNamed (headers : List header.Header) (revision : Revision) : Type 0 where
+pub record SaysName (headers : List header.Header) (revision : Revision) : Type 0 where
   pub clause : Clause
   pub one : AreClausesIn headers (codes "Bundle-SymbolicName") (clause ∷ [])
   pub name : clause.paths ≡ revision.name ∷ []
@@ -150,7 +150,7 @@ pub record HasRequirements (headers : List header.Header) (revision : Revision) 
   pub are : revision.requirements ≡ bundles ++ (imports ++ required)
 
 pub record IsRevisionOf (folder : Folder) (headers : List header.Header) (revision : Revision) : Type 0 where
-  pub named : IsNamed headers revision
+  pub named : SaysName headers revision
   pub version : ReadsVersion (own_version headers) (parts revision.version)
   pub host : HasHost (header_value (codes "Fragment-Host") headers) revision.host
   pub activator_is : revision.activator ≡ activator headers

@@ -10,10 +10,9 @@ use crate::files::file_at;
 use crate::headers::{header_fault, header_value};
 use crate::host::has_host;
 use crate::scripts::is_script;
-use crate::stop::Stop;
-use osgi_base::{Folder, Text};
+use osgi_base::{Folder, Stop, Text};
 use osgi_header::Header;
-use osgi_world::ManifestKind;
+use osgi_world::{ManifestFault, ManifestKind};
 use std::alloc::{AllocError, Global};
 
 /// The path of the file of a class.
@@ -62,7 +61,7 @@ pub fn bundle_activator(
     alloc: Global,
     folder: &Folder,
     headers: &[Header],
-) -> Result<Option<Text>, Stop>
+) -> Result<Option<Text>, Stop<ManifestFault>>
     ensures step { IsStep (activator_conditions folder.now headers.now) (IsActivator headers.now) result }
 {
     let Some(class) = activator(headers) else {
@@ -75,7 +74,7 @@ pub fn bundle_activator(
 }
 
 /// The fault of a bundle that has native code.
-pub fn native_code(alloc: Global, headers: &[Header]) -> Result<(), Stop>
+pub fn native_code(alloc: Global, headers: &[Header]) -> Result<(), Stop<ManifestFault>>
     ensures step { IsStep (native_conditions headers.now) Anything result }
 {
     match header_value(b"Bundle-NativeCode", headers) {

@@ -10,14 +10,13 @@ ghost use Rattle.osgi_world.specs.declared.revision.Revision.{Revision};
 use crate::files::manifest_file;
 use crate::headers::header_fault;
 use crate::said::Said;
-use crate::stop::Stop;
-use osgi_base::Folder;
+use osgi_base::{Folder, Stop};
 use osgi_header::{Header, unfold};
 use osgi_world::{ManifestFault, ManifestKind, Revision};
 use std::alloc::{AllocError, Global};
 
 /// A fault of the manifest as a whole, or of one of its lines, which is no header.
-fn stop(alloc: Global, kind: ManifestKind, at: u64) -> Stop
+fn stop(alloc: Global, kind: ManifestKind, at: u64) -> Stop<ManifestFault>
     ensures stop { IsStopAt kind at result }
 {
     match header_fault(alloc, b"", kind, at) {
@@ -27,7 +26,11 @@ fn stop(alloc: Global, kind: ManifestKind, at: u64) -> Stop
 }
 
 /// The revision that the headers mean, or the first of their faults.
-fn meant(alloc: Global, folder: &Folder, headers: &[Header]) -> Result<Revision, Stop>
+fn meant(
+    alloc: Global,
+    folder: &Folder,
+    headers: &[Header],
+) -> Result<Revision, Stop<ManifestFault>>
     ensures only { AnswersOnly (Gives (manifest_faults folder.now headers.now) (IsRevisionOf folder.now headers.now)) result }
 {
     let said = Said::read(alloc, folder, headers)?;
@@ -36,7 +39,11 @@ fn meant(alloc: Global, folder: &Folder, headers: &[Header]) -> Result<Revision,
 }
 
 /// The revision that the manifest's text means, or its fault.
-fn meant_by(alloc: Global, folder: &Folder, manifest: &[u8]) -> Result<Revision, Stop>
+fn meant_by(
+    alloc: Global,
+    folder: &Folder,
+    manifest: &[u8],
+) -> Result<Revision, Stop<ManifestFault>>
     ensures only { AnswersOnly (SaysText folder.now manifest.now) result }
 {
     match unfold(alloc, manifest)? {
@@ -46,7 +53,7 @@ fn meant_by(alloc: Global, folder: &Folder, manifest: &[u8]) -> Result<Revision,
 }
 
 /// The revision that the folder means, or its fault.
-fn read_folder(alloc: Global, folder: &Folder) -> Result<Revision, Stop>
+fn read_folder(alloc: Global, folder: &Folder) -> Result<Revision, Stop<ManifestFault>>
     ensures only { AnswersOnly (SaysManifest folder.now) result }
 {
     match manifest_file(folder) {

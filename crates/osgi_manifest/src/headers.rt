@@ -6,8 +6,7 @@ ghost use Rattle.std.specs.Str.{str_eq_ignore_ascii_case};
 ghost use Rattle.osgi_manifest.specs.Values as spec;
 ghost use Rattle.osgi_manifest.specs.computed.Answers.{IsReadIn, IsStopOf};
 
-use crate::stop::Stop;
-use osgi_base::{List, Text};
+use osgi_base::{List, Stop, Text};
 use osgi_clause::ClauseFault;
 use osgi_header::{Header, HeaderFault, ReadClauses, read_clauses};
 use osgi_world::{ManifestFault, ManifestKind};
@@ -69,7 +68,7 @@ pub fn made_of<A: Drop>(
     outside: ManifestKind,
     fault: Option<HeaderFault>,
     made: Result<A, ClauseFault>,
-) -> Result<A, Stop>
+) -> Result<A, Stop<ManifestFault>>
     ensures made { IsStopOf name.now outside fault made result }
 {
     match made {

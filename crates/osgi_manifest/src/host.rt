@@ -9,13 +9,16 @@ ghost use Rattle.osgi_manifest.specs.computed.Lone.{IsHostIn, host_conditions};
 ghost use Rattle.osgi_clause.specs.Lone.{IsLone, SaysHost};
 
 use crate::headers::{header_fault, header_value, made_of, read_header};
-use crate::stop::Stop;
+use osgi_base::Stop;
 use osgi_clause::hosted;
 use osgi_header::Header;
-use osgi_world::{ManifestKind, Requirement};
+use osgi_world::{ManifestFault, ManifestKind, Requirement};
 use std::alloc::Global;
 
-fn host_header(alloc: Global, headers: &[Header]) -> Result<Option<Requirement>, Stop>
+fn host_header(
+    alloc: Global,
+    headers: &[Header],
+) -> Result<Option<Requirement>, Stop<ManifestFault>>
     ensures answer { AnswersHeader host_faults fault.BadClause (IsLone SaysHost) headers.now (codes "Fragment-Host") result }
 {
     let read = read_header(alloc, b"Fragment-Host", headers)?;
@@ -37,7 +40,10 @@ pub fn has_host(headers: &[Header]) -> bool
 }
 
 /// The host that the manifest names, if it names one, or the fault of its header.
-pub fn bundle_host(alloc: Global, headers: &[Header]) -> Result<Option<Requirement>, Stop>
+pub fn bundle_host(
+    alloc: Global,
+    headers: &[Header],
+) -> Result<Option<Requirement>, Stop<ManifestFault>>
     ensures step { IsStep (host_conditions headers.now) (IsHostIn headers.now) result }
 {
     match host_header(alloc, headers)? {

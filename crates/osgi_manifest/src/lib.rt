@@ -12,7 +12,6 @@ mod naming;
 mod said;
 mod scripts;
 mod sections;
-mod stop;
 mod versions;
 
 pub use files::manifest_file;

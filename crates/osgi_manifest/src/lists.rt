@@ -5,7 +5,7 @@ ghost use Rattle.osgi_base.specs.declared.folder.File.{File};
 ghost use Rattle.osgi_world.specs.declared.revision.TheConstants.{MAX_MEMBERS};
 ghost use Rattle.osgi_manifest.specs.computed.Revisions.{itself_of, own_of};
 
-use osgi_base::{Folder, List, Text};
+use osgi_base::{Folder, List, Shared, Text};
 use osgi_world::{Capability, MAX_MEMBERS};
 use std::alloc::{AllocError, Global};
 
@@ -46,9 +46,9 @@ fn own(alloc: Global, name: &Text) -> Result<Capability, AllocError>
     Ok(Capability {
         namespace,
         name,
-        attributes: List::new(alloc)?,
-        uses: List::new(alloc)?,
-        mandatory: List::new(alloc)?,
+        attributes: Shared::new(alloc, List::new(alloc)?)?,
+        uses: Shared::new(alloc, List::new(alloc)?)?,
+        mandatory: Shared::new(alloc, List::new(alloc)?)?,
     })
 }
 

@@ -9,10 +9,9 @@ use crate::lists::joined;
 use crate::sections::{
     ExportPackage, ImportPackage, ProvideCapability, RequireBundle, RequireCapability, read_section,
 };
-use crate::stop::Stop;
-use osgi_base::List;
+use osgi_base::{List, Stop};
 use osgi_header::Header;
-use osgi_world::{Capability, Requirement};
+use osgi_world::{Capability, ManifestFault, Requirement};
 use std::alloc::{AllocError, Global};
 
 /// What the headers of a manifest ask for and offer.
@@ -44,7 +43,7 @@ impl Drop for Members {
 
 impl Members {
     /// What the headers ask for and offer, or the first of their faults.
-    pub fn read(alloc: Global, headers: &[Header]) -> Result<Members, Stop>
+    pub fn read(alloc: Global, headers: &[Header]) -> Result<Members, Stop<ManifestFault>>
         ensures step { IsStep (member_conditions headers.now) (AreMembers headers.now) result }
     {
         let bundles = read_section::<RequireBundle>(alloc, headers)?;

@@ -9,13 +9,13 @@ ghost use Rattle.osgi_clause.specs.Lone.{IsLone, SaysNaming};
 ghost use Rattle.osgi_manifest.specs.computed.Lone.{IsNamedAs, name_conditions};
 
 use crate::headers::{header_fault, made_of, read_header};
-use crate::stop::Stop;
+use osgi_base::Stop;
 use osgi_clause::{Naming, named};
 use osgi_header::Header;
-use osgi_world::ManifestKind;
+use osgi_world::{ManifestFault, ManifestKind};
 use std::alloc::Global;
 
-fn name_header(alloc: Global, headers: &[Header]) -> Result<Option<Naming>, Stop>
+fn name_header(alloc: Global, headers: &[Header]) -> Result<Option<Naming>, Stop<ManifestFault>>
     ensures answer { AnswersHeader name_faults fault.BadName (IsLone SaysNaming) headers.now (codes "Bundle-SymbolicName") result }
 {
     let read = read_header(alloc, b"Bundle-SymbolicName", headers)?;
@@ -30,7 +30,7 @@ fn name_header(alloc: Global, headers: &[Header]) -> Result<Option<Naming>, Stop
 }
 
 /// What Bundle-SymbolicName says, or its fault.
-pub fn bundle_naming(alloc: Global, headers: &[Header]) -> Result<Naming, Stop>
+pub fn bundle_naming(alloc: Global, headers: &[Header]) -> Result<Naming, Stop<ManifestFault>>
     ensures step { IsStep (name_conditions headers.now) (IsOnly (IsNamedAs headers.now)) result }
 {
     match name_header(alloc, headers)? {

@@ -11,13 +11,12 @@ use crate::host::bundle_host;
 use crate::lists::{file_paths, offers_itself};
 use crate::members::Members;
 use crate::naming::bundle_naming;
-use crate::stop::Stop;
 use crate::versions::{bundle_version, manifest_version};
-use osgi_base::{Folder, List, Text};
+use osgi_base::{Folder, List, Stop, Text};
 use osgi_clause::Naming;
 use osgi_header::Header;
 use osgi_version::Version;
-use osgi_world::{Requirement, Revision};
+use osgi_world::{ManifestFault, Requirement, Revision};
 use std::alloc::{AllocError, Global};
 
 /// What a manifest says of its bundle.
@@ -46,7 +45,11 @@ impl Drop for Said {
 
 impl Said {
     /// What the headers say, or the first of their faults, in the order in which the rules list them.
-    pub fn read(alloc: Global, folder: &Folder, headers: &[Header]) -> Result<Said, Stop>
+    pub fn read(
+        alloc: Global,
+        folder: &Folder,
+        headers: &[Header],
+    ) -> Result<Said, Stop<ManifestFault>>
         ensures step { IsStep (manifest_faults folder.now headers.now) (IsSaid headers.now) result }
     {
         manifest_version(alloc, headers)?;

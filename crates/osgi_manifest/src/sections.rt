@@ -13,11 +13,10 @@ ghost use Rattle.osgi_manifest.specs.computed.Answers.{IsMadeIn, IsStep};
 ghost use Rattle.osgi_manifest.specs.computed.Steps.{section_conditions};
 
 use crate::headers::{made_of, read_header};
-use crate::stop::Stop;
-use osgi_base::List;
+use osgi_base::{List, Stop};
 use osgi_clause::ClauseFault;
 use osgi_header::{ClauseAt, Header};
-use osgi_world::{Capability, ManifestKind, Requirement};
+use osgi_world::{Capability, ManifestFault, ManifestKind, Requirement};
 use std::alloc::{AllocError, Global};
 
 /// A header whose clauses name what a bundle asks for or offers.
@@ -46,7 +45,10 @@ pub trait Section {
 }
 
 /// What the header makes, or its fault. Without the header it is what no clauses make.
-pub fn read_section<S: Section>(alloc: Global, headers: &[Header]) -> Result<S::Made, Stop>
+pub fn read_section<S: Section>(
+    alloc: Global,
+    headers: &[Header],
+) -> Result<S::Made, Stop<ManifestFault>>
     ensures step { IsStep (section_conditions headers.now S.name S.faults) (IsOnly (IsMadeIn S.makes headers.now S.name)) result }
 {
     let name = S::name();

@@ -7,10 +7,10 @@ ghost use Rattle.osgi_manifest.specs.computed.Answers.{IsStep};
 ghost use Rattle.osgi_manifest.specs.computed.Steps.{Anything, IsVersion, manifest_version_conditions, version_conditions};
 
 use crate::headers::{header_fault, header_value};
-use crate::stop::Stop;
+use osgi_base::Stop;
 use osgi_header::Header;
 use osgi_version::Version;
-use osgi_world::ManifestKind;
+use osgi_world::{ManifestFault, ManifestKind};
 use std::alloc::Global;
 
 fn is_two(headers: &[Header]) -> bool
@@ -23,7 +23,7 @@ fn is_two(headers: &[Header]) -> bool
 }
 
 /// The fault of a manifest whose version is not 2.
-pub fn manifest_version(alloc: Global, headers: &[Header]) -> Result<(), Stop>
+pub fn manifest_version(alloc: Global, headers: &[Header]) -> Result<(), Stop<ManifestFault>>
     ensures step { IsStep (manifest_version_conditions headers.now) Anything result }
 {
     if is_two(headers) {
@@ -48,7 +48,7 @@ fn version_text(headers: &[Header]) -> &[u8]
 }
 
 /// The bundle's version, or the fault of its header.
-pub fn bundle_version(alloc: Global, headers: &[Header]) -> Result<Version, Stop>
+pub fn bundle_version(alloc: Global, headers: &[Header]) -> Result<Version, Stop<ManifestFault>>
     ensures step { IsStep (version_conditions headers.now) (IsVersion headers.now) result }
 {
     match Version::parse(alloc, version_text(headers))? {

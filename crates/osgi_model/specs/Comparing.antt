@@ -36,36 +36,36 @@ value_eq = fold-Value (Value → Bool) step_eq
 -- ---- equal values are the same
 
 -- a value that equals itself, and that no other equals
-abbrev pub IsTold : Value → Type 0
-IsTold v = ((w : Value) → value_eq v w ≡ true → v ≡ w) × (value_eq v v ≡ true)
+abbrev pub EqualsItself : Value → Type 0
+EqualsItself v = ((w : Value) → value_eq v w ≡ true → v ≡ w) × (value_eq v v ≡ true)
 
-abbrev pub Told : Type 0
-Told = (v : Value) × IsTold v
+abbrev pub SelfEqual : Type 0
+SelfEqual = (v : Value) × EqualsItself v
 
-each_told : (all : List Told) (ws : List Value) → each_passes (map value_eq (map (λ (t : Told). t.0) all)) ws ≡ true → map (λ (t : Told). t.0) all ≡ ws
+each_told : (all : List SelfEqual) (ws : List Value) → each_passes (map value_eq (map (λ (t : SelfEqual). t.0) all)) ws ≡ true → map (λ (t : SelfEqual). t.0) all ≡ ws
 each_told [] [] h = refl
 each_told [] (w ∷ ws) h = absurd (false≢true h)
 each_told (t ∷ all) [] h = absurd (false≢true h)
 each_told (t ∷ all) (w ∷ ws) h = λ i. t.1.0 w (first_so (value_eq t.0 w) _ h) i ∷ each_told all ws (second_so (value_eq t.0 w) _ h) i
 
-each_itself : (all : List Told) → each_passes (map value_eq (map (λ (t : Told). t.0) all)) (map (λ (t : Told). t.0) all) ≡ true
+each_itself : (all : List SelfEqual) → each_passes (map value_eq (map (λ (t : SelfEqual). t.0) all)) (map (λ (t : SelfEqual). t.0) all) ≡ true
 each_itself [] = refl
 each_itself (t ∷ all) = λ i. t.1.1 i && each_itself all i
 
-abbrev values_in : Value-F Told → Value-F Value
-values_in = map-Value Told Value (λ (t : Told). t.0)
+abbrev values_in : Value-F SelfEqual → Value-F Value
+values_in = map-Value SelfEqual Value (λ (t : SelfEqual). t.0)
 
 abbrev tests_of : Value-F Value → Value-F (Value → Bool)
 tests_of = map-Value Value (Value → Bool) value_eq
 
-layer_told : (y : Value-F Told) (other : Value-F Value) → layer_eq (tests_of (values_in y)) other ≡ true → values_in y ≡ other
+layer_told : (y : Value-F SelfEqual) (other : Value-F Value) → layer_eq (tests_of (values_in y)) other ≡ true → values_in y ≡ other
 layer_told (Text one) (Text other) h = ap Text ((bytes_decides one other).0 h)
 layer_told (Long one) (Long other) h = ap Long ((Decides-int_eq one other).0 h)
 layer_told (Version one) (Version other) h = ap Version ((exact_version one other).0 h)
 layer_told (Values one) (Values other) h = ap Values (each_told one other h)
 layer_told _ _ h = absurd (false≢true h)
 
-layer_itself : (y : Value-F Told) → layer_eq (tests_of (values_in y)) (values_in y) ≡ true
+layer_itself : (y : Value-F SelfEqual) → layer_eq (tests_of (values_in y)) (values_in y) ≡ true
 layer_itself (Text one) = (bytes_decides one one).1 refl
 layer_itself (Long one) = (Decides-int_eq one one).1 refl
 layer_itself (Version one) = (exact_version one one).1 refl
@@ -74,14 +74,14 @@ layer_itself (Values one) = each_itself one
 opened : (x : Value-F Value) (w : Value) → value_eq (roll-Value x) w ≡ layer_eq (tests_of x) (out-Value w)
 opened x w = ap (λ (f : Value → Bool). f w) (fold-roll-Value (Value → Bool) step_eq x)
 
-made : (y : Value-F Told) → IsTold (roll-Value (values_in y))
+made : (y : Value-F SelfEqual) → EqualsItself (roll-Value (values_in y))
 made y = (
   λ w h. ap roll-Value (layer_told y (out-Value w) (sym (opened (values_in y) w) ∙ h)) ∙ roll-out-Value w,
   opened (values_in y) (roll-Value (values_in y)) ∙ ap (layer_eq (tests_of (values_in y))) (out-roll-Value (values_in y)) ∙ layer_itself y,
 )
 
-told : (v : Value) → IsTold v
-told = ind-Value IsTold (λ x y is. subst (λ z. IsTold (roll-Value z)) is (made y))
+told : (v : Value) → EqualsItself v
+told = ind-Value EqualsItself (λ x y is. subst (λ z. EqualsItself (roll-Value z)) is (made y))
 
 pub exact_value : IsExact value_eq
 exact_value v w = ((told v).0 w, λ e. subst (λ z. value_eq v z ≡ true) e (told v).1)

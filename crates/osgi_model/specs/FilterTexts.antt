@@ -8,6 +8,7 @@ use Rattle.osgi_model.specs.declared.filter.Filter.{Filter}
 use Rattle.osgi_model.specs.declared.filter.Filter.TheOpen.{Filter-F, And, Or, Not, Item}
 use Rattle.osgi_model.specs.declared.filter.Filter.TheFolds.{fold-Filter}
 
+-- the value, with `\` (92) before each byte that does not stand for itself
 abbrev pub value_text : List ℕ → List ℕ
 value_text [] = []
 value_text (b ∷ bs) = if is_plain true b then b ∷ value_text bs else 92 ∷ b ∷ value_text bs
@@ -16,6 +17,7 @@ value_text (b ∷ bs) = if is_plain true b then b ∷ value_text bs else 92 ∷ 
 abbrev pub starred : List (List ℕ) → List ℕ
 starred pieces = join_with_byte 42 (map value_text pieces)
 
+-- what follows the name of an item: `=` is 61, `~` 126, `>` 62, `<` 60 and `*` 42
 abbrev pub test_text : Test → List ℕ
 test_text (Equal value) = 61 ∷ value_text value
 test_text (Approx value) = 126 ∷ 61 ∷ value_text value
@@ -24,7 +26,7 @@ test_text (AtMost value) = 60 ∷ 61 ∷ value_text value
 test_text Present = 61 ∷ 42 ∷ []
 test_text (Pieces pieces) = 61 ∷ starred pieces
 
--- the texts of the filters inside are given
+-- the texts of the filters inside are given; `(` is 40, `)` 41, `&` 38, `|` 124 and `!` 33
 abbrev pub filter_step : Filter-F (List ℕ) → List ℕ
 filter_step (And texts) = 40 ∷ 38 ∷ concat texts ++ 41 ∷ []
 filter_step (Or texts) = 40 ∷ 124 ∷ concat texts ++ 41 ∷ []

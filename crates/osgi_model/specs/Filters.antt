@@ -31,22 +31,22 @@ is_plain stars b = not (b == 40 || b == 41 || b == 92 || b == 42 && stars)
 
 -- `text` is written for these pieces, the first of them apart: `\` (92) takes the next byte as it is, and where stars cut
 -- each other `*` (42) ends a piece and begins the next
-pub data IsCut (stars : Bool) : List ℕ → List ℕ → List (List ℕ) → Type 0 where
-  end : IsCut stars [] [] []
-  plain : (b : ℕ) (text piece : List ℕ) (more : List (List ℕ)) → is_plain stars b ≡ true → IsCut stars text piece more → IsCut stars (b ∷ text) (b ∷ piece) more
-  escaped : (b : ℕ) (text piece : List ℕ) (more : List (List ℕ)) → IsCut stars text piece more → IsCut stars (92 ∷ b ∷ text) (b ∷ piece) more
-  star : (text piece : List ℕ) (more : List (List ℕ)) → stars ≡ true → IsCut stars text piece more → IsCut stars (42 ∷ text) [] (piece ∷ more)
+pub data HasPieces (stars : Bool) : List ℕ → List ℕ → List (List ℕ) → Type 0 where
+  end : HasPieces stars [] [] []
+  plain : (b : ℕ) (text piece : List ℕ) (more : List (List ℕ)) → is_plain stars b ≡ true → HasPieces stars text piece more → HasPieces stars (b ∷ text) (b ∷ piece) more
+  escaped : (b : ℕ) (text piece : List ℕ) (more : List (List ℕ)) → HasPieces stars text piece more → HasPieces stars (92 ∷ b ∷ text) (b ∷ piece) more
+  star : (text piece : List ℕ) (more : List (List ℕ)) → stars ≡ true → HasPieces stars text piece more → HasPieces stars (42 ∷ text) [] (piece ∷ more)
 
 -- ---- tests: an operator and its value
 
 -- stars cut only after `=` (61), where the lone star is presence; `~` is 126, `>` 62 and `<` 60
 pub data IsTest : List ℕ → Test → Type 0 where
-  equal : (text value : List ℕ) → IsCut true text value [] → IsTest (61 ∷ text) (Equal value)
+  equal : (text value : List ℕ) → HasPieces true text value [] → IsTest (61 ∷ text) (Equal value)
   present : IsTest (61 ∷ 42 ∷ []) Present
-  pieces : (text first second : List ℕ) (more : List (List ℕ)) → IsCut true text first (second ∷ more) → (text ≡ 42 ∷ [] → ⊥) → IsTest (61 ∷ text) (Pieces (first ∷ second ∷ more))
-  approx : (text value : List ℕ) → IsCut false text value [] → IsTest (126 ∷ 61 ∷ text) (Approx value)
-  at_least : (text value : List ℕ) → IsCut false text value [] → IsTest (62 ∷ 61 ∷ text) (AtLeast value)
-  at_most : (text value : List ℕ) → IsCut false text value [] → IsTest (60 ∷ 61 ∷ text) (AtMost value)
+  pieces : (text first second : List ℕ) (more : List (List ℕ)) → HasPieces true text first (second ∷ more) → (text ≡ 42 ∷ [] → ⊥) → IsTest (61 ∷ text) (Pieces (first ∷ second ∷ more))
+  approx : (text value : List ℕ) → HasPieces false text value [] → IsTest (126 ∷ 61 ∷ text) (Approx value)
+  at_least : (text value : List ℕ) → HasPieces false text value [] → IsTest (62 ∷ 61 ∷ text) (AtLeast value)
+  at_most : (text value : List ℕ) → HasPieces false text value [] → IsTest (60 ∷ 61 ∷ text) (AtMost value)
 
 -- ---- filters
 

@@ -10,7 +10,7 @@ pub data Writes : List ℕ → ℤ → Type 0 where
   positive : {digits : List ℕ} → IsNumeral 10 digits → Writes (43 ∷ digits) (pos (digits_value 10 digits))
   negative : {digits : List ℕ} → IsNumeral 10 digits → Writes (45 ∷ digits) (neg_ℤ (pos (digits_value 10 digits)))
 
--- a number of 64 bits with sign, which may have white space round it
+-- a number of 64 bits with sign, from -(2 ^ 63) to 2 ^ 63 - 1, which may have white space round it
 pub record IsLong (text : List ℕ) (number : ℤ) : Type 0 where
   pub before : List ℕ
   pub written : List ℕ

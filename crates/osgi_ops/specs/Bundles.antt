@@ -4,7 +4,7 @@ use Rattle.std.specs.List.{filter_map}
 use Rattle.std.specs.Option.{option_map}
 use Rattle.std.specs.Str.{bytes_eq}
 use Rattle.osgi_base.specs.declared.ids.BundleId.{BundleId}
-use Rattle.osgi_ops.specs.Depots.{revision_at, row_number}
+use Rattle.osgi_ops.specs.Depots.{stored_revision, row_number}
 use Rattle.osgi_ops.specs.Resolved.{is_resolved}
 use Rattle.osgi_ops.specs.declared.depot.DepotRow.{DepotRow}
 use Rattle.osgi_ops.specs.declared.entry.Entry.{Entry}
@@ -40,7 +40,7 @@ brought depot id location revision = record { bundle = id; location = location; 
 
 -- the bundle that an operation installed, being an accepted Install whose reply says that no bundle had the location. The reply has its id
 abbrev pub installed_by : List DepotRow → Op → Reply → Option Bundle
-installed_by depot (op.Install location) (answer.Bundle id known) = if known then None else option_map (brought depot id location) (revision_at depot location)
+installed_by depot (op.Install location) (answer.Bundle id known) = if known then None else option_map (brought depot id location) (stored_revision depot location)
 installed_by depot _ _ = None
 
 -- the bundles that were installed, in that order
@@ -51,15 +51,15 @@ installed depot history = filter_map (λ e. installed_by depot e.op e.reply) his
 abbrev pub bundles : List DepotRow → List Entry → List Bundle
 bundles depot history = the_system_bundle ∷ installed depot history
 
-abbrev pub is_bundle : BundleId → Bundle → Bool
-is_bundle id b = b.bundle.0 == id.0
+abbrev pub has_bundle_id : BundleId → Bundle → Bool
+has_bundle_id id b = b.bundle.0 == id.0
 
 abbrev pub has_location : List ℕ → Bundle → Bool
 has_location location b = bytes_eq b.location location
 
 -- the live bundle of this id, if there is one
 abbrev pub bundle_at : List DepotRow → List Entry → BundleId → Option Bundle
-bundle_at depot history id = find (is_bundle id) (bundles depot history)
+bundle_at depot history id = find (has_bundle_id id) (bundles depot history)
 
 -- the live bundle that has this location, if one has
 abbrev pub bundle_from : List DepotRow → List Entry → List ℕ → Option Bundle

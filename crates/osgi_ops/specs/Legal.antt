@@ -5,6 +5,7 @@ use Rattle.osgi_ops.specs.Moments.{entries_in, Moment, moment, Told, world_after
 use Rattle.osgi_ops.specs.Operations.{IsReply}
 use Rattle.osgi_ops.specs.Settings.{Setting}
 use Rattle.osgi_ops.specs.Worlds.{Leaves}
+use Rattle.osgi_ops.specs.declared.asked.Asked.{Asked}
 use Rattle.osgi_ops.specs.declared.entry.Entry.{Entry}
 use Rattle.osgi_ops.specs.declared.op.Op.{Op}
 use Rattle.osgi_ops.specs.declared.refusal.Refusal.TheVariants.{HistoryFull}
@@ -33,6 +34,18 @@ pub record IsReplayed (setting : Setting) (history : List Entry) (world : World)
 -- a history that replays from the empty framework
 abbrev pub Legal : Setting → List Entry → Type 0
 Legal setting history = (world : World) × IsReplayed setting history world
+
+-- the moment is one of a history that replays: some telling of it, allowed step by step, has its entries and ends with its world
+pub record IsTold (now : Moment) : Type 0 where
+  pub told : List Told
+  pub tells : entries_in told ≡ now.before
+  pub ends : world_after told ≡ now.world
+  pub allowed : AllAlong (IsAllowed now.setting) [] told
+
+-- the moment is one at which this is asked for: who asks is the moment's, and the moment is one of a history that replays
+pub record IsAskedAt (asked : Asked) (now : Moment) : Type 0 where
+  pub tag : now.tag ≡ asked.tag
+  pub told : IsTold now
 
 -- one call, at a moment, with the history and the world after it. A full history refuses whatever is asked, and nothing changes; any
 -- other gains the call's own entry, an allowed one

@@ -4,7 +4,7 @@ use Rattle.osgi_base.specs.declared.ids.BundleId.{BundleId}
 use Rattle.osgi_base.specs.declared.ids.ServiceId.{ServiceId}
 use Rattle.osgi_ops.specs.Bundles.{Bundle, bundle_at, bundle_from, bundle_row, bundles, installed, state_of}
 use Rattle.osgi_ops.specs.Classes.{AreRanked, IsFound, IsOf, IsOpenTo}
-use Rattle.osgi_ops.specs.Depots.{revision_at, stored_at}
+use Rattle.osgi_ops.specs.Depots.{stored_revision, stored_at}
 use Rattle.osgi_ops.specs.Moments.{Moment}
 use Rattle.osgi_ops.specs.Properties.{has_twins, ranking}
 use Rattle.osgi_ops.specs.Replies.{verdict}
@@ -25,6 +25,7 @@ use Rattle.osgi_ops.specs.declared.refusal.Refusal.TheVariants.{NoSuchBundle, In
 use Rattle.osgi_ops.specs.declared.reply.Reply.{Reply}
 use Rattle.osgi_ops.specs.declared.reply.Reply.TheVariants as answer
 use Rattle.osgi_ops.specs.declared.rows.WireRow.{WireRow}
+use Rattle.osgi_ops.specs.declared.scope.Scope.TheVariants.{Singleton}
 use Rattle.osgi_ops.specs.declared.service.Service.{Service}
 use Rattle.osgi_ops.specs.declared.service.ServiceRow.{ServiceRow}
 use Rattle.osgi_world.specs.declared.revision.Revision.{Revision}
@@ -42,7 +43,7 @@ not_up now bundle = Where InvalidOperation (is_up (state_of now.world bundle) �
 -- the bundle that asks for an operation, where one does: its owner, asker or user. Of the operations that the framework has; the others
 -- are refused whoever asks
 abbrev pub asker_of : Op → Option BundleId
-asker_of (op.Register owner classes object properties) = Some owner
+asker_of (op.Register owner classes object scope properties) = Some owner
 asker_of (op.Modify owner service properties) = Some owner
 asker_of (op.Unregister owner service) = Some owner
 asker_of (op.Find asker class filter) = Some asker
@@ -82,7 +83,7 @@ not_read now location refusal = depot_refusal (stored_at now.setting.depot locat
 -- another live bundle has the name and the version of the location's revision
 pub record IsDuplicate (now : Moment) (location : List ℕ) (refusal : Refusal) : Type 0 where
   pub revision : Revision
-  pub is : revision_at now.setting.depot location ≡ Some revision
+  pub is : stored_revision now.setting.depot location ≡ Some revision
   pub other : Bundle
   pub live : Contains (bundles now.setting.depot now.before) other
   pub name : other.revision.name ≡ revision.name
@@ -101,10 +102,11 @@ abbrev pub not_yet : Refusal → Type 0
 not_yet = Where InvalidOperation ⊤
 
 -- the refusals that are an operation's own, in order, each where its condition holds. A fragment is not resolved by itself, but only
--- attached to a host that is being resolved. Nothing refreshes yet, and so nothing is refused for that
+-- attached to a host that is being resolved. Nothing refreshes yet, and so nothing is refused for that. There are no service factories yet, and so
+-- only singletons are registered
 abbrev pub own_conditions : Moment → Op → List (Refusal → Type 0)
-own_conditions now (op.Register owner classes object properties) =
-    Where BadProperties (has_twins properties ≡ true) ∷ Where (TooMany Services) (MAX_SERVICES ≤ length (live now.before)) ∷ []
+own_conditions now (op.Register owner classes object scope properties) =
+    Where InvalidOperation (scope ≢ Singleton) ∷ Where BadProperties (has_twins properties ≡ true) ∷ Where (TooMany Services) (MAX_SERVICES ≤ length (live now.before)) ∷ []
 own_conditions now (op.Modify owner service properties) =
     no_such_service now service ∷ not_owner now owner service ∷ Where BadProperties (has_twins properties ≡ true) ∷ []
 own_conditions now (op.Unregister owner service) = no_such_service now service ∷ not_owner now owner service ∷ []
@@ -128,8 +130,8 @@ conditions now o = asker_conditions now (asker_of o) ++ own_conditions now o
 -- ---- answers
 
 -- what a list of services shows of one
-abbrev pub row_of : Service → ServiceRow
-row_of service = record {
+abbrev pub service_row : Service → ServiceRow
+service_row service = record {
   service = service.service;
   owner = service.owner;
   ranking = ranking service.properties;
@@ -145,7 +147,7 @@ installs None earlier = answer.Bundle (record { 0 = earlier + 1 }) false
 
 -- the answer of an operation that is not refused. The ids of services and of bundles count from 1 and are never used again
 abbrev pub Answers : Moment → Op → Reply → Type 0
-Answers now (op.Register owner classes object properties) reply = reply ≡ answer.Service (record { 0 = length (registered now.before) + 1 })
+Answers now (op.Register owner classes object scope properties) reply = reply ≡ answer.Service (record { 0 = length (registered now.before) + 1 })
 Answers now (op.Modify owner service properties) reply = reply ≡ answer.Done
 Answers now (op.Unregister owner service) reply = reply ≡ answer.Done
 Answers now (op.Find asker class filter) reply = (found : Option ServiceId) × (reply ≡ answer.Best found) × IsFound (IsOpenTo asker class filter) (services now.before) found
@@ -156,7 +158,7 @@ Answers now (op.Install location) reply =
     reply ≡ installs (bundle_from now.setting.depot now.before location) (length (installed now.setting.depot now.before))
 Answers now (op.Resolve bundle) reply = AnswersResolve (is_resolved now.world bundle) now bundle reply
 Answers now op.ListBundles reply = reply ≡ answer.Bundles (map (bundle_row now.world) (bundles now.setting.depot now.before))
-Answers now op.ListServices reply = reply ≡ answer.ServiceRows (map row_of (services now.before))
+Answers now op.ListServices reply = reply ≡ answer.ServiceRows (map service_row (services now.before))
 Answers now (op.ListWires bundle) reply =
     (rows : List WireRow) × (fragments : List WireRow) × (reply ≡ answer.Wires rows fragments) × AreWireRows now.world bundle rows fragments
 Answers now _ reply = ⊥

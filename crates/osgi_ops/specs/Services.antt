@@ -12,6 +12,7 @@ use Rattle.osgi_ops.specs.declared.op.Op.TheVariants.{Register, Modify, Unregist
 use Rattle.osgi_ops.specs.declared.reply.Reply.{Reply}
 use Rattle.osgi_ops.specs.declared.reply.Reply.TheVariants.{Object, Flag}
 use Rattle.osgi_ops.specs.declared.entry.Entry.{Entry}
+use Rattle.osgi_ops.specs.declared.scope.Scope.{Scope}
 use Rattle.osgi_ops.specs.declared.service.Service as declared
 
 -- a service as its Register gives it, with the properties that were given, and the entries since
@@ -20,14 +21,15 @@ pub record Registered : Type 0 where
   pub owner : BundleId
   pub classes : List (List ℕ)
   pub object : List ℕ
+  pub scope : Scope
   pub given : List Attribute
   pub since : List Entry
 
 -- what an operation registered, being an accepted Register: its id is one more than the number of services registered earlier
 abbrev pub registered_by : ℕ → Op → Reply → List Entry → List Registered
-registered_by earlier (Register owner classes object properties) reply since =
+registered_by earlier (Register owner classes object scope properties) reply since =
     if is_accepted reply
-    then record { service = record { 0 = earlier + 1 }; owner = owner; classes = classes; object = object; given = properties; since = since } ∷ []
+    then record { service = record { 0 = earlier + 1 }; owner = owner; classes = classes; object = object; scope = scope; given = properties; since = since } ∷ []
     else []
 registered_by earlier _ reply since = []
 
@@ -79,7 +81,7 @@ service_now r = record {
   owner = r.owner;
   classes = r.classes;
   object = r.object;
-  properties = with_framework (given_last r) r.classes r.service r.owner;
+  properties = with_framework (given_last r) r.classes r.scope r.service r.owner;
 }
 
 -- the live services as they stand
@@ -107,9 +109,9 @@ abbrev pub ungets : BundleId → Registered → ℕ
 ungets user r = count_by (λ e. is_unget user r.service e.op e.reply) r.since
 
 -- how often the user holds it
-abbrev pub uses_of : BundleId → Registered → ℕ
-uses_of user r = gets user r - ungets user r
+abbrev pub uses_held : BundleId → Registered → ℕ
+uses_held user r = gets user r - ungets user r
 
 -- how often the user holds the service; 0 where it is not live
 abbrev pub uses : BundleId → ServiceId → List Entry → ℕ
-uses user service history = option_map_or (uses_of user) (live_at service history) 0
+uses user service history = option_map_or (uses_held user) (live_at service history) 0

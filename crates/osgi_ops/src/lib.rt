@@ -1,6 +1,7 @@
 //! What is asked of the framework, what it answers, and what was asked and answered: data only.
 #![tactic(auto)]
 
+mod asked;
 mod depot;
 mod entry;
 mod event;
@@ -10,20 +11,25 @@ mod op;
 mod refusal;
 mod reply;
 mod rows;
+mod scope;
 mod section;
 mod service;
 mod state;
 mod target;
 
+pub use asked::Asked;
 pub use depot::{Depot, DepotRow, Stored};
 pub use entry::Entry;
 pub use event::{Busy, Event};
 pub use kind::Kind;
-pub use limits::{Limits, MAX_BUNDLES, MAX_LOCATIONS, MAX_SERVICES};
+pub use limits::{
+    Limits, MAX_BUDGET, MAX_BUNDLES, MAX_ENTRIES, MAX_HANDINGS, MAX_LOCATIONS, MAX_SERVICES,
+};
 pub use op::Op;
 pub use refusal::{Many, Refusal, Unmet};
 pub use reply::Reply;
 pub use rows::{BundleRow, WireRow};
+pub use scope::Scope;
 pub use section::Section;
 pub use service::{Service, ServiceRow};
 pub use state::{ACTIVE, INSTALLED, RESOLVED, STARTING, STOPPING, UNINSTALLED, is_up};

@@ -3,17 +3,19 @@
 ghost use Rattle.std.specs.Prelude.{◌≡◌, IfOk};
 
 use crate::kind::Kind;
+use crate::scope::Scope;
 use crate::target::Target;
 use osgi_base::{BundleId, Copied, List, ListenerId, ServiceId, Text, copy_three, copy_two};
 use osgi_model::{Attributes, Filter};
 use std::alloc::{AllocError, Global};
 
 pub enum Op {
-    /// Registers a service object under one or more class names, with properties.
+    /// Registers a service object of a scope under one or more class names, with properties.
     Register {
         owner: BundleId,
         classes: List<Text>,
         object: Text,
+        scope: Scope,
         properties: Attributes,
     },
     /// Replaces all properties that were given for a service.
@@ -181,6 +183,7 @@ impl Drop for Op {
                 owner: _,
                 classes: _,
                 object: _,
+                scope: _,
                 properties: _,
             } => {}
             Op::Modify {
@@ -278,15 +281,17 @@ fn register(
     owner: BundleId,
     classes: &List<Text>,
     object: &Text,
+    scope: Scope,
     properties: &Attributes,
 ) -> Result<Op, AllocError>
-    ensures made { IfOk result (λ made. made ≡ Op.Register owner classes.now object.now properties.now) }
+    ensures made { IfOk result (λ made. made ≡ Op.Register owner classes.now object.now scope properties.now) }
 {
     let (classes, object, properties) = copy_three(classes, object, properties, alloc)?;
     Ok(Op::Register {
         owner,
         classes,
         object,
+        scope,
         properties,
     })
 }
@@ -365,8 +370,9 @@ impl Op {
                 owner,
                 classes,
                 object,
+                scope,
                 properties,
-            } => register(alloc, *owner, classes, object, properties),
+            } => register(alloc, *owner, classes, object, *scope, properties),
             Op::Modify {
                 owner,
                 service,

@@ -3,6 +3,7 @@
 ghost use Rattle.std.specs.Prelude.{◌≡◌, IfOk};
 
 use crate::event::{Busy, Event};
+use crate::kind::Kind;
 use crate::refusal::Refusal;
 use crate::rows::{BundleRow, WireRow};
 use crate::service::ServiceRow;
@@ -36,9 +37,11 @@ pub enum Reply {
     Listener {
         listener: ListenerId,
     },
-    /// The event is handed to this listener, whose section is that of the name in the script of the owner's depot row.
+    /// The event is handed to this listener of this kind, whose section is that of the name in the script of the owner's depot
+    /// row.
     Handed {
         listener: ListenerId,
+        kind: Kind,
         owner: BundleId,
         row: u32,
         name: Text,
@@ -150,6 +153,7 @@ impl Drop for Reply {
             Reply::Listener { listener: _ } => {}
             Reply::Handed {
                 listener: _,
+                kind: _,
                 owner: _,
                 row: _,
                 name: _,
@@ -239,12 +243,14 @@ impl Reply {
             &Reply::Listener { listener } => Ok(Reply::Listener { listener }),
             Reply::Handed {
                 listener,
+                kind,
                 owner,
                 row,
                 name,
                 event,
             } => Ok(Reply::Handed {
                 listener: *listener,
+                kind: *kind,
                 owner: *owner,
                 row: *row,
                 name: name.copy(alloc)?,

@@ -9,14 +9,14 @@ use Rattle.osgi_outside.specs.declared.shelf.TheConstants.{MAX_BYTES, MAX_FILES}
 use Rattle.osgi_outside.specs.declared.shelf.Found.{Found}
 use Rattle.osgi_outside.specs.declared.shelf.Found.TheVariants as found
 use Rattle.osgi_outside.specs.Causes.{Rose}
-use Rattle.osgi_outside.specs.Scripted.{Script}
+use Rattle.osgi_outside.specs.Scripted.{ScriptState}
 
 -- a location and the folder that is found there
-abbrev pub Row : Type 0
-Row = List ℕ × Folder
+abbrev pub ShelfRow : Type 0
+ShelfRow = List ℕ × Folder
 
 -- the folder at a location: that of the first row that has it
-abbrev pub folder_at : List Row → List ℕ → Option Folder
+abbrev pub folder_at : List ShelfRow → List ℕ → Option Folder
 folder_at rows location = option_map (λ row. row.1) (find (λ row. pointwise ◌==◌ row.0 location) rows)
 
 abbrev pub bytes_of : Folder → ℕ
@@ -36,11 +36,11 @@ found_of folder = if is_too_large (bytes_of folder) (files_of folder)
     else found.Folder folder
 
 -- what a read of a location is answered, if it does not fail
-abbrev pub found_at : List Row → List ℕ → Found
+abbrev pub found_at : List ShelfRow → List ℕ → Found
 found_at rows location = option_map_or found_of (folder_at rows location) found.NoFolder
 
 -- an answer other than `Failed` is that of the told rows
-abbrev pub IsAsTold : Option (List Row) → List ℕ → Found → Type 0
+abbrev pub IsAsTold : Option (List ShelfRow) → List ℕ → Found → Type 0
 IsAsTold told location found.Failed = ⊤
 IsAsTold told location (found.Folder folder) = IfSome told (λ rows. found.Folder folder ≡ found_at rows location)
 IsAsTold told location found.NoFolder = IfSome told (λ rows. found.NoFolder ≡ found_at rows location)
@@ -69,5 +69,5 @@ RoseWhereFailed before now (found.TooLarge bytes files) = ⊤
 
 -- a shelf in memory
 pub record ShelfState : Type 0 where
-  pub rows : List Row
-  pub script : Script
+  pub rows : List ShelfRow
+  pub script : ScriptState

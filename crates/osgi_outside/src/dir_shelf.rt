@@ -3,12 +3,12 @@
 ghost use Rattle.std.specs.Prelude.{◌≡◌, ◌≤◌, None, IfOk, OnErr};
 ghost use Rattle.osgi_outside.specs.Shelves.{IsAsTold, IsInOrder, KeepsLimits, RoseWhereFailed};
 
+use crate::counted::Counted;
 use crate::dir_walk;
 use crate::dir_walk::Trouble;
 use crate::shelf::{Found, Shelf};
 use osgi_base::Text;
 use std::alloc::{AllocError, Global};
-use std::marker::Model;
 use std::rt::Files;
 
 /// The most levels of folders below a location's folder.
@@ -17,7 +17,7 @@ pub const MAX_LEVELS: u32 = 32;
 /// The most folders of a location, its own among them.
 pub const MAX_FOLDERS: u32 = 65_536;
 
-/// The file system as a shelf. It does not expose its folders.
+/// The file system as a shelf, by a runtime or a reference to one. It does not expose its folders.
 ///
 /// A location is a path from the working folder, as it is written: it may be absolute, or lead up by `..`.
 /// If what stands there is a folder, its files are all those in it and below it, by rising bytes of their
@@ -40,33 +40,9 @@ pub const MAX_FOLDERS: u32 = 65_536;
 ///
 /// Files are read only while they are within the limits of a folder: those of one that is too large are
 /// counted, with the lengths that the file system gives.
-#[derive(Drop)]
-pub struct DirShelf<R> {
-    files: R,
-    faults: u64,
-}
+pub type DirShelf<R> = Counted<R>;
 
-impl<R> Model for DirShelf<R> {
-    ghost use Rattle.osgi_outside.specs.Causes.{Counting, counting_code};
-
-    ghost Value = { Counting R };
-
-    ghost coded = { counting_code R.code };
-
-    ghost view = { λ s. record { inner = s.files; faults = s.faults } };
-}
-
-impl<R> DirShelf<R> {
-    /// The shelf of a runtime, or of a reference to one.
-    pub fn new(files: R) -> DirShelf<R>
-        ensures files { result.inner ≡ files }
-        ensures faults { result.faults ≡ 0 }
-    {
-        DirShelf { files, faults: 0 }
-    }
-}
-
-impl<R: Files + AllocGlobal + Clone + Drop> Shelf for DirShelf<R> {
+impl<R: Files + AllocGlobal + Clone + Drop> Shelf for Counted<R> {
     ghost told = { λ _. None };
 
     ghost faults = { λ s. s.faults };
@@ -81,9 +57,9 @@ impl<R: Files + AllocGlobal + Clone + Drop> Shelf for DirShelf<R> {
         ensures order { IfOk result (λ found. IsInOrder found) }
         ensures files { self.new.inner ≡ self.old.inner }
     {
-        let found = look(&self.files, alloc, location)?;
+        let found = look(&self.inner, alloc, location)?;
         if matches!(found, Found::Failed) {
-            self.faults = self.faults.saturating_add(1);
+            self.fail();
         }
         Ok(found)
     }
@@ -91,7 +67,7 @@ impl<R: Files + AllocGlobal + Clone + Drop> Shelf for DirShelf<R> {
     fn count(&self) -> u64
         ensures faults { result ≡ self.now.faults }
     {
-        self.faults
+        self.faults()
     }
 }
 

@@ -5,10 +5,10 @@ ghost use Rattle.std.specs.List.Sorted.{IsPermutation, IsSortedByKey};
 ghost use Rattle.std.specs.Cmp.Lexicographic.{slice_cmp};
 ghost use Rattle.std.specs.Ordering.{nat_cmp};
 
+use crate::counted::Counted;
 use crate::dir_walk::Trouble;
 use crate::input::{Input, read_all};
 use crate::shelf::{Found, MAX_BYTES, MAX_FILES};
-use crate::std_ends::StdSource;
 use osgi_base::{File, Folder, List, Text};
 use std::alloc::{AllocError, Global};
 use std::fs;
@@ -84,7 +84,7 @@ impl Gathered {
 fn content<R: Files>(rt: &R, alloc: Global, at: Path<'_>, len: u64) -> Result<Text, Trouble>
     ensures len { IfOk result (λ content. length content ≡ len) }
 {
-    let mut source = StdSource::new(fs::open(rt, at)?);
+    let mut source = Counted::new(fs::open(rt, at)?);
     match read_all(alloc, &mut source, len as usize)? {
         Input::All(content) => of_len(content, len),
         Input::TooMuch | Input::Failed => Err(Trouble::Unreadable),

@@ -2,21 +2,23 @@
 //! at which a test can hold a lane. Each is a trait, with forms in memory whose calls fail on demand.
 #![tactic(auto)]
 
+mod counted;
 mod dir_shelf;
 mod dir_walk;
+mod fault_script;
 mod gate;
 mod gathered;
 mod input;
 mod memory_shelf;
 mod memory_sink;
 mod memory_source;
-mod script;
 mod shelf;
 mod sink;
 mod source;
 mod std_ends;
 mod writing;
 
+pub use counted::Counted;
 pub use dir_shelf::{DirShelf, MAX_FOLDERS, MAX_LEVELS};
 pub use gate::{Gate, OpenGate, Point};
 pub use input::{Input, read_all};

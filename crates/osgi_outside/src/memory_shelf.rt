@@ -5,7 +5,7 @@ ghost use Rattle.std.specs.Option.{option_copied};
 ghost use Rattle.osgi_outside.specs.Scripted.{is_failing, after_call};
 ghost use Rattle.osgi_outside.specs.Shelves.{folder_at, bytes_of, files_of, found_of, found_at, IsAsTold, KeepsLimits, RoseWhereFailed};
 
-use crate::script::Script;
+use crate::fault_script::FaultScript;
 use crate::shelf::{Found, MAX_BYTES, MAX_FILES, Shelf};
 use crate::source::Failed;
 use osgi_base::{Folder, Text};
@@ -17,7 +17,7 @@ use std::marker::Model;
 #[derive(Drop)]
 pub struct MemoryShelf {
     rows: Vec<(Text, Folder)>,
-    script: Script,
+    script: FaultScript,
 }
 
 impl Model for MemoryShelf {
@@ -37,7 +37,7 @@ impl MemoryShelf {
     {
         MemoryShelf {
             rows,
-            script: Script::new(fail),
+            script: FaultScript::new(fail),
         }
     }
 }

@@ -6,7 +6,7 @@ ghost use Rattle.std.specs.Io.KnownBytes.{WriteAppends, Keeps};
 ghost use Rattle.osgi_outside.specs.Causes.{HasCause};
 ghost use Rattle.osgi_outside.specs.Scripted.{is_failing, after_call, one_more};
 
-use crate::script::Script;
+use crate::fault_script::FaultScript;
 use crate::sink::Sink;
 use crate::source::Failed;
 use std::alloc::{AllocError, Global};
@@ -18,7 +18,7 @@ use std::marker::Model;
 pub struct MemorySink {
     bytes: Vec<u8>,
     flushed: usize,
-    script: Script,
+    script: FaultScript,
     starved: u64,
 }
 
@@ -45,7 +45,7 @@ impl MemorySink {
         Ok(MemorySink {
             bytes: Vec::new(alloc),
             flushed: 0,
-            script: Script::new(fail),
+            script: FaultScript::new(fail),
             starved: 0,
         })
     }
@@ -115,7 +115,7 @@ impl Sink for MemorySink {
         ensures fails { is_err result ≡ is_failing self.old.script }
         ensures counted { self.new.script ≡ after_call self.old.script }
         ensures starved { self.new.starved ≡ self.old.starved }
-        ensures kept { is_err result ≡ true → self.new.flushed ≡ self.old.flushed }
+        ensures not_flushed { is_err result ≡ true → self.new.flushed ≡ self.old.flushed }
     {
         self.script.next()?;
         self.flushed = self.bytes.len();

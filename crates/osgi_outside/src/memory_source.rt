@@ -7,7 +7,7 @@ ghost use Rattle.osgi_outside.specs.Causes.{HasCause};
 ghost use Rattle.osgi_outside.specs.Ends.{GivesNoneAtEnd};
 ghost use Rattle.osgi_outside.specs.Scripted.{is_failing, after_call};
 
-use crate::script::Script;
+use crate::fault_script::FaultScript;
 use crate::source::{Failed, Source};
 use std::marker::Model;
 
@@ -16,7 +16,7 @@ use std::marker::Model;
 pub struct MemorySource {
     bytes: Vec<u8>,
     at: usize,
-    script: Script,
+    script: FaultScript,
 }
 
 impl Model for MemorySource {
@@ -40,7 +40,7 @@ impl MemorySource {
         MemorySource {
             bytes,
             at: 0,
-            script: Script::new(fail),
+            script: FaultScript::new(fail),
         }
     }
 

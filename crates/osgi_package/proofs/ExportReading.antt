@@ -16,9 +16,9 @@ use Rattle.osgi_package.specs.computed.AttributeReader.{attributes_of}
 use Rattle.osgi_package.specs.computed.ExportReader.{IsOfferOf, capabilities_of, named_fault}
 use Rattle.osgi_package.specs.declared.fault.PackageKind.{PackageKind}
 use Rattle.osgi_package.specs.declared.fault.PackageKind.TheVariants.{BadValue, BadVersion, DoubleType, ImplicitAttribute, JavaExport}
-use Rattle.osgi_package.specs.Exports.{AreExported, AreExportsOf, IsExport, SaysExports, version_attribute}
+use Rattle.osgi_package.specs.Exports.{AreExported, AreExportsOf, IsExportOf, SaysExports, version_attribute}
 use Rattle.osgi_package.specs.Packages.{is_java}
-use Rattle.osgi_package.specs.Parameters.{HasValue, IsAttribute, is_double, is_other, is_implicit, version_text}
+use Rattle.osgi_package.specs.Parameters.{IsReadableAttribute, IsAttribute, is_double, is_plain_attribute, is_implicit, version_text}
 use Rattle.osgi_package.specs.laws.Versions.{readable, unread}
 use Rattle.osgi_package.specs.laws.Verdicts.{end_only, first_only, rest_only}
 use Rattle.osgi_package.proofs.Reading.{attributes_one}
@@ -39,7 +39,7 @@ after_values clause = Where JavaExport (list_any is_java clause.paths ≡ true) 
 
 abbrev after_version : Clause → List (PackageKind → Type 0)
 after_version clause =
-    Where DoubleType (list_any is_double clause.attributes ≡ true) ∷ Where BadValue (¬ All HasValue clause.attributes) ∷ after_values clause
+    Where DoubleType (list_any is_double clause.attributes ≡ true) ∷ Where BadValue (¬ All IsReadableAttribute clause.attributes) ∷ after_values clause
 
 pub no_version : (clause : Clause) (version : Option Version) → version ≡ version_of (own_version clause) → version ≡ None → IsOnly (SaysExports [] clause) (refuses BadVersion)
 no_version clause version e none =
@@ -60,15 +60,15 @@ module _ (clause : Clause) (version : Version) (known : version_of (own_version 
 
   record Good (others : List Attribute) : Type 0 where
     plain : list_any is_double clause.attributes ≡ false
-    all : All HasValue clause.attributes
-    are : AllZip IsAttribute (filter is_other clause.attributes) others
+    all : All IsReadableAttribute clause.attributes
+    are : AllZip IsAttribute (filter is_plain_attribute clause.attributes) others
 
   good_values : (values : Result (List Attribute) PackageKind) → Valued clause values → (others : List Attribute) → values ≡ Ok others → Good others
   good_values values (double e) others is = absurd (cc is)
   good_values values (bad plain fails) others is = absurd (cc is)
   good_values values (good {others = some} plain all are) others is =
       let same : some ≡ others = cc is in
-      record { plain = plain; all = all; are = subst (AllZip IsAttribute (filter is_other clause.attributes)) same are }
+      record { plain = plain; all = all; are = subst (AllZip IsAttribute (filter is_plain_attribute clause.attributes)) same are }
 
   -- ---- names
 
@@ -99,7 +99,7 @@ module _ (clause : Clause) (version : Version) (known : version_of (own_version 
   -- ---- the capabilities of a clause
 
   module _ (others : List Attribute) (is : Good others) (template : Capability) (of : IsOfferOf clause (others ++ version_attribute version ∷ []) template) where
-    export_holds : (path : List ℕ) → IsExport clause path (record template { name = path })
+    export_holds : (path : List ℕ) → IsExportOf clause path (record template { name = path })
     export_holds path = record {
       namespace = of.namespace;
       name = refl;
@@ -111,10 +111,10 @@ module _ (clause : Clause) (version : Version) (known : version_of (own_version 
     same_attributes : (attributes : List Attribute) → AreExported clause attributes → attributes ≡ template.attributes
     same_attributes attributes are =
         let versions : are.version ≡ version = cc (sym (version_read (own_version clause) are.version are.reads) ∙ known) in
-        let all : are.others ≡ others = attributes_one (filter is_other clause.attributes) are.others others are.each is.are in
+        let all : are.others ≡ others = attributes_one (filter is_plain_attribute clause.attributes) are.others others are.each is.are in
         are.are ∙ (λ i. all i ++ version_attribute (versions i) ∷ []) ∙ sym of.attributes
 
-    export_only : (path : List ℕ) (c : Capability) → IsExport clause path c → c ≡ record template { name = path }
+    export_only : (path : List ℕ) (c : Capability) → IsExportOf clause path c → c ≡ record template { name = path }
     export_only path c exported =
         let spaces : c.namespace ≡ template.namespace = exported.namespace ∙ sym of.namespace in
         let all : c.attributes ≡ template.attributes = same_attributes c.attributes exported.attributes in
@@ -122,11 +122,11 @@ module _ (clause : Clause) (version : Version) (known : version_of (own_version 
         let mandatory : c.mandatory ≡ template.mandatory = of.mandatory.only c.mandatory exported.mandatory in
         λ i. record { namespace = spaces i; name = exported.name i; attributes = all i; uses = uses i; mandatory = mandatory i }
 
-    exports_hold : (paths : List (List ℕ)) → AllZip (IsExport clause) paths (capabilities_of template paths)
+    exports_hold : (paths : List (List ℕ)) → AllZip (IsExportOf clause) paths (capabilities_of template paths)
     exports_hold [] = tt
     exports_hold (path ∷ paths) = (export_holds path, exports_hold paths)
 
-    exports_only : (paths : List (List ℕ)) (cs : List Capability) → AllZip (IsExport clause) paths cs → cs ≡ capabilities_of template paths
+    exports_only : (paths : List (List ℕ)) (cs : List Capability) → AllZip (IsExportOf clause) paths cs → cs ≡ capabilities_of template paths
     exports_only [] [] all = refl
     exports_only [] (c ∷ cs) all = absurd all
     exports_only (path ∷ paths) [] all = absurd all

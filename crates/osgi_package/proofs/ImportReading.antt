@@ -32,7 +32,7 @@ use Rattle.osgi_package.specs.declared.fault.PackageKind.{PackageKind}
 use Rattle.osgi_package.specs.declared.fault.PackageKind.TheVariants.{BadValue, BadVersion, DoubleType, Duplicate}
 use Rattle.osgi_package.specs.Imports.{AreImportsOf, IsImport, SaysImports}
 use Rattle.osgi_package.specs.Packages.{is_java, packages}
-use Rattle.osgi_package.specs.Parameters.{HasValue, IsAttribute, is_double, is_other, version_text}
+use Rattle.osgi_package.specs.Parameters.{IsReadableAttribute, IsAttribute, is_double, is_plain_attribute, version_text}
 use Rattle.osgi_package.specs.laws.Splits.{split_at, take_next}
 use Rattle.osgi_package.specs.laws.Verdicts.{end_only, first_only, rest_only}
 use Rattle.osgi_package.proofs.Answering.{answer_more}
@@ -42,7 +42,7 @@ use Rattle.osgi_package.proofs.Valued.{Valued, bad, bad_value, double, double_va
 -- ---- the requirements of a clause
 
 module _ (clause : Clause) (ranges : VersionRange × VersionRange) (equal : List Attribute) (are : AreRanges clause (Some ranges))
-    (valued_as : AllZip IsAttribute (filter is_other clause.attributes) equal) where
+    (valued_as : AllZip IsAttribute (filter is_plain_attribute clause.attributes) equal) where
   abbrev template : Requirement
   template = template_of clause ranges.0 ranges.1 equal
 
@@ -65,7 +65,7 @@ module _ (clause : Clause) (ranges : VersionRange × VersionRange) (equal : List
   import_only path r is =
       let own : r.range ≡ ranges.0 = are.0.only r.range is.range in
       let exporter : r.from_range ≡ ranges.1 = are.1.only r.from_range is.from_range in
-      let others : r.equal ≡ equal = attributes_one (filter is_other clause.attributes) r.equal equal is.equal valued_as in
+      let others : r.equal ≡ equal = attributes_one (filter is_plain_attribute clause.attributes) r.equal equal is.equal valued_as in
       λ i. record {
         namespace = is.namespace i;
         name = is.name i;
@@ -117,7 +117,7 @@ after_values before clause = Where Duplicate (¬ Apart before clause) ∷ []
 
 abbrev after_versions : List Clause → Clause → List (PackageKind → Type 0)
 after_versions before clause =
-    Where DoubleType (list_any is_double clause.attributes ≡ true) ∷ Where BadValue (¬ All HasValue clause.attributes) ∷ after_values before clause
+    Where DoubleType (list_any is_double clause.attributes ≡ true) ∷ Where BadValue (¬ All IsReadableAttribute clause.attributes) ∷ after_values before clause
 
 said_with : (before : List Clause) (clause : Clause) (ranges : VersionRange × VersionRange) (values : Result (List Attribute) PackageKind) → AreRanges clause (Some ranges) →
     Valued clause values → SaidBy before clause (template_with clause ranges values)

@@ -16,23 +16,23 @@ use Rattle.osgi_model.specs.laws.TypeNames.{kind_is, kind_read, kind_sound}
 use Rattle.osgi_model.specs.laws.ValueTexts.{result_is, value_read, value_sound}
 use Rattle.osgi_model.specs.Values.{IsOfType, Names}
 use Rattle.osgi_package.specs.computed.AttributeReader.{attribute_of, others_of, others_onto, values_of, with_other}
-use Rattle.osgi_package.specs.Parameters.{HasValue, IsAttribute, is_other}
+use Rattle.osgi_package.specs.Parameters.{IsReadableAttribute, IsAttribute, is_plain_attribute}
 
 -- ---- one more attribute
 
-onto_by : (others : List Attribute) (typed : Typed) (attribute : Attribute) (rest : List Attribute) (test : Bool) → is_other typed ≡ test →
+onto_by : (others : List Attribute) (typed : Typed) (attribute : Attribute) (rest : List Attribute) (test : Bool) → is_plain_attribute typed ≡ test →
     others ++ with_other typed attribute rest ≡ (others ++ with_other typed attribute []) ++ rest
 onto_by others typed attribute rest true e =
-    ap (λ l. others ++ l) (cond-true (is_other typed) (attribute ∷ rest) rest e) ∙ sym (append_assoc others (attribute ∷ []) rest)
-    ∙ ap (λ l. (others ++ l) ++ rest) (sym (cond-true (is_other typed) (attribute ∷ []) [] e))
+    ap (λ l. others ++ l) (cond-true (is_plain_attribute typed) (attribute ∷ rest) rest e) ∙ sym (append_assoc others (attribute ∷ []) rest)
+    ∙ ap (λ l. (others ++ l) ++ rest) (sym (cond-true (is_plain_attribute typed) (attribute ∷ []) [] e))
 onto_by others typed attribute rest false e =
-    ap (λ l. others ++ l) (cond-false (is_other typed) (attribute ∷ rest) rest e) ∙ ap (λ l. l ++ rest) (sym (append-nil others))
-    ∙ ap (λ l. (others ++ l) ++ rest) (sym (cond-false (is_other typed) (attribute ∷ []) [] e))
+    ap (λ l. others ++ l) (cond-false (is_plain_attribute typed) (attribute ∷ rest) rest e) ∙ ap (λ l. l ++ rest) (sym (append-nil others))
+    ∙ ap (λ l. (others ++ l) ++ rest) (sym (cond-false (is_plain_attribute typed) (attribute ∷ []) [] e))
 
 onto_some : (others : List Attribute) (typed : Typed) (attribute : Attribute) (rest : Option (List Attribute)) →
     others_onto others (option_map (with_other typed attribute) rest) ≡ others_onto (others ++ with_other typed attribute []) rest
 onto_some others typed attribute None = refl
-onto_some others typed attribute (Some rest) = ap Some (onto_by others typed attribute rest (is_other typed) refl)
+onto_some others typed attribute (Some rest) = ap Some (onto_by others typed attribute rest (is_plain_attribute typed) refl)
 
 pub others_more : (others : List Attribute) (typed : Typed) (attribute : Attribute) (rest : List Typed) → Some attribute ≡ attribute_of typed →
     others_onto (others ++ with_other typed attribute []) (others_of rest) ≡ others_onto others (others_of (typed ∷ rest))
@@ -79,16 +79,16 @@ attribute_read typed attribute is =
     ∙ (λ i. Some (record { name = sym is.name i; value = attribute.value }))
 
 -- the other attributes, where all have values; and where one has none
-others_by : (typed : Typed) (attribute : Attribute) (rest : List Typed) (others more : List Attribute) (test : Bool) → is_other typed ≡ test → IsAttribute typed attribute →
-    AllZip IsAttribute (filter is_other rest) more → with_other typed attribute more ≡ others → AllZip IsAttribute (filter is_other (typed ∷ rest)) others
+others_by : (typed : Typed) (attribute : Attribute) (rest : List Typed) (others more : List Attribute) (test : Bool) → is_plain_attribute typed ≡ test → IsAttribute typed attribute →
+    AllZip IsAttribute (filter is_plain_attribute rest) more → with_other typed attribute more ≡ others → AllZip IsAttribute (filter is_plain_attribute (typed ∷ rest)) others
 others_by typed attribute rest others more true e is are made =
-    rw (cond-true (is_other typed) (typed ∷ filter is_other rest) (filter is_other rest) e, ← made, cond-true (is_other typed) (attribute ∷ more) more e) (is, are)
+    rw (cond-true (is_plain_attribute typed) (typed ∷ filter is_plain_attribute rest) (filter is_plain_attribute rest) e, ← made, cond-true (is_plain_attribute typed) (attribute ∷ more) more e) (is, are)
 others_by typed attribute rest others more false e is are made =
-    rw (cond-false (is_other typed) (typed ∷ filter is_other rest) (filter is_other rest) e, ← made, cond-false (is_other typed) (attribute ∷ more) more e) are
+    rw (cond-false (is_plain_attribute typed) (typed ∷ filter is_plain_attribute rest) (filter is_plain_attribute rest) e, ← made, cond-false (is_plain_attribute typed) (attribute ∷ more) more e) are
 
 pub record AreOthers (attributes : List Typed) (others : List Attribute) : Type 0 where
-  pub values : All HasValue attributes
-  pub are : AllZip IsAttribute (filter is_other attributes) others
+  pub values : All IsReadableAttribute attributes
+  pub are : AllZip IsAttribute (filter is_plain_attribute attributes) others
 
 pub others_sound : (attributes : List Typed) (others : List Attribute) → others_of attributes ≡ Some others → AreOthers attributes others
 others_sound [] others e =
@@ -101,15 +101,15 @@ others_sound (typed ∷ rest) others e =
     let more = others_sound rest read.value read.was in
     let is = attribute_sound typed attribute was in
     record {
-      values = All-cons HasValue typed rest (attribute, is) more.values;
-      are = others_by typed attribute rest others read.value (is_other typed) refl is more.are read.is;
+      values = All-cons IsReadableAttribute typed rest (attribute, is) more.values;
+      are = others_by typed attribute rest others read.value (is_plain_attribute typed) refl is more.are read.is;
     })
 
-pub others_read : (attributes : List Typed) → All HasValue attributes → (others : List Attribute) × (others_of attributes ≡ Some others)
+pub others_read : (attributes : List Typed) → All IsReadableAttribute attributes → (others : List Attribute) × (others_of attributes ≡ Some others)
 others_read [] all = ([], refl)
 others_read (typed ∷ rest) all =
-    let first = All-head HasValue typed rest all in
-    let more = others_read rest (All-tail HasValue typed rest all) in
+    let first = All-head IsReadableAttribute typed rest all in
+    let more = others_read rest (All-tail IsReadableAttribute typed rest all) in
     (with_other typed first.0 more.0, rw (attribute_read typed first.0 first.1, more.1) refl)
 
 -- attributes have one reading

@@ -11,18 +11,18 @@ use Rattle.osgi_package.specs.Only.{IsOnly}
 use Rattle.osgi_package.specs.computed.AttributeReader.{attributes_of, others_of}
 use Rattle.osgi_package.specs.declared.fault.PackageKind.{PackageKind}
 use Rattle.osgi_package.specs.declared.fault.PackageKind.TheVariants.{BadValue, DoubleType}
-use Rattle.osgi_package.specs.Parameters.{HasValue, IsAttribute, is_double, is_other}
+use Rattle.osgi_package.specs.Parameters.{IsReadableAttribute, IsAttribute, is_double, is_plain_attribute}
 use Rattle.osgi_package.specs.laws.Verdicts.{first_only, rest_only}
 use Rattle.osgi_package.proofs.Reading.{others_read, others_sound}
 
 -- the other attributes, where all have values and none is a Double, or what is wrong
 pub data Valued (clause : Clause) : Result (List Attribute) PackageKind → Type 0 where
   double : list_any is_double clause.attributes ≡ true → Valued clause (Err DoubleType)
-  bad : list_any is_double clause.attributes ≡ false → ¬ All HasValue clause.attributes → Valued clause (Err BadValue)
-  good : {others : List Attribute} → list_any is_double clause.attributes ≡ false → All HasValue clause.attributes →
-      AllZip IsAttribute (filter is_other clause.attributes) others → Valued clause (Ok others)
+  bad : list_any is_double clause.attributes ≡ false → ¬ All IsReadableAttribute clause.attributes → Valued clause (Err BadValue)
+  good : {others : List Attribute} → list_any is_double clause.attributes ≡ false → All IsReadableAttribute clause.attributes →
+      AllZip IsAttribute (filter is_plain_attribute clause.attributes) others → Valued clause (Ok others)
 
-none_valued : (clause : Clause) → others_of clause.attributes ≡ None → ¬ All HasValue clause.attributes
+none_valued : (clause : Clause) → others_of clause.attributes ≡ None → ¬ All IsReadableAttribute clause.attributes
 none_valued clause e all =
     let read = others_read clause.attributes all in
     cc (sym e ∙ read.1)
@@ -43,18 +43,18 @@ valued clause = valued_by clause (list_any is_double clause.attributes) refl
 -- ---- the verdict, where all attributes have values, and where they do not
 
 pub past_values : {A : Type 0} (clause : Clause) (rest : List (PackageKind → Type 0)) (answer : A → Type 0) (v : Verdict PackageKind A) → list_any is_double clause.attributes ≡ false →
-    All HasValue clause.attributes → IsOnly (Gives rest answer) v →
-    IsOnly (Gives (Where DoubleType (list_any is_double clause.attributes ≡ true) ∷ Where BadValue (¬ All HasValue clause.attributes) ∷ rest) answer) v
+    All IsReadableAttribute clause.attributes → IsOnly (Gives rest answer) v →
+    IsOnly (Gives (Where DoubleType (list_any is_double clause.attributes ≡ true) ∷ Where BadValue (¬ All IsReadableAttribute clause.attributes) ∷ rest) answer) v
 past_values clause rest answer v plain all is =
-    rest_only DoubleType (list_any is_double clause.attributes ≡ true) (Where BadValue (¬ All HasValue clause.attributes) ∷ rest) answer v (λ e. false≢true (sym plain ∙ e))
-    (rest_only BadValue (¬ All HasValue clause.attributes) rest answer v (λ fails. fails all) is)
+    rest_only DoubleType (list_any is_double clause.attributes ≡ true) (Where BadValue (¬ All IsReadableAttribute clause.attributes) ∷ rest) answer v (λ e. false≢true (sym plain ∙ e))
+    (rest_only BadValue (¬ All IsReadableAttribute clause.attributes) rest answer v (λ fails. fails all) is)
 
 pub double_value : {A : Type 0} (clause : Clause) (rest : List (PackageKind → Type 0)) (answer : A → Type 0) → list_any is_double clause.attributes ≡ true →
-    IsOnly (Gives (Where DoubleType (list_any is_double clause.attributes ≡ true) ∷ Where BadValue (¬ All HasValue clause.attributes) ∷ rest) answer) (refuses DoubleType)
-double_value clause rest answer e = first_only DoubleType (list_any is_double clause.attributes ≡ true) (Where BadValue (¬ All HasValue clause.attributes) ∷ rest) answer e
+    IsOnly (Gives (Where DoubleType (list_any is_double clause.attributes ≡ true) ∷ Where BadValue (¬ All IsReadableAttribute clause.attributes) ∷ rest) answer) (refuses DoubleType)
+double_value clause rest answer e = first_only DoubleType (list_any is_double clause.attributes ≡ true) (Where BadValue (¬ All IsReadableAttribute clause.attributes) ∷ rest) answer e
 
-pub bad_value : {A : Type 0} (clause : Clause) (rest : List (PackageKind → Type 0)) (answer : A → Type 0) → list_any is_double clause.attributes ≡ false → ¬ All HasValue clause.attributes →
-    IsOnly (Gives (Where DoubleType (list_any is_double clause.attributes ≡ true) ∷ Where BadValue (¬ All HasValue clause.attributes) ∷ rest) answer) (refuses BadValue)
+pub bad_value : {A : Type 0} (clause : Clause) (rest : List (PackageKind → Type 0)) (answer : A → Type 0) → list_any is_double clause.attributes ≡ false → ¬ All IsReadableAttribute clause.attributes →
+    IsOnly (Gives (Where DoubleType (list_any is_double clause.attributes ≡ true) ∷ Where BadValue (¬ All IsReadableAttribute clause.attributes) ∷ rest) answer) (refuses BadValue)
 bad_value clause rest answer plain fails =
-    rest_only DoubleType (list_any is_double clause.attributes ≡ true) (Where BadValue (¬ All HasValue clause.attributes) ∷ rest) answer (refuses BadValue) (λ e. false≢true (sym plain ∙ e))
-    (first_only BadValue (¬ All HasValue clause.attributes) rest answer fails)
+    rest_only DoubleType (list_any is_double clause.attributes ≡ true) (Where BadValue (¬ All IsReadableAttribute clause.attributes) ∷ rest) answer (refuses BadValue) (λ e. false≢true (sym plain ∙ e))
+    (first_only BadValue (¬ All IsReadableAttribute clause.attributes) rest answer fails)

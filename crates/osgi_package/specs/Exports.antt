@@ -14,7 +14,7 @@ use Rattle.osgi_package.specs.declared.fault.PackageKind.{PackageKind}
 use Rattle.osgi_package.specs.declared.fault.PackageKind.TheVariants.{BadValue, BadVersion, DoubleType, ImplicitAttribute, JavaExport}
 use Rattle.osgi_package.specs.Faults.{AreGiven, IsFirstFault}
 use Rattle.osgi_package.specs.Packages.{is_java, package_namespace}
-use Rattle.osgi_package.specs.Parameters.{HasValue, IsAttribute, Lists, directive_value, is_double, is_other, is_implicit, version_text}
+use Rattle.osgi_package.specs.Parameters.{IsReadableAttribute, IsAttribute, Lists, directive_value, is_double, is_plain_attribute, is_implicit, version_text}
 
 abbrev pub version_attribute : Version → Attribute
 version_attribute version = record { name = codes "version"; value = a_version version }
@@ -25,10 +25,10 @@ pub record AreExported (clause : Clause) (attributes : List Attribute) : Type 0 
   pub others : List Attribute
   pub are : attributes ≡ others ++ version_attribute version ∷ []
   pub reads : ReadsVersion (version_text (codes "version") clause) (parts version)
-  pub each : AllZip IsAttribute (filter is_other clause.attributes) others
+  pub each : AllZip IsAttribute (filter is_plain_attribute clause.attributes) others
 
 -- the capability that a clause makes for one of its packages
-pub record IsExport (clause : Clause) (exported : List ℕ) (capability : Capability) : Type 0 where
+pub record IsExportOf (clause : Clause) (exported : List ℕ) (capability : Capability) : Type 0 where
   pub namespace : capability.namespace ≡ package_namespace
   pub name : capability.name ≡ exported
   pub attributes : AreExported clause capability.attributes
@@ -37,14 +37,14 @@ pub record IsExport (clause : Clause) (exported : List ℕ) (capability : Capabi
 
 -- one capability for each package
 abbrev pub AreExportsOf : Clause → List Capability → Type 0
-AreExportsOf clause capabilities = AllZip (IsExport clause) clause.paths capabilities
+AreExportsOf clause capabilities = AllZip (IsExportOf clause) clause.paths capabilities
 
 -- the faults of a clause in order. A package may be exported more than once
 abbrev pub export_faults : Clause → List (PackageKind → Type 0)
 export_faults clause =
     Where BadVersion (¬ IsReadableVersion (version_text (codes "version") clause))
     ∷ Where DoubleType (list_any is_double clause.attributes ≡ true)
-    ∷ Where BadValue (¬ All HasValue clause.attributes)
+    ∷ Where BadValue (¬ All IsReadableAttribute clause.attributes)
     ∷ Where JavaExport (list_any is_java clause.paths ≡ true)
     ∷ Where ImplicitAttribute (list_any is_implicit clause.attributes ≡ true)
     ∷ []

@@ -11,7 +11,7 @@ use Rattle.osgi_package.specs.declared.fault.PackageKind.{PackageKind}
 use Rattle.osgi_package.specs.declared.fault.PackageKind.TheVariants.{BadValue, BadVersion, DoubleType, Duplicate}
 use Rattle.osgi_package.specs.Faults.{AreGiven, IsFirstFault}
 use Rattle.osgi_package.specs.Packages.{is_java, package_namespace, packages}
-use Rattle.osgi_package.specs.Parameters.{HasValue, IsAttribute, attribute_text, is_directed, is_double, is_other, version_text}
+use Rattle.osgi_package.specs.Parameters.{IsReadableAttribute, IsAttribute, attribute_text, is_directed, is_double, is_plain_attribute, version_text}
 
 -- the requirement that a clause makes for one of its packages: the package in a version within this range, exported by a bundle of
 -- this name, if one is given, in a version within that range, with equal values of all other attributes
@@ -21,7 +21,7 @@ pub record IsImport (clause : Clause) (imported : List ℕ) (requirement : Requi
   pub range : ReadsRange (version_text (codes "version") clause) (range_parts requirement.range)
   pub from_name : requirement.from_name ≡ attribute_text (codes "bundle-symbolic-name") clause
   pub from_range : ReadsRange (version_text (codes "bundle-version") clause) (range_parts requirement.from_range)
-  pub equal : AllZip IsAttribute (filter is_other clause.attributes) requirement.equal
+  pub equal : AllZip IsAttribute (filter is_plain_attribute clause.attributes) requirement.equal
   pub optional : requirement.optional ≡ is_directed (codes "resolution") (codes "optional") clause
   pub unfiltered : requirement.filter ≡ None
   pub single : requirement.multiple ≡ false
@@ -37,7 +37,7 @@ abbrev pub import_faults : List Clause → Clause → List (PackageKind → Type
 import_faults before clause =
     Where BadVersion ((¬ IsReadableRange (version_text (codes "version") clause)) ⊎ (¬ IsReadableRange (version_text (codes "bundle-version") clause)))
     ∷ Where DoubleType (list_any is_double clause.attributes ≡ true)
-    ∷ Where BadValue (¬ All HasValue clause.attributes)
+    ∷ Where BadValue (¬ All IsReadableAttribute clause.attributes)
     ∷ Where Duplicate (¬ AllPairs ◌≢◌ (packages before ++ clause.paths))
     ∷ []
 

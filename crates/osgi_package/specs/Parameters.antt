@@ -12,12 +12,12 @@ use Rattle.osgi_model.specs.Values.{IsOfType, Names}
 
 -- ---- attributes
 
-abbrev pub is_named : List ℕ → Typed → Bool
-is_named name attribute = bytes_eq attribute.name name
+abbrev pub is_attribute_named : List ℕ → Typed → Bool
+is_attribute_named name attribute = bytes_eq attribute.name name
 
 -- the text of the attribute of this name, if the clause has one
 abbrev pub attribute_text : List ℕ → Clause → Option (List ℕ)
-attribute_text name clause = option_map (λ (a : Typed). a.value) (find (is_named name) clause.attributes)
+attribute_text name clause = option_map (λ (a : Typed). a.value) (find (is_attribute_named name) clause.attributes)
 
 -- the text of an attribute that gives a version or a range. Without the attribute it is empty, which reads as the version 0.0.0
 -- and as the range of all versions from 0.0.0 on
@@ -31,19 +31,19 @@ pub record IsAttribute (typed : Typed) (attribute : Attribute) : Type 0 where
   pub name : attribute.name ≡ typed.name
   pub value : IsOfType kind typed.value attribute.value
 
-abbrev pub HasValue : Typed → Type 0
-HasValue typed = (attribute : Attribute) × IsAttribute typed attribute
+abbrev pub IsReadableAttribute : Typed → Type 0
+IsReadableAttribute typed = (attribute : Attribute) × IsAttribute typed attribute
 
 abbrev pub is_double : Typed → Bool
 is_double typed = bytes_eq typed.kind (codes "Double")
 
 -- the name of the bundle that exports a package, and its version: attributes that each export has by itself
 abbrev pub is_implicit : Typed → Bool
-is_implicit typed = is_named (codes "bundle-symbolic-name") typed || is_named (codes "bundle-version") typed
+is_implicit typed = is_attribute_named (codes "bundle-symbolic-name") typed || is_attribute_named (codes "bundle-version") typed
 
 -- it is neither the version of the package nor one of the exporter's
-abbrev pub is_other : Typed → Bool
-is_other typed = not (is_named (codes "version") typed || is_implicit typed)
+abbrev pub is_plain_attribute : Typed → Bool
+is_plain_attribute typed = not (is_attribute_named (codes "version") typed || is_implicit typed)
 
 -- ---- directives
 

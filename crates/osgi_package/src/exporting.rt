@@ -16,7 +16,7 @@ ghost use Rattle.osgi_package.specs.computed.ExportReader.{capabilities_of, IsAd
 use crate::attributes::attributes;
 use crate::fault::{PackageFault, PackageKind};
 use crate::parameters::{is_implicit, is_java, listed, version_text};
-use osgi_base::{List, Text};
+use osgi_base::{List, Shared, Text};
 use osgi_header::{Clause, Typed};
 use osgi_model::{Attribute, Attributes, Value};
 use osgi_version::Version;
@@ -83,9 +83,9 @@ fn capability(
     Ok(Capability {
         namespace: Text::of(alloc, b"osgi.wiring.package")?,
         name: Text::of(alloc, b"")?,
-        attributes,
-        uses,
-        mandatory,
+        attributes: Shared::new(alloc, attributes)?,
+        uses: Shared::new(alloc, uses)?,
+        mandatory: Shared::new(alloc, mandatory)?,
     })
 }
 
@@ -157,7 +157,7 @@ fn read(
     alloc: Global,
     clauses: &[Clause],
 ) -> Result<Result<List<Capability>, PackageFault>, AllocError>
-    requires few { length clauses.now < 4294967295 }
+    requires few { length clauses.now < u32.MAX }
     ensures answer { IfOk result (IsTheAnswer SaysExports clauses.now) }
 {
     let mut capabilities = List::new(alloc)?;
@@ -178,7 +178,7 @@ pub fn exports(
     alloc: Global,
     clauses: &List<Clause>,
 ) -> Result<Result<List<Capability>, PackageFault>, AllocError>
-    requires few { length clauses.now < 4294967295 }
+    requires few { length clauses.now < u32.MAX }
     ensures reads { IfOk result (λ r. MatchResult r (AreExports clauses.now) (IsExportFault clauses.now)) }
     ensures only { (others : List Capability) → AreExports clauses.now others → IfOk result (λ r. r ≡ Ok others) }
     ensures fault { (other : PackageFault) → IsExportFault clauses.now other → IfOk result (λ r. r ≡ Err other) }

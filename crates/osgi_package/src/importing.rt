@@ -15,16 +15,16 @@ use crate::attributes::attributes;
 use crate::distinct::add_texts;
 use crate::fault::{PackageFault, PackageKind};
 use crate::parameters::{attribute_text, is_directed, is_java, version_text};
-use osgi_base::{List, Text};
+use osgi_base::{List, Shared, Text};
 use osgi_header::Clause;
 use osgi_model::Attributes;
 use osgi_version::VersionRange;
-use osgi_world::Requirement;
+use osgi_world::{Requirement, SharedRange};
 use std::alloc::{AllocError, Global};
 use std::collections::BTreeSet;
 
 /// The range that a text reads as; none where it reads as none.
-fn range(alloc: Global, text: &[u8]) -> Result<Option<VersionRange>, AllocError>
+pub fn range(alloc: Global, text: &[u8]) -> Result<Option<VersionRange>, AllocError>
     ensures range { IfOk result (IsRangeOf text.now) }
 {
     Ok(VersionRange::parse(alloc, text)?.ok())
@@ -78,10 +78,10 @@ fn requirement(
     Ok(Requirement {
         namespace,
         name: Text::empty(),
-        range,
+        range: SharedRange::of(alloc, range)?,
         from_name,
-        from_range,
-        equal,
+        from_range: SharedRange::of(alloc, from_range)?,
+        equal: Shared::new(alloc, equal)?,
         filter: None,
         optional: is_directed(b"resolution", b"optional", clause),
         multiple: false,
@@ -176,7 +176,7 @@ fn read(
     alloc: Global,
     clauses: &[Clause],
 ) -> Result<Result<List<Requirement>, PackageFault>, AllocError>
-    requires few { length clauses.now < 4294967295 }
+    requires few { length clauses.now < u32.MAX }
     ensures answer { IfOk result (IsTheAnswer SaysImports clauses.now) }
 {
     let mut seen = BTreeSet::new(alloc);
@@ -198,7 +198,7 @@ pub fn imports(
     alloc: Global,
     clauses: &List<Clause>,
 ) -> Result<Result<List<Requirement>, PackageFault>, AllocError>
-    requires few { length clauses.now < 4294967295 }
+    requires few { length clauses.now < u32.MAX }
     ensures reads { IfOk result (λ r. MatchResult r (AreImports clauses.now) (IsImportFault clauses.now)) }
     ensures only { (others : List Requirement) → AreImports clauses.now others → IfOk result (λ r. r ≡ Ok others) }
     ensures fault { (other : PackageFault) → IsImportFault clauses.now other → IfOk result (λ r. r ≡ Err other) }

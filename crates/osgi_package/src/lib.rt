@@ -12,5 +12,5 @@ pub use attributes::{has_double, read_attributes};
 pub use distinct::are_distinct;
 pub use exporting::exports;
 pub use fault::{PackageFault, PackageKind};
-pub use importing::imports;
+pub use importing::{imports, range};
 pub use parameters::{directive_value, is_directed, version_text};

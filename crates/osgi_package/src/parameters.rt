@@ -11,7 +11,7 @@ use std::alloc::{AllocError, Global};
 
 /// Whether the attribute has the name.
 fn is_named(name: &[u8], attribute: &Typed) -> bool
-    ensures named { result ≡ spec.is_named name.now attribute.now }
+    ensures named { result ≡ spec.is_attribute_named name.now attribute.now }
 {
     attribute.name.bytes() == name
 }
@@ -25,7 +25,7 @@ pub fn is_implicit(attribute: &Typed) -> bool
 
 /// Whether it is neither the version of the package nor one of the exporter's.
 pub fn is_other(attribute: &Typed) -> bool
-    ensures other { result ≡ spec.is_other attribute.now }
+    ensures other { result ≡ spec.is_plain_attribute attribute.now }
 {
     !(is_named(b"version", attribute) || is_implicit(attribute))
 }

@@ -5,7 +5,7 @@ use Rattle.osgi_base.specs.declared.ids.ServiceId.{ServiceId}
 use Rattle.osgi_syntax.specs.Words.{IsId}
 use Rattle.osgi_ops.specs.Settings.{standard_bounds}
 use Rattle.osgi_program.specs.Words.{AreOptions, IsBudget, none, in_one, in_two}
-use Rattle.osgi_program.specs.declared.words.TheConstants.{MAX_BUDGET}
+use Rattle.osgi_ops.specs.declared.limits.TheConstants.{MAX_BUDGET}
 
 -- a limit is written as an id is
 pub as_id : (word : List ℕ) (budget : ℕ) → IsBudget word budget → IsId word (record { 0 = budget })

@@ -15,7 +15,7 @@ use Rattle.osgi_ops.specs.declared.reply.Reply.{Reply}
 use Rattle.osgi_console.specs.Console.{AreLinesOf}
 use Rattle.osgi_core.specs.Sound.{Sound}
 use Rattle.osgi_depot.specs.Depots.{IsDepotOf}
-use Rattle.osgi_outside.specs.Shelves.{Row}
+use Rattle.osgi_outside.specs.Shelves.{ShelfRow}
 use Rattle.osgi_program.specs.declared.session.Session.{Session}
 use Rattle.osgi_program.specs.declared.session.TheConstants.{MAX_INPUT, DONE, TROUBLED, FAULTY_WORDS, READ_FAILED, INPUT_TOO_LONG, HISTORY_FULL}
 
@@ -25,7 +25,7 @@ is_handing _ = false
 
 -- what a shelf did while a session was made: the folders that it exposes, if it does, and its counts of faults before and after
 pub record Shelved : Type 0 where
-  pub told : Option (List Row)
+  pub told : Option (List ShelfRow)
   pub before : ℕ
   pub after : ℕ
 

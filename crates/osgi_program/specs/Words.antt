@@ -2,9 +2,9 @@
 use Rattle.std.specs.Prelude.{ℕ, ◌≡◌, ◌≤◌, List, [], ◌∷◌, ◌++◌, length, codes}
 use Rattle.std.specs.Str.Parse.{IsNumeral, digits_value}
 use Rattle.osgi_ops.specs.Settings.{Bounds, standard_bounds}
-use Rattle.osgi_program.specs.declared.words.TheConstants.{MAX_BUDGET}
+use Rattle.osgi_ops.specs.declared.limits.TheConstants.{MAX_BUDGET}
 
--- the word is one to ten digits of a number from 1 to 1,000,000,000
+-- the word is one to ten digits of a number from 1 to the greatest budget
 pub record IsBudget (word : List ℕ) (budget : ℕ) : Type 0 where
   pub numeral : IsNumeral 10 word
   pub short : length word ≤ 10

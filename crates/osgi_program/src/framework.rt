@@ -31,7 +31,7 @@ fn run_input<F: Shelf>(
     input: &[u8],
     shelf: &mut F,
 ) -> Result<(Ran, Session), AllocError>
-    requires few { length input.now < 4294967295 }
+    requires few { length input.now < u32.MAX }
     ensures told { F.told shelf.new ≡ F.told shelf.old }
     ensures later { F.faults shelf.old ≤ F.faults shelf.new }
     ensures run { IfOk result (λ r. IsRun (bounds_of limits) input.now (record { told = F.told shelf.old; before = F.faults shelf.old; after = F.faults shelf.new }) r.0 r.1) }

@@ -7,4 +7,4 @@ mod session;
 mod words;
 
 pub use framework::framework_main;
-pub use session::{Finished, Session};
+pub use session::{FAULTY_WORDS, Finished, NO_MEMORY, Session};

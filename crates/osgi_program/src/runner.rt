@@ -1,15 +1,15 @@
 //! Lines run on the machine.
 
-ghost use Rattle.std.specs.Prelude.{◌≡◌, IfOk};
+ghost use Rattle.std.specs.Prelude.{◌≡◌};
 ghost use Rattle.osgi_ops.specs.Bundles.{system};
 ghost use Rattle.osgi_session.specs.Plans.{op_of};
 ghost use Rattle.osgi_program.specs.computed.Running.{IsAsked, ran_by, RunsLine, RunsLines, says_full, tag_of};
 
 use osgi_base::{BundleId, Tag};
 use osgi_core::Core;
-use osgi_ops::{Op, Refusal, Reply};
+use osgi_ops::{Refusal, Reply};
 use osgi_session::{Command, Content, Line};
-use std::alloc::{AllocError, Global};
+use std::alloc::Global;
 
 /// The system bundle, which runs the console's commands.
 const SYSTEM: BundleId = BundleId(0);
@@ -23,13 +23,6 @@ pub enum Ran {
     Full,
     /// To a line for which memory ran out.
     Starved,
-}
-
-/// The operation that a command of the console asks for, which the system bundle owns.
-fn operation(alloc: Global, command: &Command) -> Result<Op, AllocError>
-    ensures operation { IfOk result (λ op. op ≡ op_of system command.now) }
-{
-    Ok(command.copy(alloc)?.into_op(SYSTEM))
 }
 
 /// Whether a reply says that the history is full.
@@ -60,7 +53,7 @@ fn run_command(alloc: Global, core: &mut Core, number: u32, command: &Command) -
     ensures setting { core.new.setting ≡ core.old.setting }
     ensures asked { IsAsked result core.old.setting.bounds.entries (tag_of number) (op_of system command.now) core.old.entries core.new.entries }
 {
-    let Ok(op) = operation(alloc, command) else {
+    let Ok(op) = command.op_of(alloc, SYSTEM) else {
         return Ran::Starved;
     };
     let tag = Tag {

@@ -32,13 +32,14 @@ impl Drop for Session {
 pub(crate) const MAX_INPUT: usize = 1_048_576;
 
 /// The words of the command line are faulty.
-pub(crate) const FAULTY_WORDS: u8 = 2;
+pub const FAULTY_WORDS: u8 = 2;
 
 pub(crate) const READ_FAILED: u8 = 3;
 
 pub(crate) const WRITE_FAILED: u8 = 4;
 
-pub(crate) const NO_MEMORY: u8 = 5;
+/// Memory ran out.
+pub const NO_MEMORY: u8 = 5;
 
 pub(crate) const INPUT_TOO_LONG: u8 = 6;
 

@@ -2,14 +2,12 @@
 
 ghost use Rattle.std.specs.Prelude.{◌≡◌, ◌≢◌, ◌≤◌, ℕ, IfSome, Some, List, [], ◌++◌, codes, MatchOption};
 ghost use Rattle.osgi_ops.specs.Settings.{bounds_of};
+ghost use Rattle.osgi_ops.specs.declared.limits.TheConstants.{MAX_BUDGET};
 ghost use Rattle.osgi_program.specs.Words.{AreOptions, AsksRun, IsBudget, run_bounds};
 
 use osgi_base::{ServiceId, Text};
-use osgi_ops::Limits;
+use osgi_ops::{Limits, MAX_BUDGET};
 use osgi_syntax::id;
-
-/// The greatest limit on the effort of a resolve.
-pub(crate) const MAX_BUDGET: u64 = 1_000_000_000;
 
 /// A word as a limit on effort: one to ten digits of a number from 1 to 1,000,000,000. None where it is none.
 fn budget(word: &[u8]) -> Option<u64>

@@ -6,7 +6,7 @@ use Rattle.std.proofs.lemmas.List.Elements.{filter-append}
 use Rattle.indexmap.specs.IndexMap.{insert_entry}
 use Rattle.osgi_base.specs.declared.ids.BundleId.{BundleId}
 use Rattle.osgi_registry.specs.Rows.{with_count}
-use Rattle.osgi_registry.specs.computed.Uses.{uses_of}
+use Rattle.osgi_registry.specs.computed.Uses.{all_uses}
 
 -- an insert puts the user's count
 pub counted_by_insert : (user : BundleId) (count : ℕ) (uses : List (ℕ × ℕ)) → insert_entry nat_eq uses user.0 count ≡ with_count user count uses
@@ -23,12 +23,12 @@ pub counted_by_set : (user : BundleId) (old count : ℕ) (uses : List (ℕ × �
 counted_by_set user old count [] found = absurd (cc found)
 counted_by_set user old count (first ∷ rest) found = set_by user old count first rest (nat_eq user.0 first.0) (counted_by_set user old count rest) found
 
-apart : (first : Option (ℕ × ℕ)) (others : List (ℕ × ℕ)) → uses_of first others ≡ uses_of first [] ++ others
+apart : (first : Option (ℕ × ℕ)) (others : List (ℕ × ℕ)) → all_uses first others ≡ all_uses first [] ++ others
 apart None others = refl
 apart (Some one) others = refl
 
 -- where the first and the others are left apart, all are
-pub left_apart : (keep : ℕ × ℕ → Bool) (first now : Option (ℕ × ℕ)) (others left : List (ℕ × ℕ)) → uses_of now [] ≡ filter keep (uses_of first []) → left ≡ filter keep others →
-    uses_of now left ≡ filter keep (uses_of first others)
+pub left_apart : (keep : ℕ × ℕ → Bool) (first now : Option (ℕ × ℕ)) (others left : List (ℕ × ℕ)) → all_uses now [] ≡ filter keep (all_uses first []) → left ≡ filter keep others →
+    all_uses now left ≡ filter keep (all_uses first others)
 left_apart keep first now others left one rest =
-    apart now left ∙ ap (λ l. l ++ left) one ∙ ap (λ l. filter keep (uses_of first []) ++ l) rest ∙ sym (ap (filter keep) (apart first others) ∙ filter-append keep (uses_of first []) others)
+    apart now left ∙ ap (λ l. l ++ left) one ∙ ap (λ l. filter keep (all_uses first []) ++ l) rest ∙ sym (ap (filter keep) (apart first others) ∙ filter-append keep (all_uses first []) others)

@@ -23,7 +23,7 @@ use Rattle.osgi_ops.specs.declared.service.Service.{Service}
 use Rattle.osgi_registry.specs.declared.place.Place.{Place}
 use Rattle.osgi_registry.specs.computed.Finding.{does_fit, is_open}
 use Rattle.osgi_registry.specs.computed.Places.{AreCurrent, Classes, entries_at, IsIndexOf, place_cmp, place_of, service_at}
-use Rattle.osgi_registry.specs.Rows.{IsOneOf, IsOpenBy, Row, services_in}
+use Rattle.osgi_registry.specs.Rows.{IsAskedFor, IsOpenBy, LiveService, services_in}
 use Rattle.osgi_registry.proofs.Entries.{pairs_head}
 use Rattle.osgi_registry.proofs.Exact.{place_itself}
 use Rattle.osgi_registry.proofs.Ranked.{all_listed, every_listed, ids_are, IsListed, ordered}
@@ -115,12 +115,12 @@ passes_kept p x [] there passes = absurd (omega (arith, there.1))
 passes_kept p x (y ∷ ys) (zero, within, is) passes = rw (ap p is ∙ passes) (subst (λ z. Contains (y ∷ filter p ys) z) is (Contains-get_or (y ∷ filter p ys) 0 y (omega arith)))
 passes_kept p x (y ∷ ys) (suc k, within, is) passes = passes_kept_by p x y ys (p y) refl (passes_kept p x ys (k, omega (arith, within), is) passes)
 
-values_listed : (c : List ℕ) (rows : List Row) (entries : List (Place × Service)) → All (IsListed c rows) entries → All (λ s. Contains (services_in rows) s × (has_class c s ≡ true)) (values_of entries)
+values_listed : (c : List ℕ) (rows : List LiveService) (entries : List (Place × Service)) → All (IsListed c rows) entries → All (λ s. Contains (services_in rows) s × (has_class c s ≡ true)) (values_of entries)
 values_listed c rows entries listed = All-map (λ s. Contains (services_in rows) s × (has_class c s ≡ true)) (λ (e : Place × Service). e.1) entries (λ k d within. let here = listed k d within in (here.live, here.has))
 
 -- ---- the services of a class that pass
 
-module _ (classes : Classes) (c : List ℕ) (rows : List Row) (index : IsIndexOf classes rows) (current : AreCurrent classes rows) (passes : Service → Bool)
+module _ (classes : Classes) (c : List ℕ) (rows : List LiveService) (index : IsIndexOf classes rows) (current : AreCurrent classes rows) (passes : Service → Bool)
     (IsAsked : Service → Type 0) (tells : (s : Service) → has_class c s ≡ true → Decides (passes s) (IsAsked s)) (asked_has : (s : Service) → IsAsked s → has_class c s ≡ true)
     (entries : List (Place × Service)) (are : entries_at classes c ≡ entries) where
   -- those that pass are those that are asked for, the better first
@@ -149,7 +149,7 @@ module _ (classes : Classes) (c : List ℕ) (rows : List Row) (index : IsIndexOf
       (found_of_ranked IsAsked (services_in rows) (ids_of (filter passes (values_of entries))) (ranked_under sorted))
 
   -- one that passes is one of them
-  pub one_passes : IsStrictlySortedBy place_cmp (keys_of entries) → (id : ServiceId) → IsOneOf (λ s. passes s ≡ true) (values_of entries) id → IsOneOf IsAsked (services_in rows) id
+  pub one_passes : IsStrictlySortedBy place_cmp (keys_of entries) → (id : ServiceId) → IsAskedFor (λ s. passes s ≡ true) (values_of entries) id → IsAskedFor IsAsked (services_in rows) id
   one_passes sorted id one =
       let here = All-contains (λ s. Contains (services_in rows) s × (has_class c s ≡ true)) (values_of entries) one.service (values_listed c rows entries (all_listed classes c rows index current entries are sorted)) one.there in
       record { service = one.service; there = here.0; is = one.is; asked = (tells one.service here.1).0 one.asked }

@@ -7,6 +7,7 @@ pub mod Exact
 pub mod Found
 pub mod Holds
 pub mod Keys
+pub mod Objects
 pub mod Placed
 pub mod Pushes
 pub mod Ranked

@@ -17,13 +17,13 @@ use Rattle.osgi_registry.specs.declared.place.Place.{Place}
 use Rattle.osgi_registry.specs.computed.Places.{AreCurrent, Classes, entries_at, IsIndexOf, place_cmp, place_of, service_at, service_under}
 use Rattle.osgi_ops.specs.Classes.{has_class, ids_of, rank_cmp}
 use Rattle.osgi_ops.specs.declared.service.Service.{Service}
-use Rattle.osgi_registry.specs.Rows.{Row, services_in}
+use Rattle.osgi_registry.specs.Rows.{LiveService, services_in}
 use Rattle.osgi_registry.proofs.Entries.{pairs_head, pairs_tail}
 use Rattle.osgi_registry.proofs.Exact.{place_exact}
 use Rattle.osgi_registry.proofs.Placed.{Contains-services, held_at, IsAt, row_held}
 
 -- a live service of the class at its place
-pub record IsListed (c : List ℕ) (rows : List Row) (e : Place × Service) : Type 0 where
+pub record IsListed (c : List ℕ) (rows : List LiveService) (e : Place × Service) : Type 0 where
   pub live : Contains (services_in rows) e.1
   pub has : has_class c e.1 ≡ true
   pub is : place_of e.1 ≡ e.0
@@ -33,14 +33,14 @@ place_total = then_total (on_total (λ (p : Place). p.ranking.0) (back_total int
 
 -- ---- the services that stand under the class
 
-listed_by : (c : List ℕ) (rows : List Row) (p : Place) (s : Service) (at : IsAt c rows p) → s ≡ at.row.service → IsListed c rows (p, s)
+listed_by : (c : List ℕ) (rows : List LiveService) (p : Place) (s : Service) (at : IsAt c rows p) → s ≡ at.row.service → IsListed c rows (p, s)
 listed_by c rows p s at same = record {
   live = subst (λ t. Contains (services_in rows) t) (sym same) (Contains-services rows at.row at.live);
   has = ap (has_class c) same ∙ at.has;
   is = ap place_of same ∙ at.is;
 }
 
-module _ (classes : Classes) (c : List ℕ) (rows : List Row) (index : IsIndexOf classes rows) (current : AreCurrent classes rows) where
+module _ (classes : Classes) (c : List ℕ) (rows : List LiveService) (index : IsIndexOf classes rows) (current : AreCurrent classes rows) where
   listed_at : (p : Place) (s : Service) → service_under classes c p ≡ Some s → IsListed c rows (p, s)
   listed_at p s is =
       let at : IsAt c rows p = row_held classes c rows p index (ap (λ o. is_some o) is) in
@@ -55,7 +55,7 @@ module _ (classes : Classes) (c : List ℕ) (rows : List Row) (index : IsIndexOf
       ∙ lookup-from_Contains (eq_by_cmp_equiv place_total) e.0 e.1 entries (IsDistinct-from_sorted place_cmp (keys_of entries) sorted) (Contains-get_or entries k d within))
 
   -- and each live service of the class is there
-  pub every_listed : (k : ℕ) (d : Row) → k < length rows → has_class c (get_or rows k d).service ≡ true → Contains (values_of (entries_at classes c)) (get_or rows k d).service
+  pub every_listed : (k : ℕ) (d : LiveService) → k < length rows → has_class c (get_or rows k d).service ≡ true → Contains (values_of (entries_at classes c)) (get_or rows k d).service
   every_listed k d within has = every_by (service_under classes c (place_of (get_or rows k d).service)) refl (held_at classes c rows k d index within has)
     where
       every_by : (found : Option Service) → service_under classes c (place_of (get_or rows k d).service) ≡ found → is_some found ≡ true → Contains (values_of (entries_at classes c)) (get_or rows k d).service
@@ -68,7 +68,7 @@ module _ (classes : Classes) (c : List ℕ) (rows : List Row) (index : IsIndexOf
 
 -- ---- their order
 
-module _ (c : List ℕ) (rows : List Row) where
+module _ (c : List ℕ) (rows : List LiveService) where
   pub ids_are : (entries : List (Place × Service)) → All (IsListed c rows) entries → map service_at (keys_of entries) ≡ ids_of (values_of entries)
   ids_are [] at = refl
   ids_are (e ∷ rest) at =

@@ -2,19 +2,20 @@
 use Rattle.std.specs.Prelude.{◌≡◌, ◌≤◌, List, [], ◌∷◌, ◌++◌, length}
 use Rattle.osgi_base.specs.declared.ids.BundleId.{BundleId}
 use Rattle.osgi_base.specs.declared.ids.Tag.{Tag}
-use Rattle.osgi_ops.specs.Services.{gets, live, Registered, registered, service_now, ungets, uses_of}
+use Rattle.osgi_ops.specs.Services.{gets, live, Registered, registered, service_now, ungets, uses_held}
 use Rattle.osgi_ops.specs.declared.entry.Entry.{Entry}
 use Rattle.osgi_ops.specs.declared.op.Op.{Op}
 use Rattle.osgi_ops.specs.declared.reply.Reply.{Reply}
-use Rattle.osgi_registry.specs.Rows.{count_of, RegistryRows, Row}
+use Rattle.osgi_registry.specs.Rows.{count_of, RegistryRows, LiveService}
 
--- the row of a registered service has it as it stands, and counts each user's uses; no user gave back more than it took
-pub record IsRowOf (row : Row) (r : Registered) : Type 0 where
+-- the row of a registered service has it as it stands and its scope, and counts each user's uses; no user gave back more than it took
+pub record IsRowOf (row : LiveService) (r : Registered) : Type 0 where
   pub service : row.service ≡ service_now r
-  pub uses : (user : BundleId) → count_of user row.uses ≡ uses_of user r
+  pub scope : row.scope ≡ r.scope
+  pub uses : (user : BundleId) → count_of user row.uses ≡ uses_held user r
   pub paid : (user : BundleId) → ungets user r ≤ gets user r
 
-abbrev pub AreRowsOf : List Row → List Registered → Type 0
+abbrev pub AreRowsOf : List LiveService → List Registered → Type 0
 AreRowsOf [] [] = Unit {0}
 AreRowsOf (row ∷ rows) (r ∷ rest) = IsRowOf row r × AreRowsOf rows rest
 AreRowsOf _ _ = ⊥

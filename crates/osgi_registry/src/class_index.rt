@@ -138,7 +138,8 @@ impl ClassIndex {
         Ok(())
     }
 
-    /// Takes out what stands at one place under the classes, and puts the service at another. If memory runs out, nothing changes.
+    /// Takes out what stands at one place under the classes, and puts the service at another. If memory runs out, nothing
+    /// changes.
     pub fn move_all(
         &mut self,
         classes: &[Text],

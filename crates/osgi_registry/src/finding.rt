@@ -10,7 +10,7 @@ ghost use Rattle.osgi_base.specs.declared.ids.BundleId.{BundleId};
 ghost use Rattle.osgi_ops.specs.Classes.{ids_of};
 ghost use Rattle.osgi_registry.specs.computed.Finding as spec;
 ghost use Rattle.osgi_registry.specs.computed.Places.{place_cmp, service_at};
-ghost use Rattle.osgi_registry.specs.Rows.{IsOneOf};
+ghost use Rattle.osgi_registry.specs.Rows.{IsAskedFor};
 
 use crate::place::Place;
 use osgi_base::{BundleId, List, ServiceId, Shared, Text};
@@ -70,7 +70,7 @@ pub fn first_open<F: Fn(BundleId, &Text) -> bool + Drop>(
     requires callable { F.IsAlwaysCallable assignable.now }
     ensures first { (test : BundleId → List ℕ → Bool) → ((owner : BundleId) (class : _) (answer : Bool) → F.post assignable.now owner class answer → answer ≡ test owner class.now) →
         result ≡ option_map (λ service. service.service) (find (spec.is_open test (option_copied filter.entry)) (values services.now)) }
-    ensures fits { IfSome result (IsOneOf (λ service. spec.does_fit (option_copied filter.entry) service ≡ true) (values services.now)) }
+    ensures fits { IfSome result (IsAskedFor (λ service. spec.does_fit (option_copied filter.entry) service ≡ true) (values services.now)) }
     ensures ordered { IsStrictlySortedBy place_cmp (keys services.now) }
 {
     for shared in services.values() {

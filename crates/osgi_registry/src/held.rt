@@ -9,13 +9,13 @@ use crate::properties::FrameworkTexts;
 use crate::uses::Uses;
 use osgi_base::{BundleId, Shared};
 use osgi_model::Attributes;
-use osgi_ops::Service;
+use osgi_ops::{Scope, Service};
 use std::alloc::{AllocError, Global};
 use std::marker::Model;
 
-/// A service, which the index by class shares, and how often each user holds it.
+/// A service, which the index by class shares, its scope, and how often each user holds it.
 ///
-/// Both are reached through one pointer, so that the nodes of a tree of these stay small: a look-up goes through few of them.
+/// All are reached through one pointer, so that the nodes of a tree of these stay small: a look-up goes through few of them.
 #[derive(Drop)]
 pub struct Held {
     inner: Box<Used>,
@@ -24,30 +24,38 @@ pub struct Held {
 #[derive(Drop)]
 struct Used {
     service: Shared<Service>,
+    scope: Scope,
     uses: Uses,
 }
 
 impl Model for Held {
-    ghost use Rattle.osgi_registry.specs.Rows.{Row};
+    ghost use Rattle.osgi_registry.specs.Rows.{LiveService};
     ghost use Rattle.std.specs.Coded.{codes};
     ghost use Rattle.osgi_model.specs.contracts.value.Value as value;
 
-    ghost Value = { Row };
+    ghost Value = { LiveService };
 
     ghost coded = { Prim.hlevel (codes, value.the_row.coded) };
 
-    ghost view = { λ h. record { service = h.inner.value.service; uses = h.inner.value.uses } };
+    ghost view = { λ h. record { service = h.inner.value.service; scope = h.inner.value.scope; uses = h.inner.value.uses } };
 }
 
 impl Held {
     /// A service that nobody uses yet.
-    pub fn new(alloc: Global, service: Service) -> Result<Held, AllocError>
-        ensures service { IfOk result (λ held. held ≡ record { service = service; uses = [] }) }
+    pub fn new(alloc: Global, service: Service, scope: Scope) -> Result<Held, AllocError>
+        ensures service { IfOk result (λ held. held ≡ record { service = service; scope = scope; uses = [] }) }
     {
         let service = Shared::new(alloc, service)?;
         let uses = Uses::new();
         Ok(Held {
-            inner: Box::new(alloc, Used { service, uses })?,
+            inner: Box::new(
+                alloc,
+                Used {
+                    service,
+                    scope,
+                    uses,
+                },
+            )?,
         })
     }
 
@@ -55,6 +63,12 @@ impl Held {
         ensures service { result.now ≡ self.now.service }
     {
         self.inner.service.get()
+    }
+
+    pub fn scope(&self) -> Scope
+        ensures scope { result ≡ self.now.scope }
+    {
+        self.inner.scope
     }
 
     /// The service, to be shared.
@@ -73,12 +87,19 @@ impl Held {
 
     /// Counts one more use by the user.
     pub fn add_use(&mut self, alloc: Global, user: BundleId) -> Result<(), AllocError>
-        requires room { count_of user self.old.uses < 18446744073709551615 }
+        requires room { count_of user self.old.uses < u64.MAX }
         ensures service { self.new.service ≡ self.old.service }
         ensures used { OnOk result (self.new ≡ used_more user self.old) }
         ensures unchanged { OnErr result (self.new ≡ self.old) }
     {
         self.inner.uses.add(alloc, user)
+    }
+
+    /// Whether the user holds it.
+    pub fn is_used(&self, user: BundleId) -> bool
+        ensures used { result ≡ nat_lt 0 (count_of user self.now.uses) }
+    {
+        self.inner.uses.is_counted(user)
     }
 
     /// Counts one use less by the user, and answers whether there was one.
@@ -99,20 +120,22 @@ impl Held {
     }
 }
 
-/// The service with these properties and those that the framework sets, in place of all that it had.
+/// The service of the scope with these properties and those that the framework sets, in place of all that it had.
 pub fn modified(
     alloc: Global,
     texts: &FrameworkTexts,
     service: &Service,
+    scope: Scope,
     given: Attributes,
 ) -> Result<Shared<Service>, AllocError>
-    requires fits { service.now.service.0 ≤ 4294967295 }
-    ensures modified { IfOk result (λ modified. modified ≡ record service.now { properties = with_framework given service.now.classes service.now.service service.now.owner }) }
+    requires fits { service.now.service.0 ≤ u32.MAX }
+    ensures modified { IfOk result (λ modified. modified ≡ record service.now { properties = with_framework given service.now.classes scope service.now.service service.now.owner }) }
 {
     let all = texts.with_framework(
         alloc,
         given,
         service.classes.items(),
+        scope,
         service.service,
         service.owner,
     )?;

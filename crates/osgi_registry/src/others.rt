@@ -43,7 +43,7 @@ impl Others {
 
     /// Counts one more use by the user.
     pub fn add(&mut self, alloc: Global, user: BundleId) -> Result<(), AllocError>
-        requires room { count_of user self.old < 18446744073709551615 }
+        requires room { count_of user self.old < u64.MAX }
         ensures added { OnOk result (self.new ≡ with_count user (count_of user self.old + 1) self.old) }
         ensures unchanged { OnErr result (self.new ≡ self.old) }
     {
@@ -54,6 +54,16 @@ impl Others {
         counts.insert(user.0, 1)?;
         self.counts = Some(Box::new(alloc, counts)?);
         Ok(())
+    }
+
+    /// Whether the user's count is above 0.
+    pub fn is_counted(&self, user: BundleId) -> bool
+        ensures counted { result ≡ nat_lt 0 (count_of user self.now) }
+    {
+        match &self.counts {
+            Some(counts) => is_in(counts, user),
+            None => false,
+        }
     }
 
     /// Counts one use less by the user, and answers whether there was one.
@@ -92,13 +102,22 @@ pub fn take_one(count: &mut u64) -> bool
 }
 
 fn add_to(uses: &mut IndexMap<u32, u64>, user: BundleId) -> Result<(), AllocError>
-    requires room { count_of user uses.old.entries < 18446744073709551615 }
+    requires room { count_of user uses.old.entries < u64.MAX }
     ensures added { OnOk result (uses.new.entries ≡ with_count user (count_of user uses.old.entries + 1) uses.old.entries) }
     ensures unchanged { OnErr result (uses.new.entries ≡ uses.old.entries) }
 {
     let count = uses.get(&user.0).copied().unwrap_or(0);
     uses.insert(user.0, count + 1)?;
     Ok(())
+}
+
+fn is_in(uses: &IndexMap<u32, u64>, user: BundleId) -> bool
+    ensures counted { result ≡ nat_lt 0 (count_of user uses.now.entries) }
+{
+    match uses.get(&user.0) {
+        Some(count) => *count > 0,
+        None => false,
+    }
 }
 
 fn take_from(uses: &mut IndexMap<u32, u64>, user: BundleId) -> bool

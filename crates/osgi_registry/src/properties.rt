@@ -8,6 +8,7 @@ ghost use Rattle.osgi_ops.specs.Properties as spec;
 
 use osgi_base::{BundleId, List, ServiceId, Text};
 use osgi_model::{Attribute, Attributes, Value};
+use osgi_ops::Scope;
 use std::alloc::{AllocError, Global};
 use std::collections::BTreeSet;
 
@@ -123,19 +124,22 @@ fn is_the_frameworks(property: &Attribute) -> bool
         || is_named(b"service.scope", property)
 }
 
-/// The names of the properties that the framework sets, and the one scope of services. They are made once, and all services
-/// share them.
+/// The names of the properties that the framework sets, and those of the scopes. They are made once, and all services share them.
 pub struct FrameworkTexts {
     object_class: Text,
     service_id: Text,
     service_bundleid: Text,
     service_scope: Text,
     singleton: Text,
+    bundle: Text,
+    prototype: Text,
     ghost classes_name: { object_class ≡ codes "objectClass" },
     ghost ids_name: { service_id ≡ codes "service.id" },
     ghost owners_name: { service_bundleid ≡ codes "service.bundleid" },
     ghost scopes_name: { service_scope ≡ codes "service.scope" },
-    ghost scope: { singleton ≡ codes "singleton" },
+    ghost singletons: { singleton ≡ codes "singleton" },
+    ghost bundles: { bundle ≡ codes "bundle" },
+    ghost prototypes: { prototype ≡ codes "prototype" },
 }
 
 /// Not derived, so that each exit at which one is dropped is a single call, which is cheap to prove.
@@ -147,6 +151,8 @@ impl Drop for FrameworkTexts {
             service_bundleid: _,
             service_scope: _,
             singleton: _,
+            bundle: _,
+            prototype: _,
         } = self;
     }
 }
@@ -159,7 +165,19 @@ impl FrameworkTexts {
             service_bundleid: Text::of(alloc, b"service.bundleid")?,
             service_scope: Text::of(alloc, b"service.scope")?,
             singleton: Text::of(alloc, b"singleton")?,
+            bundle: Text::of(alloc, b"bundle")?,
+            prototype: Text::of(alloc, b"prototype")?,
         })
+    }
+
+    fn scope_text(&self, scope: Scope) -> &Text
+        ensures text { result.now ≡ spec.scope_text scope }
+    {
+        match scope {
+            Scope::Singleton => &self.singleton,
+            Scope::Bundle => &self.bundle,
+            Scope::Prototype => &self.prototype,
+        }
     }
 
     /// The given properties, then those that the framework sets; given ones of the framework's names are left out.
@@ -168,11 +186,12 @@ impl FrameworkTexts {
         alloc: Global,
         given: Attributes,
         classes: &[Text],
+        scope: Scope,
         service: ServiceId,
         owner: BundleId,
     ) -> Result<Attributes, AllocError>
-        requires fits { service.0 ≤ 4294967295 }
-        ensures all { IfOk result (λ all. all ≡ spec.with_framework given classes.now service owner) }
+        requires fits { service.0 ≤ u32.MAX }
+        ensures all { IfOk result (λ all. all ≡ spec.with_framework given classes.now scope service owner) }
     {
         let mut all = others(given)?;
         let names = class_names(alloc, classes)?;
@@ -184,8 +203,8 @@ impl FrameworkTexts {
             &self.service_bundleid,
             id_value(owner.0 as u64),
         )?;
-        let scope = Value::Text(self.singleton.copy(alloc)?);
-        add(&mut all, alloc, &self.service_scope, scope)?;
+        let text = self.scope_text(scope).copy(alloc)?;
+        add(&mut all, alloc, &self.service_scope, Value::Text(text))?;
         Ok(all)
     }
 }
@@ -215,7 +234,7 @@ fn others(given: Attributes) -> Result<Attributes, AllocError>
 
 /// An id as a value.
 fn id_value(id: u64) -> Value
-    requires fits { id ≤ 4294967295 }
+    requires fits { id ≤ u32.MAX }
     ensures value { result ≡ Value.Long (pos id) }
 {
     Value::Long(id as i64)

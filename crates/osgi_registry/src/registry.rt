@@ -4,13 +4,13 @@ ghost use Rattle.std.specs.Prelude.{◌≡◌, ◌≢◌, ℕ, Bool, List, AllPa
 ghost use Rattle.osgi_base.specs.declared.ids.BundleId.{BundleId};
 ghost use Rattle.osgi_ops.specs.Classes.{AreRanked, IsFound, IsOf};
 ghost use Rattle.std.specs.Bool.{OnTrue, OnFalse};
-ghost use Rattle.std.specs.Option.{option_copied};
+ghost use Rattle.std.specs.Option.{option_copied, option_map};
 ghost use Rattle.std.specs.Result.{result_err};
 ghost use Rattle.std.specs.BTreeMap.{values};
 ghost use Rattle.osgi_ops.specs.declared.op.Op.TheVariants as op;
 ghost use Rattle.osgi_ops.specs.declared.reply.Reply.TheVariants as answers;
 ghost use Rattle.osgi_registry.specs.computed.Places.{HoldsNoMore, IsIndexOf};
-ghost use Rattle.osgi_registry.specs.Rows.{AreInOrder, change, change_refusal, id_of, ids_of, is_owned, IsOneOf, modify_refusal, IsOpenBy, new_row, object_at, others, register_refusal, released, row_at, services_in, use_count, used_less, used_more, with_properties, without, without_user};
+ghost use Rattle.osgi_registry.specs.Rows.{AreInOrder, change, change_refusal, service_number, ids_of, is_owned, IsAskedFor, modify_refusal, IsOpenBy, new_row, object_at, others, register_refusal, released, row_at, services_in, use_count, used_less, used_more, with_properties, without, without_user};
 ghost use Rattle.osgi_registry.specs.Stands.{StandsAfter, StandsFor};
 
 use crate::class_index::ClassIndex;
@@ -21,7 +21,7 @@ use crate::properties::{FrameworkTexts, has_twins};
 use crate::services::Services;
 use osgi_base::{BundleId, List, ServiceId, Text};
 use osgi_model::{Attributes, Filter};
-use osgi_ops::{MAX_SERVICES, Many, Refusal, Service};
+use osgi_ops::{MAX_SERVICES, Many, Refusal, Scope, Service};
 use std::alloc::{AllocError, Global};
 use std::collections::BTreeMap;
 use std::marker::Model;
@@ -112,16 +112,41 @@ impl Registry {
         owner: BundleId,
         classes: List<Text>,
         object: Text,
+        scope: Scope,
         properties: Attributes,
     ) -> Result<Result<ServiceId, Refusal>, AllocError>
-        requires ids_left { self.old.issued < 4294967295 }
+        requires ids_left { self.old.issued < u32.MAX }
         ensures refusal { IfOk result (λ answer. result_err answer ≡ register_refusal properties self.old.rows) }
         ensures id { IfOk result (λ answer. IfOk answer (λ id. id.0 ≡ self.old.issued + 1)) }
-        ensures rows { IfOk result (λ answer. IfOk answer (λ id. self.new.rows ≡ self.old.rows ++ new_row id owner classes object properties ∷ [])) }
+        ensures rows { IfOk result (λ answer. IfOk answer (λ id. self.new.rows ≡ self.old.rows ++ new_row id owner classes object scope properties ∷ [])) }
         ensures issued { IfOk result (λ answer. OnOk answer (self.new.issued ≡ self.old.issued + 1)) }
-        ensures stands { IfOk result (λ answer. IfOk answer (λ id. StandsAfter (op.Register owner classes object properties) (answers.Service id) self.old self.new)) }
+        ensures stands { IfOk result (λ answer. IfOk answer (λ id. StandsAfter (op.Register owner classes object scope properties) (answers.Service id) self.old self.new)) }
         ensures refused { IfOk result (λ answer. OnErr answer (self.new ≡ self.old)) }
         ensures unchanged { OnErr result (self.new ≡ self.old) }
+    {
+        match self.make(owner, classes, object, scope, properties)? {
+            Ok(made) => {
+                let service = made.service;
+                self.insert(made, scope)?;
+                Ok(Ok(service))
+            }
+            Err(refusal) => Ok(Err(refusal)),
+        }
+    }
+
+    /// The service as it is registered under the next id.
+    pub fn make(
+        &self,
+        owner: BundleId,
+        classes: List<Text>,
+        object: Text,
+        scope: Scope,
+        properties: Attributes,
+    ) -> Result<Result<Service, Refusal>, AllocError>
+        requires ids_left { self.now.issued < u32.MAX }
+        ensures refusal { IfOk result (λ answer. result_err answer ≡ register_refusal properties self.now.rows) }
+        ensures made { IfOk result (λ answer. IfOk answer (λ made. made ≡ (new_row (record { 0 = self.now.issued + 1 }) owner classes object scope properties).service)) }
+        ensures room { IfOk result (λ answer. OnOk answer (length self.now.rows < MAX_SERVICES)) }
     {
         if has_twins(self.alloc, properties.items())? {
             return Ok(Err(Refusal::BadProperties));
@@ -132,31 +157,35 @@ impl Registry {
             }));
         }
         let service = ServiceId(self.issued + 1);
-        let properties = self
-            .texts
-            .with_framework(self.alloc, properties, classes.items(), service, owner)?;
-        self.add(Service {
+        let properties = self.texts.with_framework(
+            self.alloc,
+            properties,
+            classes.items(),
+            scope,
+            service,
+            owner,
+        )?;
+        Ok(Ok(Service {
             service,
             owner,
             classes,
             object,
             properties,
-        })?;
-        Ok(Ok(service))
+        }))
     }
 
-    /// Adds a service under the next id.
-    fn add(&mut self, service: Service) -> Result<(), AllocError>
+    /// Inserts a service that was made, under the next id.
+    pub fn insert(&mut self, service: Service, scope: Scope) -> Result<(), AllocError>
         requires next { service.service.0 ≡ self.old.issued + 1 }
-        requires fits { self.old.issued < 4294967295 }
+        requires fits { self.old.issued < u32.MAX }
         requires room { length self.old.rows < MAX_SERVICES }
-        ensures rows { OnOk result (self.new.rows ≡ self.old.rows ++ record { service = service; uses = [] } ∷ []) }
+        ensures rows { OnOk result (self.new.rows ≡ self.old.rows ++ record { service = service; scope = scope; uses = [] } ∷ []) }
         ensures issued { OnOk result (self.new.issued ≡ self.old.issued + 1) }
         ensures unchanged { OnErr result (self.new ≡ self.old) }
     {
         let id = service.service.0;
         let place = Place::of(&service);
-        let held = Held::new(self.alloc, service)?;
+        let held = Held::new(self.alloc, service, scope)?;
         self.index
             .add_all(held.service().classes.items(), place, held.shared())?;
         if let Err(error) = self.services.insert(id, held) {
@@ -169,7 +198,7 @@ impl Registry {
     }
 
     /// Why the owner may not change the service, if there is a reason.
-    fn refusal_of(&self, owner: BundleId, service: ServiceId) -> Option<Refusal>
+    pub fn refusal_of(&self, owner: BundleId, service: ServiceId) -> Option<Refusal>
         ensures refusal { result ≡ change_refusal owner service self.now.rows }
     {
         let Some(held) = self.services.get(&service.0) else {
@@ -196,11 +225,8 @@ impl Registry {
         ensures refused { IfOk result (λ answer. OnErr answer (self.new ≡ self.old)) }
         ensures unchanged { OnErr result (self.new ≡ self.old) }
     {
-        if let Some(refusal) = self.refusal_of(owner, service) {
+        if let Some(refusal) = self.modify_refusal(owner, service, &properties)? {
             return Ok(Err(refusal));
-        }
-        if has_twins(self.alloc, properties.items())? {
-            return Ok(Err(Refusal::BadProperties));
         }
         if !self.put_properties(service, properties)? {
             return Ok(Err(Refusal::NoSuchService));
@@ -208,8 +234,26 @@ impl Registry {
         Ok(Ok(()))
     }
 
+    /// Why the owner may not put these properties in place of the service's, if there is a reason.
+    pub fn modify_refusal(
+        &self,
+        owner: BundleId,
+        service: ServiceId,
+        properties: &Attributes,
+    ) -> Result<Option<Refusal>, AllocError>
+        ensures refusal { IfOk result (λ refusal. refusal ≡ modify_refusal owner service properties.now self.now.rows) }
+    {
+        if let Some(refusal) = self.refusal_of(owner, service) {
+            return Ok(Some(refusal));
+        }
+        if has_twins(self.alloc, properties.items())? {
+            return Ok(Some(Refusal::BadProperties));
+        }
+        Ok(None)
+    }
+
     /// Puts these properties in place of all that were given for the service; false, and nothing changed, where it is not live.
-    fn put_properties(
+    pub fn put_properties(
         &mut self,
         service: ServiceId,
         properties: Attributes,
@@ -224,7 +268,7 @@ impl Registry {
             return Ok(false);
         };
         let now = held.service();
-        let next = modified(self.alloc, &self.texts, now, properties)?;
+        let next = modified(self.alloc, &self.texts, now, held.scope(), properties)?;
         let place = Place::of(next.get());
         self.index
             .move_all(now.classes.items(), Place::of(now), place, &next)?;
@@ -258,7 +302,7 @@ impl Registry {
         user: BundleId,
         service: ServiceId,
     ) -> Result<Result<Text, Refusal>, AllocError>
-        requires countable { use_count user service self.old.rows < 18446744073709551615 }
+        requires countable { use_count user service self.old.rows < u64.MAX }
         ensures object { IfOk result (λ answer. answer ≡ object_at (row_at service self.old.rows)) }
         ensures rows { IfOk result (λ answer. OnOk answer (self.new.rows ≡ change service (used_more user) self.old.rows)) }
         ensures issued { self.new.issued ≡ self.old.issued }
@@ -266,12 +310,48 @@ impl Registry {
         ensures refused { IfOk result (λ answer. OnErr answer (self.new ≡ self.old)) }
         ensures unchanged { OnErr result (self.new ≡ self.old) }
     {
-        let Some(held) = self.services.get_mut(&service.0) else {
+        let Some(object) = self.object(service) else {
             return Ok(Err(Refusal::NoSuchService));
         };
-        let object = held.service().object.copy(self.alloc)?;
-        held.add_use(self.alloc, user)?;
+        let object = object.copy(self.alloc)?;
+        if !self.add_use(user, service)? {
+            return Ok(Err(Refusal::NoSuchService));
+        }
         Ok(Ok(object))
+    }
+
+    /// The object of a live service.
+    pub fn object(&self, service: ServiceId) -> Option<&Text>
+        ensures object { option_copied result ≡ option_map (λ row. row.service.object) (row_at service self.now.rows) }
+    {
+        let held = self.services.get(&service.0)?;
+        Some(&held.service().object)
+    }
+
+    /// Counts one more use of the service by the user; false, and nothing changed, where it is not live.
+    pub fn add_use(&mut self, user: BundleId, service: ServiceId) -> Result<bool, AllocError>
+        requires countable { use_count user service self.old.rows < u64.MAX }
+        ensures absent { IfOk result (λ live. OnFalse live (row_at service self.old.rows ≡ None)) }
+        ensures rows { IfOk result (λ live. OnTrue live (self.new.rows ≡ change service (used_more user) self.old.rows)) }
+        ensures issued { self.new.issued ≡ self.old.issued }
+        ensures refused { IfOk result (λ live. OnFalse live (self.new ≡ self.old)) }
+        ensures unchanged { OnErr result (self.new ≡ self.old) }
+    {
+        let Some(held) = self.services.get_mut(&service.0) else {
+            return Ok(false);
+        };
+        held.add_use(self.alloc, user)?;
+        Ok(true)
+    }
+
+    /// Whether the user holds the service.
+    pub fn is_used(&self, user: BundleId, service: ServiceId) -> bool
+        ensures used { result ≡ nat_lt 0 (use_count user service self.now.rows) }
+    {
+        match self.services.get(&service.0) {
+            Some(held) => held.is_used(user),
+            None => false,
+        }
     }
 
     /// Counts one use of the service less by the user, and answers whether there was one.
@@ -300,7 +380,7 @@ impl Registry {
         requires callable { F.IsAlwaysCallable assignable }
         ensures found { (test : BundleId → List ℕ → Bool) → ((registrant : BundleId) (class : _) (answer : Bool) → F.post assignable registrant class answer → answer ≡ test registrant class.now) →
             IsFound (IsOpenBy test class.now (option_copied filter.entry)) (services_in self.now.rows) result }
-        ensures fits { IfSome result (IsOneOf (IsOf class.now (option_copied filter.entry)) (services_in self.now.rows)) }
+        ensures fits { IfSome result (IsAskedFor (IsOf class.now (option_copied filter.entry)) (services_in self.now.rows)) }
     {
         let services = self.index.services(class)?;
         first_open(services, filter, &assignable)
@@ -334,7 +414,7 @@ impl Registry {
         take_places(&mut self.index, &self.services, bundle);
         self.services.retain(
             |_id: &u64, held: &mut Held| -> bool
-                ensures kept { (result ≡ not (is_owned bundle held.old)) × (held.new ≡ without_user bundle held.old) }
+                ensures held { (result ≡ not (is_owned bundle held.old)) × (held.new ≡ without_user bundle held.old) }
             {
                 held.forget(bundle);
                 held.service().owner.0 != bundle.0
@@ -365,7 +445,7 @@ fn owned_services(
 
 /// Takes the places of the bundle's services out of the index.
 fn take_places(index: &mut ClassIndex, services: &BTreeMap<u64, Held>, bundle: BundleId)
-    requires apart { AllPairs (λ a b. id_of a ≢ id_of b) (values services.now) }
+    requires apart { AllPairs (λ a b. service_number a ≢ service_number b) (values services.now) }
     requires index { IsIndexOf index.old.classes (values services.now) }
     ensures index { IsIndexOf index.new.classes (others bundle (values services.now)) }
     ensures no_more { HoldsNoMore index.old.classes index.new.classes }

@@ -3,7 +3,7 @@
 ghost use Rattle.std.specs.Prelude.{◌≡◌, ◌==◌, ◌+◌, ◌<◌, ◌-◌, nat_lt, filter, not, [], OnOk, OnErr};
 ghost use Rattle.std.specs.Bool.{OnTrue, OnFalse};
 ghost use Rattle.osgi_registry.specs.Rows.{count_of, with_count};
-ghost use Rattle.osgi_registry.specs.computed.Uses.{uses_of};
+ghost use Rattle.osgi_registry.specs.computed.Uses.{all_uses};
 
 use crate::others::{Others, take_one};
 use osgi_base::BundleId;
@@ -21,11 +21,11 @@ pub struct Uses {
 
 impl Model for Uses {
     ghost use Rattle.std.specs.Prelude.{ℕ, List};
-    ghost use Rattle.osgi_registry.specs.computed.Uses.{uses_of};
+    ghost use Rattle.osgi_registry.specs.computed.Uses.{all_uses};
 
     ghost Value = { List (ℕ × ℕ) };
 
-    ghost view = { λ u. uses_of u.first u.others };
+    ghost view = { λ u. all_uses u.first u.others };
 }
 
 impl Uses {
@@ -41,7 +41,7 @@ impl Uses {
 
     /// Counts one more use by the user.
     pub fn add(&mut self, alloc: Global, user: BundleId) -> Result<(), AllocError>
-        requires room { count_of user self.old < 18446744073709551615 }
+        requires room { count_of user self.old < u64.MAX }
         ensures added { OnOk result (self.new ≡ with_count user (count_of user self.old + 1) self.old) }
         ensures unchanged { OnErr result (self.new ≡ self.old) }
     {
@@ -55,6 +55,16 @@ impl Uses {
             return Ok(());
         }
         self.others.add(alloc, user)
+    }
+
+    /// Whether the user's count is above 0.
+    pub fn is_counted(&self, user: BundleId) -> bool
+        ensures counted { result ≡ nat_lt 0 (count_of user self.now) }
+    {
+        match self.first {
+            Some((first, count)) if first == user.0 => count > 0,
+            _ => self.others.is_counted(user),
+        }
     }
 
     /// Counts one use less by the user, and answers whether there was one.
@@ -82,7 +92,7 @@ impl Uses {
 
 /// The count, if it is of another user.
 fn other_than(user: BundleId, first: Option<(u32, u64)>) -> Option<(u32, u64)>
-    ensures other { uses_of result [] ≡ filter (λ other. not (user.0 == other.0)) (uses_of first []) }
+    ensures other { all_uses result [] ≡ filter (λ other. not (user.0 == other.0)) (all_uses first []) }
 {
     let (other, _) = first?;
     if other == user.0 {

@@ -8,13 +8,15 @@ use Rattle.std.proofs.lemmas.List.Folds.{find-append}
 use Rattle.osgi_base.specs.Verdict.{answers, Gives, refuses, Verdict, Where}
 use Rattle.osgi_base.specs.declared.ids.BundleId.{BundleId}
 use Rattle.osgi_base.specs.declared.ids.RevisionId.{RevisionId}
-use Rattle.osgi_bundle.specs.Rows.{bundle_from as row_from, install_refusals, TableRows}
+use Rattle.osgi_bundle.proofs.Made.{gives_answer, gives_due, gives_refusal, made_apart, made_new}
+use Rattle.osgi_bundle.specs.Rows.{bundle_from as row_from, install_refusals, IsTwin, new_row, TableRows}
 use Rattle.osgi_bundle.specs.Stands as bundle
-use Rattle.osgi_bundle.specs.Stands.{IsNew, kept_of, StandsAfter}
+use Rattle.osgi_bundle.specs.Stands.{IsNewBundle, kept_of, StandsAfter}
+use Rattle.osgi_bundle.specs.declared.kept.BundleKept.{BundleKept}
 use Rattle.osgi_bundle.specs.laws.Standing as table
 use Rattle.osgi_bundle.specs.laws.Worlds as worlds
-use Rattle.osgi_ops.specs.Bundles.{brought, Bundle, bundle_from, bundles, installed, installed_by, is_bundle, system, the_system_bundle}
-use Rattle.osgi_ops.specs.Depots.{revision_at, revision_in, row_number, stored_at}
+use Rattle.osgi_ops.specs.Bundles.{brought, Bundle, bundle_from, bundles, installed, installed_by, has_bundle_id, system, the_system_bundle}
+use Rattle.osgi_ops.specs.Depots.{stored_revision, revision_in, row_number, stored_at}
 use Rattle.osgi_ops.specs.Moments.{later, Moment}
 use Rattle.osgi_ops.specs.Operations.{depot_refusal, install_conditions, installs, IsDuplicate, IsReply}
 use Rattle.osgi_ops.specs.Resolved.{current_revision, is_in_use}
@@ -35,12 +37,15 @@ use Rattle.osgi_ops.specs.declared.reply.Reply.TheVariants as answer
 use Rattle.osgi_registry.specs.laws.Standing as registry
 use Rattle.osgi_wiring.proofs.Grown.{Grown, use-known}
 use Rattle.osgi_wiring.specs.States.{IsKeptWorld, WiringState}
+use Rattle.osgi_version.specs.declared.version.Version.{Version}
 use Rattle.osgi_world.specs.Lookups.{IsKnown}
 use Rattle.osgi_world.specs.declared.revision.Revision.{Revision}
 use Rattle.osgi_world.specs.declared.world.Known.{Known}
 use Rattle.osgi_world.specs.declared.world.World.{World}
-use Rattle.osgi_reply.proofs.Replying.{at, from_own, refused_in, replied_refused, still_world}
-use Rattle.osgi_reply.specs.Replied.{IsBrought, IsReplied, IsSame, IsWorldOf, StandsFor, StandsStill}
+use Rattle.osgi_reply.proofs.Replying.{at, from_own, replied_refused, still_world}
+use Rattle.osgi_reply.specs.Replied.{HasRoom, IsBrought, IsReplied, IsRepliedToAll, IsSame, IsWorldOf, StandsFor, StandsStill}
+use Rattle.osgi_reply.specs.computed.Changes.{IsReplyAndChangeToAll}
+use Rattle.osgi_reply.specs.declared.change.Change.TheVariants as change
 use Rattle.osgi_reply.specs.declared.tables.Tables.{Tables}
 
 -- ---- the location of a live bundle
@@ -50,13 +55,13 @@ known_reply : (at : Option Bundle) (id : BundleId) (now : Moment) (location : Li
 known_reply None id now location count is = absurd (cc is)
 known_reply (Some b) id now location count is = let same : b.bundle ≡ id = cc is in ap (λ i. answer.Bundle i true) (sym same)
 
-pub replied_known : (tables : Tables) (location : List ℕ) (id : BundleId) → row_from location tables.bundles.rows ≡ Some id → IsReplied (op.Install location) tables tables (answer.Bundle id true)
-replied_known tables location id is = record {
-  due = λ now stood.
+pub replied_known : (tables : Tables) (location : List ℕ) (id : BundleId) → row_from location tables.bundles.rows ≡ Some id → IsRepliedToAll (op.Install location) tables tables (answer.Bundle id true)
+replied_known tables location id is who = record {
+  due = λ now told stood.
       known_reply (bundle_from now.setting.depot now.before location) id now location (length (installed now.setting.depot now.before))
       (sym (table.from_location now.setting.depot now.before now.world tables.bundles location stood.bundles) ∙ is);
-  left = λ now stood. stood.world;
-  stands = λ now stood.
+  left = λ now told stood. stood.world;
+  stands = λ now told stood.
       let e : Entry = record { tag = now.tag; op = op.Install location; reply = answer.Bundle id true } in
       still_world now tables (op.Install location) (answer.Bundle id true) tables.registry stood (λ depot. refl)
       (registry.stands_quiet now.before tables.registry e stood.services (record { registers = λ n. refl; takes = λ s. refl; gives = λ s. refl; gets = λ u s. refl; ungets = λ u s. refl }));
@@ -77,31 +82,13 @@ given_new at now location count v none given = subst (λ a. Gives (install_condi
 
 -- the depot has no revision there
 pub replied_unread : (tables : Tables) (location : List ℕ) (refusal : Refusal) → row_from location tables.bundles.rows ≡ None → depot_refusal (stored_at tables.depot.rows location) ≡ Some refusal →
-    IsReplied (op.Install location) tables tables (answer.Refused refusal)
-replied_unread tables location refusal none is =
-    replied_refused (op.Install location) tables refusal (λ now stood.
+    IsRepliedToAll (op.Install location) tables tables (answer.Refused refusal)
+replied_unread tables location refusal none is who =
+    replied_refused (record { tag = who; op = op.Install location }) tables refusal (λ now told stood.
     given_new (bundle_from now.setting.depot now.before location) now location (length (installed now.setting.depot now.before)) (refuses refusal) (new_location now tables location stood none)
     (inl (refusal, subst (λ (rows : List DepotRow). depot_refusal (stored_at rows location) ≡ Some refusal) stood.depot is, refl)))
 
 -- ---- a revision of the depot
-
--- an answer that is given, said otherwise
-pub gives_due : {A : Type 0} (conditions : List (Refusal → Type 0)) (due : A → Type 0) (x : A) → Gives conditions due (answers x) → due x
-gives_due [] due x given = given
-gives_due (condition ∷ rest) due x (inl (refusal, called, same)) = absurd (cc same)
-gives_due (condition ∷ rest) due x (inr (none, given)) = gives_due rest due x given
-
-gives_answer : {A B : Type 0} (conditions : List (Refusal → Type 0)) (due : A → Type 0) (other : B → Type 0) (x : A) (y : B) → Gives conditions due (answers x) → other y → Gives conditions other (answers y)
-gives_answer [] due other x y given is = is
-gives_answer (condition ∷ rest) due other x y (inl (refusal, called, same)) is = absurd (cc same)
-gives_answer (condition ∷ rest) due other x y (inr (none, given)) is = inr (none, gives_answer rest due other x y given is)
-
-gives_refusal : {A B : Type 0} (conditions : List (Refusal → Type 0)) (due : A → Type 0) (other : B → Type 0) (refusal : Refusal) → Gives conditions due (refuses refusal) → Gives conditions other (refuses refusal)
-gives_refusal [] due other refusal given = given
-gives_refusal (condition ∷ rest) due other refusal (inl (first, called, same)) =
-    let is : refusal ≡ first = cc same in
-    inl (first, called, ap refuses is)
-gives_refusal (condition ∷ rest) due other refusal (inr (none, given)) = inr (none, gives_refusal rest due other refusal given)
 
 count_rows : (now : Moment) (old : TableRows) → bundle.StandsFor now.setting.depot now.before now.world old → length old.rows ≡ length (bundles now.setting.depot now.before)
 count_rows now old stood = ap length stood.rows ∙ length-map (bundles now.setting.depot now.before) (kept_of now.world)
@@ -112,7 +99,7 @@ by_rows : (now : Moment) (old : TableRows) (location : List ℕ) (revision : Rev
     Gives (install_conditions None now location) due v
 by_rows now old location revision manifest due v stood is given = inr ((λ other called. absurd (cc (called, ap depot_refusal is))), own given)
   where
-    there : revision_at now.setting.depot location ≡ Some revision
+    there : stored_revision now.setting.depot location ≡ Some revision
     there = ap revision_in is
 
     count : length old.rows ≡ length (bundles now.setting.depot now.before)
@@ -127,17 +114,16 @@ by_rows now old location revision manifest due v stood is given = inr ((λ other
         inr ((λ other duplicate. none other (table.duplicate_is_twin now old location revision other stood there duplicate)), inr ((λ other called. room other (called.0, subst (λ n. MAX_BUNDLES < n) (sym count) called.1)), given))
 
 -- the table refuses
-pub replied_uninstalled : (tables new : Tables) (location : List ℕ) (revision : Revision) (manifest : List ℕ) (refusal : Refusal) → row_from location tables.bundles.rows ≡ None →
-    stored_at tables.depot.rows location ≡ Some (stored.Read revision manifest) →
-    Gives (install_refusals revision.name revision.version tables.bundles.rows) (λ (id : BundleId). id.0 ≡ tables.bundles.issued + 1) (refuses refusal) → StandsStill tables new →
-    new.wirings.world ≡ tables.wirings.world → IsReplied (op.Install location) tables new (answer.Refused refusal)
-replied_uninstalled tables new location revision manifest refusal none is given still world =
-    refused_in (op.Install location) tables new refusal still world (λ now stood.
+pub replied_uninstalled : (tables : Tables) (location : List ℕ) (revision : Revision) (manifest : List ℕ) (due : BundleKept → Type 0) (refusal : Refusal) → row_from location tables.bundles.rows ≡ None →
+    stored_at tables.depot.rows location ≡ Some (stored.Read revision manifest) → Gives (install_refusals revision.name revision.version tables.bundles.rows) due (refuses refusal) →
+    IsRepliedToAll (op.Install location) tables tables (answer.Refused refusal)
+replied_uninstalled tables location revision manifest due refusal none is given who =
+    replied_refused (record { tag = who; op = op.Install location }) tables refusal (λ now told stood.
     let count = length (installed now.setting.depot now.before) in
     given_new (bundle_from now.setting.depot now.before location) now location count (refuses refusal) (new_location now tables location stood none)
     (by_rows now tables.bundles location revision manifest (λ reply. reply ≡ installs None count) (refuses refusal) stood.bundles
     (subst (λ (rows : List DepotRow). stored_at rows location ≡ Some (stored.Read revision manifest)) stood.depot is)
-    (gives_refusal (install_refusals revision.name revision.version tables.bundles.rows) (λ (id : BundleId). id.0 ≡ tables.bundles.issued + 1) (λ reply. reply ≡ installs None count) refusal given)))
+    (gives_refusal (install_refusals revision.name revision.version tables.bundles.rows) due (λ reply. reply ≡ installs None count) refusal given)))
 
 -- ---- the world with one more bundle
 
@@ -158,9 +144,9 @@ world_installed list world given r id revision b known next same sound =
     record {
       current = λ c.
           ap is_some (worlds.current_with world r id revision c)
-          ∙ or_some (current_revision world c) (find (is_bundle c) (the_system_bundle ∷ list)) brought b (id.0 == c.0) (known.current c)
-          ∙ ap (λ (d : BundleId). is_some (option_or (find (is_bundle c) (the_system_bundle ∷ list)) (cond (d.0 == c.0) (Some b) None))) (sym same)
-          ∙ ap is_some (sym (find-append (is_bundle c) (the_system_bundle ∷ list) (b ∷ [])));
+          ∙ or_some (current_revision world c) (find (has_bundle_id c) (the_system_bundle ∷ list)) brought b (id.0 == c.0) (known.current c)
+          ∙ ap (λ (d : BundleId). is_some (option_or (find (has_bundle_id c) (the_system_bundle ∷ list)) (cond (d.0 == c.0) (Some b) None))) (sym same)
+          ∙ ap is_some (sym (find-append (has_bundle_id c) (the_system_bundle ∷ list) (b ∷ [])));
       fresh = λ c above.
           let count = length-append list (b ∷ []) in
           let other : (id.0 == c.0) ≡ false = ne_eqb id.0 c.0 (λ e. omega (arith, above, count, next, e)) in
@@ -210,7 +196,7 @@ module _ (old : Tables) (new : TableRows) (after : WiringState) (location : List
   left_world : (now : Moment) → StandsFor (at now old) old → after.world ≡ with_revision old.wirings.world (record { 0 = length (installed now.setting.depot now.before) + 1 }) id revision
   left_world now stood = i.brought.world ∙ ap (λ n. with_revision old.wirings.world (record { 0 = n + 1 }) id revision) stood.known.issued
 
-  there : (now : Moment) → StandsFor (at now old) old → revision_at now.setting.depot location ≡ Some revision
+  there : (now : Moment) → StandsFor (at now old) old → stored_revision now.setting.depot location ≡ Some revision
   there now stood = ap revision_in (subst (λ (rows : List DepotRow). stored_at rows location ≡ Some (stored.Read revision manifest)) stood.depot i.is)
 
   installed_left : (now : Moment) → StandsFor (at now old) old → Leaves (at now old) (op.Install location) (answer.Bundle id false) after.world
@@ -229,9 +215,9 @@ module _ (old : Tables) (new : TableRows) (after : WiringState) (location : List
       let numbered : id.0 ≡ length list + 1 = next ∙ ap (λ n. n + 1) stood.bundles.issued in
       let more : installed depot (now.before ++ e ∷ []) ≡ list ++ b ∷ [] = installed-push depot now.before e b (ap (option_map (brought depot id location)) (there now stood)) in
       let unknown : ¬ IsKnown old.wirings.world.known r = subst (λ n. ¬ IsKnown old.wirings.world.known (record { 0 = n + 1 })) stood.known.issued i.brought.known.unknown in
-      let fresh : IsNew old.wirings.world r id = record { no_current = stood.known.fresh id (omega (arith, numbered)); unused = unused old.wirings.world r stood.known.sound unknown } in
+      let fresh : IsNewBundle old.wirings.world r id = record { no_current = stood.known.fresh id (omega (arith, numbered)); unused = unused old.wirings.world r stood.known.sound unknown } in
       let same : with_revision old.wirings.world r id revision ≡ after.world = sym (left_world now stood) in
-      let sound : IsSound (with_revision old.wirings.world r id revision) = subst IsSound (left_world now stood) (sound_of after.world after.issued i.brought.kept) in
+      let sound : IsSound (with_revision old.wirings.world r id revision) = subst IsSound (left_world now stood) (sound_of after.world after.issued i.brought.holds) in
       record {
         depot = stood.depot;
         budget = stood.budget;
@@ -248,12 +234,55 @@ module _ (old : Tables) (new : TableRows) (after : WiringState) (location : List
             (world_installed list old.wirings.world old.wirings.issued r id revision b stood.known numbered refl sound)));
       }
 
-  pub replied_installed : IsReplied (op.Install location) old (record old { bundles = new; wirings = after }) (answer.Bundle id false)
-  replied_installed = record {
+  pub replied_installed : IsRepliedToAll (op.Install location) old (record old { bundles = new; wirings = after }) (answer.Bundle id false)
+  replied_installed who = record {
     due = from_own old (λ now. IsReply now (op.Install location) (answer.Bundle id false)) installed_due;
     left = from_own old (λ now. Leaves now (op.Install location) (answer.Bundle id false) after.world) installed_left;
     stands = from_own old (λ now. StandsFor (later now (op.Install location) (answer.Bundle id false) after.world) (record old { bundles = new; wirings = after })) installed_stands;
   }
+
+-- ---- the bundle that is made
+
+-- what the table answers is said of the same location, name, version and kind
+pub made_said : (rows : List BundleKept) (id : BundleId) (row : ℕ) (v : Verdict Refusal BundleKept) (l k n m : List ℕ) (x y : Version) (f g : Bool) → l ≡ k → n ≡ m → x ≡ y → f ≡ g →
+    Gives (install_refusals n x rows) (λ (made : BundleKept). made ≡ new_row id l n x f row) v → Gives (install_refusals m y rows) (λ (made : BundleKept). made ≡ new_row id k m y g row) v
+made_said rows id row v l k n m x y f g location name version fragment given =
+    subst (λ h. Gives (install_refusals m y rows) (λ (made : BundleKept). made ≡ new_row id k m y h row) v) fragment
+    (subst (λ z. Gives (install_refusals m z rows) (λ (made : BundleKept). made ≡ new_row id k m z f row) v) version
+    (subst (λ p. Gives (install_refusals p x rows) (λ (made : BundleKept). made ≡ new_row id k p x f row) v) name
+    (subst (λ q. Gives (install_refusals n x rows) (λ (made : BundleKept). made ≡ new_row id q n x f row) v) location given)))
+
+pub decided_installed : (tables : Tables) (location : List ℕ) (row : ℕ) (revision : Revision) (manifest : List ℕ) (made : BundleKept) → HasRoom tables → row_from location tables.bundles.rows ≡ None →
+    stored_at tables.depot.rows location ≡ Some (stored.Read revision manifest) → row ≡ row_number tables.depot.rows location →
+    Gives (install_refusals revision.name revision.version tables.bundles.rows) (λ (m : BundleKept). m ≡ new_row (record { 0 = tables.bundles.issued + 1 }) location revision.name revision.version (is_some revision.host) row) (answers made) →
+    IsReplyAndChangeToAll (op.Install location) tables (answer.Bundle made.bundle false) (change.Install made revision)
+decided_installed tables location row revision manifest made room none stored number given who =
+    let id : BundleId = record { 0 = tables.bundles.issued + 1 } in
+    let conditions = install_refusals revision.name revision.version tables.bundles.rows in
+    let due : BundleKept → Type 0 = λ (m : BundleKept). m ≡ new_row id location revision.name revision.version (is_some revision.host) row in
+    let is : made ≡ new_row id location revision.name revision.version (is_some revision.host) row = gives_due conditions due made given in
+    let next : made.bundle.0 ≡ tables.bundles.issued + 1 = ap (λ (m : BundleKept). m.bundle.0) is in
+    record {
+      possible = record {
+        next = next;
+        is_new = made_new made id location revision.name revision.version (is_some revision.host) row is;
+        apart =
+            subst (λ (m : BundleKept). (refusal : Refusal) → ¬ IsTwin m.name m.version tables.bundles.rows refusal) (sym is)
+            (made_apart revision.name revision.version tables.bundles.rows due made given);
+        revisions = room.revisions;
+        fresh = room.fresh made.bundle next;
+      };
+      replied = λ new added.
+          subst (λ t. IsReplied (record { tag = who; op = op.Install location }) tables t (answer.Bundle made.bundle false)) (sym added.is)
+          (replied_installed tables added.bundles added.wirings location row revision manifest made.bundle (record {
+            none = none;
+            is = stored;
+            number = number;
+            given = gives_answer conditions due (λ (id : BundleId). id.0 ≡ tables.bundles.issued + 1) made made.bundle given next;
+            stands = subst (λ (m : BundleKept). StandsAfter m.location m.name m.version m.fragment m.row made.bundle tables.bundles added.bundles) is added.stands;
+            brought = added.known;
+          }) who);
+    }
 
 -- ---- tables that are left as they were
 

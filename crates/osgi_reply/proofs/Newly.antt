@@ -15,7 +15,7 @@ use Rattle.std.proofs.lemmas.Map.Keys.{sorted_from_strictly_increasing}
 use Rattle.std.proofs.lemmas.Map.Lookups.{btree_set_from_contains, exact_unsigned}
 use Rattle.osgi_base.specs.declared.ids.BundleId.{BundleId}
 use Rattle.osgi_base.specs.declared.ids.RevisionId.{RevisionId}
-use Rattle.osgi_bundle.specs.Rows.{AreInOrder, id_of, is_bundle, row_at, TableRows}
+use Rattle.osgi_bundle.specs.Rows.{AreInOrder, bundle_number, has_bundle_id, row_at, TableRows}
 use Rattle.osgi_bundle.specs.Rows as rows
 use Rattle.osgi_bundle.specs.declared.kept.BundleKept.{BundleKept}
 use Rattle.osgi_ops.specs.Resolved.{current_revision, has_revision, is_current_of, is_in_use}
@@ -170,11 +170,11 @@ module _ (W : World) (issued : ℕ) (table : TableRows) (added : List Wiring) (k
       (ap (λ o. option_map_or (λ (k : Known). is_in_use added k.id) o false) u.1 ∙ ap (is_in_use added) u.2 ∙ used)
 
   abbrev Row : ℕ → RevisionId → Type 0
-  Row n r = (row : BundleKept) × In row table.rows × (id_of row ≡ n) × ((row.state == INSTALLED) ≡ true) × Used row r
+  Row n r = (row : BundleKept) × In row table.rows × (bundle_number row ≡ n) × ((row.state == INSTALLED) ≡ true) × Used row r
 
   installed_row : (b : BundleId) (o : Option BundleKept) (given : Bool) → row_at b table.rows ≡ o → option_map_or (λ state. state == INSTALLED) (rows.state_by o given) false ≡ true →
-      (row : BundleKept) × In row table.rows × (id_of row ≡ b.0) × ((row.state == INSTALLED) ≡ true)
-  installed_row b (Some row) given is e = let f = find-in (is_bundle b) table.rows row is in (row, f.0, eqb-true (id_of row) b.0 f.1, e)
+      (row : BundleKept) × In row table.rows × (bundle_number row ≡ b.0) × ((row.state == INSTALLED) ≡ true)
+  installed_row b (Some row) given is e = let f = find-in (has_bundle_id b) table.rows row is in (row, f.0, eqb-true (bundle_number row) b.0 f.1, e)
   installed_row b None true is e = absurd (cc e)
   installed_row b None false is e = absurd (cc e)
 
@@ -204,14 +204,14 @@ module _ (W : World) (issued : ℕ) (table : TableRows) (added : List Wiring) (k
   row_there : (n : ℕ) (r : RevisionId) → is_by W table n r ≡ true → Row n r
   row_there n r e = row_by n r (known_at W.known r) refl e
 
-  there : (n : ℕ) → list_any (is_by_wiring W table n) added ≡ true → list_any (eq_by_cmp nat_cmp n) (map id_of (filter (is_newly W added) table.rows)) ≡ true
+  there : (n : ℕ) → list_any (is_by_wiring W table n) added ≡ true → list_any (eq_by_cmp nat_cmp n) (map bundle_number (filter (is_newly W added) table.rows)) ≡ true
   there n e =
       let g = any_in (is_by_wiring W table n) added e in
       let r = any_in (is_by W table n) (g.0.revision ∷ g.0.fragments) g.2 in
       let used : is_in_use added r.0 ≡ true = in_any (has_revision r.0) added g.0 g.1 (in_any (λ (f : RevisionId). f.0 == r.0.0) (g.0.revision ∷ g.0.fragments) r.0 r.1 (eq-eqb r.0.0 r.0.0 refl)) in
       let row = row_there n r.0 r.2 in
-      in_any (eq_by_cmp nat_cmp n) (map id_of (filter (is_newly W added) table.rows)) (id_of row.0)
-      (passes (is_newly W added) id_of table.rows row.0 row.1 (newly_from row.0 r.0 row.3 row.4 used)) (same_number n (id_of row.0) (sym row.2))
+      in_any (eq_by_cmp nat_cmp n) (map bundle_number (filter (is_newly W added) table.rows)) (bundle_number row.0)
+      (passes (is_newly W added) bundle_number table.rows row.0 row.1 (newly_from row.0 r.0 row.3 row.4 used)) (same_number n (bundle_number row.0) (sym row.2))
 
   found_by : (n : ℕ) (k : Known) → In k W.known → k.bundle.0 ≡ n → is_own W k ≡ true → is_installed table k.bundle ≡ true → is_by W table n k.id ≡ true
   found_by n k i named own installed =
@@ -227,7 +227,7 @@ module _ (W : World) (issued : ℕ) (table : TableRows) (added : List Wiring) (k
       (g.0, g.1, subst (λ (x : RevisionId). In x (g.0.revision ∷ g.0.fragments)) same s.1)
 
   by_current : (row : BundleKept) (o : Option Known) → In row table.rows → (row.state == INSTALLED) ≡ true → current_revision W row.bundle ≡ o → option_map_or (λ (k : Known). is_in_use added k.id) o false ≡ true →
-      list_any (is_by_wiring W table (id_of row)) added ≡ true
+      list_any (is_by_wiring W table (bundle_number row)) added ≡ true
   by_current row None i installed is e = absurd (cc e)
   by_current row (Some k) i installed is e =
       let f = find-in (is_current_of row.bundle) W.known k is in
@@ -237,24 +237,24 @@ module _ (W : World) (issued : ℕ) (table : TableRows) (added : List Wiring) (k
       let live : row_at k.bundle table.rows ≡ Some row = ap (λ b. row_at b table.rows) same ∙ row_live table row order i in
       let there : is_installed table k.bundle ≡ true = ap (λ o. option_map_or (λ state. state == INSTALLED) (rows.state_by o (nat_le k.bundle.0 table.issued)) false) live ∙ installed in
       let u = used_in k.id e in
-      in_any (is_by_wiring W table (id_of row)) added u.0 u.1
-      (in_any (is_by W table (id_of row)) (u.0.revision ∷ u.0.fragments) k.id u.2 (found_by (id_of row) k f.0 (eqb-true k.bundle.0 row.bundle.0 tests.1) own there))
+      in_any (is_by_wiring W table (bundle_number row)) added u.0 u.1
+      (in_any (is_by W table (bundle_number row)) (u.0.revision ∷ u.0.fragments) k.id u.2 (found_by (bundle_number row) k f.0 (eqb-true k.bundle.0 row.bundle.0 tests.1) own there))
 
-  back : (n : ℕ) → list_any (eq_by_cmp nat_cmp n) (map id_of (filter (is_newly W added) table.rows)) ≡ true → list_any (is_by_wiring W table n) added ≡ true
+  back : (n : ℕ) → list_any (eq_by_cmp nat_cmp n) (map bundle_number (filter (is_newly W added) table.rows)) ≡ true → list_any (is_by_wiring W table n) added ≡ true
   back n e =
-      let x = any_in (eq_by_cmp nat_cmp n) (map id_of (filter (is_newly W added) table.rows)) e in
-      let row = passed (is_newly W added) id_of table.rows x.0 x.1 in
+      let x = any_in (eq_by_cmp nat_cmp n) (map bundle_number (filter (is_newly W added) table.rows)) e in
+      let row = passed (is_newly W added) bundle_number table.rows x.0 x.1 in
       let tests = and_parts (row.0.state == INSTALLED) (option_map_or (λ (k : Known). is_in_use added k.id) (current_revision W row.0.bundle) false) row.2 in
       subst (λ m. list_any (is_by_wiring W table m) added ≡ true) (row.3 ∙ sym (number_same n x.0 x.2)) (by_current row.0 (current_revision W row.0.bundle) row.1 tests.0 refl tests.1)
 
-  pub numbers_are : (numbers : BTreeSet ℕ) → IsOrdered nat_cmp numbers → ((n : ℕ) → contains nat_cmp numbers n ≡ list_any (is_by_wiring W table n) added) → numbers.keys ≡ map id_of (filter (is_newly W added) table.rows)
+  pub numbers_are : (numbers : BTreeSet ℕ) → IsOrdered nat_cmp numbers → ((n : ℕ) → contains nat_cmp numbers n ≡ list_any (is_by_wiring W table n) added) → numbers.keys ≡ map bundle_number (filter (is_newly W added) table.rows)
   numbers_are numbers ordered has =
-      let list : BTreeSet ℕ = record { keys = map id_of (filter (is_newly W added) table.rows) } in
-      btree_set_from_contains nat_cmp_total numbers list ordered (rising (is_newly W added) id_of table.rows (sorted_from_strictly_increasing (map id_of table.rows) order.rising))
-      (λ n. has n ∙ both (list_any (is_by_wiring W table n) added) (list_any (eq_by_cmp nat_cmp n) (map id_of (filter (is_newly W added) table.rows))) (there n) (back n)) exact_unsigned
+      let list : BTreeSet ℕ = record { keys = map bundle_number (filter (is_newly W added) table.rows) } in
+      btree_set_from_contains nat_cmp_total numbers list ordered (rising (is_newly W added) bundle_number table.rows (sorted_from_strictly_increasing (map bundle_number table.rows) order.rising))
+      (λ n. has n ∙ both (list_any (is_by_wiring W table n) added) (list_any (eq_by_cmp nat_cmp n) (map bundle_number (filter (is_newly W added) table.rows))) (there n) (back n)) exact_unsigned
 
   pub listed_are : (numbers : BTreeSet ℕ) (list : List BundleId) → IsOrdered nat_cmp numbers → ((n : ℕ) → contains nat_cmp numbers n ≡ list_any (is_by_wiring W table n) added) → list ≡ map bundle_of numbers.keys → list ≡ listed W added table.rows
-  listed_are numbers list ordered has is = is ∙ ap (map bundle_of) (numbers_are numbers ordered has) ∙ map_twice bundle_of id_of (filter (is_newly W added) table.rows)
+  listed_are numbers list ordered has is = is ∙ ap (map bundle_of) (numbers_are numbers ordered has) ∙ map_twice bundle_of bundle_number (filter (is_newly W added) table.rows)
 
 -- ---- what functions answer
 

@@ -6,11 +6,13 @@ use Rattle.osgi_bundle.specs.Rows.{row_of}
 use Rattle.osgi_bundle.specs.Stands as bundle
 use Rattle.osgi_bundle.specs.laws.Standing as table
 use Rattle.osgi_ops.specs.Bundles.{Bundle, installed, installed_by}
+use Rattle.osgi_ops.specs.Legal.{IsAskedAt}
 use Rattle.osgi_ops.specs.Moments.{later, Moment}
 use Rattle.osgi_ops.specs.Operations.{Answers, asker_of, IsReply, own_conditions}
 use Rattle.osgi_ops.specs.Replies.{verdict}
 use Rattle.osgi_ops.specs.Worlds.{Leaves}
 use Rattle.osgi_ops.specs.laws.Bundles.{installed-same}
+use Rattle.osgi_ops.specs.declared.asked.Asked.{Asked}
 use Rattle.osgi_ops.specs.declared.depot.DepotRow.{DepotRow}
 use Rattle.osgi_ops.specs.declared.entry.Entry.{Entry}
 use Rattle.osgi_ops.specs.declared.op.Op.{Op}
@@ -25,8 +27,13 @@ use Rattle.osgi_registry.specs.laws.Standing as registry
 use Rattle.osgi_world.specs.declared.world.World.{World}
 use Rattle.osgi_reply.proofs.Asking.{passed_by, refused_by}
 use Rattle.osgi_reply.specs.computed.Asked.{asker_refusal}
-use Rattle.osgi_reply.specs.Replied.{is_known, IsReplied, IsWorldOf, StandsFor, StandsStill}
-use Rattle.osgi_reply_services.specs.Served.{IsServed, StillStands}
+use Rattle.osgi_reply.specs.Replied.{is_known, IsReplied, IsRepliedToAll, IsWorldOf, StandsFor, StandsStill}
+use Rattle.osgi_reply.specs.computed.Changes.{IsReplyAndChange, IsReplyAndChangeToAll}
+use Rattle.osgi_reply.specs.declared.change.Change.{Change}
+use Rattle.osgi_reply.specs.declared.change.Change.TheVariants as change
+use Rattle.osgi_reply_services.specs.Changes as serving
+use Rattle.osgi_reply_services.specs.Served.{IsServed, IsServedToAll}
+use Rattle.osgi_reply_services.specs.declared.change.ServiceChange.{ServiceChange}
 use Rattle.osgi_reply.specs.declared.tables.Tables.{Tables}
 
 -- the operation with this reply installs no bundle
@@ -48,8 +55,8 @@ abbrev pub at : Moment → Tables → Moment
 at now tables = record now { world = tables.wirings.world }
 
 -- what holds at each moment of that world that the tables stand for, holds at each that they stand for
-pub from_own : (old : Tables) (P : Moment → Type 0) → ((now : Moment) → StandsFor (at now old) old → P (at now old)) → (now : Moment) → StandsFor now old → P now
-from_own old P prove now stood =
+pub from_own : {asked : Asked} (old : Tables) (P : Moment → Type 0) → ((now : Moment) → StandsFor (at now old) old → P (at now old)) → (now : Moment) → IsAskedAt asked now → StandsFor now old → P now
+from_own old P prove now asked stood =
     subst (λ (w : World). P (record now { world = w })) stood.world (prove now (subst (λ (w : World). StandsFor (record now { world = w }) old) (sym stood.world) stood))
 
 -- ---- operations on services
@@ -77,55 +84,52 @@ still_world now tables o reply services stood none stands =
           (subst (λ (l : List Bundle). IsWorldOf l now.world tables.wirings.issued) (sym same) stood.known);
     }
 
-pub replied_served : (o : Op) (old : Tables) (new : RegistryRows) (reply : Reply) → Quiet o reply → asker_refusal old.bundles (asker_of o) ≡ None → IsServed o old.registry new reply → IsReplied o old (with_services new old) reply
-replied_served o old new reply quiet passes served = record {
-  due = λ now stood. passed_by now old.bundles (asker_of o) (own_conditions now o) (Answers now o) (verdict reply) stood.bundles passes (served.due now stood.services);
-  left = λ now stood. quiet.leaves now old.wirings.world stood.world;
-  stands = λ now stood. still_world now old o reply new stood quiet.installs_none (served.stands now.before now.tag stood.services);
+pub replied_served : (asked : Asked) (old : Tables) (new : RegistryRows) (reply : Reply) → Quiet asked.op reply → asker_refusal old.bundles (asker_of asked.op) ≡ None → IsServed asked old.registry new reply →
+    IsReplied asked old (with_services new old) reply
+replied_served asked old new reply quiet passes served = record {
+  due = λ now told stood. passed_by now old.bundles (asker_of asked.op) (own_conditions now asked.op) (Answers now asked.op) (verdict reply) stood.bundles passes (served.due now told stood.services);
+  left = λ now told stood. quiet.leaves now old.wirings.world stood.world;
+  stands = λ now told stood. still_world now old asked.op reply new stood quiet.installs_none (served.stands now.before now.tag stood.services);
 }
 
-pub served_ok : {E : Type 0} (r : Result (Reply × Reply) E) (o : Op) (old : Tables) (new : RegistryRows) → ((reply : Reply) → Quiet o reply) → asker_refusal old.bundles (asker_of o) ≡ None → IfOk r (λ x. IsServed o old.registry new x.0) →
-    IfOk r (λ x. IsReplied o old (with_services new old) x.0)
-served_ok (Ok x) o old new quiet passes served = replied_served o old new x.0 (quiet x.0) passes served
-served_ok (Err e) o old new quiet passes served = tt
+-- what is served to all is replied to who asks
+replied_asked : (asked : Asked) (o : Op) (old : Tables) (new : RegistryRows) (reply : Reply) → asked.op ≡ o → Quiet o reply → asker_refusal old.bundles (asker_of asked.op) ≡ None → IsServedToAll o old.registry new reply →
+    IsReplied asked old (with_services new old) reply
+replied_asked asked o old new reply is quiet passes served =
+    replied_served asked old new reply (subst (λ p. Quiet p reply) (sym is) quiet) passes (subst (λ p. IsServed (record { tag = asked.tag; op = p }) old.registry new reply) (sym is) (served asked.tag))
 
-pub still_stands : {T E : Type 0} (r : Result T E) (old : Tables) (new : RegistryRows) → OnErr r (StillStands old.registry new) → OnErr r (StandsStill old (with_services new old))
-still_stands (Ok x) old new still = tt
-still_stands (Err e) old new still = λ now stood. record {
-  depot = stood.depot;
-  budget = stood.budget;
-  services = still now.before stood.services;
-  bundles = stood.bundles;
-  world = stood.world;
-  known = stood.known;
+-- what is decided of the registry is decided of the tables
+pub decided_served : (asked : Asked) (o : Op) (tables : Tables) (reply : Reply) (c : ServiceChange) → asked.op ≡ o → ((reply : Reply) → Quiet o reply) → asker_refusal tables.bundles (asker_of asked.op) ≡ None → serving.IsReplyAndChange o tables.registry reply c →
+    IsReplyAndChange asked tables reply (change.Services c)
+decided_served asked o tables reply c is quiet passes decided = record {
+  possible = decided.possible;
+  replied = λ new changed.
+      subst (λ t. IsReplied asked tables t reply) (sym changed.is)
+      (replied_asked asked o tables changed.registry reply is (quiet reply) passes (decided.served changed.registry changed.changes));
 }
 
 -- ---- refusals
 
--- what refuses an operation leaves tables that stand for what they stood for
-pub refused_in : (o : Op) (tables new : Tables) (refusal : Refusal) → StandsStill tables new → new.wirings.world ≡ tables.wirings.world → ((now : Moment) → StandsFor now tables → IsReply now o (answer.Refused refusal)) →
-    IsReplied o tables new (answer.Refused refusal)
-refused_in o tables new refusal still world due = record {
+-- what refuses an operation leaves the tables
+pub replied_refused : (asked : Asked) (tables : Tables) (refusal : Refusal) → ((now : Moment) → IsAskedAt asked now → StandsFor now tables → IsReply now asked.op (answer.Refused refusal)) →
+    IsReplied asked tables tables (answer.Refused refusal)
+replied_refused asked tables refusal due = record {
   due = due;
-  left = λ now stood. (refused_quiet o refusal).leaves now new.wirings.world (world ∙ stood.world);
-  stands = λ now stood.
-      let e : Entry = record { tag = now.tag; op = o; reply = answer.Refused refusal } in
-      let stands = still now stood in
-      still_world now new o (answer.Refused refusal) new.registry stands (refused_quiet o refusal).installs_none
-      (registry.stands_quiet now.before new.registry e stands.services (registry.quiet_refused now.tag o refusal));
+  left = λ now told stood. (refused_quiet asked.op refusal).leaves now tables.wirings.world stood.world;
+  stands = λ now told stood.
+      let e : Entry = record { tag = now.tag; op = asked.op; reply = answer.Refused refusal } in
+      still_world now tables asked.op (answer.Refused refusal) tables.registry stood (refused_quiet asked.op refusal).installs_none
+      (registry.stands_quiet now.before tables.registry e stood.services (registry.quiet_refused now.tag asked.op refusal));
 }
 
-pub replied_refused : (o : Op) (tables : Tables) (refusal : Refusal) → ((now : Moment) → StandsFor now tables → IsReply now o (answer.Refused refusal)) → IsReplied o tables tables (answer.Refused refusal)
-replied_refused o tables refusal due = refused_in o tables tables refusal (λ now stood. stood) refl due
-
 -- who asks may not
-pub replied_unasked : (o : Op) (tables : Tables) (refusal : Refusal) → asker_refusal tables.bundles (asker_of o) ≡ Some refusal → IsReplied o tables tables (answer.Refused refusal)
-replied_unasked o tables refusal is =
-    replied_refused o tables refusal (λ now stood. refused_by now tables.bundles (asker_of o) (own_conditions now o) (Answers now o) refusal stood.bundles is)
+pub replied_unasked : (asked : Asked) (tables : Tables) (refusal : Refusal) → asker_refusal tables.bundles (asker_of asked.op) ≡ Some refusal → IsReplied asked tables tables (answer.Refused refusal)
+replied_unasked asked tables refusal is =
+    replied_refused asked tables refusal (λ now told stood. refused_by now tables.bundles (asker_of asked.op) (own_conditions now asked.op) (Answers now asked.op) refusal stood.bundles is)
 
 -- an operation that the framework does not have yet
 unknown_due : (now : Moment) (o : Op) → is_known o ≡ false → IsReply now o (answer.Refused InvalidOperation)
-unknown_due now (op.Register owner classes object properties) e = absurd (cc e)
+unknown_due now (op.Register owner classes object scope properties) e = absurd (cc e)
 unknown_due now (op.Modify owner service properties) e = absurd (cc e)
 unknown_due now (op.Unregister owner service) e = absurd (cc e)
 unknown_due now (op.Find asker class filter) e = absurd (cc e)
@@ -139,31 +143,59 @@ unknown_due now op.ListBundles e = absurd (cc e)
 unknown_due now op.ListServices e = absurd (cc e)
 unknown_due now _ e = gives_first InvalidOperation ⊤ [] (λ reply. ⊥) tt
 
-pub replied_not_yet : (o : Op) (tables : Tables) → is_known o ≡ false → IsReplied o tables tables (answer.Refused InvalidOperation)
-replied_not_yet o tables unknown = replied_refused o tables InvalidOperation (λ now stood. unknown_due now o unknown)
+pub replied_not_yet : (asked : Asked) (tables : Tables) → is_known asked.op ≡ false → IsReplied asked tables tables (answer.Refused InvalidOperation)
+replied_not_yet asked tables unknown = replied_refused asked tables InvalidOperation (λ now told stood. unknown_due now asked.op unknown)
 
 -- ---- the list of bundles
 
-pub replied_bundles : (tables : Tables) → IsReplied op.ListBundles tables tables (answer.Bundles (map row_of tables.bundles.rows))
-replied_bundles tables =
+pub replied_bundles : (tables : Tables) → IsRepliedToAll op.ListBundles tables tables (answer.Bundles (map row_of tables.bundles.rows))
+replied_bundles tables who =
     let reply = answer.Bundles (map row_of tables.bundles.rows) in
     record {
-      due = λ now stood. ap answer.Bundles (table.rows_shown now.setting.depot now.before now.world tables.bundles stood.bundles);
-      left = λ now stood. stood.world;
-      stands = λ now stood.
+      due = λ now told stood. ap answer.Bundles (table.rows_shown now.setting.depot now.before now.world tables.bundles stood.bundles);
+      left = λ now told stood. stood.world;
+      stands = λ now told stood.
           let e : Entry = record { tag = now.tag; op = op.ListBundles; reply = reply } in
           still_world now tables op.ListBundles reply tables.registry stood (λ depot. refl)
           (registry.stands_quiet now.before tables.registry e stood.services (record { registers = λ n. refl; takes = λ s. refl; gives = λ s. refl; gets = λ u s. refl; ungets = λ u s. refl }));
     }
 
-pub bundles_ok : {E : Type 0} (r : Result (Reply × Reply) E) (tables : Tables) → IfOk r (λ x. x.0 ≡ answer.Bundles (map row_of tables.bundles.rows)) → IfOk r (λ x. IsReplied op.ListBundles tables tables x.0)
-bundles_ok (Ok x) tables is = subst (IsReplied op.ListBundles tables tables) (sym is) (replied_bundles tables)
-bundles_ok (Err e) tables is = tt
+-- ---- what is decided
 
--- tables that stay stand for what they did
-pub nothing_changed : {T E : Type 0} (r : Result T E) (tables : Tables) → OnErr r (StandsStill tables tables)
-nothing_changed (Ok x) tables = tt
-nothing_changed (Err e) tables = λ now stood. stood
+-- the reply changes nothing
+pub decided_same : (asked : Asked) (tables : Tables) (reply : Reply) → IsReplied asked tables tables reply → IsReplyAndChange asked tables reply change.Nothing
+decided_same asked tables reply replied = record { possible = tt; replied = λ new same. subst (λ t. IsReplied asked tables t reply) (sym same) replied }
+
+-- it is the same whatever the tag
+pub decided_all : (o : Op) (tables : Tables) (reply : Reply) → IsRepliedToAll o tables tables reply → IsReplyAndChangeToAll o tables reply change.Nothing
+decided_all o tables reply replied who = decided_same (record { tag = who; op = o }) tables reply (replied who)
+
+-- what is decided whoever asks is decided for who asks
+pub decided_asked : (asked : Asked) (o : Op) (tables : Tables) (reply : Reply) (c : Change) → asked.op ≡ o → IsReplyAndChangeToAll o tables reply c → IsReplyAndChange asked tables reply c
+decided_asked asked o tables reply c is decided = subst (λ p. IsReplyAndChange (record { tag = asked.tag; op = p }) tables reply c) (sym is) (decided asked.tag)
+
+-- ---- what functions answer
+
+pub in_registry : (asked : Asked) (o : Op) (tables : Tables) (x : Reply × Change) (d : Reply × ServiceChange) → (x.0 ≡ d.0) × (x.1 ≡ change.Services d.1) → asked.op ≡ o → ((reply : Reply) → Quiet o reply) →
+    asker_refusal tables.bundles (asker_of asked.op) ≡ None → serving.IsReplyAndChange o tables.registry d.0 d.1 → IsReplyAndChange asked tables x.0 x.1
+in_registry asked o tables x d same is quiet passes decided =
+    subst (λ y. IsReplyAndChange asked tables y x.1) (sym same.0) (subst (IsReplyAndChange asked tables d.0) (sym same.1) (decided_served asked o tables d.0 d.1 is quiet passes decided))
+
+pub unchanging : (asked : Asked) (o : Op) (tables : Tables) (x : Reply × Change) (reply : Reply) → (x.0 ≡ reply) × (x.1 ≡ change.Nothing) → asked.op ≡ o → IsRepliedToAll o tables tables reply → IsReplyAndChange asked tables x.0 x.1
+unchanging asked o tables x reply same is replied =
+    subst (λ y. IsReplyAndChange asked tables y x.1) (sym same.0) (subst (IsReplyAndChange asked tables reply) (sym same.1) (decided_asked asked o tables reply change.Nothing is (decided_all o tables reply replied)))
+
+pub asked_ok : {E : Type 0} (r : Result (Reply × Change) E) (asked : Asked) (o : Op) (tables : Tables) → asked.op ≡ o → IfOk r (λ x. IsReplyAndChangeToAll o tables x.0 x.1) → IfOk r (λ x. IsReplyAndChange asked tables x.0 x.1)
+asked_ok (Ok x) asked o tables is decided = decided_asked asked o tables x.0 x.1 is decided
+asked_ok (Err e) asked o tables is decided = tt
+
+-- what reads the registry alone
+pub served_all : (o : Op) (tables : Tables) (reply : Reply) → Quiet o reply → asker_refusal tables.bundles (asker_of o) ≡ None → IsServedToAll o tables.registry tables.registry reply → IsRepliedToAll o tables tables reply
+served_all o tables reply quiet passes served who = replied_served (record { tag = who; op = o }) tables tables.registry reply quiet passes (served who)
+
+-- tables that are the same stand for what they did
+pub still_same : (old new : Tables) → new ≡ old → StandsStill old new
+still_same old new same = λ now stood. subst (StandsFor now) (sym same) stood
 
 -- what holds, holds where a call fails
 pub on_err : {T E : Type 0} (r : Result T E) {P : Type 0} → P → OnErr r P

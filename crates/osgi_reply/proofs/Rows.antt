@@ -7,7 +7,7 @@ use Rattle.std.proofs.lemmas.Bool.{eq-eqb, eqb-true, ne_eqb}
 use Rattle.std.proofs.lemmas.List.Elements.{All-cons, All-nil, All-weaker}
 use Rattle.osgi_base.specs.declared.ids.BundleId.{BundleId}
 use Rattle.osgi_bundle.proofs.Finding.{ids_rise}
-use Rattle.osgi_bundle.specs.Rows.{AreInOrder, id_of, is_bundle, IsSettable, row_at, set_in, TableRows, with_state}
+use Rattle.osgi_bundle.specs.Rows.{AreInOrder, bundle_number, has_bundle_id, IsSettable, row_at, set_in, TableRows, with_state}
 use Rattle.osgi_bundle.specs.Stands.{kept_of}
 use Rattle.osgi_bundle.specs.declared.kept.BundleKept.{BundleKept}
 use Rattle.osgi_ops.specs.Bundles.{Bundle, state_of, system}
@@ -144,7 +144,7 @@ AreDistinct [] = Unit {0}
 AreDistinct (b ∷ bs) = ((c : Bundle) → In c bs → ¬ (c.bundle.0 ≡ b.bundle.0)) × AreDistinct bs
 
 Rise : List BundleKept → Type 0
-Rise rows = (i j : ℕ) (d : BundleKept) → i < j → j < length rows → id_of (get_or rows i d) < id_of (get_or rows j d)
+Rise rows = (i j : ℕ) (d : BundleKept) → i < j → j < length rows → bundle_number (get_or rows i d) < bundle_number (get_or rows j d)
 
 at_of : (W : World) (bs : List Bundle) (c : Bundle) → In c bs → (k : ℕ) × (k < length (map (kept_of W) bs)) × (get_or (map (kept_of W) bs) k (kept_of W c) ≡ kept_of W c)
 at_of W [] c i = elim i [ ]
@@ -157,8 +157,8 @@ distinct_by W [] rise = tt
 distinct_by W (b ∷ bs) rise = (
   (λ c i same.
       let r = at_of W bs c i in
-      let below : b.bundle.0 < id_of (get_or (map (kept_of W) bs) r.0 (kept_of W c)) = rise 0 (suc r.0) (kept_of W c) (omega arith) (omega (arith, r.1)) in
-      let there = ap id_of r.2 in
+      let below : b.bundle.0 < bundle_number (get_or (map (kept_of W) bs) r.0 (kept_of W c)) = rise 0 (suc r.0) (kept_of W c) (omega arith) (omega (arith, r.1)) in
+      let there = ap bundle_number r.2 in
       omega (arith, below, there, same)),
   distinct_by W bs (λ i j d before within. rise (suc i) (suc j) d (omega (arith, before)) (omega (arith, within))),
 )
@@ -219,7 +219,7 @@ rows_after W added bs resolved apart =
 
 In-distinct : List BundleKept → Type 0
 In-distinct [] = Unit {0}
-In-distinct (r ∷ rs) = ((s : BundleKept) → In s rs → ¬ (id_of s ≡ id_of r)) × In-distinct rs
+In-distinct (r ∷ rs) = ((s : BundleKept) → In s rs → ¬ (bundle_number s ≡ bundle_number r)) × In-distinct rs
 
 row_place : (rs : List BundleKept) (s : BundleKept) → In s rs → (k : ℕ) × (k < length rs) × (get_or rs k s ≡ s)
 row_place [] s i = elim i [ ]
@@ -232,8 +232,8 @@ rows_distinct [] rise = tt
 rows_distinct (r ∷ rs) rise = (
   (λ s i same.
       let p = row_place rs s i in
-      let below : id_of r < id_of (get_or rs p.0 s) = rise 0 (suc p.0) s (omega arith) (omega (arith, p.1)) in
-      let there = ap id_of p.2 in
+      let below : bundle_number r < bundle_number (get_or rs p.0 s) = rise 0 (suc p.0) s (omega arith) (omega (arith, p.1)) in
+      let there = ap bundle_number p.2 in
       omega (arith, below, there, same)),
   rows_distinct rs (λ i j d before within. rise (suc i) (suc j) d (omega (arith, before)) (omega (arith, within))),
 )
@@ -241,8 +241,8 @@ rows_distinct (r ∷ rs) rise = (
 row_there : (rs : List BundleKept) (s : BundleKept) → In-distinct rs → In s rs → row_at s.bundle rs ≡ Some s
 unfolding In-distinct
 row_there [] s apart i = elim i [ ]
-row_there (r ∷ rs) s apart (inl e) = ap (λ t. cond t (Some r) (find (is_bundle s.bundle) rs)) (eq-eqb (id_of r) (id_of s) (ap id_of (sym e))) ∙ ap Some (sym e)
-row_there (r ∷ rs) s apart (inr i) = ap (λ t. cond t (Some r) (find (is_bundle s.bundle) rs)) (ne_eqb (id_of r) (id_of s) (λ e. apart.0 s i (sym e))) ∙ row_there rs s apart.1 i
+row_there (r ∷ rs) s apart (inl e) = ap (λ t. cond t (Some r) (find (has_bundle_id s.bundle) rs)) (eq-eqb (bundle_number r) (bundle_number s) (ap bundle_number (sym e))) ∙ ap Some (sym e)
+row_there (r ∷ rs) s apart (inr i) = ap (λ t. cond t (Some r) (find (has_bundle_id s.bundle) rs)) (ne_eqb (bundle_number r) (bundle_number s) (λ e. apart.0 s i (sym e))) ∙ row_there rs s apart.1 i
 
 -- the row of a bundle is found by it
 pub row_live : (table : TableRows) (row : BundleKept) → AreInOrder table → In row table.rows → row_at row.bundle table.rows ≡ Some row
@@ -280,16 +280,16 @@ set_by : (r new : BundleKept) (t : Bool) (o then : Option BundleKept) → (Down 
 set_by r new true o then one more is = one is
 set_by r new false o then one more is = more is
 
-set_here : (b : BundleId) (r : BundleKept) (o then : Option BundleKept) (t : Bool) → (IsSomeAnd o Down → IsSomeAnd then Down) → IsSomeAnd (cond (is_bundle b r) (Some r) o) Down →
-    IsSomeAnd (cond (is_bundle b (cond t (record r { state = RESOLVED }) r)) (Some (cond t (record r { state = RESOLVED }) r)) then) Down
+set_here : (b : BundleId) (r : BundleKept) (o then : Option BundleKept) (t : Bool) → (IsSomeAnd o Down → IsSomeAnd then Down) → IsSomeAnd (cond (has_bundle_id b r) (Some r) o) Down →
+    IsSomeAnd (cond (has_bundle_id b (cond t (record r { state = RESOLVED }) r)) (Some (cond t (record r { state = RESOLVED }) r)) then) Down
 unfolding Down
-set_here b r o then true more is = set_by r (record r { state = RESOLVED }) (is_bundle b r) o then (λ down. refl) more is
-set_here b r o then false more is = set_by r r (is_bundle b r) o then (λ down. down) more is
+set_here b r o then true more is = set_by r (record r { state = RESOLVED }) (has_bundle_id b r) o then (λ down. refl) more is
+set_here b r o then false more is = set_by r r (has_bundle_id b r) o then (λ down. down) more is
 
 pub set_settable : (c b : BundleId) (rows : List BundleKept) → IsSettable b rows → IsSettable b (with_state c RESOLVED rows)
 unfolding Down
 set_settable c b [] is = absurd is
-set_settable c b (r ∷ rs) is = set_here b r (find (is_bundle b) rs) (find (is_bundle b) (with_state c RESOLVED rs)) (is_bundle c r) (set_settable c b rs) is
+set_settable c b (r ∷ rs) is = set_here b r (find (has_bundle_id b) rs) (find (has_bundle_id b) (with_state c RESOLVED rs)) (has_bundle_id c r) (set_settable c b rs) is
 
 pub all_settable : (c : BundleId) (ids : List BundleId) (rows : List BundleKept) → All (λ b. IsSettable b rows) ids → All (λ b. IsSettable b (with_state c RESOLVED rows)) ids
 all_settable c ids rows all = All-weaker (λ b. IsSettable b rows) (λ b. IsSettable b (with_state c RESOLVED rows)) (λ b is. set_settable c b rows is) ids all

@@ -1,13 +1,13 @@
 -- A resolve answers, and changes the tables, as the history says.
 use Rattle.std.proofs.Common.{◌≡◌, ◌+◌, ◌<◌, ℕ, inl, inr, IsTrue, List, [], ◌∷◌, ◌++◌, length, map, ap, sym, subst, ◌∙◌, refl}
-use Rattle.std.specs.Prelude.{◌==◌, Bool, true, false, Err, IfOk, is_some, Ok, OnErr, OnOk, Option, None, Result, Some}
+use Rattle.std.specs.Prelude.{◌==◌, Bool, true, false, All, Err, IfOk, is_some, Ok, OnOk, Option, None, Result, Some}
 use Rattle.std.specs.Option.{option_map, option_map_or}
 use Rattle.std.specs.List.Sorted.{IsNonDecreasing}
 use Rattle.std.proofs.lemmas.Bool.{eq-eqb, eqb-true}
 use Rattle.osgi_base.specs.Verdict.{answers, Gives, refuses, Verdict}
 use Rattle.osgi_base.specs.declared.ids.BundleId.{BundleId}
 use Rattle.osgi_base.specs.declared.ids.RevisionId.{RevisionId}
-use Rattle.osgi_bundle.specs.Rows.{AreInOrder, TableRows}
+use Rattle.osgi_bundle.specs.Rows.{AreInOrder, IsSettable, TableRows}
 use Rattle.osgi_bundle.specs.Stands.{kept_of}
 use Rattle.osgi_resolver_theory.proofs.Once.{effort_within-once, first-extends_world, none-extends_world}
 use Rattle.osgi_resolver_theory.proofs.Ordered.{partial-ordered}
@@ -54,11 +54,14 @@ use Rattle.osgi_world.specs.declared.revision.Revision.{Revision}
 use Rattle.osgi_world.specs.declared.wiring.Wiring.{Wiring}
 use Rattle.osgi_world.specs.declared.world.Known.{Known}
 use Rattle.osgi_world.specs.declared.world.World.{World}
-use Rattle.osgi_reply.proofs.Installing.{sound_of, stays_same}
+use Rattle.osgi_reply.proofs.Installing.{sound_of}
 use Rattle.osgi_reply.proofs.Replying.{at, from_own, replied_refused, still_world}
 use Rattle.osgi_reply.proofs.Rows.{distinct, listed_same, rows_after, stays_resolved}
-use Rattle.osgi_reply.specs.Replied.{IsReplied, IsWorldOf, StandsFor, StandsStill}
+use Rattle.osgi_reply.specs.Replied.{IsReplied, IsRepliedToAll, IsWorldOf, StandsFor}
+use Rattle.osgi_reply.specs.computed.Changes.{IsReplyAndChangeToAll}
 use Rattle.osgi_reply.specs.computed.Searched.{IsAsked, IsSaid, IsThere, listed, with_resolved}
+use Rattle.osgi_reply.specs.declared.change.Change.{Change}
+use Rattle.osgi_reply.specs.declared.change.Change.TheVariants as change
 use Rattle.osgi_reply.specs.declared.tables.Tables.{Tables}
 
 -- ---- the bundle
@@ -140,7 +143,7 @@ module _ (W : World) (b : BundleId) (root : RevisionId) (sound : IsSound W) (ask
   not_in_use : ¬ InUse W.wirings root
   not_in_use (inl i) = not_wired W.wirings root asked.unwired i
   not_in_use (inr a) =
-      let host = host_fragment W.known root a.0 (known_at W.known root) refl (sound.consistent.coherent.attached a.0 root a.1) in
+      let host = host_fragment W.known root a.0 (known_at W.known root) refl (sound.consistent.coherent.rules.attached a.0 root a.1) in
       let same : Some host.0 ≡ Some asked.known = sym host.1 ∙ known_root in
       let one : host.0 ≡ asked.known = cc same in
       cc (ap (λ (k : Known). is_some k.revision.host) one, asked.whole, host.2)
@@ -194,15 +197,15 @@ searched : (now : Moment) (tables : Tables) (b : BundleId) (k : Known) (v : Verd
 searched now tables b k v stood is whole unresolved given =
     inr ((λ other called. live now tables b k stood is called.1), inr ((λ other called. cc (called.1, whole)), subst (λ t. Gives (search_conditions t now b) (AnswersResolve t now b) v) (sym unresolved) given))
 
-pub replied_missing : (tables : Tables) (b : BundleId) → current_revision tables.wirings.world b ≡ None → IsReplied (op.Resolve b) tables tables (answer.Refused NoSuchBundle)
-replied_missing tables b none =
-    replied_refused (op.Resolve b) tables NoSuchBundle
+pub replied_missing : (tables : Tables) (b : BundleId) → current_revision tables.wirings.world b ≡ None → IsRepliedToAll (op.Resolve b) tables tables (answer.Refused NoSuchBundle)
+replied_missing tables b none who =
+    replied_refused (record { tag = who; op = op.Resolve b }) tables NoSuchBundle
     (from_own tables (λ now. IsReply now (op.Resolve b) (answer.Refused NoSuchBundle)) (λ now stood. inl (NoSuchBundle, (refl, not_live (at now tables) tables b stood none), refl)))
 
-pub replied_fragment : (tables : Tables) (b : BundleId) → is_fragment_bundle tables.wirings.world b ≡ true → IsReplied (op.Resolve b) tables tables (answer.Refused InvalidOperation)
-replied_fragment tables b is =
+pub replied_fragment : (tables : Tables) (b : BundleId) → is_fragment_bundle tables.wirings.world b ≡ true → IsRepliedToAll (op.Resolve b) tables tables (answer.Refused InvalidOperation)
+replied_fragment tables b is who =
     let k = some_fragment tables.wirings.world b is in
-    replied_refused (op.Resolve b) tables InvalidOperation
+    replied_refused (record { tag = who; op = op.Resolve b }) tables InvalidOperation
     (from_own tables (λ now. IsReply now (op.Resolve b) (answer.Refused InvalidOperation)) (λ now stood.
     inr ((λ other called. live (at now tables) tables b k.0 stood k.1 called.1), inl (InvalidOperation, (refl, is), refl))))
 
@@ -211,8 +214,8 @@ quiet_resolve now tables b ids stood =
     let e : Entry = record { tag = now.tag; op = op.Resolve b; reply = answer.Resolved ids } in
     registry.stands_quiet now.before tables.registry e stood.services (record { registers = λ n. refl; takes = λ s. refl; gives = λ s. refl; gets = λ u s. refl; ungets = λ u s. refl })
 
-pub replied_resolved : (tables : Tables) (b : BundleId) → is_fragment_bundle tables.wirings.world b ≡ false → is_resolved tables.wirings.world b ≡ true → IsReplied (op.Resolve b) tables tables (answer.Resolved [])
-replied_resolved tables b whole resolved =
+pub replied_resolved : (tables : Tables) (b : BundleId) → is_fragment_bundle tables.wirings.world b ≡ false → is_resolved tables.wirings.world b ≡ true → IsRepliedToAll (op.Resolve b) tables tables (answer.Resolved [])
+replied_resolved tables b whole resolved who =
     let W = tables.wirings.world in
     let k = some_resolved W b resolved in
     record {
@@ -222,7 +225,7 @@ replied_resolved tables b whole resolved =
             inr ((λ other called. cc (called.1, whole)), subst (λ t. Gives (search_conditions t (at now tables) b) (AnswersResolve t (at now tables) b) (verdict (answer.Resolved []))) (sym resolved) refl),
           ));
       left = from_own tables (λ now. Leaves now (op.Resolve b) (answer.Resolved []) W) (λ now stood. subst (λ t. Resolves t (at now tables) b [] W) (sym resolved) refl);
-      stands = λ now stood. still_world now tables (op.Resolve b) (answer.Resolved []) tables.registry stood (λ depot. refl) (quiet_resolve now tables b [] stood);
+      stands = λ now told stood. still_world now tables (op.Resolve b) (answer.Resolved []) tables.registry stood (λ depot. refl) (quiet_resolve now tables b [] stood);
     }
 
 -- ---- refusals of the search
@@ -246,10 +249,10 @@ module _ (tables : Tables) (b : BundleId) (root : RevisionId) (kept : IsKeptWorl
       (record { place = q; first = first; requirement = is.0; is = subst (λ (w : World). requirement_at w.known q ≡ Some is.0) (sym world) is.1; namespace_is = refl; name_is = refl })
   said_unmet P cause.Clash said world none is = subst (IsUnmet P) (sym is) none
 
-  pub replied_unresolvable : (c : Cause) (said : Unmet) → IsAnswerTo tables.wirings.world root tables.budget (NoWord c) → IsSaid tables.wirings.world.known c said → IsReplied (op.Resolve b) tables tables (answer.Refused (Unresolvable said))
-  replied_unresolvable c said a is =
+  pub replied_unresolvable : (c : Cause) (said : Unmet) → IsAnswerTo tables.wirings.world root tables.budget (NoWord c) → IsSaid tables.wirings.world.known c said → IsRepliedToAll (op.Resolve b) tables tables (answer.Refused (Unresolvable said))
+  replied_unresolvable c said a is who =
       let p = problem_of tables.wirings.world b root sound asked tables.budget (NoWord c) a in
-      replied_refused (op.Resolve b) tables (Unresolvable said)
+      replied_refused (record { tag = who; op = op.Resolve b }) tables (Unresolvable said)
       (from_own tables (λ now. IsReply now (op.Resolve b) (answer.Refused (Unresolvable said))) (λ now stood.
       searched (at now tables) tables b asked.known (refuses (Unresolvable said)) stood asked.is whole_there open_there
       (inl (
@@ -266,10 +269,10 @@ module _ (tables : Tables) (b : BundleId) (root : RevisionId) (kept : IsKeptWorl
         refl,
       ))))
 
-  pub replied_spent : (visited : ℕ) → IsAnswerTo tables.wirings.world root tables.budget (Spent visited) → IsReplied (op.Resolve b) tables tables (answer.Refused (BudgetSpent visited))
-  replied_spent visited a =
+  pub replied_spent : (visited : ℕ) → IsAnswerTo tables.wirings.world root tables.budget (Spent visited) → IsRepliedToAll (op.Resolve b) tables tables (answer.Refused (BudgetSpent visited))
+  replied_spent visited a who =
       let p = problem_of tables.wirings.world b root sound asked tables.budget (Spent visited) a in
-      replied_refused (op.Resolve b) tables (BudgetSpent visited)
+      replied_refused (record { tag = who; op = op.Resolve b }) tables (BudgetSpent visited)
       (from_own tables (λ now. IsReply now (op.Resolve b) (answer.Refused (BudgetSpent visited))) (λ now stood.
       let above : IsEffortAbove a.problem now.setting.bounds.budget = subst (IsEffortAbove a.problem) stood.budget a.is.1 in
       searched (at now tables) tables b asked.known (refuses (BudgetSpent visited)) stood asked.is whole_there open_there
@@ -357,8 +360,8 @@ module _ (tables : Tables) (b : BundleId) (root : RevisionId) (kept : IsKeptWorl
             known = subst (λ (w : World). IsWorldOf (installed depot (now.before ++ e ∷ [])) w after.issued) (sym world) (subst (λ (l : List Bundle). IsWorldOf l then after.issued) (sym same) known);
           }
 
-      pub replied_found : IsReplied (op.Resolve b) tables (record tables { bundles = new; wirings = after }) (answer.Resolved (listed tables.wirings.world wirings tables.bundles.rows))
-      replied_found = record {
+      pub replied_found : IsRepliedToAll (op.Resolve b) tables (record tables { bundles = new; wirings = after }) (answer.Resolved (listed tables.wirings.world wirings tables.bundles.rows))
+      replied_found who = record {
         due = from_own tables (λ now. IsReply now (op.Resolve b) (answer.Resolved (listed tables.wirings.world wirings tables.bundles.rows))) found_due;
         left = from_own tables (λ now. Leaves now (op.Resolve b) (answer.Resolved (listed tables.wirings.world wirings tables.bundles.rows)) after.world) (λ now stood.
             subst (λ t. Resolves t (at now tables) b (listed tables.wirings.world wirings tables.bundles.rows) after.world) (sym open_there)
@@ -366,16 +369,24 @@ module _ (tables : Tables) (b : BundleId) (root : RevisionId) (kept : IsKeptWorl
         stands = from_own tables (λ now. StandsFor (later now (op.Resolve b) (answer.Resolved (listed tables.wirings.world wirings tables.bundles.rows)) after.world) (record tables { bundles = new; wirings = after })) found_stands;
       }
 
--- ---- what functions answer
+-- ---- what is decided
 
-pub found_ok : {E : Type 0} (r : Result (Reply × Reply) E) (tables : Tables) (b : BundleId) (root : RevisionId) → IsKeptWorld tables.wirings.world tables.wirings.issued → IsAsked tables.wirings.world b root → (word : List ℕ) (wirings : List Wiring) →
-    IsAnswerTo tables.wirings.world root tables.budget (Found word wirings) → (new : TableRows) (after : WiringState) → IfOk r (λ x. x.0 ≡ answer.Resolved (listed tables.wirings.world wirings tables.bundles.rows)) →
-    OnOk r (after.world ≡ with_wirings tables.wirings.world wirings) → OnOk r (IsKeptWorld after.world after.issued) → after.issued ≡ tables.wirings.issued → OnOk r (new.rows ≡ with_resolved (listed tables.wirings.world wirings tables.bundles.rows) tables.bundles.rows) →
-    new.issued ≡ tables.bundles.issued → OnOk r (AreInOrder tables.bundles) → IfOk r (λ x. IsReplied (op.Resolve b) tables (record tables { bundles = new; wirings = after }) x.0)
-found_ok (Ok x) tables b root kept asked word wirings a new after is world kept_then issued rows given order =
-    subst (IsReplied (op.Resolve b) tables (record tables { bundles = new; wirings = after })) (sym is) (replied_found tables b root kept asked word wirings a order new after world kept_then issued rows given)
-found_ok (Err e) tables b root kept asked word wirings a new after is world kept_then issued rows given order = tt
+-- the wirings that are found are put in force
+pub decided_found : (tables : Tables) (b : BundleId) (root : RevisionId) → IsKeptWorld tables.wirings.world tables.wirings.issued → IsAsked tables.wirings.world b root → (word : List ℕ) (wirings : List Wiring) →
+    IsAnswerTo tables.wirings.world root tables.budget (Found word wirings) → All (λ b. IsSettable b tables.bundles.rows) (listed tables.wirings.world wirings tables.bundles.rows) → AreInOrder tables.bundles →
+    IsReplyAndChangeToAll (op.Resolve b) tables (answer.Resolved (listed tables.wirings.world wirings tables.bundles.rows)) (change.Resolve wirings (listed tables.wirings.world wirings tables.bundles.rows))
+decided_found tables b root kept asked word wirings a settable order who = record {
+  possible = record { extends = found_extends tables.wirings.world root tables.budget word wirings a; settable = settable };
+  replied = λ new put.
+      subst (λ t. IsReplied (record { tag = who; op = op.Resolve b }) tables t (answer.Resolved (listed tables.wirings.world wirings tables.bundles.rows))) (sym put.is)
+      (replied_found tables b root kept asked word wirings a order put.bundles put.wirings put.world put.holds put.issued put.rows put.given who);
+}
 
-pub found_unchanged : {E : Type 0} (r : Result (Reply × Reply) E) (tables : Tables) (new : TableRows) (after : WiringState) → OnErr r (new ≡ tables.bundles) → OnErr r (after ≡ tables.wirings) → OnErr r (StandsStill tables (record tables { bundles = new; wirings = after }))
-found_unchanged (Ok x) tables new after same is = tt
-found_unchanged (Err e) tables new after same is = stays_same tables new after same (record { world = ap (λ (s : WiringState). s.world) is; issued = ap (λ (s : WiringState). s.issued) is })
+pub found_ok : {E : Type 0} (r : Result (Reply × Change) E) (tables : Tables) (b : BundleId) (root : RevisionId) → IsKeptWorld tables.wirings.world tables.wirings.issued → IsAsked tables.wirings.world b root → (word : List ℕ) (wirings : List Wiring) →
+    IsAnswerTo tables.wirings.world root tables.budget (Found word wirings) → IfOk r (λ x. x.0 ≡ answer.Resolved (listed tables.wirings.world wirings tables.bundles.rows)) →
+    IfOk r (λ x. x.1 ≡ change.Resolve wirings (listed tables.wirings.world wirings tables.bundles.rows)) →
+    OnOk r (All (λ b. IsSettable b tables.bundles.rows) (listed tables.wirings.world wirings tables.bundles.rows)) → OnOk r (AreInOrder tables.bundles) → IfOk r (λ x. IsReplyAndChangeToAll (op.Resolve b) tables x.0 x.1)
+found_ok (Ok x) tables b root kept asked word wirings a is_reply is_change settable order =
+    subst (λ y. IsReplyAndChangeToAll (op.Resolve b) tables y x.1) (sym is_reply)
+    (subst (IsReplyAndChangeToAll (op.Resolve b) tables (answer.Resolved (listed tables.wirings.world wirings tables.bundles.rows))) (sym is_change) (decided_found tables b root kept asked word wirings a settable order))
+found_ok (Err e) tables b root kept asked word wirings a is_reply is_change settable order = tt

@@ -27,7 +27,7 @@ use Rattle.osgi_world.specs.declared.world.Known.{Known}
 use Rattle.osgi_world.specs.declared.world.World.{World}
 use Rattle.osgi_reply.proofs.Replying.{at, from_own, replied_refused, still_world}
 use Rattle.osgi_reply.proofs.Searching.{live, not_live}
-use Rattle.osgi_reply.specs.Replied.{IsReplied}
+use Rattle.osgi_reply.specs.Replied.{IsRepliedToAll}
 use Rattle.osgi_reply.specs.computed.Searched.{IsCurrent}
 use Rattle.osgi_reply.specs.declared.tables.Tables.{Tables}
 
@@ -60,7 +60,7 @@ wires_known W issued r g kept is =
 pub fragments_known : (W : World) (issued : ℕ) (r : RevisionId) (g : Wiring) → IsKeptWorld W issued → Some g ≡ wiring_at W.wirings r → All (λ f. IsSome (fragment_row W.known f)) g.fragments
 fragments_known W issued r g kept is =
     all_of (λ f. IsSome (fragment_row W.known f)) g.fragments (λ f i.
-    fragment_shown (known_at W.known f) (host-known W.known f g.revision (kept.consistent.coherent.attached g.revision f (record { wiring = g; stands = stands_there W r g (sym is); revision = refl; has = i }))))
+    fragment_shown (known_at W.known f) (host-known W.known f g.revision (kept.consistent.coherent.rules.attached g.revision f (record { wiring = g; stands = stands_there W r g (sym is); revision = refl; has = i }))))
 
 -- ---- the rows of a bundle
 
@@ -86,18 +86,18 @@ rows_none W b r c is =
 
 -- ---- the reply
 
-pub wires_missing : (tables : Tables) (b : BundleId) → current_revision tables.wirings.world b ≡ None → IsReplied (op.ListWires b) tables tables (answer.Refused NoSuchBundle)
-wires_missing tables b none =
-    replied_refused (op.ListWires b) tables NoSuchBundle
+pub wires_missing : (tables : Tables) (b : BundleId) → current_revision tables.wirings.world b ≡ None → IsRepliedToAll (op.ListWires b) tables tables (answer.Refused NoSuchBundle)
+wires_missing tables b none who =
+    replied_refused (record { tag = who; op = op.ListWires b }) tables NoSuchBundle
     (from_own tables (λ now. IsReply now (op.ListWires b) (answer.Refused NoSuchBundle)) (λ now stood. inl (NoSuchBundle, (refl, not_live (at now tables) tables b stood none), refl)))
 
 pub wires_listed : (tables : Tables) (b : BundleId) (k : Known) (rows fragments : List WireRow) → current_revision tables.wirings.world b ≡ Some k → AreWireRows tables.wirings.world b rows fragments →
-    IsReplied (op.ListWires b) tables tables (answer.Wires rows fragments)
-wires_listed tables b k rows fragments is are = record {
+    IsRepliedToAll (op.ListWires b) tables tables (answer.Wires rows fragments)
+wires_listed tables b k rows fragments is are who = record {
   due = from_own tables (λ now. IsReply now (op.ListWires b) (answer.Wires rows fragments)) (λ now stood.
       inr ((λ other called. live (at now tables) tables b k stood is called.1), (rows, fragments, refl, are)));
-  left = λ now stood. stood.world;
-  stands = λ now stood.
+  left = λ now told stood. stood.world;
+  stands = λ now told stood.
       let e : Entry = record { tag = now.tag; op = op.ListWires b; reply = answer.Wires rows fragments } in
       still_world now tables (op.ListWires b) (answer.Wires rows fragments) tables.registry stood (λ depot. refl)
       (registry.stands_quiet now.before tables.registry e stood.services (record { registers = λ n. refl; takes = λ s. refl; gives = λ s. refl; gets = λ u s. refl; ungets = λ u s. refl }));

@@ -1,13 +1,16 @@
 -- What an operation does to the tables, and answers by them.
 use Rattle.std.specs.Prelude.{ℕ, ◌≡◌, ◌<◌, ◌+◌, ◌-◌, ◌^◌, Bool, true, false, is_some, List, ◌∷◌, None, find, length}
 use Rattle.osgi_base.specs.declared.ids.BundleId.{BundleId}
+use Rattle.osgi_base.specs.declared.ids.Tag.{Tag}
 use Rattle.osgi_bundle.specs.Stands as table
-use Rattle.osgi_ops.specs.Bundles.{Bundle, installed, is_bundle, system, the_system_bundle}
+use Rattle.osgi_ops.specs.Bundles.{Bundle, installed, has_bundle_id, system, the_system_bundle}
+use Rattle.osgi_ops.specs.Legal.{IsAskedAt}
 use Rattle.osgi_ops.specs.Moments.{later, Moment}
 use Rattle.osgi_ops.specs.Operations.{IsReply}
 use Rattle.osgi_ops.specs.Resolved.{current_revision, is_resolved}
 use Rattle.osgi_ops.specs.Soundness.{IsSound}
 use Rattle.osgi_ops.specs.Worlds.{Leaves, with_revision}
+use Rattle.osgi_ops.specs.declared.asked.Asked.{Asked}
 use Rattle.osgi_ops.specs.declared.op.Op.{Op}
 use Rattle.osgi_ops.specs.declared.op.Op.TheVariants as op
 use Rattle.osgi_ops.specs.declared.reply.Reply.{Reply}
@@ -20,7 +23,7 @@ use Rattle.osgi_reply.specs.declared.tables.Tables.{Tables}
 
 -- the framework has the operation
 abbrev pub is_known : Op → Bool
-is_known (op.Register owner classes object properties) = true
+is_known (op.Register owner classes object scope properties) = true
 is_known (op.Modify owner service properties) = true
 is_known (op.Unregister owner service) = true
 is_known (op.Find asker class filter) = true
@@ -37,7 +40,7 @@ is_known _ = false
 -- what is known of the world where these bundles were installed, and so many ids of revisions were given
 pub record IsWorldOf (list : List Bundle) (world : World) (given : ℕ) : Type 0 where
   -- each live bundle has a current revision, and no others have one
-  pub current : (b : BundleId) → is_some (current_revision world b) ≡ is_some (find (is_bundle b) (the_system_bundle ∷ list))
+  pub current : (b : BundleId) → is_some (current_revision world b) ≡ is_some (find (has_bundle_id b) (the_system_bundle ∷ list))
   pub fresh : (b : BundleId) → length list < b.0 → current_revision world b ≡ None
   pub issued : given ≡ length list
   pub resolved_system : is_resolved world system ≡ true
@@ -52,18 +55,23 @@ pub record StandsFor (now : Moment) (tables : Tables) : Type 0 where
   pub world : tables.wirings.world ≡ now.world
   pub known : IsWorldOf (installed now.setting.depot now.before) now.world tables.wirings.issued
 
--- at each moment that the tables stood for the reply is due, the world is left as it may be, and then the tables stand for the next
-pub record IsReplied (op : Op) (old new : Tables) (reply : Reply) : Type 0 where
-  pub due : (now : Moment) → StandsFor now old → IsReply now op reply
-  pub left : (now : Moment) → StandsFor now old → Leaves now op reply new.wirings.world
-  pub stands : (now : Moment) → StandsFor now old → StandsFor (later now op reply new.wirings.world) new
+-- at each moment at which it is asked for and that the tables stood for the reply is due, the world is left as it may be, and then the tables
+-- stand for the next
+pub record IsReplied (asked : Asked) (old new : Tables) (reply : Reply) : Type 0 where
+  pub due : (now : Moment) → IsAskedAt asked now → StandsFor now old → IsReply now asked.op reply
+  pub left : (now : Moment) → IsAskedAt asked now → StandsFor now old → Leaves now asked.op reply new.wirings.world
+  pub stands : (now : Moment) → IsAskedAt asked now → StandsFor now old → StandsFor (later now asked.op reply new.wirings.world) new
+
+-- it is the same whatever the tag
+abbrev pub IsRepliedToAll : Op → Tables → Tables → Reply → Type 0
+IsRepliedToAll op old new reply = (tag : Tag) → IsReplied (record { tag = tag; op = op }) old new reply
 
 -- the registry has room, ids of bundles and of revisions are left to be given, and the next bundle has no current revision. One
 -- more than the budget can be counted
 pub record HasRoom (tables : Tables) : Type 0 where
   pub services : served.HasRoom tables.registry
-  pub bundles : tables.bundles.issued < 4294967295
-  pub revisions : tables.wirings.issued < 4294967295
+  pub bundles : tables.bundles.issued < 2 ^ 32 - 1
+  pub revisions : tables.wirings.issued < 2 ^ 32 - 1
   pub fresh : (b : BundleId) → b.0 ≡ tables.bundles.issued + 1 → current_revision tables.wirings.world b ≡ None
   pub budget : tables.budget < 2 ^ 64 - 1
 
@@ -77,7 +85,7 @@ StandsStill old new = (now : Moment) → StandsFor now old → StandsFor now new
 pub record IsBrought (b : BundleId) (revision : Revision) (old new : WiringState) : Type 0 where
   pub world : new.world ≡ with_revision old.world (record { 0 = old.issued + 1 }) b revision
   pub known : BecomesKnown old.world new.world (record { id = record { 0 = old.issued + 1 }; bundle = b; current = true; revision = revision })
-  pub kept : IsKeptWorld new.world new.issued
+  pub holds : IsKeptWorld new.world new.issued
   pub issued : new.issued ≡ old.issued + 1
 
 -- the world and the ids given are the same

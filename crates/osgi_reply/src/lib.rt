@@ -3,6 +3,7 @@
 
 mod askers;
 mod bundles;
+mod change;
 mod replies;
 mod resolving;
 mod tables;

@@ -1,95 +1,146 @@
 //! Operations carried out on the tables.
 //!
-//! A reply is made twice, for the caller and for the history.
+//! What may fail comes first: the reply and the change are decided, and the reply is copied, for the caller and for the history.
+//! The change comes last, and is made whole or not at all.
 
 ghost use Rattle.std.specs.Prelude.{◌≡◌, false, None, IfOk, OnErr};
 ghost use Rattle.osgi_ops.specs.Operations.{asker_of};
 ghost use Rattle.osgi_reply.specs.computed.Asked.{asker_refusal};
+ghost use Rattle.osgi_reply.specs.computed.Changes.{IsReplyAndChange};
 ghost use Rattle.osgi_reply.specs.Replied.{HasRoom, is_known, IsReplied, StandsStill};
 
 use crate::askers::asker_refusal;
 use crate::bundles::{install, list_bundles};
+use crate::change::Change;
 use crate::resolving::resolve;
 use crate::tables::Tables;
 use crate::wires::list_wires;
-use osgi_ops::{Op, Refusal, Reply};
-use osgi_reply_services::{refused, services};
+use osgi_ops::{Asked, Op, Refusal, Reply};
+use osgi_reply_services::{ServiceChange, services};
 use std::alloc::{AllocError, Global};
 
 /// The refusal of an operation that the framework does not have yet.
-fn not_yet(alloc: Global, tables: &Tables, op: &Op) -> Result<(Reply, Reply), AllocError>
-    requires unknown { is_known op.now ≡ false }
-    ensures twice { IfOk result (λ r. r.1 ≡ r.0) }
-    ensures replied { IfOk result (λ r. IsReplied op.now tables.now tables.now r.0) }
+fn not_yet(tables: &Tables, asked: &Asked) -> (Reply, Change)
+    requires unknown { is_known asked.now.op ≡ false }
+    ensures decided { IsReplyAndChange asked.now tables.now result.0 result.1 }
 {
-    refused(alloc, Refusal::InvalidOperation)
+    let refusal = Refusal::InvalidOperation;
+    (Reply::Refused { refusal }, Change::Nothing)
 }
 
-/// Carries an operation out whose asker, if it has one, may ask for it.
-fn reply_by(alloc: Global, tables: &mut Tables, op: &Op) -> Result<(Reply, Reply), AllocError>
-    requires room { HasRoom tables.old }
-    requires asker { asker_refusal tables.old.bundles (asker_of op.now) ≡ None }
-    ensures twice { IfOk result (λ r. r.1 ≡ r.0) }
-    ensures replied { IfOk result (λ r. IsReplied op.now tables.old tables.new r.0) }
-    ensures unchanged { OnErr result (StandsStill tables.old tables.new) }
+/// What is decided of the registry, as a change of the tables.
+fn in_registry(decided: (Reply, ServiceChange)) -> (Reply, Change)
+    ensures same { (result.0 ≡ decided.0) × (result.1 ≡ Change.Services decided.1) }
 {
-    match op {
+    let (reply, change) = decided;
+    (reply, Change::Services { change })
+}
+
+/// A reply that changes nothing.
+fn unchanging(reply: Reply) -> (Reply, Change)
+    ensures same { (result.0 ≡ reply) × (result.1 ≡ Change.Nothing) }
+{
+    (reply, Change::Nothing)
+}
+
+/// Decides an operation whose asker, if it has one, may ask for it.
+fn decide_by(
+    alloc: Global,
+    tables: &mut Tables,
+    asked: &Asked,
+) -> Result<(Reply, Change), AllocError>
+    requires room { HasRoom tables.old }
+    requires asker { asker_refusal tables.old.bundles (asker_of asked.now.op) ≡ None }
+    ensures decided { IfOk result (λ r. IsReplyAndChange asked.now tables.old r.0 r.1) }
+    ensures unchanged { tables.new ≡ tables.old }
+{
+    match &asked.op {
         Op::Register {
             owner,
             classes,
             object,
+            scope,
             properties,
-        } => services::register(
+        } => Ok(in_registry(services::register(
             alloc,
-            &mut tables.registry,
+            &tables.registry,
             *owner,
             classes,
             object,
+            *scope,
             properties,
-        ),
+        )?)),
         Op::Modify {
             owner,
             service,
             properties,
-        } => services::modify(alloc, &mut tables.registry, *owner, *service, properties),
-        Op::Unregister { owner, service } => {
-            services::unregister(alloc, &mut tables.registry, *owner, *service)
-        }
+        } => Ok(in_registry(services::modify(
+            alloc,
+            &tables.registry,
+            *owner,
+            *service,
+            properties,
+        )?)),
+        Op::Unregister { owner, service } => Ok(in_registry(services::unregister(
+            &tables.registry,
+            *owner,
+            *service,
+        ))),
         Op::Find {
             asker,
             class,
             filter,
-        } => services::find(alloc, &tables.registry, *asker, class, filter),
+        } => Ok(unchanging(services::find(&tables.registry, *asker, class, filter))),
         Op::FindAll {
             asker,
             class,
             filter,
-        } => services::find_all(alloc, &tables.registry, *asker, class, filter),
-        Op::Get { user, service } => services::get(alloc, &mut tables.registry, *user, *service),
-        Op::Unget { user, service } => services::unget(
+        } => Ok(unchanging(services::find_all(&tables.registry, *asker, class, filter)?)),
+        Op::Get { user, service } => Ok(in_registry(services::get(
             alloc,
-            &mut tables.registry,
+            &tables.registry,
             *user,
             *service,
-        ),
+        )?)),
+        Op::Unget { user, service } => Ok(in_registry(services::unget(
+            &tables.registry,
+            *user,
+            *service,
+        ))),
         Op::Install { location } => install(alloc, tables, location),
         Op::Resolve { bundle } => resolve(alloc, tables, *bundle),
-        Op::ListBundles => list_bundles(alloc, &tables.bundles),
-        Op::ListServices => services::list_services(alloc, &tables.registry),
-        Op::ListWires { bundle } => list_wires(alloc, tables, *bundle),
-        _ => not_yet(alloc, tables, op),
+        Op::ListBundles => Ok(unchanging(list_bundles(alloc, &tables.bundles)?)),
+        Op::ListServices => Ok(unchanging(services::list_services(alloc, &tables.registry)?)),
+        Op::ListWires { bundle } => Ok(unchanging(list_wires(alloc, tables, *bundle)?)),
+        _ => Ok(not_yet(tables, asked)),
     }
 }
 
-/// Carries an operation out, and answers its reply twice. If memory runs out, the tables stand for what they did.
-pub fn reply_to(alloc: Global, tables: &mut Tables, op: &Op) -> Result<(Reply, Reply), AllocError>
+/// Decides an operation: its reply, and what it changes.
+fn decide(alloc: Global, tables: &mut Tables, asked: &Asked) -> Result<(Reply, Change), AllocError>
     requires room { HasRoom tables.old }
-    ensures twice { IfOk result (λ r. r.1 ≡ r.0) }
-    ensures replied { IfOk result (λ r. IsReplied op.now tables.old tables.new r.0) }
+    ensures decided { IfOk result (λ r. IsReplyAndChange asked.now tables.old r.0 r.1) }
+    ensures unchanged { tables.new ≡ tables.old }
+{
+    match asker_refusal(&tables.bundles, &asked.op) {
+        Some(refusal) => Ok((Reply::Refused { refusal }, Change::Nothing)),
+        None => decide_by(alloc, tables, asked),
+    }
+}
+
+/// Carries an operation out, and answers its reply, with a copy. If memory runs out, the tables stand for what they did.
+pub fn reply_to(
+    alloc: Global,
+    tables: &mut Tables,
+    asked: &Asked,
+) -> Result<(Reply, Reply), AllocError>
+    requires room { HasRoom tables.old }
+    ensures copied { IfOk result (λ r. r.1 ≡ r.0) }
+    ensures replied { IfOk result (λ r. IsReplied asked.now tables.old tables.new r.0) }
     ensures unchanged { OnErr result (StandsStill tables.old tables.new) }
 {
-    match asker_refusal(&tables.bundles, op) {
-        Some(refusal) => refused(alloc, refusal),
-        None => reply_by(alloc, tables, op),
-    }
+    let (reply, change) = decide(alloc, tables, asked)?;
+    let kept = reply.copy(alloc)?;
+    change.commit(tables)?;
+    Ok((reply, kept))
 }

@@ -1,6 +1,6 @@
-//! What a resolve does to the wirings and to the table of bundles, and answers.
+//! What a resolve answers, and changes in the wirings and in the table of bundles.
 
-ghost use Rattle.std.specs.Prelude.{ℕ, ◌≡◌, ◌-◌, ◌^◌, ◌<◌, ◌||◌, [], All, IfOk, OnOk, OnErr, map};
+ghost use Rattle.std.specs.Prelude.{ℕ, ◌≡◌, ◌-◌, ◌^◌, ◌<◌, ◌||◌, All, IfOk, OnOk, map};
 ghost use Rattle.std.specs.BTreeSet.{contains, IsOrdered};
 ghost use Rattle.std.specs.List.{list_any};
 ghost use Rattle.std.specs.Option.{option_copied};
@@ -8,17 +8,18 @@ ghost use Rattle.std.specs.Ordering.{nat_cmp};
 ghost use Rattle.osgi_bundle.specs.Rows.{AreInOrder, IsSettable};
 ghost use Rattle.osgi_ops.specs.declared.op.Op.TheVariants as op;
 ghost use Rattle.osgi_ops.specs.declared.reply.Reply.TheVariants as answer;
-ghost use Rattle.osgi_wiring.specs.States.{IsKeptWorld, MayExtend, with_wirings};
+ghost use Rattle.osgi_wiring.specs.States.{IsKeptWorld};
 ghost use Rattle.osgi_world.specs.Lookups.{requirement_at, requirement_count};
-ghost use Rattle.osgi_reply.specs.Replied.{HasRoom, IsReplied, StandsStill};
-ghost use Rattle.osgi_reply.specs.computed.Searched.{IsAsked, IsSaid, IsTargetOf, IsThere, bundle_by, bundle_of, is_by, is_by_wiring, is_installed, is_own, listed, with_resolved};
+ghost use Rattle.osgi_reply.specs.Replied.{HasRoom};
+ghost use Rattle.osgi_reply.specs.computed.Changes.{IsReplyAndChangeToAll};
+ghost use Rattle.osgi_reply.specs.computed.Searched.{IsAsked, IsSaid, IsTargetOf, IsThere, bundle_by, bundle_of, is_by, is_by_wiring, is_installed, is_own, listed};
 
+use crate::change::Change;
 use crate::tables::Tables;
 use osgi_base::{BundleId, List, RevisionId};
 use osgi_bundle::Table;
 use osgi_ops::{INSTALLED, Refusal, Reply, Unmet};
-use osgi_reply_services::refused;
-use osgi_resolver::{Answer, Cause, IndexedWirings};
+use osgi_resolver::{Answer, Cause};
 use osgi_wiring::Wirings;
 use osgi_world::{Known, ReqRef, Requirement, Wiring};
 use std::alloc::{AllocError, Global};
@@ -172,7 +173,7 @@ fn newly_resolved(
     bundles: &Table,
     added: &[Wiring],
 ) -> Result<List<BundleId>, AllocError>
-    requires kept { IsKeptWorld wirings.now.world wirings.now.issued }
+    requires holds { IsKeptWorld wirings.now.world wirings.now.issued }
     ensures listed { IfOk result (λ list. list ≡ listed wirings.now.world added.now bundles.now.rows) }
     ensures settable { IfOk result (All (λ b. IsSettable b bundles.now.rows)) }
     ensures in_order { AreInOrder bundles.now }
@@ -183,44 +184,24 @@ fn newly_resolved(
     in_order(alloc, &numbers)
 }
 
-/// Says in the table that bundles are resolved.
-fn set_resolved(bundles: &mut Table, list: &[BundleId])
-    requires settable { All (λ b. IsSettable b bundles.old.rows) list.now }
-    ensures rows { bundles.new.rows ≡ with_resolved list.now bundles.old.rows }
-    ensures issued { bundles.new.issued ≡ bundles.old.issued }
-{
-    for bundle in list {
-        bundles.set_resolved(*bundle, true);
-    }
-}
-
-/// Puts wirings in force, and answers which bundles they resolve. All memory is taken before the table changes.
+/// The reply of a resolve that found wirings, and the change.
 fn accept(
     alloc: Global,
-    bundles: &mut Table,
-    wirings: &mut IndexedWirings,
+    bundles: &Table,
+    wirings: &Wirings,
     added: List<Wiring>,
-) -> Result<(Reply, Reply), AllocError>
-    requires extends { MayExtend wirings.old.world added }
-    ensures twice { IfOk result (λ r. r.1 ≡ r.0) }
-    ensures listed { IfOk result (λ r. r.0 ≡ answer.Resolved (listed wirings.old.world added bundles.old.rows)) }
-    ensures world { OnOk result (wirings.new.world ≡ with_wirings wirings.old.world added) }
-    ensures kept { OnOk result (IsKeptWorld wirings.new.world wirings.new.issued) }
-    ensures issued { wirings.new.issued ≡ wirings.old.issued }
-    ensures rows { OnOk result (bundles.new.rows ≡ with_resolved (listed wirings.old.world added bundles.old.rows) bundles.old.rows) }
-    ensures given { bundles.new.issued ≡ bundles.old.issued }
-    ensures in_order { OnOk result (AreInOrder bundles.old) }
-    ensures bundles_unchanged { OnErr result (bundles.new ≡ bundles.old) }
-    ensures wirings_unchanged { OnErr result (wirings.new ≡ wirings.old) }
+) -> Result<(Reply, Change), AllocError>
+    requires holds { IsKeptWorld wirings.now.world wirings.now.issued }
+    ensures reply { IfOk result (λ r. r.0 ≡ answer.Resolved (listed wirings.now.world added bundles.now.rows)) }
+    ensures change { IfOk result (λ r. r.1 ≡ Change.Resolve added (listed wirings.now.world added bundles.now.rows)) }
+    ensures settable { OnOk result (All (λ b. IsSettable b bundles.now.rows) (listed wirings.now.world added bundles.now.rows)) }
+    ensures in_order { OnOk result (AreInOrder bundles.now) }
 {
-    let resolved = newly_resolved(alloc, wirings.wirings(), bundles, added.items())?;
-    let kept = resolved.copy(alloc)?;
-    wirings.extend(added)?;
-    set_resolved(bundles, resolved.items());
-    Ok((
-        Reply::Resolved { added: resolved },
-        Reply::Resolved { added: kept },
-    ))
+    let resolved = newly_resolved(alloc, wirings, bundles, added.items())?;
+    let reply = Reply::Resolved {
+        added: resolved.copy(alloc)?,
+    };
+    Ok((reply, Change::Resolve { added, resolved }))
 }
 
 // ---- why a bundle cannot be resolved
@@ -264,38 +245,27 @@ fn search(
     tables: &mut Tables,
     bundle: BundleId,
     root: RevisionId,
-) -> Result<(Reply, Reply), AllocError>
+) -> Result<(Reply, Change), AllocError>
     requires asked { IsAsked tables.old.wirings.world bundle root }
-    requires kept { IsKeptWorld tables.old.wirings.world tables.old.wirings.issued }
+    requires holds { IsKeptWorld tables.old.wirings.world tables.old.wirings.issued }
     requires budget { tables.old.budget < 2 ^ 64 - 1 }
-    ensures twice { IfOk result (λ r. r.1 ≡ r.0) }
-    ensures replied { IfOk result (λ r. IsReplied (op.Resolve bundle) tables.old tables.new r.0) }
-    ensures unchanged { OnErr result (StandsStill tables.old tables.new) }
+    ensures decided { IfOk result (λ r. IsReplyAndChangeToAll (op.Resolve bundle) tables.old r.0 r.1) }
+    ensures unchanged { tables.new ≡ tables.old }
 {
     match tables.wirings.resolve(root, tables.budget)? {
         Answer::Found { word: _, added } => {
-            accept(alloc, &mut tables.bundles, &mut tables.wirings, added)
+            accept(alloc, &tables.bundles, tables.wirings.wirings(), added)
         }
         Answer::NoWord(cause) => {
             let cause = unmet(alloc, tables.wirings.wirings(), cause)?;
-            refused(alloc, Refusal::Unresolvable { cause })
+            let refusal = Refusal::Unresolvable { cause };
+            Ok((Reply::Refused { refusal }, Change::Nothing))
         }
-        Answer::Spent { visited } => refused(alloc, Refusal::BudgetSpent { visited }),
+        Answer::Spent { visited } => {
+            let refusal = Refusal::BudgetSpent { visited };
+            Ok((Reply::Refused { refusal }, Change::Nothing))
+        }
     }
-}
-
-/// No bundles, twice.
-fn none_resolved(alloc: Global) -> (Reply, Reply)
-    ensures none { (result.0 ≡ answer.Resolved []) × (result.1 ≡ answer.Resolved []) }
-{
-    (
-        Reply::Resolved {
-            added: List::from(Vec::new(alloc)),
-        },
-        Reply::Resolved {
-            added: List::from(Vec::new(alloc)),
-        },
-    )
 }
 
 /// Resolves a bundle, with those that it needs.
@@ -303,16 +273,24 @@ pub fn resolve(
     alloc: Global,
     tables: &mut Tables,
     bundle: BundleId,
-) -> Result<(Reply, Reply), AllocError>
+) -> Result<(Reply, Change), AllocError>
     requires room { HasRoom tables.old }
-    ensures twice { IfOk result (λ r. r.1 ≡ r.0) }
-    ensures replied { IfOk result (λ r. IsReplied (op.Resolve bundle) tables.old tables.new r.0) }
-    ensures unchanged { OnErr result (StandsStill tables.old tables.new) }
+    ensures decided { IfOk result (λ r. IsReplyAndChangeToAll (op.Resolve bundle) tables.old r.0 r.1) }
+    ensures unchanged { tables.new ≡ tables.old }
 {
     match target_of(tables.wirings.wirings(), bundle) {
-        ResolveTarget::Missing => refused(alloc, Refusal::NoSuchBundle),
-        ResolveTarget::Fragment => refused(alloc, Refusal::InvalidOperation),
-        ResolveTarget::Resolved => Ok(none_resolved(alloc)),
+        ResolveTarget::Missing => {
+            let refusal = Refusal::NoSuchBundle;
+            Ok((Reply::Refused { refusal }, Change::Nothing))
+        }
+        ResolveTarget::Fragment => {
+            let refusal = Refusal::InvalidOperation;
+            Ok((Reply::Refused { refusal }, Change::Nothing))
+        }
+        ResolveTarget::Resolved => {
+            let added = List::from(Vec::new(alloc));
+            Ok((Reply::Resolved { added }, Change::Nothing))
+        }
         ResolveTarget::Root(root) => search(alloc, tables, bundle, root),
     }
 }

@@ -6,13 +6,12 @@ ghost use Rattle.osgi_ops.specs.WireRows.{AreWireRows, fragment_row, wire_row};
 ghost use Rattle.osgi_ops.specs.declared.op.Op.TheVariants as op;
 ghost use Rattle.osgi_wiring.specs.States.{IsKeptWorld};
 ghost use Rattle.osgi_world.specs.Lookups.{capability_at};
-ghost use Rattle.osgi_reply.specs.Replied.{IsReplied};
+ghost use Rattle.osgi_reply.specs.Replied.{IsRepliedToAll};
 ghost use Rattle.osgi_reply.specs.computed.Searched.{IsCurrent};
 
 use crate::tables::Tables;
 use osgi_base::{BundleId, List, RevisionId, Text};
 use osgi_ops::{Refusal, Reply, WireRow};
-use osgi_reply_services::refused;
 use osgi_wiring::Wirings;
 use osgi_world::{CapRef, Capability, Wire};
 use std::alloc::{AllocError, Global};
@@ -105,7 +104,7 @@ fn rows(
     bundle: BundleId,
 ) -> Result<(List<WireRow>, List<WireRow>), AllocError>
     requires current { IsCurrent wirings.now.world bundle revision }
-    requires kept { IsKeptWorld wirings.now.world wirings.now.issued }
+    requires holds { IsKeptWorld wirings.now.world wirings.now.issued }
     ensures rows { IfOk result (λ r. AreWireRows wirings.now.world bundle r.0 r.1) }
 {
     let Some(wiring) = wirings.wiring(revision) else {
@@ -117,26 +116,14 @@ fn rows(
 }
 
 /// The wires of a bundle, and its fragments.
-pub fn list_wires(
-    alloc: Global,
-    tables: &Tables,
-    bundle: BundleId,
-) -> Result<(Reply, Reply), AllocError>
-    ensures twice { IfOk result (λ r. r.1 ≡ r.0) }
-    ensures replied { IfOk result (λ r. IsReplied (op.ListWires bundle) tables.now tables.now r.0) }
+pub fn list_wires(alloc: Global, tables: &Tables, bundle: BundleId) -> Result<Reply, AllocError>
+    ensures replied { IfOk result (IsRepliedToAll (op.ListWires bundle) tables.now tables.now) }
 {
     let wirings = tables.wirings.wirings();
     let Some(known) = wirings.current(bundle) else {
-        return refused(alloc, Refusal::NoSuchBundle);
+        let refusal = Refusal::NoSuchBundle;
+        return Ok(Reply::Refused { refusal });
     };
     let (rows, fragments) = rows(alloc, wirings, known.id, bundle)?;
-    let kept = rows.copy(alloc)?;
-    let kept_fragments = fragments.copy(alloc)?;
-    Ok((
-        Reply::Wires { rows, fragments },
-        Reply::Wires {
-            rows: kept,
-            fragments: kept_fragments,
-        },
-    ))
+    Ok(Reply::Wires { rows, fragments })
 }

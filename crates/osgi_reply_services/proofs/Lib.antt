@@ -1,2 +1,3 @@
 -- Lemmas on operations on services.
+pub mod Deciding
 pub mod Serving

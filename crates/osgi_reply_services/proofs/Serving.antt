@@ -8,9 +8,9 @@ use Rattle.osgi_base.specs.declared.ids.ServiceId.{ServiceId}
 use Rattle.osgi_model.specs.declared.filter.Filter.{Filter}
 use Rattle.osgi_model.specs.declared.value.Attribute.{Attribute}
 use Rattle.osgi_ops.specs.Classes.{AreRanked, IsFound, IsOf, IsOpenTo}
-use Rattle.osgi_ops.specs.Operations.{Answers, row_of}
+use Rattle.osgi_ops.specs.Operations.{Answers, service_row}
 use Rattle.osgi_ops.specs.Properties.{has_twins}
-use Rattle.osgi_ops.specs.Services.{live, live_at, Registered, registered, services, uses, uses_of}
+use Rattle.osgi_ops.specs.Services.{live, live_at, Registered, registered, services, uses, uses_held}
 use Rattle.osgi_ops.specs.declared.limits.TheConstants.{MAX_SERVICES}
 use Rattle.osgi_base.specs.Verdict.{answers, Gives, refuses, Verdict, Where}
 use Rattle.osgi_ops.specs.declared.entry.Entry.{Entry}
@@ -18,25 +18,27 @@ use Rattle.osgi_ops.specs.declared.op.Op.{Op}
 use Rattle.osgi_ops.specs.declared.op.Op.TheVariants as op
 use Rattle.osgi_ops.specs.declared.refusal.Many.TheVariants.{Services}
 use Rattle.osgi_ops.specs.declared.refusal.Refusal.{Refusal}
-use Rattle.osgi_ops.specs.declared.refusal.Refusal.TheVariants.{NoSuchService, BadProperties, NotOwner, TooMany}
+use Rattle.osgi_ops.specs.declared.refusal.Refusal.TheVariants.{InvalidOperation, NoSuchService, BadProperties, NotOwner, TooMany}
 use Rattle.osgi_ops.specs.declared.reply.Reply.{Reply}
 use Rattle.osgi_ops.specs.declared.reply.Reply.TheVariants as answer
+use Rattle.osgi_ops.specs.declared.scope.Scope.{Scope}
+use Rattle.osgi_ops.specs.declared.scope.Scope.TheVariants.{Singleton}
 use Rattle.osgi_ops.specs.declared.service.Service.{Service}
 use Rattle.osgi_ops.specs.declared.service.ServiceRow.{ServiceRow}
 use Rattle.osgi_registry.specs.laws.Standing.{Found, nowhere, quiet_find, quiet_find_all, quiet_list, quiet_refused, rows_found, rows_length, rows_services, stands_quiet, there}
-use Rattle.osgi_registry.specs.Rows.{count_of, IsOpenBy, modify_refusal, object_at, refusal_at, register_refusal, RegistryRows, Row, row_at, services_in, twins_refusal, use_count}
+use Rattle.osgi_registry.specs.Rows.{count_of, IsOpenBy, modify_refusal, object_at, refusal_at, register_refusal, RegistryRows, LiveService, row_at, services_in, twins_refusal, use_count}
 use Rattle.osgi_registry.specs.Stands.{IsRowOf, StandsAfter, StandsFor}
-use Rattle.osgi_reply_services.specs.Served.{IsServed}
+use Rattle.osgi_reply_services.specs.Served.{IsServedToAll}
 
 -- ---- services
 
 abbrev Others : BundleId → Option Registered → Refusal → Type 0
 Others owner of refusal = IsSomeAnd of (λ r. (r.owner ≢ owner) × (refusal ≡ NotOwner r.owner))
 
-same_owner : (row : Row) (r : Registered) → IsRowOf row r → row.service.owner ≡ r.owner
+same_owner : (row : LiveService) (r : Registered) → IsRowOf row r → row.service.owner ≡ r.owner
 same_owner row r is = ap (λ (s : Service). s.owner) is.service
 
-refused_there : (owner : BundleId) (row : Row) (r : Registered) (refusal : Refusal) (rest : List (Refusal → Type 0)) (due : Reply → Type 0) (own : Bool) → (owner.0 == row.service.owner.0) ≡ own → IsRowOf row r →
+refused_there : (owner : BundleId) (row : LiveService) (r : Registered) (refusal : Refusal) (rest : List (Refusal → Type 0)) (due : Reply → Type 0) (own : Bool) → (owner.0 == row.service.owner.0) ≡ own → IsRowOf row r →
     Some refusal ≡ cond own None (Some (NotOwner row.service.owner)) → Gives (Where NoSuchService (Some r ≡ None) ∷ Others owner (Some r) ∷ rest) due (refuses refusal)
 refused_there owner row r refusal rest due true own is e = absurd (cc e)
 refused_there owner row r refusal rest due false own is e =
@@ -45,7 +47,7 @@ refused_there owner row r refusal rest due false own is e =
     inr ((λ f called. cc called.1), inl (refusal, (other, named ∙ ap NotOwner (same_owner row r is)), refl))
 
 -- the refusal by the row is the first that is called for
-change_refused : (owner : BundleId) (at : Option Row) (of : Option Registered) (refusal : Refusal) (rest : List (Refusal → Type 0)) (due : Reply → Type 0) → Found at of → Some refusal ≡ refusal_at owner at →
+change_refused : (owner : BundleId) (at : Option LiveService) (of : Option Registered) (refusal : Refusal) (rest : List (Refusal → Type 0)) (due : Reply → Type 0) → Found at of → Some refusal ≡ refusal_at owner at →
     Gives (Where NoSuchService (of ≡ None) ∷ Others owner of ∷ rest) due (refuses refusal)
 change_refused owner None (Some r) refusal rest due found e = elim found [ ]
 change_refused owner (Some row) None refusal rest due found e = elim found [ ]
@@ -54,7 +56,7 @@ change_refused owner None None refusal rest due nowhere e =
     inl (NoSuchService, (refl, refl), ap refuses named)
 change_refused owner (Some row) (Some r) refusal rest due (there is) e = refused_there owner row r refusal rest due (owner.0 == row.service.owner.0) refl is e
 
-passed_there : (owner : BundleId) (row : Row) (r : Registered) (rest : List (Refusal → Type 0)) (due : Reply → Type 0) (v : Verdict Refusal Reply) (own : Bool) → (owner.0 == row.service.owner.0) ≡ own → IsRowOf row r →
+passed_there : (owner : BundleId) (row : LiveService) (r : Registered) (rest : List (Refusal → Type 0)) (due : Reply → Type 0) (v : Verdict Refusal Reply) (own : Bool) → (owner.0 == row.service.owner.0) ≡ own → IsRowOf row r →
     None ≡ cond own None (Some (NotOwner row.service.owner)) → Gives rest due v → Gives (Where NoSuchService (Some r ≡ None) ∷ Others owner (Some r) ∷ rest) due v
 passed_there owner row r rest due v true own is e issued =
     let same : r.owner ≡ owner = sym (same_owner row r is) ∙ (λ i. record { 0 = sym (eqb-true owner.0 row.service.owner.0 own) i }) in
@@ -62,7 +64,7 @@ passed_there owner row r rest due v true own is e issued =
 passed_there owner row r rest due v false own is e issued = absurd (cc e)
 
 -- where there is none, neither is
-change_passed : (owner : BundleId) (at : Option Row) (of : Option Registered) (rest : List (Refusal → Type 0)) (due : Reply → Type 0) (v : Verdict Refusal Reply) → Found at of → None ≡ refusal_at owner at → Gives rest due v →
+change_passed : (owner : BundleId) (at : Option LiveService) (of : Option Registered) (rest : List (Refusal → Type 0)) (due : Reply → Type 0) (v : Verdict Refusal Reply) → Found at of → None ≡ refusal_at owner at → Gives rest due v →
     Gives (Where NoSuchService (of ≡ None) ∷ Others owner of ∷ rest) due v
 change_passed owner None (Some r) rest due v found e issued = elim found [ ]
 change_passed owner (Some row) None rest due v found e issued = elim found [ ]
@@ -83,7 +85,7 @@ refused_stands o old new refusal same = λ history tag stands.
 room_is : (history : List Entry) (registry : RegistryRows) → StandsFor history registry → length registry.rows ≡ length (live history)
 room_is history registry stands = rows_length registry.rows (live history) stands.rows
 
-register_refused : (properties : List Attribute) (rows : List Row) (count : ℕ) (refusal : Refusal) (due : Reply → Type 0) (twins full : Bool) → has_twins properties ≡ twins → nat_le MAX_SERVICES (length rows) ≡ full → length rows ≡ count →
+register_refused : (properties : List Attribute) (rows : List LiveService) (count : ℕ) (refusal : Refusal) (due : Reply → Type 0) (twins full : Bool) → has_twins properties ≡ twins → nat_le MAX_SERVICES (length rows) ≡ full → length rows ≡ count →
     Some refusal ≡ option_or (cond twins (Some BadProperties) None) (cond full (Some (TooMany Services)) None) →
     Gives (Where BadProperties (has_twins properties ≡ true) ∷ Where (TooMany Services) (MAX_SERVICES ≤ count) ∷ []) due (refuses refusal)
 register_refused properties rows count refusal due true full t f is e =
@@ -94,7 +96,7 @@ register_refused properties rows count refusal due false true t f is e =
     inr ((λ g called. absurd (cc (called.1, t))), inl (TooMany Services, (refl, rw is at (leb-true _ _ f)), ap refuses named))
 register_refused properties rows count refusal due false false t f is e = absurd (cc e)
 
-register_passed : (properties : List Attribute) (rows : List Row) (count : ℕ) (due : Reply → Type 0) (v : Verdict Refusal Reply) (twins full : Bool) → has_twins properties ≡ twins → nat_le MAX_SERVICES (length rows) ≡ full → length rows ≡ count →
+register_passed : (properties : List Attribute) (rows : List LiveService) (count : ℕ) (due : Reply → Type 0) (v : Verdict Refusal Reply) (twins full : Bool) → has_twins properties ≡ twins → nat_le MAX_SERVICES (length rows) ≡ full → length rows ≡ count →
     None ≡ option_or (cond twins (Some BadProperties) None) (cond full (Some (TooMany Services)) None) → Gives [] due v →
     Gives (Where BadProperties (has_twins properties ≡ true) ∷ Where (TooMany Services) (MAX_SERVICES ≤ count) ∷ []) due v
 register_passed properties rows count due v true full t f is e issued = absurd (cc e)
@@ -103,20 +105,35 @@ register_passed properties rows count due v false false t f is e issued =
     let room : length rows < MAX_SERVICES = leb-false _ _ f in
     inr ((λ g called. absurd (cc (called.1, t))), inr ((λ g called. let c = called.1 in absurd (omega (arith, room, c, is))), issued))
 
-pub served_registered : (owner : BundleId) (classes : List (List ℕ)) (object : List ℕ) (properties : List Attribute) (old new : RegistryRows) (service : ServiceId) → None ≡ register_refusal properties old.rows →
-    service.0 ≡ old.issued + 1 → StandsAfter (op.Register owner classes object properties) (answer.Service service) old new → IsServed (op.Register owner classes object properties) old new (answer.Service service)
-served_registered owner classes object properties old new service none id stands = record {
-  due = λ now stood.
+pub served_registered : (owner : BundleId) (classes : List (List ℕ)) (object : List ℕ) (scope : Scope) (properties : List Attribute) (old new : RegistryRows) (service : ServiceId) → scope ≡ Singleton → None ≡ register_refusal properties old.rows →
+    service.0 ≡ old.issued + 1 → StandsAfter (op.Register owner classes object scope properties) (answer.Service service) old new → IsServedToAll (op.Register owner classes object scope properties) old new (answer.Service service)
+served_registered owner classes object scope properties old new service single none id stands who = record {
+  due = λ now asked stood.
       let is : answer.Service service ≡ answer.Service (record { 0 = length (registered now.before) + 1 }) = λ i. answer.Service (record { 0 = (id ∙ ap (λ n. n + 1) stood.issued) i }) in
-      (register_passed properties old.rows (length (live now.before)) (Answers now (op.Register owner classes object properties)) (answers (answer.Service service)) (has_twins properties) (nat_le MAX_SERVICES (length old.rows)) refl refl (room_is now.before old stood) none is);
+      inr (
+        (λ g called. called.1 single),
+        register_passed properties old.rows (length (live now.before)) (Answers now (op.Register owner classes object scope properties)) (answers (answer.Service service)) (has_twins properties) (nat_le MAX_SERVICES (length old.rows)) refl refl (room_is now.before old stood) none is,
+      );
   stands = stands;
 }
 
-pub served_unregistered : (owner : BundleId) (classes : List (List ℕ)) (object : List ℕ) (properties : List Attribute) (old new : RegistryRows) (refusal : Refusal) → Some refusal ≡ register_refusal properties old.rows →
-    new ≡ old → IsServed (op.Register owner classes object properties) old new (answer.Refused refusal)
-served_unregistered owner classes object properties old new refusal some same = record {
-  due = λ now stood. register_refused properties old.rows (length (live now.before)) refusal (Answers now (op.Register owner classes object properties)) (has_twins properties) (nat_le MAX_SERVICES (length old.rows)) refl refl (room_is now.before old stood) some;
+pub served_unregistered : (owner : BundleId) (classes : List (List ℕ)) (object : List ℕ) (scope : Scope) (properties : List Attribute) (old new : RegistryRows) (refusal : Refusal) → scope ≡ Singleton → Some refusal ≡ register_refusal properties old.rows →
+    new ≡ old → IsServedToAll (op.Register owner classes object scope properties) old new (answer.Refused refusal)
+served_unregistered owner classes object scope properties old new refusal single some same who = record {
+  due = λ now asked stood.
+      inr (
+        (λ g called. called.1 single),
+        register_refused properties old.rows (length (live now.before)) refusal (Answers now (op.Register owner classes object scope properties)) (has_twins properties) (nat_le MAX_SERVICES (length old.rows)) refl refl (room_is now.before old stood) some,
+      );
   stands = refused_stands _ old new refusal same;
+}
+
+-- no factory is registered yet
+pub served_no_singleton : (owner : BundleId) (classes : List (List ℕ)) (object : List ℕ) (scope : Scope) (properties : List Attribute) (old new : RegistryRows) → scope ≢ Singleton → new ≡ old →
+    IsServedToAll (op.Register owner classes object scope properties) old new (answer.Refused InvalidOperation)
+served_no_singleton owner classes object scope properties old new other same who = record {
+  due = λ now asked stood. inl (InvalidOperation, (refl, other), refl);
+  stands = refused_stands _ old new InvalidOperation same;
 }
 
 -- Modify
@@ -132,42 +149,42 @@ twins_passed : (properties : List Attribute) (due : Reply → Type 0) (v : Verdi
 twins_passed properties due v true t e issued = absurd (cc e)
 twins_passed properties due v false t e issued = inr ((λ g called. absurd (cc (called.1, t))), issued)
 
-modify_refused : (owner : BundleId) (at : Option Row) (of : Option Registered) (properties : List Attribute) (refusal : Refusal) (due : Reply → Type 0) (first : Option Refusal) → Found at of → refusal_at owner at ≡ first →
+modify_refused : (owner : BundleId) (at : Option LiveService) (of : Option Registered) (properties : List Attribute) (refusal : Refusal) (due : Reply → Type 0) (first : Option Refusal) → Found at of → refusal_at owner at ≡ first →
     Some refusal ≡ option_or first (twins_refusal properties) → Gives (Where NoSuchService (of ≡ None) ∷ Others owner of ∷ Where BadProperties (has_twins properties ≡ true) ∷ []) due (refuses refusal)
 modify_refused owner at of properties refusal due None found is e = change_passed owner at of (Where BadProperties (has_twins properties ≡ true) ∷ []) due (refuses refusal) found (sym is) (twins_refused properties refusal due (has_twins properties) refl e)
 modify_refused owner at of properties refusal due (Some other) found is e = change_refused owner at of refusal (Where BadProperties (has_twins properties ≡ true) ∷ []) due found (e ∙ sym is)
 
-modify_passed : (owner : BundleId) (at : Option Row) (of : Option Registered) (properties : List Attribute) (due : Reply → Type 0) (v : Verdict Refusal Reply) (first : Option Refusal) → Found at of → refusal_at owner at ≡ first →
+modify_passed : (owner : BundleId) (at : Option LiveService) (of : Option Registered) (properties : List Attribute) (due : Reply → Type 0) (v : Verdict Refusal Reply) (first : Option Refusal) → Found at of → refusal_at owner at ≡ first →
     None ≡ option_or first (twins_refusal properties) → Gives [] due v → Gives (Where NoSuchService (of ≡ None) ∷ Others owner of ∷ Where BadProperties (has_twins properties ≡ true) ∷ []) due v
 modify_passed owner at of properties due v None found is e issued = change_passed owner at of (Where BadProperties (has_twins properties ≡ true) ∷ []) due v found (sym is) (twins_passed properties due v (has_twins properties) refl e issued)
 modify_passed owner at of properties due v (Some other) found is e issued = absurd (cc e)
 
 pub served_modified : (owner : BundleId) (service : ServiceId) (properties : List Attribute) (old new : RegistryRows) → None ≡ modify_refusal owner service properties old.rows →
-    StandsAfter (op.Modify owner service properties) answer.Done old new → IsServed (op.Modify owner service properties) old new answer.Done
-served_modified owner service properties old new none stands = record {
-  due = λ now stood. modify_passed owner (row_at service old.rows) (live_at service now.before) properties (Answers now (op.Modify owner service properties)) (answers answer.Done) _ (found_now now.before old service stood) refl none refl;
+    StandsAfter (op.Modify owner service properties) answer.Done old new → IsServedToAll (op.Modify owner service properties) old new answer.Done
+served_modified owner service properties old new none stands who = record {
+  due = λ now asked stood. modify_passed owner (row_at service old.rows) (live_at service now.before) properties (Answers now (op.Modify owner service properties)) (answers answer.Done) _ (found_now now.before old service stood) refl none refl;
   stands = stands;
 }
 
 pub served_unmodified : (owner : BundleId) (service : ServiceId) (properties : List Attribute) (old new : RegistryRows) (refusal : Refusal) → Some refusal ≡ modify_refusal owner service properties old.rows → new ≡ old →
-    IsServed (op.Modify owner service properties) old new (answer.Refused refusal)
-served_unmodified owner service properties old new refusal some same = record {
-  due = λ now stood. modify_refused owner (row_at service old.rows) (live_at service now.before) properties refusal (Answers now (op.Modify owner service properties)) _ (found_now now.before old service stood) refl some;
+    IsServedToAll (op.Modify owner service properties) old new (answer.Refused refusal)
+served_unmodified owner service properties old new refusal some same who = record {
+  due = λ now asked stood. modify_refused owner (row_at service old.rows) (live_at service now.before) properties refusal (Answers now (op.Modify owner service properties)) _ (found_now now.before old service stood) refl some;
   stands = refused_stands _ old new refusal same;
 }
 
 -- Unregister
 pub served_taken : (owner : BundleId) (service : ServiceId) (old new : RegistryRows) → None ≡ refusal_at owner (row_at service old.rows) → StandsAfter (op.Unregister owner service) answer.Done old new →
-    IsServed (op.Unregister owner service) old new answer.Done
-served_taken owner service old new none stands = record {
-  due = λ now stood. change_passed owner (row_at service old.rows) (live_at service now.before) [] (Answers now (op.Unregister owner service)) (answers answer.Done) (found_now now.before old service stood) none refl;
+    IsServedToAll (op.Unregister owner service) old new answer.Done
+served_taken owner service old new none stands who = record {
+  due = λ now asked stood. change_passed owner (row_at service old.rows) (live_at service now.before) [] (Answers now (op.Unregister owner service)) (answers answer.Done) (found_now now.before old service stood) none refl;
   stands = stands;
 }
 
 pub served_untaken : (owner : BundleId) (service : ServiceId) (old new : RegistryRows) (refusal : Refusal) → Some refusal ≡ refusal_at owner (row_at service old.rows) → new ≡ old →
-    IsServed (op.Unregister owner service) old new (answer.Refused refusal)
-served_untaken owner service old new refusal some same = record {
-  due = λ now stood. change_refused owner (row_at service old.rows) (live_at service now.before) refusal [] (Answers now (op.Unregister owner service)) (found_now now.before old service stood) some;
+    IsServedToAll (op.Unregister owner service) old new (answer.Refused refusal)
+served_untaken owner service old new refusal some same who = record {
+  due = λ now asked stood. change_refused owner (row_at service old.rows) (live_at service now.before) refusal [] (Answers now (op.Unregister owner service)) (found_now now.before old service stood) some;
   stands = refused_stands _ old new refusal same;
 }
 
@@ -199,10 +216,10 @@ unfolding own
 open_back asker class filter s is = (is.0, λ k d within. eq-eqb s.owner.0 asker.0 (ap (λ (b : BundleId). b.0) (is.1 k d within)))
 
 pub served_found : (asker : BundleId) (class : List ℕ) (filter : Option Filter) (registry : RegistryRows) (found : Option ServiceId) →
-    IsFound (IsOpenBy (λ registrant class. registrant.0 == asker.0) class filter) (services_in registry.rows) found → IsServed (op.Find asker class filter) registry registry (answer.Best found)
+    IsFound (IsOpenBy (λ registrant class. registrant.0 == asker.0) class filter) (services_in registry.rows) found → IsServedToAll (op.Find asker class filter) registry registry (answer.Best found)
 unfolding own
-served_found asker class filter registry found is = record {
-  due = λ now stood. (
+served_found asker class filter registry found is who = record {
+  due = λ now asked stood. (
     found,
     refl,
     subst (λ list. IsFound (IsOpenTo asker class filter) list found) (services_now now.before registry stood)
@@ -213,15 +230,15 @@ served_found asker class filter registry found is = record {
 
 -- FindAll
 pub served_found_all : (asker : BundleId) (class : List ℕ) (filter : Option Filter) (registry : RegistryRows) (found : List ServiceId) → AreRanked (IsOf class filter) (services_in registry.rows) found →
-    IsServed (op.FindAll asker class filter) registry registry (answer.Services found)
-served_found_all asker class filter registry found ranked = record {
-  due = λ now stood.
+    IsServedToAll (op.FindAll asker class filter) registry registry (answer.Services found)
+served_found_all asker class filter registry found ranked who = record {
+  due = λ now asked stood.
       (found, refl, subst (λ list. AreRanked (IsOf class filter) list found) (services_now now.before registry stood) ranked);
   stands = λ history tag stood. stands_quiet history registry _ stood (quiet_find_all tag asker class filter found);
 }
 
 -- Get
-get_refused : (at : Option Row) (of : Option Registered) (refusal : Refusal) (due : Reply → Type 0) → Found at of → Err refusal ≡ object_at at → Gives (Where NoSuchService (of ≡ None) ∷ []) due (refuses refusal)
+get_refused : (at : Option LiveService) (of : Option Registered) (refusal : Refusal) (due : Reply → Type 0) → Found at of → Err refusal ≡ object_at at → Gives (Where NoSuchService (of ≡ None) ∷ []) due (refuses refusal)
 get_refused None (Some r) refusal due found e = elim found [ ]
 get_refused (Some row) None refusal due found e = elim found [ ]
 get_refused None None refusal due nowhere e =
@@ -229,7 +246,7 @@ get_refused None None refusal due nowhere e =
     inl (NoSuchService, (refl, refl), ap refuses named)
 get_refused (Some row) (Some r) refusal due (there is) e = absurd (cc e)
 
-get_answers : (at : Option Row) (of : Option Registered) (text : List ℕ) → Found at of → Ok text ≡ object_at at →
+get_answers : (at : Option LiveService) (of : Option Registered) (text : List ℕ) → Found at of → Ok text ≡ object_at at →
     Gives (Where NoSuchService (of ≡ None) ∷ []) (λ reply. IsSomeAnd of (λ r. reply ≡ answer.Object r.object)) (answers (answer.Object text))
 get_answers None (Some r) text found e = elim found [ ]
 get_answers (Some row) None text found e = elim found [ ]
@@ -239,21 +256,21 @@ get_answers (Some row) (Some r) text (there is) e =
     inr ((λ f called. cc called.1), ap answer.Object (same ∙ ap (λ (s : Service). s.object) is.service))
 
 pub served_got : (user : BundleId) (service : ServiceId) (old new : RegistryRows) (text : List ℕ) → Ok text ≡ object_at (row_at service old.rows) → StandsAfter (op.Get user service) (answer.Object text) old new →
-    IsServed (op.Get user service) old new (answer.Object text)
-served_got user service old new text got stands = record {
-  due = λ now stood. get_answers (row_at service old.rows) (live_at service now.before) text (found_now now.before old service stood) got;
+    IsServedToAll (op.Get user service) old new (answer.Object text)
+served_got user service old new text got stands who = record {
+  due = λ now asked stood. get_answers (row_at service old.rows) (live_at service now.before) text (found_now now.before old service stood) got;
   stands = stands;
 }
 
 pub served_ungotten : (user : BundleId) (service : ServiceId) (old new : RegistryRows) (refusal : Refusal) → Err refusal ≡ object_at (row_at service old.rows) → new ≡ old →
-    IsServed (op.Get user service) old new (answer.Refused refusal)
-served_ungotten user service old new refusal got same = record {
-  due = λ now stood. get_refused (row_at service old.rows) (live_at service now.before) refusal (Answers now (op.Get user service)) (found_now now.before old service stood) got;
+    IsServedToAll (op.Get user service) old new (answer.Refused refusal)
+served_ungotten user service old new refusal got same who = record {
+  due = λ now asked stood. get_refused (row_at service old.rows) (live_at service now.before) refusal (Answers now (op.Get user service)) (found_now now.before old service stood) got;
   stands = refused_stands _ old new refusal same;
 }
 
 -- Unget
-count_found : (user : BundleId) (at : Option Row) (of : Option Registered) → Found at of → option_map_or (λ row. count_of user row.uses) at 0 ≡ option_map_or (uses_of user) of 0
+count_found : (user : BundleId) (at : Option LiveService) (of : Option Registered) → Found at of → option_map_or (λ row. count_of user row.uses) at 0 ≡ option_map_or (uses_held user) of 0
 count_found user None (Some r) found = elim found [ ]
 count_found user (Some row) None found = elim found [ ]
 count_found user None None nowhere = refl
@@ -264,27 +281,15 @@ pub uses_now : (history : List Entry) (registry : RegistryRows) (user : BundleId
 uses_now history registry user service stands = count_found user (row_at service registry.rows) (live_at service history) (found_now history registry service stands)
 
 pub served_ungot : (user : BundleId) (service : ServiceId) (old new : RegistryRows) (value : Bool) → value ≡ nat_lt 0 (use_count user service old.rows) → StandsAfter (op.Unget user service) (answer.Flag value) old new →
-    IsServed (op.Unget user service) old new (answer.Flag value)
-served_ungot user service old new value is stands = record {
-  due = λ now stood. ap answer.Flag (is ∙ ap (nat_lt 0) (uses_now now.before old user service stood));
+    IsServedToAll (op.Unget user service) old new (answer.Flag value)
+served_ungot user service old new value is stands who = record {
+  due = λ now asked stood. ap answer.Flag (is ∙ ap (nat_lt 0) (uses_now now.before old user service stood));
   stands = stands;
 }
 
 -- ListServices
-pub served_listed : (registry : RegistryRows) (rows : List ServiceRow) → rows ≡ map row_of (services_in registry.rows) → IsServed op.ListServices registry registry (answer.ServiceRows rows)
-served_listed registry rows are = record {
-  due = λ now stood. ap answer.ServiceRows (are ∙ ap (map row_of) (services_now now.before registry stood));
+pub served_listed : (registry : RegistryRows) (rows : List ServiceRow) → rows ≡ map service_row (services_in registry.rows) → IsServedToAll op.ListServices registry registry (answer.ServiceRows rows)
+served_listed registry rows are who = record {
+  due = λ now asked stood. ap answer.ServiceRows (are ∙ ap (map service_row) (services_now now.before registry stood));
   stands = λ history tag stood. stands_quiet history registry _ stood (quiet_list tag rows);
 }
-
--- ---- what a function answers
-
--- a refusal, made twice, that a function hands on
-pub by_refused : {E : Type 0} (r : Result (Reply × Reply) E) (P : Reply → Type 0) (refusal : Refusal) → IfOk r (λ x. (x.0 ≡ answer.Refused refusal) × (x.1 ≡ answer.Refused refusal)) → P (answer.Refused refusal) → IfOk r (λ x. P x.0)
-by_refused (Ok x) P refusal is p = subst P (sym is.0) p
-by_refused (Err e) P refusal is p = tt
-
--- and its two copies are one reply
-pub refused_twice : {E : Type 0} (r : Result (Reply × Reply) E) (refusal : Refusal) → IfOk r (λ x. (x.0 ≡ answer.Refused refusal) × (x.1 ≡ answer.Refused refusal)) → IfOk r (λ x. x.1 ≡ x.0)
-refused_twice (Ok x) refusal is = is.1 ∙ sym is.0
-refused_twice (Err e) refusal is = tt

@@ -1,7 +1,7 @@
-//! What operations on services do to the registry, and answer by it. Whether who asks may ask is not looked at here.
+//! What operations on services answer, and change in the registry. Whether who asks may ask is not looked at here.
 #![tactic(auto)]
 
+mod change;
 pub mod services;
-mod twice;
 
-pub use twice::refused;
+pub use change::ServiceChange;

@@ -1,85 +1,94 @@
-//! What operations on services do to the registry, and answer by it.
+//! What operations on services answer, and change in the registry.
 
-ghost use Rattle.std.specs.Prelude.{◌≡◌, ◌==◌, ◌<◌, IfOk, OnErr, map};
-ghost use Rattle.osgi_ops.specs.Operations.{row_of};
+ghost use Rattle.std.specs.Prelude.{◌≡◌, ◌==◌, ◌<◌, IfOk, map};
+ghost use Rattle.osgi_ops.specs.Operations.{service_row};
 ghost use Rattle.osgi_ops.specs.declared.op.Op.TheVariants as op;
 ghost use Rattle.osgi_registry.specs.Rows.{services_in, use_count};
-ghost use Rattle.osgi_reply_services.specs.Served.{IsServed, StillStands};
+ghost use Rattle.osgi_reply_services.specs.Changes.{IsReplyAndChange};
+ghost use Rattle.osgi_reply_services.specs.Served.{IsServedToAll};
 
-use crate::twice::refused;
+use crate::change::ServiceChange;
 use osgi_base::{BundleId, List, ServiceId, Text};
 use osgi_model::{Attributes, Filter};
-use osgi_ops::{Reply, Service, ServiceRow};
+use osgi_ops::{Refusal, Reply, Scope, Service, ServiceRow};
 use osgi_registry::{Registry, ranking};
 use std::alloc::{AllocError, Global};
 
 pub fn register(
     alloc: Global,
-    registry: &mut Registry,
+    registry: &Registry,
     owner: BundleId,
     classes: &List<Text>,
     object: &Text,
+    scope: Scope,
     properties: &Attributes,
-) -> Result<(Reply, Reply), AllocError>
-    requires ids { registry.old.issued < 4294967295 }
-    ensures twice { IfOk result (λ r. r.1 ≡ r.0) }
-    ensures served { IfOk result (λ r. IsServed (op.Register owner classes.now object.now properties.now) registry.old registry.new r.0) }
-    ensures unchanged { OnErr result (StillStands registry.old registry.new) }
+) -> Result<(Reply, ServiceChange), AllocError>
+    requires ids { registry.now.issued < u32.MAX }
+    ensures decided { IfOk result (λ r. IsReplyAndChange (op.Register owner classes.now object.now scope properties.now) registry.now r.0 r.1) }
 {
-    let issued = registry.register(
+    let Scope::Singleton = scope else {
+        let refusal = Refusal::InvalidOperation;
+        return Ok((Reply::Refused { refusal }, ServiceChange::Nothing));
+    };
+    let made = registry.make(
         owner,
         classes.copy(alloc)?,
         object.copy(alloc)?,
+        scope,
         properties.copy(alloc)?,
     )?;
-    match issued {
-        Ok(service) => Ok((Reply::Service { service }, Reply::Service { service })),
-        Err(refusal) => refused(alloc, refusal),
+    match made {
+        Ok(made) => {
+            let service = made.service;
+            Ok((
+                Reply::Service { service },
+                ServiceChange::Insert {
+                    service: made,
+                    scope,
+                },
+            ))
+        }
+        Err(refusal) => Ok((Reply::Refused { refusal }, ServiceChange::Nothing)),
     }
 }
 
 pub fn modify(
     alloc: Global,
-    registry: &mut Registry,
+    registry: &Registry,
     owner: BundleId,
     service: ServiceId,
     properties: &Attributes,
-) -> Result<(Reply, Reply), AllocError>
-    ensures twice { IfOk result (λ r. r.1 ≡ r.0) }
-    ensures served { IfOk result (λ r. IsServed (op.Modify owner service properties.now) registry.old registry.new r.0) }
-    ensures unchanged { OnErr result (StillStands registry.old registry.new) }
+) -> Result<(Reply, ServiceChange), AllocError>
+    ensures decided { IfOk result (λ r. IsReplyAndChange (op.Modify owner service properties.now) registry.now r.0 r.1) }
 {
-    match registry.modify(owner, service, properties.copy(alloc)?)? {
-        Ok(()) => Ok((Reply::Done, Reply::Done)),
-        Err(refusal) => refused(alloc, refusal),
+    if let Some(refusal) = registry.modify_refusal(owner, service, properties)? {
+        return Ok((Reply::Refused { refusal }, ServiceChange::Nothing));
     }
+    let properties = properties.copy(alloc)?;
+    Ok((
+        Reply::Done,
+        ServiceChange::Modify {
+            service,
+            properties,
+        },
+    ))
 }
 
 pub fn unregister(
-    alloc: Global,
-    registry: &mut Registry,
+    registry: &Registry,
     owner: BundleId,
     service: ServiceId,
-) -> Result<(Reply, Reply), AllocError>
-    ensures twice { IfOk result (λ r. r.1 ≡ r.0) }
-    ensures served { IfOk result (λ r. IsServed (op.Unregister owner service) registry.old registry.new r.0) }
-    ensures unchanged { OnErr result (StillStands registry.old registry.new) }
+) -> (Reply, ServiceChange)
+    ensures decided { IsReplyAndChange (op.Unregister owner service) registry.now result.0 result.1 }
 {
-    match registry.unregister(owner, service) {
-        Ok(()) => Ok((Reply::Done, Reply::Done)),
-        Err(refusal) => refused(alloc, refusal),
+    match registry.refusal_of(owner, service) {
+        Some(refusal) => (Reply::Refused { refusal }, ServiceChange::Nothing),
+        None => (Reply::Done, ServiceChange::Remove { owner, service }),
     }
 }
 
-pub fn find(
-    alloc: Global,
-    registry: &Registry,
-    asker: BundleId,
-    class: &Text,
-    filter: &Option<Filter>,
-) -> Result<(Reply, Reply), AllocError>
-    ensures twice { IfOk result (λ r. r.1 ≡ r.0) }
-    ensures served { IfOk result (λ r. IsServed (op.Find asker class.now filter.now) registry.now registry.now r.0) }
+pub fn find(registry: &Registry, asker: BundleId, class: &Text, filter: &Option<Filter>) -> Reply
+    ensures served { IsServedToAll (op.Find asker class.now filter.now) registry.now registry.now result }
 {
     // So far the system bundle alone is ever up, and its own services are assignable to it.
     let service = registry.find(
@@ -89,69 +98,57 @@ pub fn find(
             ensures own { result ≡ (registrant.0 == asker.0) }
         { registrant.0 == asker.0 },
     );
-    Ok((Reply::Best { service }, Reply::Best { service }))
+    Reply::Best { service }
 }
 
 pub fn find_all(
-    alloc: Global,
     registry: &Registry,
     asker: BundleId,
     class: &Text,
     filter: &Option<Filter>,
-) -> Result<(Reply, Reply), AllocError>
-    ensures twice { IfOk result (λ r. r.1 ≡ r.0) }
-    ensures served { IfOk result (λ r. IsServed (op.FindAll asker class.now filter.now) registry.now registry.now r.0) }
+) -> Result<Reply, AllocError>
+    ensures served { IfOk result (IsServedToAll (op.FindAll asker class.now filter.now) registry.now registry.now) }
 {
     let services = registry.find_all(class, filter.as_ref())?;
-    let kept = services.copy(alloc)?;
-    Ok((
-        Reply::Services { services },
-        Reply::Services { services: kept },
-    ))
+    Ok(Reply::Services { services })
 }
 
 pub fn get(
     alloc: Global,
-    registry: &mut Registry,
+    registry: &Registry,
     user: BundleId,
     service: ServiceId,
-) -> Result<(Reply, Reply), AllocError>
-    requires countable { use_count user service registry.old.rows < 18446744073709551615 }
-    ensures twice { IfOk result (λ r. r.1 ≡ r.0) }
-    ensures served { IfOk result (λ r. IsServed (op.Get user service) registry.old registry.new r.0) }
-    ensures unchanged { OnErr result (StillStands registry.old registry.new) }
+) -> Result<(Reply, ServiceChange), AllocError>
+    requires countable { use_count user service registry.now.rows < u64.MAX }
+    ensures decided { IfOk result (λ r. IsReplyAndChange (op.Get user service) registry.now r.0 r.1) }
 {
-    let text = match registry.get(user, service)? {
-        Ok(text) => text,
-        Err(refusal) => return refused(alloc, refusal),
+    let Some(object) = registry.object(service) else {
+        let refusal = Refusal::NoSuchService;
+        return Ok((Reply::Refused { refusal }, ServiceChange::Nothing));
     };
-    match text.copy(alloc) {
-        Ok(kept) => Ok((Reply::Object { text }, Reply::Object { text: kept })),
-        Err(error) => {
-            // The use that was counted is given back.
-            registry.unget(user, service);
-            Err(error)
-        }
-    }
+    let text = object.copy(alloc)?;
+    Ok((
+        Reply::Object { text },
+        ServiceChange::AddUse { user, service },
+    ))
 }
 
-pub fn unget(
-    alloc: Global,
-    registry: &mut Registry,
-    user: BundleId,
-    service: ServiceId,
-) -> Result<(Reply, Reply), AllocError>
-    ensures twice { IfOk result (λ r. r.1 ≡ r.0) }
-    ensures served { IfOk result (λ r. IsServed (op.Unget user service) registry.old registry.new r.0) }
-    ensures unchanged { OnErr result (StillStands registry.old registry.new) }
+pub fn unget(registry: &Registry, user: BundleId, service: ServiceId) -> (Reply, ServiceChange)
+    ensures decided { IsReplyAndChange (op.Unget user service) registry.now result.0 result.1 }
 {
-    let value = registry.unget(user, service);
-    Ok((Reply::Flag { value }, Reply::Flag { value }))
+    if registry.is_used(user, service) {
+        (
+            Reply::Flag { value: true },
+            ServiceChange::TakeUse { user, service },
+        )
+    } else {
+        (Reply::Flag { value: false }, ServiceChange::Nothing)
+    }
 }
 
 /// What a list of services shows of one.
 fn row(alloc: Global, service: &Service) -> Result<ServiceRow, AllocError>
-    ensures row { IfOk result (λ row. row ≡ row_of service.now) }
+    ensures row { IfOk result (λ row. row ≡ service_row service.now) }
 {
     Ok(ServiceRow {
         service: service.service,
@@ -164,7 +161,7 @@ fn row(alloc: Global, service: &Service) -> Result<ServiceRow, AllocError>
 
 /// All services, by rising id.
 fn rows(alloc: Global, registry: &Registry) -> Result<List<ServiceRow>, AllocError>
-    ensures rows { IfOk result (λ rows. rows ≡ map row_of (services_in registry.now.rows)) }
+    ensures rows { IfOk result (λ rows. rows ≡ map service_row (services_in registry.now.rows)) }
 {
     let mut rows = List::new(alloc)?;
     for service in registry.services() {
@@ -173,14 +170,9 @@ fn rows(alloc: Global, registry: &Registry) -> Result<List<ServiceRow>, AllocErr
     Ok(rows)
 }
 
-pub fn list_services(alloc: Global, registry: &Registry) -> Result<(Reply, Reply), AllocError>
-    ensures twice { IfOk result (λ r. r.1 ≡ r.0) }
-    ensures served { IfOk result (λ r. IsServed op.ListServices registry.now registry.now r.0) }
+pub fn list_services(alloc: Global, registry: &Registry) -> Result<Reply, AllocError>
+    ensures served { IfOk result (IsServedToAll op.ListServices registry.now registry.now) }
 {
     let rows = rows(alloc, registry)?;
-    let kept = rows.copy(alloc)?;
-    Ok((
-        Reply::ServiceRows { rows },
-        Reply::ServiceRows { rows: kept },
-    ))
+    Ok(Reply::ServiceRows { rows })
 }

@@ -2,7 +2,7 @@
 
 ghost use Rattle.std.specs.Prelude.{◌≡◌, ◌+◌, ◌-◌, ◌^◌, ◌<◌, ◌≤◌, None, IfOk, IsOk, OnOk, OnErr};
 ghost use Rattle.osgi_resolver.specs.Answers.{IsAnswerTo};
-ghost use Rattle.osgi_wiring.specs.States.{BecomesKnown, current_in, current_of, first_world, IsKeptWorld, MayExtend, NeedsNothing, with_known, with_wirings};
+ghost use Rattle.osgi_wiring.specs.States.{BecomesKnown, current_in, current_of, bare_world, IsKeptWorld, MayExtend, NeedsNothing, with_known, with_wirings};
 ghost use Rattle.osgi_world.specs.Candidates.{IsUnresolved};
 
 use crate::answer::Answer;
@@ -53,9 +53,9 @@ impl IndexedWirings {
     /// The system bundle alone, by its only revision, which is in force.
     pub fn new(alloc: Global, system: Shared<Revision>) -> Result<IndexedWirings, AllocError>
         requires needs_nothing { NeedsNothing system }
-        ensures world { IfOk result (λ wirings. wirings.world ≡ first_world system) }
+        ensures world { IfOk result (λ wirings. wirings.world ≡ bare_world system) }
         ensures issued { IfOk result (λ wirings. wirings.issued ≡ 0) }
-        ensures kept { IfOk result (λ wirings. IsKeptWorld wirings.world wirings.issued) }
+        ensures holds { IfOk result (λ wirings. IsKeptWorld wirings.world wirings.issued) }
     {
         Ok(IndexedWirings {
             alloc,
@@ -66,7 +66,7 @@ impl IndexedWirings {
 
     pub fn wirings(&self) -> &Wirings
         ensures wirings { result.now ≡ self.now }
-        ensures kept { IsKeptWorld self.now.world self.now.issued }
+        ensures holds { IsKeptWorld self.now.world self.now.issued }
     {
         // What holds of the world at all times is said where it is asked for.
         let _ = self.wirings.world();
@@ -90,22 +90,22 @@ impl IndexedWirings {
         bundle: BundleId,
         revision: Shared<Revision>,
     ) -> Result<RevisionId, AllocError>
-        requires ids_left { self.old.issued < 4294967295 }
+        requires ids_left { self.old.issued < u32.MAX }
         requires no_current { current_in self.old.world.known bundle ≡ None }
         ensures id { IfOk result (λ id. id.0 ≡ self.old.issued + 1) }
         ensures issued { OnOk result (self.new.issued ≡ self.old.issued + 1) }
         ensures world { IfOk result (λ id. self.new.world ≡ with_known self.old.world (current_of id bundle revision)) }
         ensures known { IfOk result (λ id. BecomesKnown self.old.world self.new.world (current_of id bundle revision)) }
-        ensures kept { OnOk result (IsKeptWorld self.new.world self.new.issued) }
+        ensures holds { OnOk result (IsKeptWorld self.new.world self.new.issued) }
         ensures unchanged { OnErr result (self.new ≡ self.old) }
         ensures room { 0 < self.old.spare → IsOk result }
     {
         self.wirings.add(bundle, revision)
     }
 
-    /// Resolves the root: searches for the first good choice of its wires, of those of the revisions that these pull in, and of the
-    /// fragments that are attached. The budget limits the effort: how many words that are not hopeless come before the first good
-    /// one or, where none is good, how many there are. Nothing is put in force.
+    /// Resolves the root: searches for the first good choice of its wires, of those of the revisions that these pull in, and of
+    /// the fragments that are attached. The budget limits the effort: how many words that are not hopeless come before the first
+    /// good one or, where none is good, how many there are. Nothing is put in force.
     pub fn resolve(&mut self, root: RevisionId, budget: u64) -> Result<Answer, AllocError>
         requires unresolved { IsUnresolved self.old.world.known self.old.world.wirings root }
         requires budget { budget < 2 ^ 64 - 1 }
@@ -125,7 +125,7 @@ impl IndexedWirings {
     pub fn extend(&mut self, added: List<Wiring>) -> Result<(), AllocError>
         requires extends { MayExtend self.old.world added }
         ensures world { OnOk result (self.new.world ≡ with_wirings self.old.world added) }
-        ensures kept { OnOk result (IsKeptWorld self.new.world self.new.issued) }
+        ensures holds { OnOk result (IsKeptWorld self.new.world self.new.issued) }
         ensures issued { self.new.issued ≡ self.old.issued }
         ensures spare { self.new.spare ≡ self.old.spare }
         ensures unchanged { OnErr result (self.new ≡ self.old) }

@@ -1,9 +1,7 @@
 //! The resolve of one revision in a world.
 
 ghost use Rattle.std.specs.Prelude.{◌≡◌, ◌-◌, ◌^◌, ◌<◌, IfOk, ℕ};
-ghost use Rattle.osgi_world.specs.Candidates.{AreOrdered, IsUnresolved};
-ghost use Rattle.osgi_world.specs.Consistency.{Consistent};
-ghost use Rattle.osgi_world.specs.Wirings.{IsWorld};
+ghost use Rattle.osgi_world.specs.Candidates.{IsResolvable};
 ghost use Rattle.osgi_resolver_theory.specs.WorldProblems.{the_problem};
 ghost use Rattle.osgi_resolver_search.specs.Outcomes.{IsOutcome};
 ghost use Rattle.osgi_candidates.specs.Following.{Covers};
@@ -33,10 +31,7 @@ pub fn resolve(
     root: RevisionId,
     budget: u64,
 ) -> Result<Answer, AllocError>
-    requires is_world { IsWorld world.now.known world.now.wirings }
-    requires ordered { AreOrdered world.now.known world.now.wirings }
-    requires consistent { Consistent world.now.known world.now.wirings }
-    requires unresolved { IsUnresolved world.now.known world.now.wirings root }
+    requires resolvable { IsResolvable world.now root }
     requires budget { budget < 2 ^ 64 - 1 }
     ensures answer { IfOk result (IsAnswerTo world.now root budget) }
 {
@@ -52,10 +47,7 @@ pub fn resolve_with(
     root: RevisionId,
     budget: u64,
 ) -> Result<Answer, AllocError>
-    requires is_world { IsWorld world.now.known world.now.wirings }
-    requires ordered { AreOrdered world.now.known world.now.wirings }
-    requires consistent { Consistent world.now.known world.now.wirings }
-    requires unresolved { IsUnresolved world.now.known world.now.wirings root }
+    requires resolvable { IsResolvable world.now root }
     requires budget { budget < 2 ^ 64 - 1 }
     requires follows { FollowsWorld index.old world.now }
     ensures answer { IfOk result (IsAnswerTo world.now root budget) }
@@ -78,10 +70,7 @@ fn answer_over(
     root: RevisionId,
     budget: u64,
 ) -> Result<(Answer, KeptRows), AllocError>
-    requires is_world { IsWorld world.now.known world.now.wirings }
-    requires ordered { AreOrdered world.now.known world.now.wirings }
-    requires consistent { Consistent world.now.known world.now.wirings }
-    requires unresolved { IsUnresolved world.now.known world.now.wirings root }
+    requires resolvable { IsResolvable world.now root }
     requires budget { budget < 2 ^ 64 - 1 }
     requires covers { Covers offers.now world.now.known world.now.wirings }
     requires follows { FollowsRows kept world.now.known world.now.wirings }

@@ -11,7 +11,7 @@ ghost use Rattle.osgi_resolver_decisions.specs.computed.Asks.{asks_among, decisi
 ghost use Rattle.osgi_resolver_decisions.specs.computed.Known.{AreListsOf, IsProblemIn};
 ghost use Rattle.osgi_resolver_decisions.specs.computed.Sureness.{list_at};
 
-use crate::decision::Decision;
+use crate::decision_ref::DecisionRef;
 use crate::kind::Kind;
 use osgi_base::RevisionId;
 use osgi_candidates::Offers;
@@ -30,7 +30,7 @@ pub fn list_at(lists: &[Vec<CapRef>], index: u32) -> &[CapRef]
 
 /// Adds a decision for each candidate of a requirement that may have several wires.
 fn add_picks(
-    asks: &mut Vec<Decision>,
+    asks: &mut Vec<DecisionRef>,
     host: RevisionId,
     requirement: ReqRef,
     candidates: &[CapRef],
@@ -38,7 +38,7 @@ fn add_picks(
     ensures added { OnOk result (decisions_in asks.new.items ≡ decisions_in asks.old.items ++ map (pick host requirement) candidates.now) }
 {
     for capability in candidates {
-        asks.push(Decision::Pick {
+        asks.push(DecisionRef::Pick {
             host,
             requirement,
             capability: *capability,
@@ -49,7 +49,7 @@ fn add_picks(
 
 /// Adds the decisions of a requirement. The lists are those of its owner.
 fn add_requirement(
-    asks: &mut Vec<Decision>,
+    asks: &mut Vec<DecisionRef>,
     offers: &Offers,
     lists: &[Vec<CapRef>],
     host: RevisionId,
@@ -61,14 +61,14 @@ fn add_requirement(
     if offers.known().is_multiple(requirement) {
         add_picks(asks, host, requirement, list_at(lists, requirement.index))?;
     } else {
-        asks.push(Decision::Choose { host, requirement })?;
+        asks.push(DecisionRef::Choose { host, requirement })?;
     }
     Ok(())
 }
 
 /// Adds the decisions of a requirement if it is effective and of the kind. The lists are those of its owner.
 fn add_of_kind(
-    asks: &mut Vec<Decision>,
+    asks: &mut Vec<DecisionRef>,
     offers: &Offers,
     lists: &[Vec<CapRef>],
     host: RevisionId,
@@ -87,7 +87,7 @@ fn add_of_kind(
 
 /// Adds the decisions of an owner's effective requirements of a kind. The lists are those of the owner.
 pub fn add_owner(
-    asks: &mut Vec<Decision>,
+    asks: &mut Vec<DecisionRef>,
     offers: &Offers,
     lists: &[Vec<CapRef>],
     host: RevisionId,

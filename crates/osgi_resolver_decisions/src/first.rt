@@ -9,7 +9,7 @@ ghost use Rattle.osgi_resolver_decisions.specs.computed.Asks.{asks_of, decisions
 ghost use Rattle.osgi_resolver_decisions.specs.computed.Known.{AreListsOf, IsProblemIn};
 
 use crate::asks::add_owner;
-use crate::decision::Decision;
+use crate::decision_ref::DecisionRef;
 use crate::kind::Kind;
 use osgi_base::RevisionId;
 use osgi_candidates::Offers;
@@ -21,12 +21,12 @@ fn attachments_of(
     alloc: Global,
     host: RevisionId,
     fragments: &[RevisionId],
-) -> Result<Vec<Decision>, AllocError>
+) -> Result<Vec<DecisionRef>, AllocError>
     ensures attachments { IfOk result (λ list. decisions_in list.items ≡ map (attaching host) fragments.now) }
 {
     let mut attachments = Vec::new(alloc);
     for fragment in fragments {
-        attachments.push(Decision::Attach {
+        attachments.push(DecisionRef::Attach {
             host,
             fragment: *fragment,
         })?;
@@ -40,7 +40,7 @@ fn own_asks(
     offers: &Offers,
     lists: &[Vec<CapRef>],
     member: RevisionId,
-) -> Result<Vec<Decision>, AllocError>
+) -> Result<Vec<DecisionRef>, AllocError>
     requires lists { AreListsOf offers.now member lists.now }
     ensures asks { IfOk result (λ asks. (P : Problem) → IsProblemIn offers.now P → IsTrue (is_current P.world.known member) → decisions_in asks.items ≡ asks_of P member (member ∷ [])) }
 {
@@ -58,7 +58,7 @@ pub fn first_decisions(
     lists: &[Vec<CapRef>],
     fragments: &[RevisionId],
     member: RevisionId,
-) -> Result<Vec<Decision>, AllocError>
+) -> Result<Vec<DecisionRef>, AllocError>
     requires lists { AreListsOf offers.now member lists.now }
     ensures first { IfOk result (λ list. (P : Problem) → IsProblemIn offers.now P → IsTrue (is_current P.world.known member) → fragments.now ≡ matching P member → decisions_in list.items ≡ first_due P member) }
 {

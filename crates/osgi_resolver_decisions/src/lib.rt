@@ -1,16 +1,16 @@
-//! What a world offers to each owner of requirements: its candidates, the fragments that may be attached to it, its first decisions,
-//! as far as it was asked for.
+//! What a world offers to each owner of requirements: its candidates, the fragments that may be attached to it, its first
+//! decisions, as far as it was asked for.
 #![tactic(auto)]
 
 mod asks;
-mod decision;
+mod decision_ref;
 mod first;
 mod kind;
 mod lists;
 mod owned;
 mod payload;
 
-pub use decision::Decision;
+pub use decision_ref::DecisionRef;
 pub use lists::Lists;
 pub use owned::{Owned, is_of_space, owned_of};
 pub use payload::asks_of;

@@ -10,7 +10,7 @@ ghost use Rattle.osgi_resolver_decisions.specs.computed.Free.{is_free};
 ghost use Rattle.osgi_resolver_decisions.specs.computed.Known.{AreListsOf, AreRight, IsProblemIn, Knows, KnowsAll};
 
 use crate::asks::list_at;
-use crate::decision::Decision;
+use crate::decision_ref::DecisionRef;
 use crate::owned::{Owned, owned_of};
 use osgi_base::{NumberMap, RevisionId};
 use osgi_candidates::Offers;
@@ -41,7 +41,7 @@ impl<'w> Lists<'w> {
         ensures offers { self.new.offers ≡ self.old.offers }
         ensures right { AreRight self.new }
         ensures known { OnOk result (Knows self.new owner) }
-        ensures kept { KnowsAll self.old self.new }
+        ensures nothing_lost { KnowsAll self.old self.new }
     {
         if self.by_owner.get(owner.0).is_some() {
             return Ok(());
@@ -79,7 +79,7 @@ impl<'w> Lists<'w> {
     }
 
     /// The decisions of an owner that is known, as a member of which nothing is decided yet.
-    pub fn first_of(&self, owner: RevisionId) -> &[Decision]
+    pub fn first_of(&self, owner: RevisionId) -> &[DecisionRef]
         ensures first { (P : Problem) → AreRight self.now → IsProblemIn self.now.offers P → Knows self.now owner → IsTrue (is_current P.world.known owner) → decisions_in result.now ≡ first_due P owner }
     {
         match self.by_owner.get(owner.0) {

@@ -1,5 +1,5 @@
-//! What is found out of an owner once: the candidates of its requirements, the fragments that may be attached to it, and its first
-//! decisions.
+//! What is found out of an owner once: the candidates of its requirements, the fragments that may be attached to it, and its
+//! first decisions.
 
 ghost use Rattle.std.specs.Prelude.{◌≡◌, ◌<◌, IfOk, IsTrue};
 ghost use Rattle.std.specs.List.{list_any};
@@ -12,7 +12,7 @@ ghost use Rattle.osgi_resolver_decisions.specs.computed.Free.{asks_space, is_fre
 ghost use Rattle.osgi_resolver_decisions.specs.computed.Known.{AreListsOf, IsProblemIn, IsRightOf};
 ghost use Rattle.osgi_resolver_decisions.specs.computed.Sureness.{IsSureBy, list_at};
 
-use crate::decision::Decision;
+use crate::decision_ref::DecisionRef;
 use crate::first::first_decisions;
 use osgi_base::RevisionId;
 use osgi_candidates::Offers;
@@ -27,7 +27,7 @@ pub struct Owned {
     /// The fragments that may be attached to it, by bundle id.
     pub fragments: Vec<RevisionId>,
     /// Its decisions as a member of which nothing is decided yet.
-    pub first: Vec<Decision>,
+    pub first: Vec<DecisionRef>,
     /// Whether it has no attachment, bundle requirement or import to decide.
     pub is_free: bool,
     /// Each requirement that is needed may have one wire alone, and has a candidate. Where it is false, that need not be so.

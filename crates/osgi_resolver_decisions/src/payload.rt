@@ -8,7 +8,7 @@ ghost use Rattle.osgi_resolver_decisions.specs.computed.Asks.{asks_by, asks_of, 
 ghost use Rattle.osgi_resolver_decisions.specs.computed.Known.{AreRight, IsProblemIn, Knows};
 
 use crate::asks::add_owner;
-use crate::decision::Decision;
+use crate::decision_ref::DecisionRef;
 use crate::kind::Kind;
 use crate::lists::Lists;
 use osgi_base::RevisionId;
@@ -16,7 +16,7 @@ use std::alloc::{AllocError, Global};
 
 /// Adds the decisions of several owners' effective requirements of a kind.
 fn add_kind(
-    asks: &mut Vec<Decision>,
+    asks: &mut Vec<DecisionRef>,
     lists: &Lists,
     host: RevisionId,
     kind: Kind,
@@ -39,7 +39,7 @@ pub fn asks_of(
     lists: &Lists,
     host: RevisionId,
     owners: &[RevisionId],
-) -> Result<Vec<Decision>, AllocError>
+) -> Result<Vec<DecisionRef>, AllocError>
     requires right { AreRight lists.now }
     requires known { All (Knows lists.now) owners.now }
     ensures asks { IfOk result (λ asks. (P : Problem) → IsProblemIn lists.now.offers P → All (λ (o : RevisionId). IsTrue (is_current P.world.known o)) owners.now → decisions_in asks.items ≡ asks_of P host owners.now) }

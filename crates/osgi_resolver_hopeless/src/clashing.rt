@@ -79,8 +79,8 @@ pub fn has_clash(alloc: Global, path: &Path, unsettled: &RevisionSet) -> Result<
     )?)
 }
 
-/// Whether a member's implied constraint that comes from settled revisions alone clashes. It is looked for only where a package may
-/// have several sources.
+/// Whether a member's implied constraint that comes from settled revisions alone clashes. It is looked for only where a package
+/// may have several sources.
 pub fn has_settled_clash(alloc: Global, path: &Path) -> Result<bool, AllocError>
     ensures clash { IfOk result (λ answer. (P : Problem) → IsProblemOf path.now P → IsTrue answer ↔ HasClash P (made P path.now)) }
 {
@@ -88,5 +88,5 @@ pub fn has_settled_clash(alloc: Global, path: &Path) -> Result<bool, AllocError>
         return Ok(false);
     }
     let unsettled = unsettled(alloc, path)?;
-    Ok(has_clash(alloc, path, &unsettled)?)
+    has_clash(alloc, path, &unsettled)
 }

@@ -145,8 +145,8 @@ fn may_reach(rows: &Rows, wired: Wired, host: RevisionId) -> bool
     !rows.required_by(provider.0).is_empty()
 }
 
-/// Whether the wire's provider is settled, and does not have the capability on offer. True only where it is so, and true wherever the
-/// provider is the host or reaches it, too.
+/// Whether the wire's provider is settled, and does not have the capability on offer. True only where it is so, and true wherever
+/// the provider is the host or reaches it, too.
 fn is_lost_at(
     alloc: Global,
     path: &Path,
@@ -179,8 +179,8 @@ fn is_wire_lost_at(
     }
 }
 
-/// Whether the provider of the wire of one of these decisions is settled, and does not have the capability on offer. True only where
-/// it is so, and true wherever such a provider is the host or reaches it.
+/// Whether the provider of the wire of one of these decisions is settled, and does not have the capability on offer. True only
+/// where it is so, and true wherever such a provider is the host or reaches it.
 fn is_one_lost_at(
     alloc: Global,
     path: &Path,

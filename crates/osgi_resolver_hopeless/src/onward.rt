@@ -22,8 +22,8 @@ use osgi_base::RevisionId;
 use osgi_resolver_path::{Last, Path};
 use std::alloc::{AllocError, Global};
 
-/// Whether the host of the last decision, or who joined by it, is stuck. Two providers of one package count only where one is that of
-/// the wire that the decision made: there were no two before, where the word before was not hopeless.
+/// Whether the host of the last decision, or who joined by it, is stuck. Two providers of one package count only where one is
+/// that of the wire that the decision made: there were no two before, where the word before was not hopeless.
 fn is_touched_stuck(alloc: Global, path: &Path, last: Last) -> Result<bool, AllocError>
     ensures stuck { IfOk result (λ answer. (P : Problem) → IsProblemOf path.now P → IsLast P path.now last → IsTrue answer ↔ HasTouchedStuck P path.now last) }
 {
@@ -73,8 +73,8 @@ fn is_at_once(alloc: Global, path: &Path, last: Last) -> Result<bool, AllocError
     Ok(is_new_lost(alloc, path, last.wired)?)
 }
 
-/// Whether a settled provider that is the host or reaches it does not have on offer what a wire takes, or a constraint that comes from
-/// settled revisions alone clashes. It is asked once the host is decided.
+/// Whether a settled provider that is the host or reaches it does not have on offer what a wire takes, or a constraint that comes
+/// from settled revisions alone clashes. It is asked once the host is decided.
 fn has_settled_reason(alloc: Global, path: &Path, host: RevisionId) -> Result<bool, AllocError>
     ensures reason { IfOk result (λ answer. (P : Problem) → IsProblemOf path.now P → IsTrue answer → Reason P (made P path.now)) }
     ensures all { IfOk result (λ answer. (P : Problem) → IsProblemOf path.now P → HasSettledReason P path.now host → IsTrue answer) }
@@ -85,8 +85,8 @@ fn has_settled_reason(alloc: Global, path: &Path, host: RevisionId) -> Result<bo
     Ok(has_settled_clash(alloc, path)?)
 }
 
-/// Whether what is decided is hopeless, where it was not before the last decision. It looks only for reasons that this decision can
-/// have given; for clashes all members are asked, once its host is decided.
+/// Whether what is decided is hopeless, where it was not before the last decision. It looks only for reasons that this decision
+/// can have given; for clashes all members are asked, once its host is decided.
 pub fn has_become_hopeless(alloc: Global, path: &Path) -> Result<bool, AllocError>
     ensures hopeless { IfOk result (λ b. (P : Problem) → IsProblemOf path.now P → IsHopefulBefore P path.now.word → Decides b (IsHopeless P path.now.word)) }
 {

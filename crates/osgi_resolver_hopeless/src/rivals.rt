@@ -1,6 +1,6 @@
 //! Whether two current singletons of one symbolic name are in use.
 
-ghost use Rattle.std.specs.Prelude.{◌↔◌, ℕ, Contains, IfOk, IsTrue};
+ghost use Rattle.std.specs.Prelude.{◌↔◌, ℕ, Contains, IfOk, OnOk, IsTrue};
 ghost use Rattle.std.specs.Ordering.{nat_cmp};
 ghost use Rattle.osgi_resolver_theory.specs.Checks.{IsNew};
 ghost use Rattle.osgi_base.specs.declared.ids.RevisionId.{RevisionId};
@@ -64,8 +64,8 @@ fn is_one_new(alloc: Global, path: &Path) -> Result<bool, AllocError>
 
 fn add_all(found: &mut Found<u32>, revisions: &[RevisionId]) -> Result<(), AllocError>
     requires collected { IsCollected nat_cmp found.old }
-    ensures collected { IfOk result (λ _. IsCollected nat_cmp found.new) }
-    ensures added { IfOk result (λ _. Adds (λ n. In (id n) revisions.now) found.old.items.items found.new.items.items) }
+    ensures collected { OnOk result (IsCollected nat_cmp found.new) }
+    ensures added { OnOk result (Adds (λ n. In (id n) revisions.now) found.old.items.items found.new.items.items) }
 {
     for revision in revisions {
         found.add(revision.0)?;

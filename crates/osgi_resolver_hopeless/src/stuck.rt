@@ -40,8 +40,8 @@ fn is_amiss(alloc: Global, path: &Path, member: RevisionId) -> Result<bool, Allo
     Ok(has_two_versions(alloc, path, fragments.as_slice())?)
 }
 
-/// Whether the member has a requirement that can get no wire any more, two fragments of one symbolic name, or two providers of one
-/// package.
+/// Whether the member has a requirement that can get no wire any more, two fragments of one symbolic name, or two providers of
+/// one package.
 fn is_stuck(alloc: Global, path: &Path, member: RevisionId) -> Result<bool, AllocError>
     ensures stuck { IfOk result (λ answer. (P : Problem) → IsMemberOf path.now P member → IsTrue answer ↔ IsStuck P (made P path.now) member) }
 {

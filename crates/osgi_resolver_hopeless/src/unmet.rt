@@ -9,7 +9,7 @@ ghost use Rattle.osgi_world.specs.declared.problem.Problem.{Problem};
 
 use crate::place::known_at;
 use osgi_base::RevisionId;
-use osgi_resolver_decisions::Decision;
+use osgi_resolver_decisions::DecisionRef;
 use osgi_resolver_path::Path;
 use osgi_world::{CapRef, ReqRef};
 
@@ -17,7 +17,7 @@ use osgi_world::{CapRef, ReqRef};
 fn is_refused(path: &Path, member: RevisionId, requirement: ReqRef, capability: CapRef) -> bool
     ensures refused { (P : Problem) → IsProblemOf path.now P → IsTrue result ↔ IsRefused (made P path.now) member requirement capability }
 {
-    let pick = Decision::Pick {
+    let pick = DecisionRef::Pick {
         host: member,
         requirement,
         capability,

@@ -24,7 +24,7 @@ use Rattle.osgi_resolver_path.specs.computed.Nexts.{IsNextOf, IsOpenedBy}
 use Rattle.osgi_resolver_path.specs.computed.Openings.{IsOpened, Waits}
 use Rattle.osgi_resolver_path.specs.declared.course.Course.{Course}
 use Rattle.osgi_resolver_path.specs.declared.course.Mark.{Mark}
-use Rattle.osgi_resolver_decisions.specs.declared.decision.Decision.{Decision}
+use Rattle.osgi_resolver_decisions.specs.declared.decision_ref.DecisionRef.{DecisionRef}
 use Rattle.osgi_resolver_path.specs.declared.opening.More.{More}
 use Rattle.osgi_resolver_path.proofs.Grown.{asked, opened-ask, opened-last, opened-some}
 use Rattle.osgi_resolver_path.proofs.Next.{length-made_of, next-there, right-state}
@@ -45,7 +45,7 @@ opened-longer P D ids joined qs k o = record {
   last_in = let h = o.last_in in let e = length-append ids joined in omega (arith, h, e);
 }
 
-module _ (P : Problem) (L : IsProblem P) (c : Course) (ids : List RevisionId) (decision : Decision) (value : ℕ) (r : IsRight P (reverse c.marks.items) (record (lists_of c) { ids = ids })) (n : IsNextOf P c ids decision value) where
+module _ (P : Problem) (L : IsProblem P) (c : Course) (ids : List RevisionId) (decision : DecisionRef) (value : ℕ) (r : IsRight P (reverse c.marks.items) (record (lists_of c) { ids = ids })) (n : IsNextOf P c ids decision value) where
   abbrev ms : List Mark
   ms = reverse c.marks.items
 

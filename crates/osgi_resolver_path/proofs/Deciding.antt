@@ -14,10 +14,10 @@ use Rattle.osgi_resolver_path.specs.computed.Nexts.{IsDecidedBy, IsDecidedWith, 
 use Rattle.osgi_resolver_path.specs.computed.Openings.{IsOpened}
 use Rattle.osgi_resolver_path.specs.declared.course.Course.{Course}
 use Rattle.osgi_resolver_path.specs.declared.course.Mark.{Mark}
-use Rattle.osgi_resolver_decisions.specs.declared.decision.Decision.{Decision}
+use Rattle.osgi_resolver_decisions.specs.declared.decision_ref.DecisionRef.{DecisionRef}
 
 -- what is so of a problem, where the marks, the queue and the last opened member were these
-abbrev Says : Problem → Course → Mark → List RevisionId → List Mark → List Decision → ℕ → Type 0
+abbrev Says : Problem → Course → Mark → List RevisionId → List Mark → List DecisionRef → ℕ → Type 0
 Says P new mark ids ms q k =
     IsRight P (reverse ms) (record { ids = ids; queue = q; last = k }) → slice_get q (length ms) ≡ Some mark.decision → mark.value < arity P (decision_of mark.decision) →
     new.ids.items ≡ members P (made_with (reverse ms) mark.decision mark.value) →

@@ -3,7 +3,7 @@ use Rattle.std.proofs.Common.{◌≡◌, ℕ, zero, suc, Bool, true, false, if�
 use Rattle.std.specs.Prelude.{slice_get}
 use Rattle.osgi_base.specs.declared.ids.RevisionId.{RevisionId}
 use Rattle.osgi_world.specs.Decisions.{Step, wired_to}
-use Rattle.osgi_world.specs.Lists.{entry, item_at}
+use Rattle.osgi_world.specs.Lists.{nth_list, item_at}
 use Rattle.osgi_world.specs.declared.wiring.CapRef.{CapRef}
 use Rattle.osgi_world.specs.declared.wiring.ReqRef.{ReqRef}
 
@@ -21,13 +21,13 @@ item-none (y ∷ ys) (suc n) e = item-none ys n e
 
 -- ---- values
 
-none-entry : (b : Bool) (n : ℕ) → entry {X = Step} (if b then [] ∷ [] else []) n ≡ []
+none-entry : (b : Bool) (n : ℕ) → nth_list {X = Step} (if b then [] ∷ [] else []) n ≡ []
 none-entry true zero = refl
 none-entry true (suc n) = refl
 none-entry false n = refl
 
 -- a candidate by its place, or nothing
-pub entry-chosen : (h : RevisionId) (q : ReqRef) (cs : List CapRef) (b : Bool) (n : ℕ) → entry (map (λ c. wired_to h q c ∷ []) cs ++ (if b then [] ∷ [] else [])) n ≡ map (wired_to h q) (item_at cs n)
+pub entry-chosen : (h : RevisionId) (q : ReqRef) (cs : List CapRef) (b : Bool) (n : ℕ) → nth_list (map (λ c. wired_to h q c ∷ []) cs ++ (if b then [] ∷ [] else [])) n ≡ map (wired_to h q) (item_at cs n)
 entry-chosen h q [] b n = none-entry b n
 entry-chosen h q (c ∷ cs) b zero = refl
 entry-chosen h q (c ∷ cs) b (suc n) = entry-chosen h q cs b n

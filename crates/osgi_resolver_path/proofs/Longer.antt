@@ -29,8 +29,8 @@ use Rattle.osgi_resolver_path.specs.computed.Nexts.{IsDecidedWith, IsSameCourse}
 use Rattle.osgi_resolver_path.specs.computed.Steps.{IsAsked, IsListed, steps_in}
 use Rattle.osgi_resolver_path.specs.declared.course.Course.{Course}
 use Rattle.osgi_resolver_path.specs.declared.course.Mark.{Mark}
-use Rattle.osgi_resolver_decisions.specs.declared.decision.Decision.{Decision}
-use Rattle.osgi_resolver_decisions.specs.declared.decision.Decision.TheVariants.{Attach, Choose, Pick}
+use Rattle.osgi_resolver_decisions.specs.declared.decision_ref.DecisionRef.{DecisionRef}
+use Rattle.osgi_resolver_decisions.specs.declared.decision_ref.DecisionRef.TheVariants.{Attach, Choose, Pick}
 use Rattle.osgi_resolver_decisions.specs.declared.lists.Lists.{Lists}
 use Rattle.osgi_resolver_path.proofs.After.{get-map}
 use Rattle.osgi_resolver_path.proofs.Next.{length-made_of, next-there, right-state}
@@ -39,7 +39,7 @@ pub last-mark : (ms : List Mark) (m : Mark) (new : List Mark) → new ≡ ms ++ 
 last-mark ms m new e = ap reverse e ∙ reverse-append ms (m ∷ [])
 
 -- the decision at its place in the queue is next
-pub next-of : (P : Problem) → IsProblem P → (c : Course) → IsRight P (reverse c.marks.items) (lists_of c) → (d : Decision) → slice_get c.queue.items (length c.marks.items) ≡ Some d → next_decision P (made_of (reverse c.marks.items)) ≡ Some (decision_of d)
+pub next-of : (P : Problem) → IsProblem P → (c : Course) → IsRight P (reverse c.marks.items) (lists_of c) → (d : DecisionRef) → slice_get c.queue.items (length c.marks.items) ≡ Some d → next_decision P (made_of (reverse c.marks.items)) ≡ Some (decision_of d)
 next-of P L c r d there =
     next-there P L (reverse c.marks.items) (lists_of c) r
     ∙ ap (slice_get (decisions_in c.queue.items)) (length-reverse c.marks.items)
@@ -115,7 +115,7 @@ module _ (P : Problem) (L : IsProblem P) (lists : Lists) (c : Course) (r : IsRig
   choice-asked h q m i (chooses p j eff all one e) = let same : p ≡ q = cc in subst (IsAsked lists P) same (asked-of h p m i j eff)
   choice-asked h q m i (picks p x j eff all one k e) = cc
 
-  pub listed-next : (d : Decision) → slice_get c.queue.items (length c.marks.items) ≡ Some d → IsListed lists P d
+  pub listed-next : (d : DecisionRef) → slice_get c.queue.items (length c.marks.items) ≡ Some d → IsListed lists P d
   listed-next (Attach h f) there = tt
   listed-next (Choose h q) there =
       let due-is = next-due P (made_of (reverse c.marks.items)) (choose h q) (next-of P L c r (Choose h q) there) in
@@ -150,7 +150,7 @@ learnt-still known new c d old kept same = record {
 
 -- ---- longer
 
-pub is-longer : (lists : Lists) (offers : World) (c new : Course) (s t : SpacesState) (decision : Decision) (value : ℕ) (mark : Mark) (joining : Option RevisionId) → IsLearnt lists c → offers ≡ lists.offers →
+pub is-longer : (lists : Lists) (offers : World) (c new : Course) (s t : SpacesState) (decision : DecisionRef) (value : ℕ) (mark : Mark) (joining : Option RevisionId) → IsLearnt lists c → offers ≡ lists.offers →
     slice_get c.queue.items (length c.marks.items) ≡ Some decision → IsMarkOf lists c decision value mark →
     ((P : Problem) → IsProblemIn lists.offers P → (c.ids.items ++ option_to_list joining) ≡ pull_in P c.ids.items (flat_map provider_of (steps_in mark.step))) →
     t ≡ record s { steps = steps_in mark.step ++ s.steps } → new.marks.items ≡ c.marks.items ++ mark ∷ [] → IsDecidedWith offers c new mark joining →

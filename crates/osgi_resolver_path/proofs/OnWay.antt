@@ -17,7 +17,7 @@ use Rattle.osgi_world.specs.declared.world.Known.{Known}
 use Rattle.osgi_world.specs.declared.world.World.{World}
 use Rattle.osgi_world.specs.declared.wiring.CapRef.{CapRef}
 use Rattle.osgi_world.specs.declared.wiring.ReqRef.{ReqRef}
-use Rattle.osgi_space_rows.specs.Steps.{with_steps}
+use Rattle.osgi_space_rows.specs.Steps.{after_steps}
 use Rattle.osgi_space_rows.specs.Worlds.{AreRowsIn, WorldLists}
 use Rattle.osgi_uses.specs.States.{SpacesState, wirings_of}
 use Rattle.osgi_resolver_theory.proofs.States.{in-payload}
@@ -34,8 +34,8 @@ use Rattle.osgi_resolver_path.specs.computed.Steps.{IsAsked, IsListed, steps_in}
 use Rattle.osgi_resolver_path.specs.computed.Views.{IsReady}
 use Rattle.osgi_resolver_path.specs.declared.course.Course.{Course}
 use Rattle.osgi_resolver_path.specs.declared.course.Mark.{Mark}
-use Rattle.osgi_resolver_decisions.specs.declared.decision.Decision.{Decision}
-use Rattle.osgi_resolver_decisions.specs.declared.decision.Decision.TheVariants.{Attach, Choose, Pick}
+use Rattle.osgi_resolver_decisions.specs.declared.decision_ref.DecisionRef.{DecisionRef}
+use Rattle.osgi_resolver_decisions.specs.declared.decision_ref.DecisionRef.TheVariants.{Attach, Choose, Pick}
 use Rattle.osgi_resolver_decisions.specs.declared.lists.Lists.{Lists}
 use Rattle.osgi_resolver_path.proofs.Longer.{asked-of, last-mark, learnt-known, listed-next, next-of}
 use Rattle.osgi_resolver_path.proofs.Next.{next-there}
@@ -76,10 +76,10 @@ module _ (W : World) (root : RevisionId) (lists : Lists) (spaces : SpacesState) 
   made-is P of = (right-at P of).is
 
   -- the number of values of the next decision
-  pub width-some : (P : Problem) → IsProblemOf (standing_of W root c) P → (d : Decision) → slice_get c.queue.items (length c.marks.items) ≡ Some d → width P (made P (standing_of W root c)) ≡ arity P (decision_of d)
+  pub width-some : (P : Problem) → IsProblemOf (standing_of W root c) P → (d : DecisionRef) → slice_get c.queue.items (length c.marks.items) ≡ Some d → width P (made P (standing_of W root c)) ≡ arity P (decision_of d)
   width-some P of d there = ap (width P) (made-is P of) ∙ ap (Rattle.osgi_world.specs.ChoiceWords.arity_of P) (next-of P of.is c (right-at P of) d there)
 
-  pub listed-at : (P : Problem) → IsProblemOf (standing_of W root c) P → (d : Decision) → slice_get c.queue.items (length c.marks.items) ≡ Some d → IsListed lists P d
+  pub listed-at : (P : Problem) → IsProblemOf (standing_of W root c) P → (d : DecisionRef) → slice_get c.queue.items (length c.marks.items) ≡ Some d → IsListed lists P d
   listed-at P of d there = listed-next P of.is lists c (right-at P of) on.learnt d there
 
   -- where no decision is in its place, none is left
@@ -93,18 +93,18 @@ module _ (W : World) (root : RevisionId) (lists : Lists) (spaces : SpacesState) 
   pub width-none : (P : Problem) → IsProblemOf (standing_of W root c) P → slice_get c.queue.items (length c.marks.items) ≡ None → width P (made P (standing_of W root c)) ≡ 0
   width-none P of there = ap (Rattle.osgi_world.specs.ChoiceWords.arity_of P) (next-none P of there)
 
-  pub next-some : (P : Problem) → IsProblemOf (standing_of W root c) P → (d : Decision) → slice_get c.queue.items (length c.marks.items) ≡ Some d → next_decision P (made P (standing_of W root c)) ≡ Some (decision_of d)
+  pub next-some : (P : Problem) → IsProblemOf (standing_of W root c) P → (d : DecisionRef) → slice_get c.queue.items (length c.marks.items) ≡ Some d → next_decision P (made P (standing_of W root c)) ≡ Some (decision_of d)
   next-some P of d there = ap (next_decision P) (made-is P of) ∙ next-of P of.is c (right-at P of) d there
 
   -- where the next decision has a value, it is in its place
-  pub next-within : (v : ℕ) → HasValue (standing_of W root c) v → (d : Decision) × (length c.marks.items < length c.queue.items) × (slice_get c.queue.items (length c.marks.items) ≡ Some d)
+  pub next-within : (v : ℕ) → HasValue (standing_of W root c) v → (d : DecisionRef) × (length c.marks.items < length c.queue.items) × (slice_get c.queue.items (length c.marks.items) ≡ Some d)
   next-within v has = elim (slice_get_cases c.queue.items (length c.marks.items)).1 [
     | inl there ↦ (there.0, there.1, there.2)
     | inr none ↦ let e = width-none has.problem has.of none.1 in let h = has.fits in absurd (omega (arith, e, h))
   ]
 
   -- it has it in any problem
-  arity-of : (P Q : Problem) → IsProblemOf (standing_of W root c) P → IsProblemOf (standing_of W root c) Q → (d : Decision) → IsListed lists P d → IsListed lists Q d → arity P (decision_of d) ≡ arity Q (decision_of d)
+  arity-of : (P Q : Problem) → IsProblemOf (standing_of W root c) P → IsProblemOf (standing_of W root c) Q → (d : DecisionRef) → IsListed lists P d → IsListed lists Q d → arity P (decision_of d) ≡ arity Q (decision_of d)
   arity-of P Q p q (Attach h f) a b = refl
   arity-of P Q p q (Choose h x) a b =
       let same : candidates P x ≡ candidates Q x = same-candidates lists on.right P Q (in-lists P p) (in-lists Q q) x a.knows a.has b.has in
@@ -186,16 +186,16 @@ module _ (W : World) (root : RevisionId) (lists : Lists) (spaces : SpacesState) 
   pub made-at : (P : Problem) → IsProblemOf s P → made P s ≡ made_of (reverse c.marks.items)
   made-at P of = ap (made P) is ∙ made-is W root lists spaces c on P (there-of P of)
 
-  pub next-listed : (P : Problem) → IsProblemOf s P → (d : Decision) → Some d ≡ slice_get c.queue.items (length c.marks.items) → IsListed lists P d
+  pub next-listed : (P : Problem) → IsProblemOf s P → (d : DecisionRef) → Some d ≡ slice_get c.queue.items (length c.marks.items) → IsListed lists P d
   next-listed P of d at = listed-at W root lists spaces c on P (there-of P of) d (sym at)
 
-  pub some-wide : (P : Problem) → IsProblemOf s P → (d : Decision) → Some d ≡ slice_get c.queue.items (length c.marks.items) → arity P (decision_of d) ≡ width P (made P s)
+  pub some-wide : (P : Problem) → IsProblemOf s P → (d : DecisionRef) → Some d ≡ slice_get c.queue.items (length c.marks.items) → arity P (decision_of d) ≡ width P (made P s)
   some-wide P of d at = sym (ap (λ x. width P (made P x)) is ∙ width-some W root lists spaces c on P (there-of P of) d (sym at))
 
   pub none-wide : (P : Problem) → IsProblemOf s P → None ≡ slice_get c.queue.items (length c.marks.items) → 0 ≡ width P (made P s)
   none-wide P of at = sym (ap (λ x. width P (made P x)) is ∙ width-none W root lists spaces c on P (there-of P of) (sym at))
 
-  complete-go : (P : Problem) → IsProblemOf s P → (o : Option Decision) → o ≡ slice_get c.queue.items (length c.marks.items) → (b : Bool) → is_some o ≡ not b → (b ≡ true → next_decision P (made P s) ≡ None) × (next_decision P (made P s) ≡ None → b ≡ true)
+  complete-go : (P : Problem) → IsProblemOf s P → (o : Option DecisionRef) → o ≡ slice_get c.queue.items (length c.marks.items) → (b : Bool) → is_some o ≡ not b → (b ≡ true → next_decision P (made P s) ≡ None) × (next_decision P (made P s) ≡ None → b ≡ true)
   complete-go P of None at true e = (λ t. ap (λ x. next_decision P (made P x)) is ∙ next-none W root lists spaces c on P (there-of P of) (sym at), λ n. refl)
   complete-go P of None at false e = absurd (false≢true e)
   complete-go P of (Some d) at true e = absurd (false≢true (sym e))
@@ -203,10 +203,10 @@ module _ (W : World) (root : RevisionId) (lists : Lists) (spaces : SpacesState) 
       let some = ap (λ x. next_decision P (made P x)) is ∙ next-some W root lists spaces c on P (there-of P of) d (sym at) in
       (λ t. absurd (false≢true t), λ n. absurd (clash d (sym n ∙ some)))
     where
-      clash : (x : Decision) → None ≡ Some (decision_of x) → ⊥
+      clash : (x : DecisionRef) → None ≡ Some (decision_of x) → ⊥
       clash x f = cc
 
-  pub complete-at : (P : Problem) → IsProblemOf s P → (o : Option Decision) → o ≡ slice_get c.queue.items (length c.marks.items) → (b : Bool) → is_some o ≡ not b → (b ≡ true → IsComplete P s.word) × (IsComplete P s.word → b ≡ true)
+  pub complete-at : (P : Problem) → IsProblemOf s P → (o : Option DecisionRef) → o ≡ slice_get c.queue.items (length c.marks.items) → (b : Bool) → is_some o ≡ not b → (b ≡ true → IsComplete P s.word) × (IsComplete P s.word → b ≡ true)
   complete-at P of o at b e = complete-go P of o at b e
 
   pub members-at : (P : Problem) → IsProblemOf s P → c.ids.items ≡ members P (made P s)
@@ -240,8 +240,8 @@ module _ (W : World) (root : RevisionId) (lists : Lists) (spaces : SpacesState) 
       let o = there-of P of in
       let ms = reverse c.marks.items in
       let world : P.world ≡ W = o.world in
-      let first : AreRowsIn rows (with_steps W.wirings (steps_of ms)) = subst (λ (x : SpacesState). AreRowsIn rows (wirings_of x)) on.spaces_are are in
-      let second : AreRowsIn rows (with_steps P.world.wirings (steps_of ms)) = subst (λ (V : World). AreRowsIn rows (with_steps V.wirings (steps_of ms))) (sym world) first in
+      let first : AreRowsIn rows (after_steps W.wirings (steps_of ms)) = subst (λ (x : SpacesState). AreRowsIn rows (wirings_of x)) on.spaces_are are in
+      let second : AreRowsIn rows (after_steps P.world.wirings (steps_of ms)) = subst (λ (V : World). AreRowsIn rows (after_steps V.wirings (steps_of ms))) (sym world) first in
       let known-is : rows.known ≡ P.world.known = known ∙ ap (λ (x : SpacesState). x.known) on.spaces_are ∙ ap (λ (V : World). V.known) (sym world) in
       subst (λ (D : Made). AreRowsIn rows (partial P D)) (sym (made-at P of)) (rows-seen P ms (lists_of c) (stands-at P of) rows known-is second)
 

@@ -7,7 +7,7 @@ use Rattle.std.proofs.lemmas.Grind.{flat_map-append}
 use Rattle.osgi_base.specs.declared.ids.RevisionId.{RevisionId}
 use Rattle.osgi_world.specs.Candidates.{candidates, matching}
 use Rattle.osgi_world.specs.Decisions.{Decision, Made, attaching, choose, is_open, pick}
-use Rattle.osgi_world.specs.DueDecisions.{attachments, decisions_of, due, in_turn, is_other, of_kind, payload}
+use Rattle.osgi_world.specs.DueDecisions.{attachments, decisions_of, due, in_turn, is_generic, of_kind, payload}
 use Rattle.osgi_world.specs.Lists.{In}
 use Rattle.osgi_world.specs.Lookups.{is_effective, is_multiple, requirement_namespace}
 use Rattle.osgi_world.specs.Satisfaction.{is_bundle, is_package}
@@ -18,7 +18,7 @@ use Rattle.osgi_resolver_theory.proofs.Lists.{and-cases, any-in, filter-in, flat
 use Rattle.osgi_resolver_decisions.specs.computed.Asks.{decisions_in}
 use Rattle.osgi_resolver_decisions.specs.computed.Free.{is_of_space}
 use Rattle.osgi_resolver_path.specs.computed.Views.{is_spatial, is_spatial_next}
-use Rattle.osgi_resolver_decisions.specs.declared.decision.Decision as code
+use Rattle.osgi_resolver_decisions.specs.declared.decision_ref.DecisionRef.{DecisionRef}
 
 -- ---- lists
 
@@ -64,7 +64,7 @@ pub first-turn : {X : Type 0} (p : X → Bool) (xs : List X) → InTurn p xs →
 first-turn p [] t = refl
 first-turn p (x ∷ xs) t = or-same (p x) (list_any p xs) t.0
 
-pub next-passes : (K : List Known) (ds : List code.Decision) (n : ℕ) → is_spatial_next K (slice_get ds n) ≡ passes (is_spatial K) (slice_get (decisions_in ds) n)
+pub next-passes : (K : List Known) (ds : List DecisionRef) (n : ℕ) → is_spatial_next K (slice_get ds n) ≡ passes (is_spatial K) (slice_get (decisions_in ds) n)
 next-passes K [] n = refl
 next-passes K (d ∷ ds) zero = refl
 next-passes K (d ∷ ds) (suc n) = next-passes K ds n
@@ -91,13 +91,13 @@ module _ (P : Problem) (m : RevisionId) where
       let f = decisions_of P m in
       let bundles = of_kind P is_bundle qs in
       let packages = of_kind P is_package qs in
-      let others = of_kind P is_other qs in
+      let others = of_kind P is_generic qs in
       let parts : flat_map f (in_turn P qs) ≡ flat_map f bundles ++ (flat_map f packages ++ flat_map f others)
       = flat_map-append f bundles (packages ++ others) ∙ ap (λ l. flat_map f bundles ++ l) (flat_map-append f packages others) in
       subst (InTurn p) (sym parts)
       (all-turn p (flat_map f bundles) (flat_map f packages ++ flat_map f others) (λ d i. let k = of-kind is_bundle qs d i in k.2 ∙ or-left (is_bundle k.0) (is_package k.0) k.1)
       (all-turn p (flat_map f packages) (flat_map f others) (λ d i. let k = of-kind is_package qs d i in k.2 ∙ or-right (is_bundle k.0) (is_package k.0) k.1)
-      (none-turn p (flat_map f others) (λ d i t. let k = of-kind is_other qs d i in no-both (is_of_space k.0) k.1 (sym k.2 ∙ t)))))
+      (none-turn p (flat_map f others) (λ d i t. let k = of-kind is_generic qs d i in no-both (is_of_space k.0) k.1 (sym k.2 ∙ t)))))
 
   rest-turn : (b : Bool) (qs : List ReqRef) → InTurn (is_spatial P.world.known) (if b then [] else flat_map (decisions_of P m) (in_turn P qs))
   rest-turn true qs = tt

@@ -21,7 +21,7 @@ use crate::growing::is_first;
 use crate::step::candidate_at;
 use crate::values::Values;
 use osgi_base::{List, RevisionId};
-use osgi_resolver_decisions::{Decision, Lists};
+use osgi_resolver_decisions::{DecisionRef, Lists};
 use osgi_world::{CapRef, ReqRef, Wire, Wiring};
 use std::alloc::{AllocError, Global};
 
@@ -29,7 +29,7 @@ use std::alloc::{AllocError, Global};
 fn is_picked(values: &Values, host: RevisionId, requirement: ReqRef, capability: CapRef) -> bool
     ensures picked { result ≡ is_yes (value_in values.now (pick host requirement capability)) }
 {
-    let decision = Decision::Pick {
+    let decision = DecisionRef::Pick {
         host,
         requirement,
         capability,
@@ -67,7 +67,7 @@ fn chosen(
 ) -> Option<CapRef>
     ensures chosen { option_to_list result ≡ by_value candidates.now (value_in values.now (choose host requirement)) }
 {
-    let decision = Decision::Choose { host, requirement };
+    let decision = DecisionRef::Choose { host, requirement };
     match values.get(decision) {
         Some(value) => candidate_at(candidates, value),
         None => None,
@@ -161,7 +161,7 @@ fn add_owners(
 fn is_attached(values: &Values, host: RevisionId, fragment: RevisionId) -> bool
     ensures attached { result ≡ is_yes (value_in values.now (attaching host fragment)) }
 {
-    is_first(values.get(Decision::Attach { host, fragment }))
+    is_first(values.get(DecisionRef::Attach { host, fragment }))
 }
 
 /// The fragments that are attached to a member, by bundle id.

@@ -6,12 +6,12 @@ ghost use Rattle.osgi_resolver_path.specs.computed.Placed.{ArePlaces};
 
 use crate::step::Step;
 use osgi_base::{NumberMap, RevisionId};
-use osgi_resolver_decisions::Decision;
+use osgi_resolver_decisions::DecisionRef;
 
 /// A decision with its value, what it added, and how far the course was before it.
 #[derive(Clone, Copy, PartialEq, Eq)]
 pub struct Mark {
-    pub decision: Decision,
+    pub decision: DecisionRef,
     pub value: u64,
     pub step: Option<Step>,
     pub ids: usize,
@@ -24,7 +24,7 @@ pub struct Mark {
 pub struct Course {
     pub ids: Vec<RevisionId>,
     pub places: NumberMap<usize>,
-    pub queue: Vec<Decision>,
+    pub queue: Vec<DecisionRef>,
     pub last: usize,
     pub marks: Vec<Mark>,
 }
@@ -44,7 +44,7 @@ impl Drop for Course {
 
 impl Course {
     /// The next decision, if one is left.
-    pub fn next(&self) -> Option<Decision>
+    pub fn next(&self) -> Option<DecisionRef>
         ensures next { result ≡ slice_get self.now.queue.items (length self.now.marks.items) }
     {
         self.queue.get(self.marks.len()).copied()

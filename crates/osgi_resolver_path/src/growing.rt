@@ -12,14 +12,14 @@ ghost use Rattle.osgi_resolver_decisions.specs.DecisionOf.{decision_of};
 ghost use Rattle.osgi_resolver_decisions.specs.computed.Asks.{decisions_in, first_due};
 ghost use Rattle.osgi_resolver_path.specs.computed.Courses.{made_of};
 ghost use Rattle.osgi_resolver_decisions.specs.computed.Known.{AreRight, IsProblemIn, Knows, KnowsAll};
-ghost use Rattle.osgi_resolver_path.specs.computed.Placed.{ArePlaces, IsNew};
+ghost use Rattle.osgi_resolver_path.specs.computed.Placed.{ArePlaces, IsNoMember};
 ghost use Rattle.osgi_resolver_path.specs.computed.Steps.{steps_in};
 
 use crate::course::{Course, Mark};
 use crate::step::Step;
 use osgi_base::RevisionId;
 use osgi_candidates::Offers;
-use osgi_resolver_decisions::{Decision, Lists};
+use osgi_resolver_decisions::{DecisionRef, Lists};
 use std::alloc::{AllocError, Global};
 
 /// Whether the revision has a wiring.
@@ -41,7 +41,7 @@ fn stays(offers: &Offers, course: &Course, revision: RevisionId) -> bool
 pub fn joining_of(offers: &Offers, course: &Course, step: Option<Step>) -> Option<RevisionId>
     requires placed { ArePlaces course.now.places course.now.ids.items }
     ensures joining { (P : Problem) → IsProblemIn offers.now P → course.now.ids.items ++ option_to_list result ≡ pull_in P course.now.ids.items (flat_map provider_of (steps_in step)) }
-    ensures new { IsNew result course.now.ids.items }
+    ensures new { IsNoMember result course.now.ids.items }
 {
     let Some(Step::Wired { wire, .. }) = step else {
         return None;
@@ -55,7 +55,7 @@ pub fn joining_of(offers: &Offers, course: &Course, step: Option<Step>) -> Optio
 }
 
 /// The value with which a decision was made, if it was.
-pub fn value_of(marks: &[Mark], decision: Decision) -> Option<u64>
+pub fn value_of(marks: &[Mark], decision: DecisionRef) -> Option<u64>
     ensures value { result ≡ value_made (made_of (reverse marks.now)) (decision_of decision) }
 {
     let mut left = marks.len();
@@ -79,11 +79,11 @@ fn is_attached(
 ) -> bool
     ensures attached { result ≡ is_yes (value_made ((attaching host decided, value) ∷ made_of (reverse marks.now)) (attaching host fragment)) }
 {
-    let on = Decision::Attach {
+    let on = DecisionRef::Attach {
         host,
         fragment: decided,
     };
-    let decision = Decision::Attach { host, fragment };
+    let decision = DecisionRef::Attach { host, fragment };
     if on.is_same(decision) {
         return value == 0;
     }
@@ -127,7 +127,7 @@ pub fn learn_all(alloc: Global, lists: &mut Lists, owners: &[RevisionId]) -> Res
     requires right { AreRight lists.old }
     ensures offers { lists.new.offers ≡ lists.old.offers }
     ensures right { AreRight lists.new }
-    ensures kept { KnowsAll lists.old lists.new }
+    ensures nothing_lost { KnowsAll lists.old lists.new }
     ensures known { OnOk result (All (Knows lists.new) owners.now) }
 {
     for owner in owners {
@@ -141,11 +141,11 @@ pub fn first_of(
     alloc: Global,
     lists: &mut Lists,
     member: RevisionId,
-) -> Result<Vec<Decision>, AllocError>
+) -> Result<Vec<DecisionRef>, AllocError>
     requires right { AreRight lists.old }
     ensures offers { lists.new.offers ≡ lists.old.offers }
     ensures right { AreRight lists.new }
-    ensures kept { KnowsAll lists.old lists.new }
+    ensures nothing_lost { KnowsAll lists.old lists.new }
     ensures first { IfOk result (λ list. (P : Problem) → IsProblemIn lists.old.offers P → IsTrue (is_current P.world.known member) → decisions_in list.items ≡ first_due P member) }
 {
     lists.learn(alloc, member)?;

@@ -9,12 +9,12 @@ use crate::step::Step;
 use crate::views::wired_by;
 use crate::wired::Wired;
 use osgi_base::RevisionId;
-use osgi_resolver_decisions::Decision;
+use osgi_resolver_decisions::DecisionRef;
 
 /// The last decision of a search: what it is, its value, and what it changed.
 #[derive(Clone, Copy, PartialEq, Eq)]
 pub struct Last {
-    pub decision: Decision,
+    pub decision: DecisionRef,
     pub value: u64,
     /// The wire that it made.
     pub wired: Option<Wired>,

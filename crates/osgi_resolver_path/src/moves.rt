@@ -11,7 +11,7 @@ ghost use Rattle.osgi_resolver_decisions.specs.computed.Asks.{asks_of, decisions
 ghost use Rattle.osgi_resolver_decisions.specs.DecisionOf.{decision_of};
 ghost use Rattle.osgi_resolver_path.specs.computed.Afters.{IsAskedAfter};
 ghost use Rattle.osgi_resolver_path.specs.computed.Courses.{IsRight, lists_of, made_of};
-ghost use Rattle.osgi_resolver_path.specs.computed.Placed.{ArePlaces, IsNew};
+ghost use Rattle.osgi_resolver_path.specs.computed.Placed.{ArePlaces, IsNoMember};
 ghost use Rattle.osgi_resolver_path.specs.computed.Nexts.{IsDecidedBy, IsDecidedWith, IsNextOf, IsOpenedBy, IsSameCourse};
 ghost use Rattle.osgi_resolver_path.specs.computed.Steps.{steps_in};
 ghost use Rattle.osgi_resolver_decisions.specs.computed.Known.{AreRight, IsProblemIn, Knows, KnowsAll};
@@ -21,7 +21,7 @@ use crate::growing::{learn_all, owners_of};
 use crate::opening::{More, open};
 use crate::step::Step;
 use osgi_base::RevisionId;
-use osgi_resolver_decisions::{Decision, Lists, asks_of};
+use osgi_resolver_decisions::{DecisionRef, Lists, asks_of};
 use osgi_uses::Spaces;
 use std::alloc::{AllocError, Global};
 
@@ -33,11 +33,11 @@ fn asks_with(
     host: RevisionId,
     fragment: RevisionId,
     value: u64,
-) -> Result<Vec<Decision>, AllocError>
+) -> Result<Vec<DecisionRef>, AllocError>
     requires right { AreRight lists.old }
     ensures offers { lists.new.offers ≡ lists.old.offers }
     ensures right { AreRight lists.new }
-    ensures kept { KnowsAll lists.old lists.new }
+    ensures nothing_lost { KnowsAll lists.old lists.new }
     ensures asks { IfOk result (λ asks. (P : Problem) → IsProblemIn lists.old.offers P →
         All (λ (o : RevisionId). IsTrue (is_current P.world.known o)) (host ∷ fragments_of P ((attaching host fragment, value) ∷ made_of (reverse marks.now)) host) →
         decisions_in asks.items ≡ asks_of P host (host ∷ fragments_of P ((attaching host fragment, value) ∷ made_of (reverse marks.now)) host)) }
@@ -47,25 +47,26 @@ fn asks_with(
     Ok(asks_of(alloc, lists, host, owners.as_slice())?)
 }
 
-/// What a decision makes due by itself: after the one on a host's last fragment, the decisions of the requirements of its payload.
+/// What a decision makes due by itself: after the one on a host's last fragment, the decisions of the requirements of its
+/// payload.
 pub fn asks_after(
     alloc: Global,
     lists: &mut Lists,
     marks: &[Mark],
-    decision: Decision,
+    decision: DecisionRef,
     value: u64,
-) -> Result<Vec<Decision>, AllocError>
+) -> Result<Vec<DecisionRef>, AllocError>
     requires right { AreRight lists.old }
     ensures offers { lists.new.offers ≡ lists.old.offers }
     ensures right { AreRight lists.new }
-    ensures kept { KnowsAll lists.old lists.new }
+    ensures nothing_lost { KnowsAll lists.old lists.new }
     ensures asks { IfOk result (λ asks. (P : Problem) → IsProblemIn lists.old.offers P → IsAskedAfter P (made_of (reverse marks.now)) (decision_of decision) value (decisions_in asks.items)) }
 {
     match decision {
-        Decision::Attach { host, fragment } => {
+        DecisionRef::Attach { host, fragment } => {
             Ok(asks_with(alloc, lists, marks, host, fragment, value)?)
         }
-        Decision::Choose { .. } | Decision::Pick { .. } => Ok(Vec::new(alloc)),
+        DecisionRef::Choose { .. } | DecisionRef::Pick { .. } => Ok(Vec::new(alloc)),
     }
 }
 
@@ -86,7 +87,7 @@ fn learn_attached(alloc: Global, lists: &mut Lists, step: Option<Step>) -> Resul
     requires right { AreRight lists.old }
     ensures offers { lists.new.offers ≡ lists.old.offers }
     ensures right { AreRight lists.new }
-    ensures kept { KnowsAll lists.old lists.new }
+    ensures nothing_lost { KnowsAll lists.old lists.new }
     ensures known { OnOk result ((h f : RevisionId) → steps_in step ≡ attached h f ∷ [] → Knows lists.new f) }
 {
     if let Some(Step::Attached { fragment, .. }) = step {
@@ -104,7 +105,7 @@ fn learn_joining(
     requires right { AreRight lists.old }
     ensures offers { lists.new.offers ≡ lists.old.offers }
     ensures right { AreRight lists.new }
-    ensures kept { KnowsAll lists.old lists.new }
+    ensures nothing_lost { KnowsAll lists.old lists.new }
     ensures known { OnOk result ((r : RevisionId) → joining ≡ Some r → Knows lists.new r) }
 {
     if let Some(revision) = joining {
@@ -118,14 +119,14 @@ fn more_after(
     alloc: Global,
     lists: &mut Lists,
     course: &Course,
-    decision: Decision,
+    decision: DecisionRef,
     value: u64,
 ) -> Result<More, AllocError>
     requires right { AreRight lists.old }
     requires last_in { course.now.last < length course.now.ids.items }
     ensures offers { lists.new.offers ≡ lists.old.offers }
     ensures right { AreRight lists.new }
-    ensures kept { KnowsAll lists.old lists.new }
+    ensures nothing_lost { KnowsAll lists.old lists.new }
     ensures more { IfOk result (λ more. (P : Problem) (ids : List RevisionId) → IsProblemIn lists.old.offers P → IsRight P (reverse course.now.marks.items) (record (lists_of course.now) { ids = ids }) →
         IsNextOf P course.now ids decision value → IsOpenedBy P course.now decision value more) }
 {
@@ -173,7 +174,7 @@ fn decide(
     requires last_in { course.old.last < length course.old.ids.items }
     ensures offers { lists.new.offers ≡ lists.old.offers }
     ensures right { AreRight lists.new }
-    ensures kept { KnowsAll lists.old lists.new }
+    ensures nothing_lost { KnowsAll lists.old lists.new }
     ensures spaces { OnOk result (spaces.new ≡ record spaces.old { steps = steps_in mark.step ++ spaces.old.steps }) }
     ensures marks { OnOk result (course.new.marks.items ≡ course.old.marks.items ++ mark ∷ []) }
     ensures decided { OnOk result (IsDecidedBy lists.old.offers course.old course.new mark) }
@@ -191,7 +192,7 @@ fn decide(
 
 /// Lets a revision join the members, if one does.
 fn join(course: &mut Course, joining: Option<RevisionId>) -> Result<(), AllocError>
-    requires new { IsNew joining course.old.ids.items }
+    requires new { IsNoMember joining course.old.ids.items }
     requires placed { ArePlaces course.old.places course.old.ids.items }
     ensures placed { ArePlaces course.new.places course.new.ids.items }
     ensures joined { OnOk result (lists_of course.new ≡ record (lists_of course.old) { ids = course.old.ids.items ++ option_to_list joining }) }
@@ -215,7 +216,7 @@ pub fn learn_new(
     requires right { AreRight lists.old }
     ensures offers { lists.new.offers ≡ lists.old.offers }
     ensures right { AreRight lists.new }
-    ensures kept { KnowsAll lists.old lists.new }
+    ensures nothing_lost { KnowsAll lists.old lists.new }
     ensures attached { OnOk result ((h f : RevisionId) → steps_in step ≡ attached h f ∷ [] → Knows lists.new f) }
     ensures joined { OnOk result ((r : RevisionId) → joining ≡ Some r → Knows lists.new r) }
 {
@@ -234,12 +235,12 @@ pub fn decide_with(
     joining: Option<RevisionId>,
 ) -> Result<(), AllocError>
     requires right { AreRight lists.old }
-    requires new { IsNew joining course.old.ids.items }
+    requires new { IsNoMember joining course.old.ids.items }
     requires placed { ArePlaces course.old.places course.old.ids.items }
     requires last_in { course.old.last < length course.old.ids.items }
     ensures offers { lists.new.offers ≡ lists.old.offers }
     ensures right { AreRight lists.new }
-    ensures kept { KnowsAll lists.old lists.new }
+    ensures nothing_lost { KnowsAll lists.old lists.new }
     ensures placed { ArePlaces course.new.places course.new.ids.items }
     ensures spaces { OnOk result (spaces.new ≡ record spaces.old { steps = steps_in mark.step ++ spaces.old.steps }) }
     ensures marks { OnOk result (course.new.marks.items ≡ course.old.marks.items ++ mark ∷ []) }

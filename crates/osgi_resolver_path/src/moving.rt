@@ -15,12 +15,12 @@ use crate::growing::{first_of, joining_of};
 use crate::moves::{decide_with, learn_new};
 use crate::step::step_of;
 use osgi_base::{NumberMap, RevisionId};
-use osgi_resolver_decisions::{Decision, Lists};
+use osgi_resolver_decisions::{DecisionRef, Lists};
 use osgi_uses::Spaces;
 use std::alloc::{AllocError, Global};
 
 /// The mark of a decision that is made now.
-fn mark_of(lists: &Lists, course: &Course, decision: Decision, value: u64) -> Mark
+fn mark_of(lists: &Lists, course: &Course, decision: DecisionRef, value: u64) -> Mark
     requires right { AreRight lists.now }
     ensures mark { IsMarkOf lists.now course.now decision value result }
 {

@@ -12,13 +12,13 @@ ghost use Rattle.osgi_resolver_path.specs.computed.Openings.{IsOpened, Waits};
 
 use crate::growing::first_of;
 use osgi_base::RevisionId;
-use osgi_resolver_decisions::{Decision, Lists};
+use osgi_resolver_decisions::{DecisionRef, Lists};
 use std::alloc::{AllocError, Global};
 
 /// Decisions that become due, and the place of the last member whose decisions are in the queue then.
 #[derive(Drop)]
 pub struct More {
-    pub decisions: Vec<Decision>,
+    pub decisions: Vec<DecisionRef>,
     pub last: usize,
 }
 
@@ -33,7 +33,7 @@ pub fn open(
     requires last_in { more.last < length ids.now }
     ensures offers { lists.new.offers ≡ lists.old.offers }
     ensures right { AreRight lists.new }
-    ensures kept { KnowsAll lists.old lists.new }
+    ensures nothing_lost { KnowsAll lists.old lists.new }
     ensures opened { IfOk result (λ r. (P : Problem) (D : Made) (qs : List decisions.Decision) → IsProblemIn lists.old.offers P → State P D → ids.now ≡ members P D → length qs ≡ length D →
         IsOpened P D ids.now (qs ++ decisions_in more.decisions.items) more.last → IsOpened P D ids.now (qs ++ decisions_in r.decisions.items) r.last) }
     ensures waits { IfOk result (λ r. Waits r (length ids.now)) }

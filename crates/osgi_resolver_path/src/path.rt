@@ -26,7 +26,7 @@ use crate::last::Last;
 use crate::{adding, growing, last, moving, step, views};
 use osgi_base::{List, RevisionId};
 use osgi_candidates::Offers;
-use osgi_resolver_decisions::{Decision, Lists};
+use osgi_resolver_decisions::{DecisionRef, Lists};
 use osgi_space::DisputedRows;
 use osgi_space_rows::WorldRows;
 use osgi_uses::Spaces;
@@ -229,8 +229,8 @@ impl<'w> Path<'w> {
         self.lists.candidates(requirement)
     }
 
-    /// Whether each requirement that is needed of an owner of a member's payload has a candidate, and may have one wire alone. Where
-    /// the answer is false, that need not be so.
+    /// Whether each requirement that is needed of an owner of a member's payload has a candidate, and may have one wire alone.
+    /// Where the answer is false, that need not be so.
     pub fn is_sure(&self, owner: RevisionId) -> bool
         ensures sure { IsTrue result → (P : Problem) (m : RevisionId) → IsProblemOf self.now P → In m (members P (made P self.now)) → (owner ≡ m) ⊎ In owner (fragments_of P (made P self.now) m) → AreSure P owner }
     {
@@ -259,7 +259,7 @@ impl<'w> Path<'w> {
     }
 
     /// The value with which a decision was made, if it was made.
-    pub fn value_of(&self, decision: Decision) -> Option<u64>
+    pub fn value_of(&self, decision: DecisionRef) -> Option<u64>
         ensures value { (P : Problem) → IsProblemOf self.now P → result ≡ value_made (made P self.now) (decision_of decision) }
     {
         growing::value_of(self.course.marks.as_slice(), decision)

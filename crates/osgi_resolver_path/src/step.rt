@@ -1,7 +1,7 @@
 //! What the value of a decision adds to the wirings.
 
 ghost use Rattle.std.specs.Prelude.{◌≡◌, ◌∷◌, [], map, slice_get};
-ghost use Rattle.osgi_world.specs.Lists.{entry, item_at};
+ghost use Rattle.osgi_world.specs.Lists.{nth_list, item_at};
 ghost use Rattle.osgi_world.specs.Decisions as decisions;
 ghost use Rattle.osgi_world.specs.Decisions.{adds, wired_to};
 ghost use Rattle.osgi_world.specs.declared.problem.Problem.{Problem};
@@ -10,7 +10,7 @@ ghost use Rattle.osgi_resolver_decisions.specs.computed.Known.{AreRight, IsProbl
 ghost use Rattle.osgi_resolver_path.specs.computed.Steps.{IsListed, step_in, steps_in};
 
 use osgi_base::RevisionId;
-use osgi_resolver_decisions::{Decision, Lists};
+use osgi_resolver_decisions::{DecisionRef, Lists};
 use osgi_world::{CapRef, ReqRef, Wire};
 
 /// A fragment to a host, or a wire to a revision.
@@ -40,7 +40,7 @@ fn wired(revision: RevisionId, requirement: ReqRef, capability: CapRef) -> Step
 
 /// The step for the first value, yes, and none for any other.
 fn first_alone(value: u64, step: Step) -> Option<Step>
-    ensures step { steps_in result ≡ entry ((step_in step ∷ []) ∷ [] ∷ []) value }
+    ensures step { steps_in result ≡ nth_list ((step_in step ∷ []) ∷ [] ∷ []) value }
 {
     if value == 0 { Some(step) } else { None }
 }
@@ -63,19 +63,19 @@ fn chosen(host: RevisionId, requirement: ReqRef, candidates: &[CapRef], value: u
 }
 
 /// What the value adds.
-pub fn step_of(lists: &Lists, decision: Decision, value: u64) -> Option<Step>
+pub fn step_of(lists: &Lists, decision: DecisionRef, value: u64) -> Option<Step>
     requires right { AreRight lists.now }
     ensures adds { (P : Problem) → IsProblemIn lists.now.offers P → IsListed lists.now P decision → steps_in result ≡ adds P (decision_of decision) value }
 {
     match decision {
-        Decision::Attach { host, fragment } => first_alone(
+        DecisionRef::Attach { host, fragment } => first_alone(
             value,
             Step::Attached { host, fragment },
         ),
-        Decision::Choose { host, requirement } => {
+        DecisionRef::Choose { host, requirement } => {
             chosen(host, requirement, lists.candidates(requirement), value)
         }
-        Decision::Pick {
+        DecisionRef::Pick {
             host,
             requirement,
             capability,
@@ -84,13 +84,13 @@ pub fn step_of(lists: &Lists, decision: Decision, value: u64) -> Option<Step>
 }
 
 /// How many values the decision has.
-pub fn arity(lists: &Lists, decision: Decision) -> u64
+pub fn arity(lists: &Lists, decision: DecisionRef) -> u64
     requires right { AreRight lists.now }
     ensures arity { (P : Problem) → IsProblemIn lists.now.offers P → IsListed lists.now P decision → result ≡ decisions.arity P (decision_of decision) }
 {
     match decision {
-        Decision::Attach { .. } | Decision::Pick { .. } => 2,
-        Decision::Choose { requirement, .. } => {
+        DecisionRef::Attach { .. } | DecisionRef::Pick { .. } => 2,
+        DecisionRef::Choose { requirement, .. } => {
             let candidates = lists.candidates(requirement).len() as u64;
             if lists.offers.known().is_optional(requirement) {
                 candidates + 1

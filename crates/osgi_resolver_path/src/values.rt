@@ -7,7 +7,7 @@ ghost use Rattle.osgi_resolver_path.specs.computed.Valued.{AreValues, decision_a
 
 use crate::course::Mark;
 use osgi_base::RevisionId;
-use osgi_resolver_decisions::Decision;
+use osgi_resolver_decisions::DecisionRef;
 use std::alloc::{AllocError, Global};
 use std::collections::BTreeMap;
 
@@ -39,19 +39,19 @@ pub struct Values {
     pub by_key: BTreeMap<Key, u64>,
 }
 
-fn key_of(decision: Decision) -> Key
+fn key_of(decision: DecisionRef) -> Key
     ensures key { decision_at result ≡ decision_of decision }
 {
     match decision {
-        Decision::Attach { host, fragment } => Key::Attach { host, fragment },
-        Decision::Choose { host, requirement } => {
+        DecisionRef::Attach { host, fragment } => Key::Attach { host, fragment },
+        DecisionRef::Choose { host, requirement } => {
             Key::Choose {
                 host,
                 owner: requirement.owner,
                 index: requirement.index,
             }
         }
-        Decision::Pick {
+        DecisionRef::Pick {
             host,
             requirement,
             capability,
@@ -81,7 +81,7 @@ impl Values {
     }
 
     /// The value with which a decision was made, if it was.
-    pub fn get(&self, decision: Decision) -> Option<u64>
+    pub fn get(&self, decision: DecisionRef) -> Option<u64>
         ensures value { result ≡ value_in self.now (decision_of decision) }
     {
         self.by_key.get(&key_of(decision)).copied()

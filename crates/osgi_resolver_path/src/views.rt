@@ -23,7 +23,7 @@ use crate::step::Step;
 use crate::wired::Wired;
 use osgi_base::{List, RevisionId};
 use osgi_candidates::Offers;
-use osgi_resolver_decisions::{Decision, Lists, is_of_space};
+use osgi_resolver_decisions::{DecisionRef, Lists, is_of_space};
 use std::alloc::{AllocError, Global};
 
 // ---- fragments
@@ -32,7 +32,10 @@ use std::alloc::{AllocError, Global};
 fn has_fragment(course: &Course, host: RevisionId, fragment: RevisionId) -> bool
     ensures has { result ≡ is_yes (value_made (decided_in course.now) (attaching host fragment)) }
 {
-    is_first(value_of(course.marks.as_slice(), Decision::Attach { host, fragment }))
+    is_first(value_of(
+        course.marks.as_slice(),
+        DecisionRef::Attach { host, fragment },
+    ))
 }
 
 /// The fragments that are attached to a member, by bundle id.
@@ -57,19 +60,19 @@ pub fn fragments(
 // ---- decided members
 
 /// Whether the decision is on an attachment, a bundle requirement or an import.
-fn is_spatial(offers: &Offers, decision: Decision) -> bool
+fn is_spatial(offers: &Offers, decision: DecisionRef) -> bool
     ensures spatial { result ≡ is_spatial offers.now.known (decision_of decision) }
 {
     match decision {
-        Decision::Attach { .. } => true,
-        Decision::Choose { requirement, .. } | Decision::Pick { requirement, .. } => {
+        DecisionRef::Attach { .. } => true,
+        DecisionRef::Choose { requirement, .. } | DecisionRef::Pick { requirement, .. } => {
             is_of_space(offers.known().requirement_namespace(requirement))
         }
     }
 }
 
-/// Whether the next decision is such a one. Such decisions come first among a member's: where the next one is none, the member has
-/// none left.
+/// Whether the next decision is such a one. Such decisions come first among a member's: where the next one is none, the member
+/// has none left.
 fn is_spatial_next(offers: &Offers, course: &Course) -> bool
     ensures spatial { result ≡ is_spatial_next offers.now.known (slice_get course.now.queue.items (length course.now.marks.items)) }
 {

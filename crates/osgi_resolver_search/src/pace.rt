@@ -38,8 +38,8 @@ impl Pace {
         if self.left > 0 { 1 } else { self.stride }
     }
 
-    /// The pace after the search went on by this many words. A stride that was gone whole doubles the next. After any other come single
-    /// steps, and then a stride of two: one step the first time, then twice as many each time, at most LONGEST_PAUSE.
+    /// The pace after the search went on by this many words. A stride that was gone whole doubles the next. After any other come
+    /// single steps, and then a stride of two: one step the first time, then twice as many each time, at most LONGEST_PAUSE.
     pub fn after(self, gone: u64) -> Pace {
         if self.left > 0 {
             return Pace {

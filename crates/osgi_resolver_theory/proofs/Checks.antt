@@ -25,12 +25,12 @@ use Rattle.osgi_resolver_theory.specs.Checks.{HopelessMember, IsNew}
 use Rattle.osgi_resolver_theory.specs.Cuts.{IsInside}
 
 old-inside : (P : Problem) → IsProblem P → (D : Made) → IsInside (partial P D) (InForce P.world.wirings)
-old-inside P L D r w i h = L.consistent.coherent.provided r w (wire-was P L D r w i h)
+old-inside P L D r w i h = L.consistent.coherent.rules.provided r w (wire-was P L D r w i h)
 
 -- revisions that were in force clash with nothing, whatever is decided
 pub old-no_clash : (P : Problem) → IsProblem P → (D : Made) (A : RevisionId → Type 0) (r e : RevisionId) (u : List ℕ) → InForce P.world.wirings r → Implied P.world.known (partial P D) A r e u → ¬ Clash P.world.known (partial P D) r e u
 old-no_clash P L D A r e u i pair c =
-    let moved = clash-agree (InForce P.world.wirings) (λ x j. part-from P L D x j) (λ x j. part-to P D x) (old-inside P L D) (λ x w j h. L.consistent.coherent.provided x w h) i pair c in
+    let moved = clash-agree (InForce P.world.wirings) (λ x j. part-from P L D x j) (λ x j. part-to P D x) (old-inside P L D) (λ x w j h. L.consistent.coherent.rules.provided x w h) i pair c in
     let everywhere = implied-same {B = λ x. Unit {0}} (λ x s. tt) (λ x p y s h. h) (λ x p v s h. h) moved.0 in
     L.consistent.coherent.uses r e u i everywhere.1 moved.1
 
@@ -44,17 +44,17 @@ rivals-sym P r s d = record { different = λ e. d.different (sym e); name = sym 
 rivals-new : (P : Problem) → IsProblem P → (D : Made) (r s : RevisionId) → InUse (partial P D) r → InUse (partial P D) s → AreRivals P.world.known r s → InUse P.world.wirings r ⊎ IsNew P D r → InUse P.world.wirings s ⊎ IsNew P D s → HopelessMember P D
 rivals-new P L D r s a b d (inr n) t = check.two_singletons r s n b d
 rivals-new P L D r s a b d (inl o) (inr n) = check.two_singletons s r n a (rivals-sym P r s d)
-rivals-new P L D r s a b d (inl o) (inl u) = absurd (L.consistent.coherent.singletons r s o u d)
+rivals-new P L D r s a b d (inl o) (inl u) = absurd (L.consistent.coherent.rules.singletons r s o u d)
 
 pub hopeless-member : (P : Problem) → IsProblem P → (D : Made) → Hopeless P D → HopelessMember P D
 hopeless-member P L D (no_candidate m q i j o c) = check.no_candidate m q i j o c
 hopeless-member P L D (all_refused m q i j o k all) = check.all_refused m q i j o k all
 hopeless-member P L D (two_providers r x y p a b d) = elim (in_force-cases P D r (wire-holder a.has)) [
-  | inl o ↦ let part = part-from P L D r o in absurd (d (L.consistent.coherent.one_provider r p x y (package-part part a) (package-part part b)))
+  | inl o ↦ let part = part-from P L D r o in absurd (d (L.consistent.coherent.rules.one_provider r p x y (package-part part a) (package-part part b)))
   | inr m ↦ check.two_providers r x y p m a b d
 ]
 hopeless-member P L D (two_versions g i t) = elim (in-append_cases P.world.wirings (map (wiring P D) (members P D)) g i) [
-  | inl o ↦ absurd (L.consistent.coherent.one_version g o t)
+  | inl o ↦ absurd (L.consistent.coherent.rules.one_version g o t)
   | inr j ↦ let m = map-in (wiring P D) (members P D) g j in check.two_versions m.0 m.1 (subst (λ (g : Wiring). Two (λ e f. symbolic_name P.world.known e ≡ symbolic_name P.world.known f) g.fragments) m.2 t)
 ]
 hopeless-member P L D (two_singletons r s a b d) = rivals-new P L D r s a b d (old-new P L D r a) (old-new P L D s b)

@@ -36,7 +36,7 @@ use Rattle.osgi_resolver_theory.specs.States.{State}
 -- each wire's provider is in force
 pub provider-in_force : (P : Problem) → IsProblem P → (D : Made) (r : RevisionId) (w : Wire) → HasWire (partial P D) r w → InForce (partial P D) w.capability.provider
 provider-in_force P L D r w h = elim (wire-cases P D r w h) [
-  | inl o ↦ in_force-old P D w.capability.provider (L.consistent.coherent.provided r w o)
+  | inl o ↦ in_force-old P D w.capability.provider (L.consistent.coherent.rules.provided r w o)
   | inr m ↦ in_force-in P D w.capability.provider (provider-in P D m.1.decision m.1.chosen r w m.1.made m.1.added)
 ]
 
@@ -214,7 +214,7 @@ pub old-settled : (P : Problem) → IsProblem P → (D : Made) (r : RevisionId) 
 old-settled P L D r i = record { own = inl i; reached = λ c l. inl (reached-old P L D r c i l) }
   where
     old-inside : (P : Problem) → IsProblem P → (D : Made) → IsInside (partial P D) (InForce P.world.wirings)
-    old-inside P L D r w i h = L.consistent.coherent.provided r w (wire-was P L D r w i h)
+    old-inside P L D r w i h = L.consistent.coherent.rules.provided r w (wire-was P L D r w i h)
 
     reached-old : (P : Problem) → IsProblem P → (D : Made) (r c : RevisionId) → InForce P.world.wirings r → ReachedFrom P.world.known (partial P D) r c → InForce P.world.wirings c
     reached-old P L D r _ i (first b) = bundle-inside (old-inside P L D) i b
@@ -308,29 +308,31 @@ rivals-differ a b n = stable (rev-dec a b) n
 pub hopeful-consistent : (P : Problem) → IsProblem P → (D : Made) → State P D → next_decision P D ≡ None → ¬ Hopeless P D → Consistent P.world.known (partial P D)
 hopeful-consistent P L D s n hope = record {
   coherent = record {
-    asked = λ r w h. elim (wire-cases P D r w h) [
-      | inl o ↦ elim (L.consistent.coherent.asked r w o) [ inl x ↦ inl ((owns-old P D r w.requirement.owner x.0.0, x.0.1), x.1) | inr d ↦ inr d ]
-      | inr m ↦ let x = (got-stands P D s r w m.1).asked in inl (payload-requirement P D r w.requirement m.0 x.in_payload, x.effective)
-    ];
-    single = λ g i. elim (in-append_cases P.world.wirings (map (wiring P D) (members P D)) g i) [
-      | inl o ↦ L.consistent.coherent.single g o
-      | inr j ↦ let m = map-in (wiring P D) (members P D) g j in
-          subst (λ (g : Wiring). ¬ Two (AreDouble P.world.known) g.wires) (sym m.2) (wires-single P L D m.0)
-    ];
-    mandatory = λ r q i h n'. elim (in_force-cases P D r i) [
-      | inl f ↦ let w = L.consistent.coherent.mandatory r q f (owns-was P L D r q.owner f h.0, h.1) n' in (w.0, wire-old P D r w.0 w.1, w.2)
-      | inr m ↦ member-mandatory P L D s n hope r q m h n'.effective n'.mandatory
-    ];
-    provided = provider-in_force P L D;
-    offered = λ r w h. elim (wire-cases P D r w h) [
-      | inl o ↦ offer-same w.capability (part-to P D w.capability.provider) (part-from P L D w.capability.provider (L.consistent.coherent.provided r w o)) (L.consistent.coherent.offered r w o)
-      | inr m ↦ offer-stable P (partial P D) w.capability (λ x. hope (not_offered r w m.0 h (all-settled P L D n w.capability.provider (provider-in_force P L D r w h)) x))
-    ];
-    not_owner = λ r w h. elim (wire-cases P D r w h) [ inl o ↦ L.consistent.coherent.not_owner r w o | inr m ↦ (got-candidate P L D s r w m.1).not_owner ];
-    one_provider = λ r p x y a b. rivals-differ x y (λ d. hope (two_providers r x y p a b d));
-    attached = λ r f h. elim (attached-cases P D r f h) [ inl o ↦ L.consistent.coherent.attached r f o | inr m ↦ (filter-in (λ f. (is_host_of P.world.known) f r) (current_fragments P.world.known) f m.1).1 ];
-    one_version = λ g i t. hope (two_versions g i t);
-    singletons = λ r x a b d. hope (two_singletons r x a b d);
+    rules = record {
+      asked = λ r w h. elim (wire-cases P D r w h) [
+        | inl o ↦ elim (L.consistent.coherent.rules.asked r w o) [ inl x ↦ inl ((owns-old P D r w.requirement.owner x.0.0, x.0.1), x.1) | inr d ↦ inr d ]
+        | inr m ↦ let x = (got-stands P D s r w m.1).asked in inl (payload-requirement P D r w.requirement m.0 x.in_payload, x.effective)
+      ];
+      single = λ g i. elim (in-append_cases P.world.wirings (map (wiring P D) (members P D)) g i) [
+        | inl o ↦ L.consistent.coherent.rules.single g o
+        | inr j ↦ let m = map-in (wiring P D) (members P D) g j in
+            subst (λ (g : Wiring). ¬ Two (AreDouble P.world.known) g.wires) (sym m.2) (wires-single P L D m.0)
+      ];
+      mandatory = λ r q i h n'. elim (in_force-cases P D r i) [
+        | inl f ↦ let w = L.consistent.coherent.rules.mandatory r q f (owns-was P L D r q.owner f h.0, h.1) n' in (w.0, wire-old P D r w.0 w.1, w.2)
+        | inr m ↦ member-mandatory P L D s n hope r q m h n'.effective n'.mandatory
+      ];
+      provided = provider-in_force P L D;
+      offered = λ r w h. elim (wire-cases P D r w h) [
+        | inl o ↦ offer-same w.capability (part-to P D w.capability.provider) (part-from P L D w.capability.provider (L.consistent.coherent.rules.provided r w o)) (L.consistent.coherent.rules.offered r w o)
+        | inr m ↦ offer-stable P (partial P D) w.capability (λ x. hope (not_offered r w m.0 h (all-settled P L D n w.capability.provider (provider-in_force P L D r w h)) x))
+      ];
+      not_owner = λ r w h. elim (wire-cases P D r w h) [ inl o ↦ L.consistent.coherent.rules.not_owner r w o | inr m ↦ (got-candidate P L D s r w m.1).not_owner ];
+      one_provider = λ r p x y a b. rivals-differ x y (λ d. hope (two_providers r x y p a b d));
+      attached = λ r f h. elim (attached-cases P D r f h) [ inl o ↦ L.consistent.coherent.rules.attached r f o | inr m ↦ (filter-in (λ f. (is_host_of P.world.known) f r) (current_fragments P.world.known) f m.1).1 ];
+      one_version = λ g i t. hope (two_versions g i t);
+      singletons = λ r x a b d. hope (two_singletons r x a b d);
+    };
     uses = λ r e u i pair c.
         let inside = implied-inside (in_force-inside P L D) i pair in
         let settled = implied-same (λ x f. all-settled P L D n x f) (λ x p y f s. s) (λ x p v f h. h) inside.1 in
@@ -389,18 +391,18 @@ refused-none P D s m q k all w e g (by_pick d z) =
 -- whatever is still to decide: what is consistent is not hopeless
 pub consistent-hopeful : (P : Problem) → IsProblem P → (D : Made) → State P D → Consistent P.world.known (partial P D) → ¬ Hopeless P D
 consistent-hopeful P L D s c (no_candidate m q i j o none) =
-    let w = c.coherent.mandatory m q (in_force-member P D m i) (payload-requirement P D m q i j) o in
+    let w = c.coherent.rules.mandatory m q (in_force-member P D m i) (payload-requirement P D m q i j) o in
     let g = wire-of_member P L D m w.0 i w.1 in
     let k = (made-candidate P D s g.decision g.chosen m w.0 g.made g.added).listed in
     subst (λ xs. In w.0.capability xs) none (subst (λ x. In w.0.capability ((candidates P) x)) w.2 k)
 consistent-hopeful P L D s c (all_refused m q i j o k all) =
-    let w = c.coherent.mandatory m q (in_force-member P D m i) (payload-requirement P D m q i j) o in
+    let w = c.coherent.rules.mandatory m q (in_force-member P D m i) (payload-requirement P D m q i j) o in
     let g = wire-of_member P L D m w.0 i w.1 in
     refused-none P D s m q k all w.0 w.2 g (adder P g.decision g.chosen m w.0 g.added)
-consistent-hopeful P L D s c (two_providers r x y p a b d) = d (c.coherent.one_provider r p x y a b)
-consistent-hopeful P L D s c (two_versions g i t) = c.coherent.one_version g i t
-consistent-hopeful P L D s c (two_singletons r x a b d) = c.coherent.singletons r x a b d
-consistent-hopeful P L D s c (not_offered m w i h t never) = never (c.coherent.offered m w h)
+consistent-hopeful P L D s c (two_providers r x y p a b d) = d (c.coherent.rules.one_provider r p x y a b)
+consistent-hopeful P L D s c (two_versions g i t) = c.coherent.rules.one_version g i t
+consistent-hopeful P L D s c (two_singletons r x a b d) = c.coherent.rules.singletons r x a b d
+consistent-hopeful P L D s c (not_offered m w i h t never) = never (c.coherent.rules.offered m w h)
 consistent-hopeful P L D s c (clashes r e u i k) =
     let everywhere = implied-same {B = λ x. Unit {0}} (λ x s. tt) (λ x p y s h. h) (λ x p v s h. h) i in
     c.coherent.uses r e u (settled-in_force P D r (implied-starts i)) everywhere.1 k

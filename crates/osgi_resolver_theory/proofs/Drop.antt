@@ -36,12 +36,12 @@ kept-cut K keeps W c closed = record {
   inside = λ r w i h.
       let t = keeps-in_force keeps W r i in
       let there : HasWire W r w = record { wiring = h.wiring; stands = (filter-in (λ (g : Wiring). keeps g.revision) W h.wiring h.stands).0; revision = h.revision; has = h.has } in
-      in_force-keeps keeps W w.capability.provider (c.coherent.provided r w there) (closed r w there t);
+      in_force-keeps keeps W w.capability.provider (c.coherent.rules.provided r w there) (closed r w there t);
 }
 
 pub kept-consistent : (K : List Known) (keeps : RevisionId → Bool) (W : List Wiring) → Consistent K W → ((r : RevisionId) (w : Wire) → HasWire W r w → IsTrue (keeps r) → IsTrue (keeps w.capability.provider)) → Consistent K (kept keeps W)
 kept-consistent K keeps W c closed = cut-consistent K (kept keeps W) W c (kept-cut K keeps W c closed)
-    (λ g i. c.coherent.single g (filter-in (λ (g : Wiring). keeps g.revision) W g i).0) (λ g i. c.coherent.one_version g (filter-in (λ (g : Wiring). keeps g.revision) W g i).0)
+    (λ g i. c.coherent.rules.single g (filter-in (λ (g : Wiring). keeps g.revision) W g i).0) (λ g i. c.coherent.rules.one_version g (filter-in (λ (g : Wiring). keeps g.revision) W g i).0)
 
 pub kept-world : (K : List Known) (keeps : RevisionId → Bool) (W : List Wiring) → IsWorld K W → IsWorld K (kept keeps W)
 kept-world K keeps W w = record {

@@ -6,7 +6,7 @@ use Rattle.osgi_world.specs.Consistency.{AreDouble, Consistent, Extends, MayJoin
 use Rattle.osgi_world.specs.Decisions.{Decision, Made, Step, adds, arity, attaching, attached, choose, host, menu, pick, value_made, wired, wired_to}
 use Rattle.osgi_world.specs.DueDecisions.{fragments_of, is_in_force, members, next_decision, payload, provider_of, pulled}
 use Rattle.osgi_world.specs.Partial.{partial, wiring}
-use Rattle.osgi_world.specs.Lists.{In, Two, item_at, entry}
+use Rattle.osgi_world.specs.Lists.{In, Two, item_at, nth_list}
 use Rattle.osgi_world.specs.Lookups.{capability_count, is_current, is_effective, is_fragment, is_host_of, is_multiple, is_optional, symbolic_name}
 use Rattle.osgi_world.specs.Payloads.{current_fragments}
 use Rattle.osgi_world.specs.Wirings.{Attached, HasRequirement, HasWire, InForce, IsWorld, OnOffer, Owns}
@@ -58,7 +58,7 @@ double-sym K v w d = (sym d.0, elim d.1 [ inl n ↦ inl (subst (λ q. ¬ IsTrue 
 pub one-wire : (K : List Known) (V : List Wiring) → IsWorld K V → Consistent K V → (r : RevisionId) (v w : Wire) → HasWire V r v → HasWire V r w → AreDouble K v w → v ≡ w
 one-wire K V world k r v w a b e =
     let same = one-wiring K V world a.wiring b.wiring a.stands b.stands (a.revision ∙ sym b.revision) in
-    only-one (AreDouble K) b.wiring.wires v w (k.coherent.single b.wiring b.stands) (subst (λ (g : Wiring). In v g.wires) same a.has) b.has e (double-sym K v w e)
+    only-one (AreDouble K) b.wiring.wires v w (k.coherent.rules.single b.wiring b.stands) (subst (λ (g : Wiring). In v g.wires) same a.has) b.has e (double-sym K v w e)
 
 -- ---- what V has of what was in force, and of what it adds
 
@@ -80,7 +80,7 @@ added P V x r new g i e = elim (x.joined g i) [ inl o ↦ absurd (new (record { 
 
 added-matches : (P : Problem) → IsProblem P → (V : List Wiring) → Extends P.world.known P.world.wirings V P.root → (r f : RevisionId) → ¬ InForce P.world.wirings r → Attached V r f → In f (matching P r)
 added-matches P L V x r f new h =
-    let m = x.consistent.coherent.attached r f h in
+    let m = x.consistent.coherent.rules.attached r f h in
     let c = (added P V x r new h.wiring h.stands h.revision).fragments_current f h.has in
     in-filter (λ f. (is_host_of P.world.known) f r) (current_fragments P.world.known) f (((laws P L).fragments_are f).1 (c, ((laws P L).matching f r m).0)) m
 
@@ -96,16 +96,16 @@ pub added-candidate : (P : Problem) → IsProblem P → (V : List Wiring) → Ex
 added-candidate P L V x r w new h = record {
   satisfies = x.consistent.satisfied r w h;
   current = (added P V x r new h.wiring h.stands h.revision).providers_current w h.has;
-  no_fragment = let p = x.consistent.coherent.provided r w h in subst (λ y. ¬ IsTrue ((is_fragment P.world.known) y)) p.revision (x.world.hosts p.wiring p.stands);
-  not_owner = x.consistent.coherent.not_owner r w h;
+  no_fragment = let p = x.consistent.coherent.rules.provided r w h in subst (λ y. ¬ IsTrue ((is_fragment P.world.known) y)) p.revision (x.world.hosts p.wiring p.stands);
+  not_owner = x.consistent.coherent.rules.not_owner r w h;
   stands = go (force-dec P.world.wirings w.capability.provider);
 }
   where
     go : InForce P.world.wirings w.capability.provider ⊎ ¬ InForce P.world.wirings w.capability.provider →
         (InForce P.world.wirings w.capability.provider × OnOffer P.world.known P.world.wirings w.capability)
         ⊎ (¬ InForce P.world.wirings w.capability.provider) × ((w.capability.owner ≡ w.capability.provider) ⊎ In w.capability.owner (matching P w.capability.provider)) × (w.capability.index < (capability_count P.world.known) w.capability.owner)
-    go (inl i) = let s = same-old P V x w.capability.provider i in inl (i, offer-same w.capability (same-from s) (same-to s) (x.consistent.coherent.offered r w h))
-    go (inr n) = let o = x.consistent.coherent.offered r w h in inr (n, owner-stands P L V x w.capability.provider w.capability.owner n o.has.0, o.has.1)
+    go (inl i) = let s = same-old P V x w.capability.provider i in inl (i, offer-same w.capability (same-from s) (same-to s) (x.consistent.coherent.rules.offered r w h))
+    go (inr n) = let o = x.consistent.coherent.rules.offered r w h in inr (n, owner-stands P L V x w.capability.provider w.capability.owner n o.has.0, o.has.1)
 
 -- ---- a word that follows V
 
@@ -129,7 +129,7 @@ joins-new P V new _ (onward w j h n) = n
 
 pub joins-in_force : (P : Problem) (V : List Wiring) → Extends P.world.known P.world.wirings V P.root → (m : RevisionId) → Joins P V m → InForce V m
 joins-in_force P V x _ the_root = x.in_force
-joins-in_force P V x _ (onward {m = m} w j h n) = x.consistent.coherent.provided m w h
+joins-in_force P V x _ (onward {m = m} w j h n) = x.consistent.coherent.rules.provided m w h
 
 pub follows-start : (P : Problem) (V : List Wiring) → Follows P V []
 follows-start P V = record {
@@ -165,22 +165,22 @@ follows-more P V D d v f j a = record {
 -- where there is one step to decide on
 yes-agrees : (P : Problem) (V : List Wiring) (d : Decision) (s : Step) → menu P d ≡ ((s ∷ []) ∷ [] ∷ []) → Holds V s → Agrees P V d 0
 yes-agrees P V d s m h = record {
-  within = λ x i. elim (subst (λ l. In x (entry l 0)) m i) [ inl e ↦ subst (Holds V) (sym e) h | inr j ↦ elim j [ ] ];
-  whole = λ u x i g. subst (λ l. In x (entry l 0)) (sym m) (one-step u x (subst (λ l. In x (entry l u)) m i));
+  within = λ x i. elim (subst (λ l. In x (nth_list l 0)) m i) [ inl e ↦ subst (Holds V) (sym e) h | inr j ↦ elim j [ ] ];
+  whole = λ u x i g. subst (λ l. In x (nth_list l 0)) (sym m) (one-step u x (subst (λ l. In x (nth_list l u)) m i));
 }
   where
-    one-step : (u : ℕ) (x : Step) → In x (entry ((s ∷ []) ∷ [] ∷ []) u) → In x (s ∷ [])
+    one-step : (u : ℕ) (x : Step) → In x (nth_list ((s ∷ []) ∷ [] ∷ []) u) → In x (s ∷ [])
     one-step zero x i = i
     one-step (suc zero) x i = elim i [ ]
     one-step (suc (suc u)) x i = elim i [ ]
 
 no-agrees : (P : Problem) (V : List Wiring) (d : Decision) (s : Step) → menu P d ≡ ((s ∷ []) ∷ [] ∷ []) → ¬ Holds V s → Agrees P V d 1
 no-agrees P V d s m n = record {
-  within = λ x i. elim (subst (λ l. In x (entry l 1)) m i) [ ];
-  whole = λ u x i g. absurd (one-step u x (subst (λ l. In x (entry l u)) m i) g);
+  within = λ x i. elim (subst (λ l. In x (nth_list l 1)) m i) [ ];
+  whole = λ u x i g. absurd (one-step u x (subst (λ l. In x (nth_list l u)) m i) g);
 }
   where
-    one-step : (u : ℕ) (x : Step) → In x (entry ((s ∷ []) ∷ [] ∷ []) u) → Holds V x → ⊥
+    one-step : (u : ℕ) (x : Step) → In x (nth_list ((s ∷ []) ∷ [] ∷ []) u) → Holds V x → ⊥
     one-step zero x (inl e) g = n (subst (Holds V) e g)
     one-step zero x (inr i) g = elim i [ ]
     one-step (suc zero) x i g = elim i [ ]
@@ -263,7 +263,7 @@ agree-choose : (P : Problem) → IsProblem P → (V : List Wiring) → Extends P
 agree-choose P L V x h q k new i has eff (inl w) o = wire-place P L V x h q k new (added-asked P L V x h q new i has eff) w.wire w.has w.is_for
 agree-choose P L V x h q k new i has eff (inr never) (inl o) = no-wire P V h q never o
 agree-choose P L V x h q k new i has eff (inr never) (inr m) =
-    let w = x.consistent.coherent.mandatory h q i has (record { effective = eff; mandatory = λ t. cc }) in
+    let w = x.consistent.coherent.rules.mandatory h q i has (record { effective = eff; mandatory = λ t. cc }) in
     absurd (never (record { wire = w.0; has = w.1; is_for = w.2 }))
 
 -- some value of a due decision agrees with V
@@ -284,7 +284,7 @@ follows-next P L V x D f d n =
 
 -- ---- at the end
 
-zero-entry : (s : Step) (v : ℕ) → In s (entry ((s ∷ []) ∷ [] ∷ []) v) → v ≡ 0
+zero-entry : (s : Step) (v : ℕ) → In s (nth_list ((s ∷ []) ∷ [] ∷ []) v) → v ≡ 0
 zero-entry s zero i = refl
 zero-entry s (suc zero) i = elim i [ ]
 zero-entry s (suc (suc v)) i = elim i [ ]
@@ -299,7 +299,7 @@ end-owner P L V x D s f n m o i (inl e) = inl e
 end-owner P L V x D s f n m o i (inr h) = inr (in-fragments P D m o (added-matches P L V x m o (member-new P L.root_is.not_in_force D m i) h) (end-attached P L V x D s f n m o i h))
 
 end-payload : (P : Problem) → IsProblem P → (V : List Wiring) → Extends P.world.known P.world.wirings V P.root → (D : Made) → State P D → Follows P V D → next_decision P D ≡ None → (m : RevisionId) (w : Wire) → In m (members P D) → HasWire V m w → In w.requirement (payload P D m) × IsTrue (is_effective P.world.known w.requirement)
-end-payload P L V x D s f n m w i h = elim (x.consistent.coherent.asked m w h) [
+end-payload P L V x D s f n m w i h = elim (x.consistent.coherent.rules.asked m w h) [
   | inl q ↦ (in-payload P D m w.requirement (end-owner P L V x D s f n m w.requirement.owner i q.0.0) q.0.1, q.1)
   | inr d ↦ absurd ((added P V x m (member-new P L.root_is.not_in_force D m i) h.wiring h.stands h.revision).no_dynamics w h.has d.1)
 ]
@@ -373,17 +373,17 @@ versions-differ P L V x D s f n m i t =
     let a = here two.0 two.2 in
     let b = here two.1 two.3 in
     let same = one-wiring P.world.known V x.world a.wiring b.wiring a.stands b.stands (a.revision ∙ sym b.revision) in
-    x.consistent.coherent.one_version b.wiring b.stands (two-different (λ e f. symbolic_name P.world.known e ≡ symbolic_name P.world.known f) b.wiring.fragments two.0 two.1 two.4 (subst (λ (g : Wiring). In two.0 g.fragments) same a.has) b.has two.5 (sym two.5))
+    x.consistent.coherent.rules.one_version b.wiring b.stands (two-different (λ e f. symbolic_name P.world.known e ≡ symbolic_name P.world.known f) b.wiring.fragments two.0 two.1 two.4 (subst (λ (g : Wiring). In two.0 g.fragments) same a.has) b.has two.5 (sym two.5))
 
 pub end-consistent : (P : Problem) → IsProblem P → (V : List Wiring) → Extends P.world.known P.world.wirings V P.root → (D : Made) → State P D → Follows P V D → next_decision P D ≡ None → Consistent P.world.known (partial P D)
 end-consistent P L V x D s f n = cut-consistent P.world.known (partial P D) V x.consistent (end-cut P L V x D s f n)
     (λ g i. elim (in-append_cases P.world.wirings (map (wiring P D) (members P D)) g i) [
-      | inl o ↦ L.consistent.coherent.single g o
+      | inl o ↦ L.consistent.coherent.rules.single g o
       | inr j ↦ let m = map-in (wiring P D) (members P D) g j in
           subst (λ (g : Wiring). ¬ Two (AreDouble P.world.known) g.wires) (sym m.2) (wires-single P L D m.0)
     ])
     (λ g i. elim (in-append_cases P.world.wirings (map (wiring P D) (members P D)) g i) [
-      | inl o ↦ L.consistent.coherent.one_version g o
+      | inl o ↦ L.consistent.coherent.rules.one_version g o
       | inr j ↦ let m = map-in (wiring P D) (members P D) g j in
           subst (λ (g : Wiring). ¬ Two (λ e f. symbolic_name P.world.known e ≡ symbolic_name P.world.known f) g.fragments) (sym m.2) (versions-differ P L V x D s f n m.0 m.1)
     ])

@@ -1,7 +1,7 @@
 -- What is in a list that was made of others.
 use Rattle.std.proofs.Common.{◌≡◌, ℕ, zero, suc, ◌+◌, ◌<◌, ◌⊎◌, inl, inr, Bool, true, false, ◌||◌, ◌&&◌, cond, IsTrue, if◌then◌else◌, List, [], ◌∷◌, ◌++◌, length, map, filter, flat_map, refl, sym, ◌∙◌, ap, subst, arith}
 use Rattle.std.specs.List.{list_any}
-use Rattle.osgi_world.specs.Lists.{In, item_at, below, entry}
+use Rattle.osgi_world.specs.Lists.{In, item_at, below, nth_list}
 
 -- ---- tests
 
@@ -165,24 +165,24 @@ at-within [] n x i = elim i [ ]
 at-within (z ∷ xs) zero x i = omega arith
 at-within (z ∷ xs) (suc n) x i = let h = at-within xs n x i in omega (arith, h)
 
-pub entry-in : {X : Type 0} (xs : List (List X)) (n : ℕ) (x : X) → In x (entry xs n) → (l : List X) × In l xs × In x l
+pub entry-in : {X : Type 0} (xs : List (List X)) (n : ℕ) (x : X) → In x (nth_list xs n) → (l : List X) × In l xs × In x l
 entry-in [] n x i = elim i [ ]
 entry-in (z ∷ xs) zero x i = (z, inl refl, i)
 entry-in (z ∷ xs) (suc n) x i = let r = entry-in xs n x i in (r.0, inr r.1, r.2)
 
 -- the entries of one item each, and then of one empty one or none
-entry-end : {X : Type 0} (b : Bool) (n : ℕ) (x : X) → In x (entry (if b then [] ∷ [] else []) n) → ⊥
+entry-end : {X : Type 0} (b : Bool) (n : ℕ) (x : X) → In x (nth_list (if b then [] ∷ [] else []) n) → ⊥
 entry-end true zero x i = i
 entry-end true (suc n) x i = i
 entry-end false n x i = i
 
-pub entry-singles : {X Y : Type 0} (f : X → Y) (b : Bool) (xs : List X) (n : ℕ) (y : Y) → In y (entry (map (λ x. f x ∷ []) xs ++ (if b then [] ∷ [] else [])) n) → (x : X) × In x (item_at xs n) × (y ≡ f x)
+pub entry-singles : {X Y : Type 0} (f : X → Y) (b : Bool) (xs : List X) (n : ℕ) (y : Y) → In y (nth_list (map (λ x. f x ∷ []) xs ++ (if b then [] ∷ [] else [])) n) → (x : X) × In x (item_at xs n) × (y ≡ f x)
 entry-singles f b [] n y i = absurd (entry-end b n y i)
 entry-singles f b (z ∷ xs) zero y (inl e) = (z, inl refl, e)
 entry-singles f b (z ∷ xs) zero y (inr i) = elim i [ ]
 entry-singles f b (z ∷ xs) (suc n) y i = entry-singles f b xs n y i
 
-pub singles-entry : {X Y : Type 0} (f : X → Y) (more : List (List Y)) (xs : List X) (n : ℕ) (x : X) → In x (item_at xs n) → In (f x) (entry (map (λ x. f x ∷ []) xs ++ more) n)
+pub singles-entry : {X Y : Type 0} (f : X → Y) (more : List (List Y)) (xs : List X) (n : ℕ) (x : X) → In x (item_at xs n) → In (f x) (nth_list (map (λ x. f x ∷ []) xs ++ more) n)
 singles-entry f more [] n x i = elim i [ ]
 singles-entry f more (z ∷ xs) zero x (inl e) = inl (ap f e)
 singles-entry f more (z ∷ xs) zero x (inr i) = elim i [ ]

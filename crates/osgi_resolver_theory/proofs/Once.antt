@@ -11,7 +11,7 @@ use Rattle.osgi_world.specs.Decisions.{Decision, Made, attaching, choose, host, 
 use Rattle.osgi_world.specs.DueDecisions.{attachments, decisions_of, due, fragments_of, in_turn, members, next_decision, payload, provider_of, pull_in}
 use Rattle.osgi_world.specs.Effort.{IsCounted, IsEffortAbove, IsEffortWithin, IsFirst, IsResolveOf}
 use Rattle.osgi_world.specs.Hopeless.{Hopeless, IsDecided, IsHopeless, IsSettled, IsSpatial, Settles, all_refused, clashes, no_candidate, not_offered, two_providers, two_singletons, two_versions}
-use Rattle.osgi_world.specs.Lists.{In, entry, item_at}
+use Rattle.osgi_world.specs.Lists.{In, nth_list, item_at}
 use Rattle.osgi_world.specs.Lookups.{IsCurrentOf, bundle_of, is_current, is_effective, is_multiple, is_optional}
 use Rattle.osgi_world.specs.Partial.{chosen_by, chosen_for, partial, wires_for, wiring}
 use Rattle.osgi_world.specs.Sources.{Clash, Implied, follows, seen}
@@ -91,7 +91,7 @@ module _ (P : Problem) (cs : List Choice) (L : IsProblem P) (M : IsProblem (othe
   members-same _ (step {D = D} {d = d} {v = v} s n r) =
       let x = next-due P D d n in
       let menus = menu-same D x.0 d (member-current P L D s x.0 x.1).0 x.2 in
-      λ i. pull_in P (members-same D s i) (flat_map provider_of (entry (menus i) v))
+      λ i. pull_in P (members-same D s i) (flat_map provider_of (nth_list (menus i) v))
 
   current : (D : Made) → State P D → (m : RevisionId) → In m (members P D) → IsTrue (is_current P.world.known m)
   current D s m i = (member-current P L D s m i).0

@@ -7,7 +7,7 @@ use Rattle.std.proofs.lemmas.Bool.{false≢true}
 use Rattle.osgi_base.specs.declared.ids.RevisionId.{RevisionId}
 use Rattle.osgi_world.specs.Candidates.{IsProblem, candidates, matching}
 use Rattle.osgi_world.specs.Decisions.{Decision, IsMade, Made, attaching, choose, host, is_open, is_yes, pick, value_made}
-use Rattle.osgi_world.specs.DueDecisions.{attachments, decisions_of, due, fragments_of, in_turn, is_in_force, is_other, members, next_decision, of_kind, payload, pull_in, pulled, queue}
+use Rattle.osgi_world.specs.DueDecisions.{attachments, decisions_of, due, fragments_of, in_turn, is_in_force, is_generic, members, next_decision, of_kind, payload, pull_in, pulled, queue}
 use Rattle.osgi_world.specs.Lists.{In, Two}
 use Rattle.osgi_world.specs.Lookups.{bundle_of, is_effective, is_host_of, is_multiple, requirement_namespace}
 use Rattle.osgi_world.specs.Payloads.{current_fragments, own_requirements}
@@ -93,32 +93,32 @@ other-go false true h t = cc
 other-go false false (inl h) t = cc
 other-go false false (inr h) t = cc
 
-kind-bundle : (k : List ℕ) → IsTrue (is_bundle k) → IsTrue (is_package k) ⊎ IsTrue (is_other k) → ⊥
+kind-bundle : (k : List ℕ) → IsTrue (is_bundle k) → IsTrue (is_package k) ⊎ IsTrue (is_generic k) → ⊥
 kind-bundle k t (inl u) = not-both k t u
 kind-bundle k t (inr u) = other-go (is_bundle k) (is_package k) (inl t) u
 
-kind-package : (k : List ℕ) → IsTrue (is_package k) → IsTrue (is_other k) → ⊥
+kind-package : (k : List ℕ) → IsTrue (is_package k) → IsTrue (is_generic k) → ⊥
 kind-package k t u = other-go (is_bundle k) (is_package k) (inr t) u
 
 kind-once : (P : Problem) (test : List ℕ → Bool) (qs : List ReqRef) → ¬ Two ◌≡◌ qs → ¬ Two ◌≡◌ (of_kind P test qs)
 kind-once P test qs once t = once (two-unfilter ◌≡◌ (λ q. (is_effective P.world.known q) && test (requirement_namespace P.world.known q)) qs t)
 
-later-once : (P : Problem) (qs : List ReqRef) → ¬ Two ◌≡◌ qs → ¬ Two ◌≡◌ (of_kind P is_package qs ++ of_kind P is_other qs)
-later-once P qs once t = elim (two-append ◌≡◌ (of_kind P is_package qs) (of_kind P is_other qs) t) [
+later-once : (P : Problem) (qs : List ReqRef) → ¬ Two ◌≡◌ qs → ¬ Two ◌≡◌ (of_kind P is_package qs ++ of_kind P is_generic qs)
+later-once P qs once t = elim (two-append ◌≡◌ (of_kind P is_package qs) (of_kind P is_generic qs) t) [
   | inl a ↦ kind-once P is_package qs once a
-  | inr (inl b) ↦ kind-once P is_other qs once b
-  | inr (inr (q, n, i, j, e)) ↦ kind-package (requirement_namespace P.world.known q) (of-kind P is_package qs q i) (subst (λ x. IsTrue (is_other (requirement_namespace P.world.known x))) (sym e) (of-kind P is_other qs n j))
+  | inr (inl b) ↦ kind-once P is_generic qs once b
+  | inr (inr (q, n, i, j, e)) ↦ kind-package (requirement_namespace P.world.known q) (of-kind P is_package qs q i) (subst (λ x. IsTrue (is_generic (requirement_namespace P.world.known x))) (sym e) (of-kind P is_generic qs n j))
 ]
 
-later-kind : (P : Problem) (qs : List ReqRef) (q n : ReqRef) → q ≡ n → In n (of_kind P is_package qs) ⊎ In n (of_kind P is_other qs) → IsTrue (is_package (requirement_namespace P.world.known q)) ⊎ IsTrue (is_other (requirement_namespace P.world.known q))
+later-kind : (P : Problem) (qs : List ReqRef) (q n : ReqRef) → q ≡ n → In n (of_kind P is_package qs) ⊎ In n (of_kind P is_generic qs) → IsTrue (is_package (requirement_namespace P.world.known q)) ⊎ IsTrue (is_generic (requirement_namespace P.world.known q))
 later-kind P qs q n e (inl i) = inl (subst (λ x. IsTrue (is_package (requirement_namespace P.world.known x))) (sym e) (of-kind P is_package qs n i))
-later-kind P qs q n e (inr i) = inr (subst (λ x. IsTrue (is_other (requirement_namespace P.world.known x))) (sym e) (of-kind P is_other qs n i))
+later-kind P qs q n e (inr i) = inr (subst (λ x. IsTrue (is_generic (requirement_namespace P.world.known x))) (sym e) (of-kind P is_generic qs n i))
 
 in_turn-once : (P : Problem) (qs : List ReqRef) → ¬ Two ◌≡◌ qs → ¬ Two ◌≡◌ (in_turn P qs)
-in_turn-once P qs once t = elim (two-append ◌≡◌ (of_kind P is_bundle qs) (of_kind P is_package qs ++ of_kind P is_other qs) t) [
+in_turn-once P qs once t = elim (two-append ◌≡◌ (of_kind P is_bundle qs) (of_kind P is_package qs ++ of_kind P is_generic qs) t) [
   | inl a ↦ kind-once P is_bundle qs once a
   | inr (inl b) ↦ later-once P qs once b
-  | inr (inr (q, n, i, j, e)) ↦ kind-bundle (requirement_namespace P.world.known q) (of-kind P is_bundle qs q i) (later-kind P qs q n e (in-append_cases (of_kind P is_package qs) (of_kind P is_other qs) n j))
+  | inr (inr (q, n, i, j, e)) ↦ kind-bundle (requirement_namespace P.world.known q) (of-kind P is_bundle qs q i) (later-kind P qs q n e (in-append_cases (of_kind P is_package qs) (of_kind P is_generic qs) n j))
 ]
 
 one-once : {X : Type 0} (x : X) → ¬ Two ◌≡◌ (x ∷ [])

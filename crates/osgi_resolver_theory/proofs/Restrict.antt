@@ -43,23 +43,25 @@ pub cut-consistent : (K : List Known) (W V : List Wiring) → Consistent K V →
     ((g : Wiring) → In g W → ¬ Two (AreDouble K) g.wires) → ((g : Wiring) → In g W → ¬ Two (λ e f. (symbolic_name K) e ≡ (symbolic_name K) f) g.fragments) → Consistent K W
 cut-consistent K W V k c single one_version = record {
   coherent = record {
-    asked = λ r w h.
-        let s = c.same r (wire-holder h) in
-        elim (k.coherent.asked r w (s.wires_to w h)) [ inl x ↦ inl ((owns-from s w.requirement.owner x.0.0, x.0.1), x.1) | inr d ↦ inr d ];
-    single = single;
-    mandatory = λ r q i h n.
-        let s = c.same r i in
-        let w = k.coherent.mandatory r q (c.in_force r i) (owns-to s q.owner h.0, h.1) n in
-        (w.0, s.wires_from w.0 w.1, w.2);
-    provided = λ r w h. c.inside r w (wire-holder h) h;
-    offered = λ r w h.
-        let s = c.same w.capability.provider (c.inside r w (wire-holder h) h) in
-        offer-same w.capability (same-from s) (same-to s) (k.coherent.offered r w ((c.same r (wire-holder h)).wires_to w h));
-    not_owner = λ r w h. k.coherent.not_owner r w ((c.same r (wire-holder h)).wires_to w h);
-    one_provider = λ r p x y a b. k.coherent.one_provider r p x y (package-to K W V c r p x a) (package-to K W V c r p y b);
-    attached = λ r f h. k.coherent.attached r f ((c.same r (attached-holder h)).attached_to f h);
-    one_version = one_version;
-    singletons = λ r s a b. k.coherent.singletons r s (present-to W V c r a) (present-to W V c s b);
+    rules = record {
+      asked = λ r w h.
+          let s = c.same r (wire-holder h) in
+          elim (k.coherent.rules.asked r w (s.wires_to w h)) [ inl x ↦ inl ((owns-from s w.requirement.owner x.0.0, x.0.1), x.1) | inr d ↦ inr d ];
+      single = single;
+      mandatory = λ r q i h n.
+          let s = c.same r i in
+          let w = k.coherent.rules.mandatory r q (c.in_force r i) (owns-to s q.owner h.0, h.1) n in
+          (w.0, s.wires_from w.0 w.1, w.2);
+      provided = λ r w h. c.inside r w (wire-holder h) h;
+      offered = λ r w h.
+          let s = c.same w.capability.provider (c.inside r w (wire-holder h) h) in
+          offer-same w.capability (same-from s) (same-to s) (k.coherent.rules.offered r w ((c.same r (wire-holder h)).wires_to w h));
+      not_owner = λ r w h. k.coherent.rules.not_owner r w ((c.same r (wire-holder h)).wires_to w h);
+      one_provider = λ r p x y a b. k.coherent.rules.one_provider r p x y (package-to K W V c r p x a) (package-to K W V c r p y b);
+      attached = λ r f h. k.coherent.rules.attached r f ((c.same r (attached-holder h)).attached_to f h);
+      one_version = one_version;
+      singletons = λ r s a b. k.coherent.rules.singletons r s (present-to W V c r a) (present-to W V c s b);
+    };
     uses = λ r e u i pair clash.
         let inside-v : IsInside V (InForce W) = λ x w j h. c.inside x w j ((c.same x j).wires_from w h) in
         let moved = clash-agree (InForce W) (λ x j. same-to (c.same x j)) (λ x j. same-from (c.same x j)) c.inside inside-v i pair clash in

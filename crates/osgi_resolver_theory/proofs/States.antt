@@ -4,7 +4,7 @@ use Rattle.std.specs.List.{list_any}
 use Rattle.osgi_base.specs.declared.ids.RevisionId.{RevisionId}
 use Rattle.osgi_world.specs.Candidates.{CanBeAsked, IsProblem, candidates, matching}
 use Rattle.osgi_world.specs.Decisions.{Decision, IsMade, Made, Step, adds, arity, attaching, attached, choose, host, is_open, is_yes, menu, pick, same_decision, value_made, wired, wired_to}
-use Rattle.osgi_world.specs.DueDecisions.{attachments, decisions_of, due, fragments_of, in_turn, is_in_force, is_other, members, next_decision, of_kind, payload, provider_of, pull_in, pulled, queue}
+use Rattle.osgi_world.specs.DueDecisions.{attachments, decisions_of, due, fragments_of, in_turn, is_in_force, is_generic, members, next_decision, of_kind, payload, provider_of, pull_in, pulled, queue}
 use Rattle.osgi_world.specs.Lists.{In, below}
 use Rattle.osgi_world.specs.Lookups.{is_current, is_effective, is_fragment, is_host_of, is_multiple, is_optional, requirement_count, requirement_namespace}
 use Rattle.osgi_world.specs.Payloads.{current_fragments, own_requirements}
@@ -160,7 +160,7 @@ kind-go true b = inl refl
 kind-go false true = inr (inl refl)
 kind-go false false = inr (inr refl)
 
-kind-cases : (k : List ℕ) → IsTrue (is_bundle k) ⊎ (IsTrue (is_package k) ⊎ IsTrue (is_other k))
+kind-cases : (k : List ℕ) → IsTrue (is_bundle k) ⊎ (IsTrue (is_package k) ⊎ IsTrue (is_generic k))
 kind-cases k = kind-go (is_bundle k) (is_package k)
 
 of_kind-in : (P : Problem) (test : List ℕ → Bool) (qs : List ReqRef) (q : ReqRef) → In q (of_kind P test qs) → In q qs × IsTrue (is_effective P.world.known q)
@@ -172,19 +172,19 @@ in-of_kind : (P : Problem) (test : List ℕ → Bool) (qs : List ReqRef) (q : Re
 in-of_kind P test qs q i e t = in-filter (λ q. (is_effective P.world.known q) && test (requirement_namespace P.world.known q)) qs q i (and-both (is_effective P.world.known q) (test (requirement_namespace P.world.known q)) e t)
 
 pub in_turn-in : (P : Problem) (qs : List ReqRef) (q : ReqRef) → In q (in_turn P qs) → In q qs × IsTrue (is_effective P.world.known q)
-in_turn-in P qs q i = elim (in-append_cases (of_kind P is_bundle qs) (of_kind P is_package qs ++ of_kind P is_other qs) q i) [
+in_turn-in P qs q i = elim (in-append_cases (of_kind P is_bundle qs) (of_kind P is_package qs ++ of_kind P is_generic qs) q i) [
   | inl a ↦ of_kind-in P is_bundle qs q a
-  | inr b ↦ elim (in-append_cases (of_kind P is_package qs) (of_kind P is_other qs) q b) [
+  | inr b ↦ elim (in-append_cases (of_kind P is_package qs) (of_kind P is_generic qs) q b) [
     | inl c ↦ of_kind-in P is_package qs q c
-    | inr d ↦ of_kind-in P is_other qs q d
+    | inr d ↦ of_kind-in P is_generic qs q d
   ]
 ]
 
 pub in-in_turn : (P : Problem) (qs : List ReqRef) (q : ReqRef) → In q qs → IsTrue (is_effective P.world.known q) → In q (in_turn P qs)
 in-in_turn P qs q i e = elim (kind-cases (requirement_namespace P.world.known q)) [
-  | inl a ↦ in-append_left (of_kind P is_bundle qs) (of_kind P is_package qs ++ of_kind P is_other qs) q (in-of_kind P is_bundle qs q i e a)
-  | inr (inl b) ↦ in-append_right (of_kind P is_bundle qs) (of_kind P is_package qs ++ of_kind P is_other qs) q (in-append_left (of_kind P is_package qs) (of_kind P is_other qs) q (in-of_kind P is_package qs q i e b))
-  | inr (inr c) ↦ in-append_right (of_kind P is_bundle qs) (of_kind P is_package qs ++ of_kind P is_other qs) q (in-append_right (of_kind P is_package qs) (of_kind P is_other qs) q (in-of_kind P is_other qs q i e c))
+  | inl a ↦ in-append_left (of_kind P is_bundle qs) (of_kind P is_package qs ++ of_kind P is_generic qs) q (in-of_kind P is_bundle qs q i e a)
+  | inr (inl b) ↦ in-append_right (of_kind P is_bundle qs) (of_kind P is_package qs ++ of_kind P is_generic qs) q (in-append_left (of_kind P is_package qs) (of_kind P is_generic qs) q (in-of_kind P is_package qs q i e b))
+  | inr (inr c) ↦ in-append_right (of_kind P is_bundle qs) (of_kind P is_package qs ++ of_kind P is_generic qs) q (in-append_right (of_kind P is_package qs) (of_kind P is_generic qs) q (in-of_kind P is_generic qs q i e c))
 ]
 
 -- all attachments of h are made

@@ -3,12 +3,10 @@ use Rattle.std.proofs.Common.{◌≡◌, ℕ, ◌<◌, ◌⊎◌, inl, inr, ◌&
 use Rattle.std.specs.Option.{option_map, option_map_or}
 use Rattle.std.proofs.lemmas.Option.{slice_get_within}
 use Rattle.osgi_base.specs.declared.ids.RevisionId.{RevisionId}
-use Rattle.osgi_world.specs.Candidates.{AreOrdered, CanBeAsked, IsCandidate, IsPreferred, IsProblem, IsUnresolved, candidates, same_place}
-use Rattle.osgi_world.specs.Consistency.{Consistent}
+use Rattle.osgi_world.specs.Candidates.{AreOrdered, CanBeAsked, IsCandidate, IsPreferred, IsProblem, IsResolvable, candidates, same_place}
 use Rattle.osgi_world.specs.Lists.{In, Two, below}
 use Rattle.osgi_world.specs.Lookups.{capability_at, capability_count, is_current, is_effective, known_at, requirement_count, revision_at}
 use Rattle.osgi_world.specs.Payloads.{capabilities_of, own_capabilities, own_requirements, requirements_of}
-use Rattle.osgi_world.specs.Wirings.{IsWorld}
 use Rattle.osgi_world.specs.declared.capability.Capability.{Capability}
 use Rattle.osgi_world.specs.declared.problem.Choice.{Choice}
 use Rattle.osgi_world.specs.declared.revision.Revision.{Revision}
@@ -119,18 +117,18 @@ module _ (W : World) (root : RevisionId) (ordered : AreOrdered W.known W.wirings
 none-two : {X : Type 0} (R : X → X → Type 0) → ¬ Two R []
 none-two R t = elim t [ ]
 
-pub the_problem-is : (W : World) (root : RevisionId) → IsWorld W.known W.wirings → AreOrdered W.known W.wirings → Consistent W.known W.wirings → IsUnresolved W.known W.wirings root → IsProblem (the_problem W root)
-the_problem-is W root world ordered consistent unresolved = record {
-  world_is = world;
-  ordered = ordered;
-  consistent = consistent;
-  root_is = unresolved;
+pub the_problem-is : (W : World) (root : RevisionId) → IsResolvable W root → IsProblem (the_problem W root)
+the_problem-is W root is = record {
+  world_is = is.is_world;
+  ordered = is.ordered;
+  consistent = is.consistent;
+  root_is = is.unresolved;
   candidates_are = λ q c h. elim (lists W root q) [
-    | inl a ↦ (λ i. listed-candidate W root ordered q h.known c (subst (In c) a.0 i), λ d. subst (In c) (sym a.0) (candidate-listed W root ordered q h.known c d))
+    | inl a ↦ (λ i. listed-candidate W root is.ordered q h.known c (subst (In c) a.0 i), λ d. subst (In c) (sym a.0) (candidate-listed W root is.ordered q h.known c d))
     | inr b ↦ absurd (b.1 (asked-in W.known q h))
   ];
   candidates_ordered = λ q. elim (lists W root q) [
-    | inl a ↦ subst (λ cs. ¬ Two (λ (c d : CapRef). ¬ IsPreferred (the_problem W root) c d) cs) (sym a.0) (candidates-ordered W root ordered q (in-asked W.known q a.1).known)
+    | inl a ↦ subst (λ cs. ¬ Two (λ (c d : CapRef). ¬ IsPreferred (the_problem W root) c d) cs) (sym a.0) (candidates-ordered W root is.ordered q (in-asked W.known q a.1).known)
     | inr b ↦ subst (λ cs. ¬ Two (λ (c d : CapRef). ¬ IsPreferred (the_problem W root) c d) cs) (sym b.0) (none-two (λ (c d : CapRef). ¬ IsPreferred (the_problem W root) c d))
   ];
 }

@@ -1,5 +1,5 @@
-//! What one decision more can make hopeless, where a word is not hopeless. The test of `osgi_resolver_hopeless` for a word with one decision
-//! more rests on it. Each function here is a fact of the theory of choice words; it does nothing.
+//! What one decision more can make hopeless, where a word is not hopeless. The test of `osgi_resolver_hopeless` for a word with
+//! one decision more rests on it. Each function here is a fact of the theory of choice words; it does nothing.
 
 ghost use Rattle.osgi_world.specs.Candidates.{IsProblem};
 ghost use Rattle.osgi_world.specs.declared.problem.Problem.{Problem};
@@ -15,14 +15,14 @@ pub fn only_touched_are_stuck()
     ensures { (P : Problem) → IsProblem P → OnlyTouchedAreStuck P }
 {}
 
-/// What settles by a decision has joined by it, or is the decision's host or reaches it, where the host is decided now and was not
-/// before.
+/// What settles by a decision has joined by it, or is the decision's host or reaches it, where the host is decided now and was
+/// not before.
 pub fn settles_anew()
     ensures { (P : Problem) → IsProblem P → OnlyTheseSettle P }
 {}
 
-/// While the host of the decision is not decided, or where it was decided before, only what the decision touches, newly uses or adds
-/// is a reason.
+/// While the host of the decision is not decided, or where it was decided before, only what the decision touches, newly uses or
+/// adds is a reason.
 pub fn quiet_while_undecided()
     ensures { (P : Problem) → IsProblem P → QuietWhileUndecided P }
 {}

@@ -13,7 +13,7 @@ use Rattle.osgi_base.specs.laws.Scans.{scan-append}
 use Rattle.osgi_model.specs.laws.Made.{mapped, passes_found, same_text}
 use Rattle.osgi_ops.specs.declared.section.Section.{Section}
 use Rattle.osgi_ops.specs.declared.section.Section.TheVariants as sections
-use Rattle.osgi_script.specs.declared.statement.Statement.TheVariants as statement
+use Rattle.osgi_session.specs.declared.statement.Statement.TheVariants as statement
 use Rattle.osgi_script.proofs.StatementReading.{only_sound, words_begin}
 use Rattle.osgi_script.specs.Scripts as is_a
 use Rattle.osgi_script.specs.Scripts.{IsHead}

@@ -5,7 +5,7 @@ use Rattle.std.proofs.lemmas.Bool.{cond-false, cond-true, eqb-true}
 use Rattle.osgi_base.specs.Parts.{part_len}
 use Rattle.osgi_base.specs.declared.parts.QuoteState.TheVariants.{Bare}
 use Rattle.osgi_ops.specs.declared.section.Section.{Section}
-use Rattle.osgi_script.specs.declared.statement.Statement.{Statement}
+use Rattle.osgi_session.specs.declared.statement.Statement.{Statement}
 use Rattle.osgi_script.proofs.HeadReading.{head_no_statement, head_of-read, head_of-sound}
 use Rattle.osgi_script.proofs.StatementReading.{statement_read, statement_sound}
 use Rattle.osgi_script.specs.Scripts.{IsHead}

@@ -9,7 +9,7 @@ use Rattle.std.proofs.lemmas.List.Elements.{All-cons, All-head, All-tail}
 use Rattle.std.proofs.lemmas.Option.{cond_some}
 use Rattle.osgi_model.specs.laws.Made.{mapped}
 use Rattle.osgi_ops.specs.declared.section.Section.{Section}
-use Rattle.osgi_script.specs.declared.statement.Statement.{Statement}
+use Rattle.osgi_session.specs.declared.statement.Statement.{Statement}
 use Rattle.osgi_script.proofs.LineReading.{empty_read, empty_sound, head_line_read, head_sound, statement_line_read, statement_line_sound}
 use Rattle.osgi_script.proofs.Sections.{apart_last, apart_new, apart_push, AreApart, none_apart, same_sections}
 use Rattle.osgi_script.specs.Scripts.{AreParts, AreStatements, IsFirstBadLine, IsHead, AreScriptLines, no_parts, none, part, skipped, statement}
@@ -17,8 +17,8 @@ use Rattle.osgi_script.specs.Statements.{IsStatement}
 use Rattle.osgi_script.specs.computed.ScriptReader.{add_line, add_statement, AreTaken, has_section, IsAdded, line_of, opened, read_next, script_from, script_of, with_statement}
 use Rattle.osgi_script.specs.declared.lines.ScriptLine.{ScriptLine}
 use Rattle.osgi_script.specs.declared.lines.ScriptLine.TheVariants as line
-use Rattle.osgi_script.specs.declared.script.Part.{Part}
-use Rattle.osgi_script.specs.declared.script.Script.{Script}
+use Rattle.osgi_session.specs.declared.script.Part.{Part}
+use Rattle.osgi_session.specs.declared.script.Script.{Script}
 use Rattle.osgi_script.specs.declared.script.ScriptFault.{ScriptFault}
 use Rattle.osgi_script.specs.declared.taken.Taken.{Taken}
 use Rattle.osgi_syntax.specs.Lines.{SaysNothing}

@@ -19,9 +19,9 @@ use Rattle.std.proofs.lemmas.Slice.Eq.{bytes_eq-Decides}
 use Rattle.osgi_model.specs.laws.Made.{mapped}
 use Rattle.osgi_ops.specs.declared.section.Section.{Section}
 use Rattle.osgi_ops.specs.declared.section.Section.TheVariants.{Start, Stop, On, Job}
-use Rattle.osgi_script.specs.declared.statement.Statement.{Statement}
+use Rattle.osgi_session.specs.declared.statement.Statement.{Statement}
 use Rattle.osgi_script.specs.computed.ScriptReader.{add_statement, has_section, is_taken, same_section, with_statement}
-use Rattle.osgi_script.specs.declared.script.Part.{Part}
+use Rattle.osgi_session.specs.declared.script.Part.{Part}
 use Rattle.osgi_script.specs.declared.taken.Taken.{Taken}
 use Rattle.osgi_script.specs.declared.script.TheConstants.{MAX_STATEMENTS}
 

@@ -13,8 +13,8 @@ use Rattle.osgi_model.specs.declared.filter.Filter.{Filter}
 use Rattle.osgi_model.specs.laws.Made.{mapped, passes_found, same_text}
 use Rattle.osgi_ops.specs.declared.kind.Kind.{Kind}
 use Rattle.osgi_ops.specs.declared.kind.Kind.TheVariants as kind
-use Rattle.osgi_script.specs.declared.statement.Statement.{Statement}
-use Rattle.osgi_script.specs.declared.statement.Statement.TheVariants as statement
+use Rattle.osgi_session.specs.declared.statement.Statement.{Statement}
+use Rattle.osgi_session.specs.declared.statement.Statement.TheVariants as statement
 use Rattle.osgi_script.proofs.FilterEnds.{end_read, end_sound, ends_filter}
 use Rattle.osgi_script.specs.Statements as is_a
 use Rattle.osgi_script.specs.Statements.{IsStatement, kind_word}

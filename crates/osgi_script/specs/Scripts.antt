@@ -3,12 +3,12 @@ use Rattle.std.specs.Prelude.{ℕ, ◌≡◌, ◌≢◌, ◌≤◌, ◌+◌, Lis
 use Rattle.std.specs.Str.Lines.{lines}
 use Rattle.osgi_ops.specs.declared.section.Section.{Section}
 use Rattle.osgi_ops.specs.declared.section.Section.TheVariants.{Start, Stop, On, Job}
-use Rattle.osgi_script.specs.declared.statement.Statement.{Statement}
+use Rattle.osgi_session.specs.declared.statement.Statement.{Statement}
 use Rattle.osgi_syntax.specs.Lines.{SaysNothing}
 use Rattle.osgi_syntax.specs.Words.{AreSpaces, IsName, IsSeparated}
 use Rattle.osgi_script.specs.Statements.{IsStatement}
-use Rattle.osgi_script.specs.declared.script.Part.{Part}
-use Rattle.osgi_script.specs.declared.script.Script.{Script}
+use Rattle.osgi_session.specs.declared.script.Part.{Part}
+use Rattle.osgi_session.specs.declared.script.Script.{Script}
 use Rattle.osgi_script.specs.declared.script.ScriptFault.{ScriptFault}
 use Rattle.osgi_script.specs.declared.script.TheConstants.{MAX_STATEMENTS}
 

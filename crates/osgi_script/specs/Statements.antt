@@ -5,8 +5,8 @@ use Rattle.osgi_model.specs.declared.filter.Filter.{Filter}
 use Rattle.osgi_model.specs.declared.value.Attribute.{Attribute}
 use Rattle.osgi_ops.specs.declared.kind.Kind.{Kind}
 use Rattle.osgi_ops.specs.declared.kind.Kind.TheVariants.{Service, All, Bundle, Framework}
-use Rattle.osgi_script.specs.declared.statement.Statement.{Statement}
-use Rattle.osgi_script.specs.declared.statement.Statement.TheVariants as statement
+use Rattle.osgi_session.specs.declared.statement.Statement.{Statement}
+use Rattle.osgi_session.specs.declared.statement.Statement.TheVariants as statement
 use Rattle.osgi_syntax.specs.Lines.{IsFilterEnd}
 use Rattle.osgi_syntax.specs.Properties.{AreProperties}
 use Rattle.osgi_syntax.specs.Words.{AreClasses, AreSpaces, IsBundleName, IsClass, IsName, IsSeparated}

@@ -4,10 +4,9 @@ ghost use Rattle.std.specs.Prelude.{◌≡◌, IfOk};
 ghost use Rattle.osgi_script.specs.computed.HeadReader.{alone, head_by, head_named, head_of, head_word, named_head_of, section_name_of};
 ghost use Rattle.osgi_syntax.specs.Splitting.{words_of};
 
-use crate::statements::only_word;
 use osgi_base::Text;
 use osgi_ops::Section;
-use osgi_syntax::{name, split_word};
+use osgi_syntax::{name, only_word, split_word};
 use std::alloc::{AllocError, Global};
 
 /// The first words of heads.

@@ -5,10 +5,9 @@ mod heads;
 mod lines;
 mod script;
 mod script_text;
-mod statement;
 mod statements;
 mod taken;
 
-pub use script::{MAX_STATEMENTS, Part, Script, ScriptFault};
+pub use osgi_session::{Part, Script, Statement};
+pub use script::{MAX_STATEMENTS, ScriptFault};
 pub use script_text::parse;
-pub use statement::Statement;

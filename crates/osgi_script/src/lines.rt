@@ -5,9 +5,9 @@ ghost use Rattle.osgi_script.specs.computed.ScriptReader.{head_or_bad, line_of};
 ghost use Rattle.osgi_script.specs.computed.HeadReader.{head_of};
 
 use crate::heads::head;
-use crate::statement::Statement;
 use crate::statements::statement;
 use osgi_ops::Section;
+use osgi_session::Statement;
 use osgi_syntax::says_nothing;
 use std::alloc::{AllocError, Global};
 

@@ -6,16 +6,16 @@ ghost use Rattle.osgi_script.specs.Scripts.{IsScriptFault, ReadsScript};
 ghost use Rattle.osgi_script.specs.computed.ScriptReader as spec;
 ghost use Rattle.osgi_script.specs.computed.ScriptReader.{AreTaken, IsAdded, line_of, script_of};
 ghost use Rattle.osgi_script.specs.declared.lines.ScriptLine.TheVariants as line;
-ghost use Rattle.osgi_script.specs.declared.script.Script.{Script};
+ghost use Rattle.osgi_session.specs.declared.script.Script.{Script};
 ghost use Rattle.osgi_script.specs.declared.script.ScriptFault.{ScriptFault};
 ghost use Rattle.osgi_script.specs.declared.script.TheConstants.{MAX_STATEMENTS};
 
 use crate::lines::{ScriptLine, script_line};
-use crate::script::{MAX_STATEMENTS, Part, Script, ScriptFault};
-use crate::statement::Statement;
+use crate::script::{MAX_STATEMENTS, ScriptFault};
 use crate::taken::Taken;
 use osgi_base::List;
 use osgi_ops::Section;
+use osgi_session::{Part, Script, Statement};
 use osgi_syntax::split_line;
 use std::alloc::{AllocError, Global};
 
@@ -31,8 +31,8 @@ fn add_section(alloc: Global, parts: &mut Vec<Part>, section: Section) -> Result
     Ok(())
 }
 
-/// Adds a statement; false where there are as many as there may be. It may be any value: so no exit has to drop a statement, whose
-/// many variants are dear to prove.
+/// Adds a statement; false where there are as many as there may be. It may be any value: so no exit has to drop a statement,
+/// whose many variants are dear to prove.
 fn push_statement<T: Drop>(statements: &mut List<T>, statement: T) -> Result<bool, AllocError>
     ensures added { IfOk result (λ added. MatchBool added ((length statements.old < MAX_STATEMENTS) × (statements.new ≡ statements.old ++ statement ∷ [])) (MAX_STATEMENTS ≤ length statements.old)) }
 {

@@ -1,6 +1,6 @@
 //! The statements, read from lines: the first word says how the rest is read.
 
-ghost use Rattle.std.specs.Prelude.{◌≡◌, IfOk, MatchOption, None, Some};
+ghost use Rattle.std.specs.Prelude.{◌≡◌, IfOk, MatchOption, None};
 ghost use Rattle.osgi_filter.specs.computed.Reader.{read_filter};
 ghost use Rattle.osgi_script.specs.computed.StatementReader as spec;
 ghost use Rattle.osgi_script.specs.computed.StatementReader.{filter_end_of, find_of, kind_of, listen_of, modify_of, only_of, register_of, registration_of, statement_by, statement_of, verb_of, IsSplitName};
@@ -9,14 +9,16 @@ ghost use Rattle.osgi_base.specs.QuoteReader.{quoted_of};
 ghost use Rattle.osgi_syntax.specs.Splitting.{first_word, words_of};
 ghost use Rattle.osgi_syntax.specs.WordReader.{bundle_name_of, class_of, name_of};
 
-use crate::statement::Statement;
 use osgi_base::Text;
 use osgi_base::quoted::quoted;
 use osgi_filter::parse;
 use osgi_model::Filter;
 use osgi_ops::Kind;
+use osgi_session::Statement;
 use osgi_syntax::properties::properties;
-use osgi_syntax::{bundle_name, class, classes, name, skip_spaces, split_word, split_words};
+use osgi_syntax::{
+    bundle_name, class, classes, name, only_word, skip_spaces, split_word, split_words,
+};
 use std::alloc::{AllocError, Global};
 
 /// The statements, by their first words.
@@ -101,17 +103,6 @@ fn kind_named(word: &[u8]) -> Option<Kind>
     ensures kind { result ≡ kind_of word.now }
 {
     KINDS.iter().copied().find(|kind| kind_word(*kind) == word)
-}
-
-/// The one word of a text; none where it has none or more.
-pub fn only_word(text: &[u8]) -> Option<&[u8]>
-    ensures word { MatchOption result (spec.only_word (words_of text.now) ≡ None) (λ word. spec.only_word (words_of text.now) ≡ Some word.now) }
-{
-    let (word, rest) = split_word(text)?;
-    match split_word(rest) {
-        Some(_) => None,
-        None => Some(word),
-    }
 }
 
 /// The one argument, which is the name of a variable, a listener or a job.

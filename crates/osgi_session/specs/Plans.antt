@@ -8,6 +8,7 @@ use Rattle.osgi_ops.specs.declared.op.Op.{Op}
 use Rattle.osgi_ops.specs.declared.op.Op.TheVariants as op
 use Rattle.osgi_ops.specs.declared.reply.Reply.{Reply}
 use Rattle.osgi_ops.specs.declared.reply.Reply.TheVariants.{Refused}
+use Rattle.osgi_ops.specs.declared.scope.Scope.TheVariants.{Singleton}
 use Rattle.osgi_ops.specs.declared.target.Target.TheVariants as target
 
 -- how a plan ended
@@ -28,7 +29,7 @@ after_one _ = stop done
 -- the operation that the plan of a command begins with, where the owner runs it. A bundle is stopped before it is updated or
 -- uninstalled, and resolved before the console loads a class from it
 abbrev pub op_of : BundleId → Command → Op
-op_of owner (command.Register classes object properties) = op.Register owner classes object properties
+op_of owner (command.Register classes object properties) = op.Register owner classes object Singleton properties
 op_of owner (command.Modify service properties) = op.Modify owner service properties
 op_of owner (command.Unregister service) = op.Unregister owner service
 op_of owner (command.Find class filter) = op.Find owner class filter

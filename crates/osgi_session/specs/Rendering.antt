@@ -20,7 +20,7 @@ use Rattle.osgi_ops.specs.declared.service.ServiceRow.{ServiceRow}
 use Rattle.osgi_session.specs.declared.line.Content.{Content}
 use Rattle.osgi_session.specs.declared.line.Content.TheVariants.{Empty, Join, Bad, Run}
 use Rattle.osgi_session.specs.declared.line.Line.{Line}
-use Rattle.osgi_version.specs.VersionValues.{parts, text_of}
+use Rattle.osgi_version.specs.VersionValues.{parts, parts_text}
 
 -- ids, which have these numbers, each after a space; `none` where there are none
 abbrev pub ids_text : {A : Type 0} → (A → ℕ) → List A → List ℕ
@@ -56,11 +56,11 @@ service_lines rows = map service_row_text rows
 abbrev pub bundle_row_text : BundleRow → List ℕ
 bundle_row_text row =
     codes "bundle" ++ spaced (decimal row.bundle.0) ++ spaced (decimal row.state) ++ spaced (decimal row.level) ++ spaced row.name
-    ++ spaced (text_of (parts row.version))
+    ++ spaced (parts_text (parts row.version))
 
 -- the bundle, the version and the revision of a provider or of a fragment
 abbrev pub revision_text : WireRow → List ℕ
-revision_text row = spaced (decimal row.bundle.0) ++ spaced (text_of (parts row.version)) ++ spaced (codes "r" ++ decimal row.revision.0)
+revision_text row = spaced (decimal row.bundle.0) ++ spaced (parts_text (parts row.version)) ++ spaced (codes "r" ++ decimal row.revision.0)
 
 abbrev pub wire_row_text : WireRow → List ℕ
 wire_row_text row = codes "wire" ++ spaced row.namespace ++ spaced row.name ++ revision_text row
@@ -90,6 +90,7 @@ entry_lines before (Unregister owner service) Done = (codes "unregistered " ++ d
 entry_lines before (Unget user service) (Flag value) = (codes "unget " ++ truth value) ∷ []
 entry_lines before _ _ = []
 
+-- with a line feed (10) after it
 abbrev pub with_line_end : List ℕ → List ℕ
 with_line_end line = line ++ 10 ∷ []
 

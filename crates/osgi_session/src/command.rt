@@ -6,7 +6,7 @@ ghost use Rattle.osgi_session.specs.Plans.{op_of};
 
 use osgi_base::{BundleId, Copied, List, ServiceId, Text, copy_three, copy_two};
 use osgi_model::{Attributes, Filter};
-use osgi_ops::{Kind, Op, Target};
+use osgi_ops::{Kind, Op, Scope, Target};
 use std::alloc::{AllocError, Global};
 
 pub enum Command {
@@ -301,7 +301,14 @@ impl Command {
     }
 
     /// The operation that the command's plan begins with, where the bundle runs it.
-    pub fn into_op(self, asker: BundleId) -> Op
+    pub fn op_of(&self, alloc: Global, asker: BundleId) -> Result<Op, AllocError>
+        ensures operation { IfOk result (λ op. op ≡ op_of asker self.now) }
+    {
+        Ok(self.copy(alloc)?.into_op(asker))
+    }
+
+    /// The same, of the command's own parts.
+    fn into_op(self, asker: BundleId) -> Op
         ensures operation { result ≡ op_of asker self }
     {
         let (owner, user) = (asker, asker);
@@ -314,6 +321,7 @@ impl Command {
                 owner,
                 classes,
                 object,
+                scope: Scope::Singleton,
                 properties,
             },
             Command::Modify {

@@ -1,8 +1,12 @@
-//! The lines of a session, and the commands in them: data only.
+//! The lines of a session, the commands in them, and the scripts of bundles: data only.
 #![tactic(auto)]
 
 mod command;
 mod line;
+mod script;
+mod statement;
 
 pub use command::Command;
 pub use line::{Content, Line};
+pub use script::{Part, Script};
+pub use statement::Statement;

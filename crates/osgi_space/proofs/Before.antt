@@ -4,17 +4,15 @@ use Rattle.std.proofs.lemmas.Bool.{false≢true}
 use Rattle.std.proofs.lemmas.Bool.Decides.{nat_tests}
 use Rattle.std.proofs.lemmas.Map.Text.{is_eq-slice_cmp}
 use Rattle.std.proofs.lemmas.Slice.Eq.{bytes_eq-Decides}
-use Rattle.std.specs.Cmp.Lexicographic.{nat_list_cmp_total, slice_cmp}
-use Rattle.std.specs.Ordering.{is_eq, is_lt, nat_cmp}
+use Rattle.std.specs.Cmp.Lexicographic.{nat_list_cmp_total}
+use Rattle.std.specs.Ordering.{is_eq, is_lt}
 use Rattle.std.specs.declared.cmp.Ordering.{Ordering}
 use Rattle.std.specs.declared.cmp.Ordering.TheVariants.{Less, Equal, Greater}
-use Rattle.osgi_space_rows.specs.Names.{name_of}
+use Rattle.osgi_base.specs.computed.Texts.{text_cmp}
+use Rattle.osgi_space_rows.specs.Names.{name_numbered}
 use Rattle.osgi_space_sources.specs.declared.given.Given.{Given}
 use Rattle.osgi_space.specs.Violations.{IsBelow}
 use Rattle.osgi_space.specs.computed.Firsts.{IsBefore}
-
-abbrev text_cmp : List ℕ → List ℕ → Ordering
-text_cmp = slice_cmp nat_cmp
 
 less : (r : Ordering) → IsTrue (is_lt r) → r ≡ Less
 less Less t = refl
@@ -55,13 +53,13 @@ below-trans : (a b c : List ℕ) → IsBelow a b → IsBelow b c → IsBelow a c
 below-trans a b c h k = ap is_lt (nat_list_cmp_total.trans a b c (less (text_cmp a b) h) (less (text_cmp b c) k))
 
 pub before-trans : (names : List (List ℕ)) (f g h : Given) → IsBefore names f g → IsBefore names g h → IsBefore names f h
-before-trans names f g h (inl below) (inl more) = inl (below-trans (name_of names f.package) (name_of names g.package) (name_of names h.package) below more)
-before-trans names f g h (inl below) (inr same) = let P : List ℕ → Type 0 = λ t. IsBelow (name_of names f.package) t in inl (subst P same.0 below)
-before-trans names f g h (inr same) (inl below) = let P : List ℕ → Type 0 = λ t. IsBelow t (name_of names h.package) in inl (subst P (sym same.0) below)
+before-trans names f g h (inl below) (inl more) = inl (below-trans (name_numbered names f.package) (name_numbered names g.package) (name_numbered names h.package) below more)
+before-trans names f g h (inl below) (inr same) = let P : List ℕ → Type 0 = λ t. IsBelow (name_numbered names f.package) t in inl (subst P same.0 below)
+before-trans names f g h (inr same) (inl below) = let P : List ℕ → Type 0 = λ t. IsBelow t (name_numbered names h.package) in inl (subst P (sym same.0) below)
 before-trans names f g h (inr same) (inr more) = inr (same.0 ∙ more.0, omega (arith, same.1, more.1))
 
 pub not-before-itself : (names : List (List ℕ)) (g : Given) → ¬ IsBefore names g g
 not-before-itself names g (inl below) =
-    let name = name_of names g.package in
+    let name = name_numbered names g.package in
     false≢true (sym (ap is_lt (equal (text_cmp name name) (ties name name refl))) ∙ below)
 not-before-itself names g (inr same) = absurd (omega (arith, same.1))

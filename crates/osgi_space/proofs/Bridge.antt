@@ -7,7 +7,7 @@ use Rattle.osgi_world.specs.declared.wiring.Wiring.{Wiring}
 use Rattle.osgi_world.specs.declared.world.Known.{Known}
 use Rattle.osgi_space_rows.specs.Agree.{AreRowsOf, id}
 use Rattle.osgi_space_rows.specs.Rows.{RowLists, Imports, OwnExport}
-use Rattle.osgi_space_sources.specs.computed.RowSources.{Owns, HasExport, ExportUses, ImportsElsewhere, Exports, Gives, substituted, itself, reexported, Sources, Implied, seen, follows, Clash}
+use Rattle.osgi_space_sources.specs.computed.RowSources.{Owns, HasExport, ExportUses, ImportsElsewhere, Exports, GivesPackage, substituted, itself, reexported, Sources, Implied, seen, follows, Clash}
 
 module _ (K : List Known) (W : List Wiring) (N : ℕ → List ℕ) (R : RowLists) (is : AreRowsOf K W N R) where
   pub imports-to : (r p x : ℕ) → Imports R r p x → theory.PackageWire K W (id r) (N p) (id x)
@@ -46,12 +46,12 @@ module _ (K : List Known) (W : List Wiring) (N : ℕ → List ℕ) (R : RowLists
   pub exports-from : (r p : ℕ) → theory.Exports K W (id r) (N p) → Exports R r p
   exports-from r p x = (export-from r p x.exported, λ e. x.stays (elsewhere-to r p e))
 
-  pub gives-to : {p b x : ℕ} → Gives R p b x → relation.GivesPackage K W (N p) (id b) (id x)
+  pub gives-to : {p b x : ℕ} → GivesPackage R p b x → relation.GivesPackage K W (N p) (id b) (id x)
   gives-to {p} (substituted at other has) = relation.substituted (imports-to _ p _ at) (λ same. other (ap (λ (i : RevisionId). i.0) same)) (export-to _ p has)
   gives-to {p} (itself e) = relation.itself (exports-to _ p e)
   gives-to {p} (reexported at g) = relation.reexported ((is.reexports _ _).0 at) (gives-to g)
 
-  pub gives-from : {p : ℕ} {b x : RevisionId} → relation.GivesPackage K W (N p) b x → Gives R p b.0 x.0
+  pub gives-from : {p : ℕ} {b x : RevisionId} → relation.GivesPackage K W (N p) b x → GivesPackage R p b.0 x.0
   gives-from {p} (relation.substituted {b = b} {x = x} at other has) = substituted (imports-from b.0 p x.0 at) (λ same. other (ap id same)) (export-from b.0 p has)
   gives-from {p} (relation.itself {b = b} e) = itself (exports-from b.0 p e)
   gives-from {p} (relation.reexported {b = b} {c = c} at g) = reexported ((is.reexports b.0 c.0).1 at) (gives-from g)

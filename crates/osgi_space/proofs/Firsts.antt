@@ -4,7 +4,7 @@ use Rattle.std.proofs.lemmas.List.Elements.{All-contains}
 use Rattle.std.specs.Prelude.{Option, None, Some}
 use Rattle.osgi_base.specs.declared.ids.RevisionId.{RevisionId}
 use Rattle.osgi_space_rows.specs.Agree.{AreRowsOf, id}
-use Rattle.osgi_space_rows.specs.Names.{name_of}
+use Rattle.osgi_space_rows.specs.Names.{name_numbered}
 use Rattle.osgi_space_rows.specs.Rows.{RowLists}
 use Rattle.osgi_space_rows.specs.Worlds.{AreNumbered}
 use Rattle.osgi_space_rows.specs.declared.rows.Use.{Use}
@@ -38,13 +38,13 @@ module _ (R : RowLists) (names : List (List ℕ)) (numbered : AreNumbered names 
       let implied = (is f).0 first.0 in
       (implied-number implied, implied, first.1, λ g i clash. first.2 g ((is g).1 i) clash)
 
-module _ (K : List Known) (W : List Wiring) (names : List (List ℕ)) (R : RowLists) (is : AreRowsOf K W (name_of names) R) (among : List RevisionId) (A : ℕ → Type 0) (same : (n : ℕ) → A n ↔ In (id n) among) where
+module _ (K : List Known) (W : List Wiring) (names : List (List ℕ)) (R : RowLists) (is : AreRowsOf K W (name_numbered names) R) (among : List RevisionId) (A : ℕ → Type 0) (same : (n : ℕ) → A n ↔ In (id n) among) where
   -- a violation by the wirings, by the rows
-  violated-pair : (v : Violation) → IsViolated K W (λ r. In r among) v → (j : ℕ) × (name_of names j ≡ v.package) × Implied R A v.revision.0 v.seen_by.0 j × Clash R v.revision.0 v.seen_by.0 j
+  violated-pair : (v : Violation) → IsViolated K W (λ r. In r among) v → (j : ℕ) × (name_numbered names j ≡ v.package) × Implied R A v.revision.0 v.seen_by.0 j × Clash R v.revision.0 v.seen_by.0 j
   violated-pair v violated =
-      let f = implied-from K W (name_of names) R is {A = A} (λ x b. (same x.0).1 b) violated.implied in
+      let f = implied-from K W (name_numbered names) R is {A = A} (λ x b. (same x.0).1 b) violated.implied in
       let C : List ℕ → Type 0 = λ p. relation.Clash K W v.revision v.seen_by p in
-      (f.0, f.1, f.2, clash-from K W (name_of names) R is (subst C (sym f.1) violated.clash))
+      (f.0, f.1, f.2, clash-from K W (name_numbered names) R is (subst C (sym f.1) violated.clash))
 
   pub none-violated : ((n : ℕ) → A n → IsFirstImplied R names A n None) → IsFirstViolation K W (λ r. In r among) None
   none-violated none v violated =
@@ -52,11 +52,11 @@ module _ (K : List Known) (W : List Wiring) (names : List (List ℕ)) (R : RowLi
       none v.revision.0 (starts-among R A v.revision.0 w.2) (record { «package» = w.0; source = v.seen_by.0 }) w.2 w.3
 
   pub first-violated : (n : ℕ) (f : Given) → IsFirstImplied R names A n (Some f) → ((m : ℕ) → A m → m < n → IsFirstImplied R names A m None) →
-      IsFirstViolation K W (λ r. In r among) (Some (record { revision = id n; seen_by = id f.source; «package» = name_of names f.package }))
+      IsFirstViolation K W (λ r. In r among) (Some (record { revision = id n; seen_by = id f.source; «package» = name_numbered names f.package }))
   first-violated n f first none = (
     record {
-      implied = implied-to K W (name_of names) R is {B = λ r. In r among} (λ x a. (same x).0 a) first.1;
-      clash = clash-to K W (name_of names) R is first.2;
+      implied = implied-to K W (name_numbered names) R is {B = λ r. In r among} (λ x a. (same x).0 a) first.1;
+      clash = clash-to K W (name_numbered names) R is first.2;
     },
     λ v violated earlier.
         let w = violated-pair v violated in
@@ -68,7 +68,7 @@ module _ (K : List Known) (W : List Wiring) (names : List (List ℕ)) (R : RowLi
               let implied : IsImplied R A n pair = subst (λ r. Implied R A r v.seen_by.0 w.0) e w.2 in
               let clash : IsClash R n pair = subst (λ r. Clash R r v.seen_by.0 w.0) e w.3 in
               first.3 pair implied clash (elim rest.1 [
-                | inl below ↦ let P : List ℕ → Type 0 = λ p. IsBelow p (name_of names f.package) in inl (subst P (sym w.1) below)
+                | inl below ↦ let P : List ℕ → Type 0 = λ p. IsBelow p (name_numbered names f.package) in inl (subst P (sym w.1) below)
                 | inr tie ↦ inr (w.1 ∙ tie.0, tie.1)
               ])
         ],

@@ -5,7 +5,7 @@ use Rattle.osgi_world.specs.declared.wiring.Wiring.{Wiring}
 use Rattle.osgi_world.specs.declared.world.Known.{Known}
 use Rattle.osgi_space_rows.specs.Agree.{AreRowsOf}
 use Rattle.osgi_space_rows.specs.AllKnown.{AreAllKnown}
-use Rattle.osgi_space_rows.specs.Names.{name_of}
+use Rattle.osgi_space_rows.specs.Names.{name_numbered}
 use Rattle.osgi_space_rows.specs.Rows.{RowLists, no_rows}
 use Rattle.osgi_space_rows.specs.Worlds.{AreNumbered}
 use Rattle.osgi_space_rows.specs.declared.named.Named.{Named}
@@ -29,7 +29,7 @@ follows-nothing n possible no_names none K W = record {
   noted = λ p x at. absurd (none-possible p x (subst (λ (R : RowLists). IsPossible R p x) none at));
 }
 
-pub follows-whole : (kept : KeptRows) (K : List Known) (W : List Wiring) → kept.known ≡ length K → kept.wirings ≡ length W → AreAllKnown K W → AreRowsOf K W (name_of kept.named.names) kept.named.rows →
+pub follows-whole : (kept : KeptRows) (K : List Known) (W : List Wiring) → kept.known ≡ length K → kept.wirings ≡ length W → AreAllKnown K W → AreRowsOf K W (name_numbered kept.named.names) kept.named.rows →
     AreNumbered kept.named.names kept.named.rows → AreNoted kept.named.rows kept.possible → FollowsRows kept K W
 follows-whole kept K W all_of_K all_of_W all_known rows numbered noted =
     let known : take kept.known K ≡ K = take_all kept.known K (omega (arith, all_of_K)) in
@@ -39,8 +39,8 @@ follows-whole kept K W all_of_K all_of_W all_known rows numbered noted =
       wirings = omega (arith, all_of_W);
       all_known = subst (λ (S : List Known). AreAllKnown S (take kept.wirings W)) (sym known) (subst (AreAllKnown K) (sym wirings) all_known);
       rows =
-          subst (λ (S : List Known). AreRowsOf S (take kept.wirings W) (name_of kept.named.names) kept.named.rows) (sym known)
-          (subst (λ (T : List Wiring). AreRowsOf K T (name_of kept.named.names) kept.named.rows) (sym wirings) rows);
+          subst (λ (S : List Known). AreRowsOf S (take kept.wirings W) (name_numbered kept.named.names) kept.named.rows) (sym known)
+          (subst (λ (T : List Wiring). AreRowsOf K T (name_numbered kept.named.names) kept.named.rows) (sym wirings) rows);
       numbered = numbered;
       noted = noted;
     }

@@ -11,7 +11,7 @@ use Rattle.std.specs.Ordering.{eq_by_cmp, is_eq, nat_cmp}
 use Rattle.std.specs.declared.cmp.Ordering.TheVariants.{Equal}
 use Rattle.osgi_base.specs.declared.ids.RevisionId.{RevisionId}
 use Rattle.osgi_space_rows.specs.Agree.{AreRowsOf, id}
-use Rattle.osgi_space_rows.specs.Names.{name_of}
+use Rattle.osgi_space_rows.specs.Names.{name_numbered}
 use Rattle.osgi_space_rows.specs.Rows.{RowLists}
 use Rattle.osgi_world.specs.Sources as relation
 use Rattle.osgi_world.specs.declared.wiring.Wiring.{Wiring}
@@ -47,11 +47,11 @@ pub equal_implied : (a b : Implied) → implied_cmp a b ≡ Equal → a ≡ b
 equal_implied a b e = (exact_implied a b).0 (ap is_eq e)
 
 -- the pairs that are implied, by their names, are the implied constraints
-module _ (K : List Known) (W : List Wiring) (names : List (List ℕ)) (R : RowLists) (is : AreRowsOf K W (name_of names) R) (r : RevisionId) where
+module _ (K : List Known) (W : List Wiring) (names : List (List ℕ)) (R : RowLists) (is : AreRowsOf K W (name_numbered names) R) (r : RevisionId) where
   pub named-implied : (pairs : List Given) → ((g : Given) → Contains pairs g ↔ IsImplied R (λ x. Unit {0}) r.0 g) → (v : Implied) → Any (λ (g : Given). named_pair names g ≡ v) pairs ↔ relation.Implied K W (λ x. Unit {0}) r v.seen_by v.package
   named-implied pairs are v =
       let P : Implied → Type 0 = λ c. relation.Implied K W (λ x. Unit {0}) r c.seen_by c.package in (
-        λ any. subst P any.4 (implied-to K W (name_of names) R is {B = λ x. Unit {0}} (λ x a. a) ((are any.1).0 (any-in (λ (g : Given). named_pair names g ≡ v) pairs any))),
-        λ implied. let f = implied-from K W (name_of names) R is {A = λ x. Unit {0}} (λ x a. a) implied in
+        λ any. subst P any.4 (implied-to K W (name_numbered names) R is {B = λ x. Unit {0}} (λ x a. a) ((are any.1).0 (any-in (λ (g : Given). named_pair names g ≡ v) pairs any))),
+        λ implied. let f = implied-from K W (name_numbered names) R is {A = λ x. Unit {0}} (λ x a. a) implied in
             any-of (λ (g : Given). named_pair names g ≡ v) pairs (record { «package» = f.0; source = v.seen_by.0 }) ((are _).1 f.2) (λ i. record { seen_by = v.seen_by; «package» = f.1 i }),
       )

@@ -6,7 +6,7 @@ use Rattle.osgi_base.specs.declared.ids.RevisionId.{RevisionId}
 use Rattle.osgi_world.specs.Sources as relation
 use Rattle.osgi_world.specs.Wirings as theory
 use Rattle.osgi_world.specs.declared.wiring.Wiring.{Wiring}
-use Rattle.osgi_space_rows.specs.Names.{HasNumber, name_of}
+use Rattle.osgi_space_rows.specs.Names.{HasNumber, name_numbered}
 use Rattle.osgi_space_rows.specs.Worlds.{AreNumbered, AreRowsIn, WorldLists}
 use Rattle.osgi_space_rows.specs.declared.rows.Export.{Export}
 use Rattle.osgi_space_rows.specs.declared.rows.Import.{Import}
@@ -16,16 +16,16 @@ get_some [] i h = absurd (omega arith)
 get_some (x ∷ xs) zero h = (x, refl)
 get_some (x ∷ xs) (suc i) h = get_some xs i (omega arith)
 
-pub named : (names : List (List ℕ)) (text : List ℕ) (i : ℕ) → HasNumber names text i → name_of names i ≡ text
+pub named : (names : List (List ℕ)) (text : List ℕ) (i : ℕ) → HasNumber names text i → name_numbered names i ≡ text
 named names text i has = ap (λ (o : Option (List ℕ)). unwrap_or o (replicate (sum_by length names + 1 + i) 0)) has
 
-pub has_number : (names : List (List ℕ)) (i : ℕ) → i < length names → HasNumber names (name_of names i) i
+pub has_number : (names : List (List ℕ)) (i : ℕ) → i < length names → HasNumber names (name_numbered names i) i
 has_number names i h =
     let some = get_some names i h in
     some.1 ∙ ap (λ (t : List ℕ). Some t) (sym (named names some.0 i some.1))
 
 module _ (world : WorldLists) (W : List Wiring) (is : AreRowsIn world W) (numbered : AreNumbered world.names world.rows) where
-  numbered-as : (p : List ℕ) (i : ℕ) → name_of world.names i ≡ p → i < length world.names → HasNumber world.names p i
+  numbered-as : (p : List ℕ) (i : ℕ) → name_numbered world.names i ≡ p → i < length world.names → HasNumber world.names p i
   numbered-as p i e h = subst (λ t. HasNumber world.names t i) e (has_number world.names i h)
 
   wire-number : (r x : RevisionId) (p : List ℕ) → theory.PackageWire world.known W r p x → (i : ℕ) × HasNumber world.names p i

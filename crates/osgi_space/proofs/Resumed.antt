@@ -9,7 +9,7 @@ use Rattle.osgi_world.specs.declared.wiring.Wiring.{Wiring}
 use Rattle.osgi_world.specs.declared.world.Known.{Known}
 use Rattle.osgi_space_rows.specs.Agree.{AreRowsOf, id}
 use Rattle.osgi_space_rows.specs.AllKnown.{AreAllKnown}
-use Rattle.osgi_space_rows.specs.Names.{AreOnce, name_of}
+use Rattle.osgi_space_rows.specs.Names.{AreOnce, name_numbered}
 use Rattle.osgi_space_rows.specs.Rows.{Attaches, OwnExport, RowLists}
 use Rattle.osgi_space_rows.specs.Worlds.{AddsKnown, AddsWires, WorldLists}
 use Rattle.osgi_space_rows.specs.declared.named.Named.{Named}
@@ -74,5 +74,5 @@ module _ (K : List Known) (first : ℕ) (W : List Wiring) (old : Named) (before 
   resumed-noted p x (inr (o, inr at, e)) = fragment-noted x o p at e
 
 -- the names of rows are each once
-pub once-of : (K : List Known) (W : List Wiring) (names : List (List ℕ)) (R : RowLists) → AreRowsOf K W (name_of names) R → AreOnce names
+pub once-of : (K : List Known) (W : List Wiring) (names : List (List ℕ)) (R : RowLists) → AreRowsOf K W (name_numbered names) R → AreOnce names
 once-of K W names R are = λ text i j at other. are.names i j (named names text i at ∙ sym (named names text j other))

@@ -11,9 +11,10 @@ use Rattle.std.proofs.lemmas.Cmp.{nat_cmp_total, nat_list_cmp_total}
 use Rattle.std.proofs.lemmas.List.Elements.{All-contains}
 use Rattle.std.proofs.lemmas.Map.Lookups.{exact_bytes, exact_unsigned}
 use Rattle.std.proofs.lemmas.Map.Views.{btree_map_get_iff, btree_set_contains_iff}
+use Rattle.osgi_base.specs.computed.Texts.{text_cmp}
 use Rattle.osgi_base.specs.declared.ids.RevisionId.{RevisionId}
 use Rattle.osgi_space_rows.specs.Agree.{id}
-use Rattle.osgi_space_rows.specs.Names.{HasNumber, name_of}
+use Rattle.osgi_space_rows.specs.Names.{HasNumber, name_numbered}
 use Rattle.osgi_space_rows.specs.Worlds.{AreNumbered, AreRowsIn, WorldLists}
 use Rattle.osgi_world.specs.Lists.{In}
 use Rattle.osgi_world.specs.Sources as relation
@@ -26,7 +27,7 @@ use Rattle.osgi_space_sources.specs.laws.Adding.{any-in, any-more, any-of}
 use Rattle.osgi_space_sources.specs.laws.Members.{contains-map, map-contains}
 use Rattle.osgi_space_sources.specs.laws.Sets.{set_put}
 use Rattle.osgi_space.specs.Seen.{IsClassSpace}
-use Rattle.osgi_space.specs.computed.ByName.{AddsSource, HasSource, IsFilled, as_entry, text_cmp}
+use Rattle.osgi_space.specs.computed.ByName.{AddsSource, HasSource, IsFilled, as_entry}
 use Rattle.osgi_space.specs.declared.seen_packages.PackageSources.{PackageSources}
 use Rattle.osgi_space.proofs.Bridge.{sources-from, sources-to}
 use Rattle.osgi_space.proofs.Ids.{contains-in, ids-contain, in-contains}
@@ -130,7 +131,7 @@ module _ (names : List (List ℕ)) (givens : List Given) (i : ℕ) (given : Give
 module _ (world : WorldLists) (W : List Wiring) (is : AreRowsIn world W) (numbered : AreNumbered world.names world.rows) (r : RevisionId) where
   pub seen-source : (givens : List Given) → ((g : Given) → Contains givens g ↔ IsSeen world.rows r.0 g) → (p : List ℕ) (x : RevisionId) → Any (λ (g : Given). HasNumber world.names p g.package × (g.source ≡ x.0)) givens ↔ relation.Sources world.known W r p x
   seen-source givens are p x =
-      let N = name_of world.names in
+      let N = name_numbered world.names in
       let P : Given → Type 0 = λ g. HasNumber world.names p g.package × (g.source ≡ x.0) in
       let S : List ℕ → Type 0 = λ q. relation.Sources world.known W r q x in (
         λ any.

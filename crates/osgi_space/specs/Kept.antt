@@ -4,7 +4,7 @@ use Rattle.osgi_world.specs.declared.wiring.Wiring.{Wiring}
 use Rattle.osgi_world.specs.declared.world.Known.{Known}
 use Rattle.osgi_space_rows.specs.Agree.{AreRowsOf}
 use Rattle.osgi_space_rows.specs.AllKnown.{AreAllKnown}
-use Rattle.osgi_space_rows.specs.Names.{name_of}
+use Rattle.osgi_space_rows.specs.Names.{name_numbered}
 use Rattle.osgi_space_rows.specs.Worlds.{AreNumbered}
 use Rattle.osgi_space_sources.specs.computed.Disputes.{AreNoted}
 use Rattle.osgi_space.specs.declared.kept_rows.KeptRows.{KeptRows}
@@ -15,6 +15,6 @@ pub record FollowsRows (kept : KeptRows) (K : List Known) (W : List Wiring) : Ty
   pub known : kept.known ≤ length K
   pub wirings : kept.wirings ≤ length W
   pub all_known : AreAllKnown (take kept.known K) (take kept.wirings W)
-  pub rows : AreRowsOf (take kept.known K) (take kept.wirings W) (name_of kept.named.names) kept.named.rows
+  pub rows : AreRowsOf (take kept.known K) (take kept.wirings W) (name_numbered kept.named.names) kept.named.rows
   pub numbered : AreNumbered kept.named.names kept.named.rows
   pub noted : AreNoted kept.named.rows kept.possible

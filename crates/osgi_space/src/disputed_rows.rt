@@ -1,6 +1,6 @@
 //! The rows of a world, and the packages that may be disputed in them.
 
-ghost use Rattle.std.specs.Prelude.{◌≡◌, ◌≤◌, ℕ, Contains, IfOk, OnErr, drop, length};
+ghost use Rattle.std.specs.Prelude.{◌≡◌, ◌≤◌, ℕ, Contains, IfOk, OnOk, OnErr, drop, length};
 ghost use Rattle.osgi_space_sources.specs.computed.Disputes.{AreDisputed, AreNoted, HoldsAll, IsNoted};
 ghost use Rattle.osgi_space.specs.Kept.{FollowsRows};
 ghost use Rattle.osgi_space_rows.specs.AllKnown.{AreAllKnown};
@@ -20,8 +20,8 @@ use std::alloc::{AllocError, Global};
 use std::collections::BTreeSet;
 use std::marker::Model;
 
-/// Rows with the packages that may have more than one source in them, which are kept as wires and fragments are added. What is taken
-/// back leaves them as they are: of a package that is not among them there is still at most one possible source.
+/// Rows with the packages that may have more than one source in them, which are kept as wires and fragments are added. What is
+/// taken back leaves them as they are: of a package that is not among them there is still at most one possible source.
 pub struct DisputedRows<'w> {
     rows: WorldRows<'w>,
     possible: Possible,
@@ -69,7 +69,8 @@ impl<'w> DisputedRows<'w> {
         Ok(DisputedRows { rows, possible })
     }
 
-    /// The rows of a world that was followed: what is new is added to those that were kept. If memory runs out, what was kept is lost.
+    /// The rows of a world that was followed: what is new is added to those that were kept. If memory runs out, what was kept is
+    /// lost.
     pub fn resume(
         alloc: Global,
         kept: KeptRows,
@@ -162,8 +163,8 @@ impl<'w> DisputedRows<'w> {
 
 /// Notes the sources that a row adds.
 fn note(possible: &mut Possible, rows: &Rows, added: Added) -> Result<(), AllocError>
-    ensures noted { IfOk result (λ _. (R : RowLists) → rows.now ≡ with_added R added → AreNoted R possible.old → AreNoted rows.now possible.new) }
-    ensures kept { HoldsAll possible.old possible.new }
+    ensures noted { OnOk result ((R : RowLists) → rows.now ≡ with_added R added → AreNoted R possible.old → AreNoted rows.now possible.new) }
+    ensures nothing_lost { HoldsAll possible.old possible.new }
 {
     match added {
         Added::Import(row) => possible.note(row.imported, row.provider)?,
@@ -177,7 +178,7 @@ fn note(possible: &mut Possible, rows: &Rows, added: Added) -> Result<(), AllocE
 /// The possible sources with these revisions as what their own exports come from.
 fn with_known(possible: Possible, rows: &Rows, known: &[Known]) -> Result<Possible, AllocError>
     ensures noted { IfOk result (λ more. (k : Known) (p : ℕ) → In k known.now → OwnExport rows.now k.id.0 p → IsNoted more p k.id.0) }
-    ensures kept { IfOk result (HoldsAll possible) }
+    ensures nothing_lost { IfOk result (HoldsAll possible) }
 {
     let mut more = possible;
     note_known(&mut more, rows, known)?;
@@ -195,7 +196,7 @@ fn with_more(
     requires attached { attached ≤ length rows.now.attached }
     ensures imports { IfOk result (λ more. (r p x : ℕ) → Contains (drop imports rows.now.imports) (record { revision = r; imported = p; provider = x }) → IsNoted more p x) }
     ensures attached { IfOk result (λ more. (h f p : ℕ) → Contains (drop attached rows.now.attached) (record { host = h; fragment = f }) → OwnExport rows.now f p → IsNoted more p h) }
-    ensures kept { IfOk result (HoldsAll possible) }
+    ensures nothing_lost { IfOk result (HoldsAll possible) }
 {
     let mut more = possible;
     note_imports(&mut more, &rows.imports()[imports..])?;

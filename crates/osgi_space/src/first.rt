@@ -12,7 +12,7 @@ ghost use Rattle.osgi_space.specs.Violations.{IsFirstViolation};
 ghost use Rattle.osgi_space.specs.computed.Firsts.{IsBefore, IsFirstClash, IsFirstImplied};
 ghost use Rattle.osgi_space.specs.declared.violation.Violation.{Violation};
 ghost use Rattle.osgi_space_rows.specs.Agree.{id};
-ghost use Rattle.osgi_space_rows.specs.Names.{name_of};
+ghost use Rattle.osgi_space_rows.specs.Names.{name_numbered};
 ghost use Rattle.osgi_space_rows.specs.Worlds.{AreRowsIn};
 ghost use Rattle.osgi_world.specs.Lists.{In};
 ghost use Rattle.osgi_world.specs.declared.wiring.Wiring.{Wiring};
@@ -28,7 +28,7 @@ use std::collections::BTreeSet;
 
 pub fn name_bytes<'n>(names: &'n Names, number: u32) -> &'n [u8]
     requires named { number < length names.now }
-    ensures name { result.now ≡ name_of names.now number }
+    ensures name { result.now ≡ name_numbered names.now number }
 {
     match names.name(number) {
         Some(name) => name.bytes(),
@@ -120,7 +120,7 @@ fn violation_of(
     pair: Given,
 ) -> Result<Violation, AllocError>
     requires named { pair.package < length names.now }
-    ensures violation { IfOk result (λ v. v ≡ record { revision = id revision; seen_by = id pair.source; «package» = name_of names.now pair.package }) }
+    ensures violation { IfOk result (λ v. v ≡ record { revision = id revision; seen_by = id pair.source; «package» = name_numbered names.now pair.package }) }
 {
     Ok(Violation {
         revision: RevisionId(revision),

@@ -1,12 +1,13 @@
 //! The packages that a revision sees, by their names, with their sources.
 
-ghost use Rattle.std.specs.Prelude.{◌≡◌, ◌↔◌, ℕ, List, All, Any, IfOk, map};
+ghost use Rattle.std.specs.Prelude.{◌≡◌, ◌↔◌, ℕ, List, All, Any, IfOk, OnOk, map};
 ghost use Rattle.std.specs.BTreeMap.{IsOrdered};
 ghost use Rattle.std.specs.List.Sorted.{IsStrictlyIncreasing};
+ghost use Rattle.osgi_base.specs.computed.Texts.{text_cmp};
 ghost use Rattle.osgi_base.specs.declared.ids.RevisionId.{RevisionId};
 ghost use Rattle.osgi_space_sources.specs.declared.given.Given.{Given};
 ghost use Rattle.osgi_space.specs.Seen.{IsClassSpace};
-ghost use Rattle.osgi_space.specs.computed.ByName.{AddsSource, HasSource, IsFilled, as_entry, text_cmp};
+ghost use Rattle.osgi_space.specs.computed.ByName.{AddsSource, HasSource, IsFilled, as_entry};
 ghost use Rattle.osgi_space.specs.declared.seen_packages.PackageSources.{PackageSources};
 ghost use Rattle.osgi_space_rows.specs.Names.{HasNumber};
 ghost use Rattle.osgi_space_rows.specs.Worlds.{AreRowsIn};
@@ -34,8 +35,8 @@ fn add_source(
     source: u32,
 ) -> Result<(), AllocError>
     requires filled { IsFilled space.old }
-    ensures filled { IfOk result (λ _. IsFilled space.new) }
-    ensures added { IfOk result (λ _. AddsSource space.old space.new «package».now source) }
+    ensures filled { OnOk result (IsFilled space.new) }
+    ensures added { OnOk result (AddsSource space.old space.new «package».now source) }
 {
     if let Some(sources) = space.get_mut(package) {
         sources.insert(source)?;

@@ -7,7 +7,7 @@ use Rattle.osgi_world.specs.Lists.{In}
 use Rattle.osgi_world.specs.declared.wiring.Wire.{Wire}
 use Rattle.osgi_world.specs.declared.wiring.Wiring.{Wiring}
 use Rattle.osgi_space_rows.specs.Agree.{AreRowsOf}
-use Rattle.osgi_space_rows.specs.Names.{name_of}
+use Rattle.osgi_space_rows.specs.Names.{name_numbered}
 use Rattle.osgi_space_rows.specs.Steps.{step_wiring}
 use Rattle.osgi_space_rows.specs.Rows.{RowLists}
 use Rattle.osgi_space_rows.specs.Worlds.{AddsStep, AddsWires, AddsWirings, AreNumbered, AreRowsIn, with_added, WorldLists}
@@ -54,7 +54,7 @@ adds-nothing world r = record {
   known = refl;
   names = refl;
   grown = grown-none world.rows;
-  agree = λ W are. rows-alike world.known W (W ++ of_wires r [] ∷ []) (name_of world.names) world.rows (nothing-more W r) are;
+  agree = λ W are. rows-alike world.known W (W ++ of_wires r [] ∷ []) (name_numbered world.names) world.rows (nothing-more W r) are;
   numbered = λ are. are;
 }
 
@@ -64,7 +64,7 @@ joined-adds a b d g h k first second alike = record {
   known = second.known ∙ first.known;
   names = second.names ∙ first.names;
   grown = grown-then a.rows b.rows d.rows first.grown second.grown;
-  agree = λ W are. rows-alike d.known ((W ++ g ∷ []) ++ h ∷ []) (W ++ k ∷ []) (name_of d.names) d.rows (alike W) (second.agree (W ++ g ∷ []) (first.agree W are));
+  agree = λ W are. rows-alike d.known ((W ++ g ∷ []) ++ h ∷ []) (W ++ k ∷ []) (name_numbered d.names) d.rows (alike W) (second.agree (W ++ g ∷ []) (first.agree W are));
   numbered = λ are. second.numbered (first.numbered are);
 }
 
@@ -108,13 +108,13 @@ wiring-adds a b d g first second =
 
 -- a step, by the rows after it
 pub step-made : (old new : WorldLists) (s : Step) (added : Added) → new ≡ record old { rows = with_added old.rows added } → AreNumbered new.names new.rows →
-    ((W : List Wiring) → AreRowsIn old W → AreRowsOf old.known (W ++ step_wiring s ∷ []) (name_of old.names) (with_added old.rows added)) → AddsStep old new s added
+    ((W : List Wiring) → AreRowsIn old W → AreRowsOf old.known (W ++ step_wiring s ∷ []) (name_numbered old.names) (with_added old.rows added)) → AddsStep old new s added
 step-made old new s added is numbered agree = record {
   known = ap (λ (w : WorldLists). w.known) is;
   names = ap (λ (w : WorldLists). w.names) is;
   rows = ap (λ (w : WorldLists). w.rows) is;
   numbered = numbered;
-  agree = λ W are. subst (λ (w : WorldLists). AreRowsOf w.known (W ++ step_wiring s ∷ []) (name_of w.names) w.rows) (sym is) (agree W are);
+  agree = λ W are. subst (λ (w : WorldLists). AreRowsOf w.known (W ++ step_wiring s ∷ []) (name_numbered w.names) w.rows) (sym is) (agree W are);
 }
 
 -- ---- one wiring after another

@@ -20,9 +20,9 @@ use Rattle.osgi_world.specs.declared.wiring.Wiring.{Wiring}
 use Rattle.osgi_world.specs.declared.world.Known.{Known}
 use Rattle.osgi_space_rows.specs.Agree.{AreRowsOf, ExportAt, id}
 use Rattle.osgi_space_rows.specs.AllKnown.{AreAllKnown}
-use Rattle.osgi_space_rows.specs.Names.{HasNumber, name_of}
+use Rattle.osgi_space_rows.specs.Names.{HasNumber, name_numbered}
 use Rattle.osgi_space_rows.specs.Rows.{OwnExport, no_rows}
-use Rattle.osgi_space_rows.specs.Worlds.{AddsKnown, IsNamed}
+use Rattle.osgi_space_rows.specs.Worlds.{AddsKnown, AreNamed}
 use Rattle.osgi_space_rows.specs.computed.Payloads.{Adds, capabilities_of, HasFact, KnownSays, OneSays, exporting, using}
 use Rattle.osgi_space_rows.specs.declared.named.Named.{Named}
 use Rattle.osgi_space_rows.specs.declared.rows.Attachment.{Attachment}
@@ -165,7 +165,7 @@ module _ (K : List Known) where
 
 -- ---- the rows
 
-module _ (K L : List Known) (W : List Wiring) (old n : Named) (named : IsNamed old) (all_known : AreAllKnown K W) (are : AreRowsOf K W (name_of old.names) old.rows) (adds : Adds old n (OneSays (KnownSays (K ++ L)) L)) where
+module _ (K L : List Known) (W : List Wiring) (old n : Named) (named : AreNamed old) (all_known : AreAllKnown K W) (are : AreRowsOf K W (name_numbered old.names) old.rows) (adds : Adds old n (OneSays (KnownSays (K ++ L)) L)) where
   abbrev all : List Known
   all = K ++ L
 
@@ -173,13 +173,13 @@ module _ (K L : List Known) (W : List Wiring) (old n : Named) (named : IsNamed o
   numbered names i within = (_, slice_get-get_or names i [] within)
 
   -- old numbers are of the same names
-  name-kept : (i : ℕ) → i < length old.names → name_of n.names i ≡ name_of old.names i
+  name-kept : (i : ℕ) → i < length old.names → name_numbered n.names i ≡ name_numbered old.names i
   name-kept i within =
       let text = numbered old.names i within in
       name-known n.names i text.0 (adds.kept text.0 i text.1) ∙ sym (name-known old.names i text.0 text.1)
 
   -- a number of a name
-  has-number : (i : ℕ) (p : List ℕ) → i < length old.names → name_of old.names i ≡ p → HasNumber old.names p i
+  has-number : (i : ℕ) (p : List ℕ) → i < length old.names → name_numbered old.names i ≡ p → HasNumber old.names p i
   has-number i p within is =
       let text = numbered old.names i within in
       subst (λ t. HasNumber old.names t i) (sym (name-known old.names i text.0 text.1) ∙ is) text.1
@@ -240,12 +240,12 @@ module _ (K L : List Known) (W : List Wiring) (old n : Named) (named : IsNamed o
         }))
   ]
 
-  grown-rows : AreRowsOf all W (name_of n.names) n.rows
+  grown-rows : AreRowsOf all W (name_numbered n.names) n.rows
   grown-rows = record {
     names = name-one_to_one n.names adds.named.once;
     imports_to = λ r p x row.
         let before = subst (λ (xs : List Import). Contains xs (record { revision = r; imported = p; provider = x })) adds.imports row in
-        subst (λ t. PackageWire all W (id r) t (id x)) (sym (name-kept p (import-within r p x before))) (imports-up K L W all_known (id r) (name_of old.names p) (id x) (are.imports_to r p x before));
+        subst (λ t. PackageWire all W (id r) t (id x)) (sym (name-kept p (import-within r p x before))) (imports-up K L W all_known (id r) (name_numbered old.names p) (id x) (are.imports_to r p x before));
     imports_from = λ r x p h.
         let f = are.imports_from r x p (imports-down K L W all_known (id r) p (id x) h) in
         (f.0, name-kept f.0 (import-within r f.0 x f.2) ∙ f.1, subst (λ (xs : List Import). Contains xs (record { revision = r; imported = f.0; provider = x })) (sym adds.imports) f.2);
@@ -271,7 +271,7 @@ module _ (K L : List Known) (W : List Wiring) (old n : Named) (named : IsNamed o
         let within = All-contains (λ (e : Use). (e.exported < length n.names) × (e.used < length n.names)) n.rows.uses _ adds.named.numbered.uses row in
         let text = numbered n.names i within.0 in
         let other = numbered n.names j within.1 in
-        subst (λ p. (index : ℕ) × ExportAt all (id o) index p × In (name_of n.names j) (used_packages all (id o) index)) (sym (name-known n.names i text.0 text.1))
+        subst (λ p. (index : ℕ) × ExportAt all (id o) index p × In (name_numbered n.names j) (used_packages all (id o) index)) (sym (name-known n.names i text.0 text.1))
         (subst (λ u. (index : ℕ) × ExportAt all (id o) index text.0 × In u (used_packages all (id o) index)) (sym (name-known n.names j other.0 other.1))
         (says-used o text.0 other.0 (i, j, text.1, other.1, row)));
     uses_from = λ o index p u export used.
@@ -283,11 +283,11 @@ module _ (K L : List Known) (W : List Wiring) (old n : Named) (named : IsNamed o
   exports-kept : (o p : ℕ) → IsKnown K (id o) → OwnExport n.rows o p → OwnExport old.rows o p
   exports-kept o p known row =
       let e = grown-rows.exports_to o p row in
-      let f = are.exports_from o e.0 (name_of n.names p) (down K L (ExportBy e.0 (name_of n.names p)) (id o) known e.1) in
+      let f = are.exports_from o e.0 (name_numbered n.names p) (down K L (ExportBy e.0 (name_numbered n.names p)) (id o) known e.1) in
       let same : f.0 ≡ p = grown-rows.names f.0 p (name-kept f.0 (export-within o f.0 f.2) ∙ f.1) in
       subst (OwnExport old.rows o) same f.2
 
-pub more-known : (K M : List Known) (first : ℕ) (W : List Wiring) (old n : Named) → IsNamed old → AreAllKnown (take first K) W → AreRowsOf (take first K) W (name_of old.names) old.rows → M ≡ drop first K → Adds old n (OneSays (KnownSays K) M) →
+pub more-known : (K M : List Known) (first : ℕ) (W : List Wiring) (old n : Named) → AreNamed old → AreAllKnown (take first K) W → AreRowsOf (take first K) W (name_numbered old.names) old.rows → M ≡ drop first K → Adds old n (OneSays (KnownSays K) M) →
     AddsKnown (take first K) W old (record { known = K; names = n.names; rows = n.rows })
 more-known K M first W old n named all_known are is adds =
     let front = take first K in
@@ -295,7 +295,7 @@ more-known K M first W old n named all_known are is adds =
     let said = subst (λ S. Adds old n (OneSays (KnownSays K) S)) is adds in
     let added = subst (λ S. Adds old n (OneSays (KnownSays S) (drop first K))) (sym joined) said in
     record {
-      rows = subst (λ S. AreRowsOf S W (name_of n.names) n.rows) joined (grown-rows front (drop first K) W old n named all_known are added);
+      rows = subst (λ S. AreRowsOf S W (name_numbered n.names) n.rows) joined (grown-rows front (drop first K) W old n named all_known are added);
       imports = adds.imports;
       attached = adds.attached;
       exports = exports-kept front (drop first K) W old n named all_known are added;
@@ -303,7 +303,7 @@ more-known K M first W old n named all_known are is adds =
 
 -- ---- of nothing there are no rows
 
-nothing : AreRowsOf [] [] (name_of []) no_rows
+nothing : AreRowsOf [] [] (name_numbered []) no_rows
 nothing = record {
   names = name-one_to_one [] (λ text i j at other. absurd (cc at));
   imports_to = λ r p x row. absurd (omega (arith, row.1));
@@ -317,16 +317,16 @@ nothing = record {
   uses_from = λ o index p u export used. absurd (omega (arith, export.0));
 }
 
-pub nothing-named : (n : Named) → n.names ≡ [] → n.rows ≡ no_rows → IsNamed n
+pub nothing-named : (n : Named) → n.names ≡ [] → n.rows ≡ no_rows → AreNamed n
 nothing-named n no_names none =
-    let empty : IsNamed (record { names = []; rows = no_rows }) = record {
+    let empty : AreNamed (record { names = []; rows = no_rows }) = record {
       numbered = record { imports = λ k row within. absurd (omega (arith, within)); exports = λ k row within. absurd (omega (arith, within)); uses = λ k row within. absurd (omega (arith, within)) };
       once = λ text i j at other. absurd (cc at);
     } in
-    subst IsNamed (λ i. record { names = sym no_names i; rows = sym none i }) empty
+    subst AreNamed (λ i. record { names = sym no_names i; rows = sym none i }) empty
 
-pub nothing-known : (n : Named) → n.names ≡ [] → n.rows ≡ no_rows → AreRowsOf [] [] (name_of n.names) n.rows
-nothing-known n no_names none = subst (λ (m : Named). AreRowsOf [] [] (name_of m.names) m.rows) (λ i. record { names = sym no_names i; rows = sym none i }) nothing
+pub nothing-known : (n : Named) → n.names ≡ [] → n.rows ≡ no_rows → AreRowsOf [] [] (name_numbered n.names) n.rows
+nothing-known n no_names none = subst (λ (m : Named). AreRowsOf [] [] (name_numbered m.names) m.rows) (λ i. record { names = sym no_names i; rows = sym none i }) nothing
 
 pub nothing-all_known : AreAllKnown [] []
 nothing-all_known = record {

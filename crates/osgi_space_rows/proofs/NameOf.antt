@@ -3,12 +3,12 @@ use Rattle.std.proofs.Common.{◌≡◌, ℕ, zero, suc, ◌+◌, ◌≤◌, Lis
 use Rattle.std.specs.Prelude.{Option, None, Some, slice_get, sum_by, unwrap_or}
 use Rattle.std.proofs.lemmas.List.{length-replicate}
 use Rattle.std.proofs.lemmas.List.Sums.{sum_by-cons}
-use Rattle.osgi_space_rows.specs.Names.{AreOnce, HasNumber, name_of}
+use Rattle.osgi_space_rows.specs.Names.{AreOnce, HasNumber, name_numbered}
 use Rattle.osgi_space_rows.proofs.Places.{some-same}
 
 -- ---- names and what stands beyond them
 
-pub name-known : (names : List (List ℕ)) (number : ℕ) (text : List ℕ) → HasNumber names text number → name_of names number ≡ text
+pub name-known : (names : List (List ℕ)) (number : ℕ) (text : List ℕ) → HasNumber names text number → name_numbered names number ≡ text
 name-known names number text has = ap (λ o. unwrap_or o (replicate (sum_by length names + 1 + number) 0)) has
 
 le_total : (names : List (List ℕ)) (number : ℕ) (text : List ℕ) → HasNumber names text number → length text ≤ sum_by length names
@@ -18,15 +18,15 @@ le_total (name ∷ names) zero text has =
     omega (arith, same, sum_by-cons length name names)
 le_total (name ∷ names) (suc number) text has = omega (arith, le_total names number text has, sum_by-cons length name names)
 
-name-beyond : (names : List (List ℕ)) (number : ℕ) → slice_get names number ≡ None → name_of names number ≡ replicate (sum_by length names + 1 + number) 0
+name-beyond : (names : List (List ℕ)) (number : ℕ) → slice_get names number ≡ None → name_numbered names number ≡ replicate (sum_by length names + 1 + number) 0
 name-beyond names number none = ap (λ o. unwrap_or o (replicate (sum_by length names + 1 + number) 0)) none
 
-long : (names : List (List ℕ)) (number : ℕ) → slice_get names number ≡ None → length (name_of names number) ≡ sum_by length names + 1 + number
+long : (names : List (List ℕ)) (number : ℕ) → slice_get names number ≡ None → length (name_numbered names number) ≡ sum_by length names + 1 + number
 long names number none = ap length (name-beyond names number none) ∙ length-replicate (sum_by length names + 1 + number) 0
 
 -- ---- one to one
 
-one_by : (names : List (List ℕ)) → AreOnce names → (i j : ℕ) (at : Option (List ℕ)) (other : Option (List ℕ)) → slice_get names i ≡ at → slice_get names j ≡ other → name_of names i ≡ name_of names j → i ≡ j
+one_by : (names : List (List ℕ)) → AreOnce names → (i j : ℕ) (at : Option (List ℕ)) (other : Option (List ℕ)) → slice_get names i ≡ at → slice_get names j ≡ other → name_numbered names i ≡ name_numbered names j → i ≡ j
 one_by names once i j (Some text) (Some other) here there same =
     once text i j here (there ∙ ap Some (sym (name-known names j other there) ∙ sym same ∙ name-known names i text here))
 one_by names once i j (Some text) None here there same =
@@ -41,9 +41,9 @@ one_by names once i j None None here there same =
     let equal : sum_by length names + 1 + i ≡ sum_by length names + 1 + j = sym (long names i here) ∙ ap length same ∙ long names j there in
     omega (arith, equal)
 
-pub name-one_to_one : (names : List (List ℕ)) → AreOnce names → (i j : ℕ) → name_of names i ≡ name_of names j → i ≡ j
+pub name-one_to_one : (names : List (List ℕ)) → AreOnce names → (i j : ℕ) → name_numbered names i ≡ name_numbered names j → i ≡ j
 name-one_to_one names once i j same = one_by names once i j (slice_get names i) (slice_get names j) refl refl same
 
 -- what is named so has the number of the name
-pub number-named : (names : List (List ℕ)) → AreOnce names → (i j : ℕ) (text : List ℕ) → HasNumber names text j → name_of names i ≡ text → i ≡ j
+pub number-named : (names : List (List ℕ)) → AreOnce names → (i j : ℕ) (text : List ℕ) → HasNumber names text j → name_numbered names i ≡ text → i ≡ j
 number-named names once i j text has is = name-one_to_one names once i j (is ∙ sym (name-known names j text has))

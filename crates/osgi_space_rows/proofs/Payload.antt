@@ -6,7 +6,7 @@ use Rattle.std.proofs.lemmas.List.Elements.{All-contains, All-push, All-weaker, 
 use Rattle.osgi_world.specs.Lists.{In}
 use Rattle.osgi_space_rows.specs.Names.{AreOnce, HasNumber, Interns}
 use Rattle.osgi_space_rows.specs.Rows.{RowLists, with_export, with_use}
-use Rattle.osgi_space_rows.specs.Worlds.{AreNumbered, IsNamed}
+use Rattle.osgi_space_rows.specs.Worlds.{AreNumbered, AreNamed}
 use Rattle.osgi_space_rows.specs.computed.Payloads.{Adds, Exported, Fact, HasFact, OneSays, Used, exporting, using}
 use Rattle.osgi_space_rows.specs.declared.named.Named.{Named}
 use Rattle.osgi_space_rows.specs.declared.rows.Export.{Export}
@@ -119,7 +119,7 @@ within-names (name ∷ names) text zero has = omega arith
 within-names (name ∷ names) text (suc number) has = omega (arith, within-names names text number has)
 
 -- an export with its name
-pub export-added : (old : Named) (names : List (List ℕ)) (owner number : ℕ) (name : List ℕ) → IsNamed old → Interns old.names names name → AreOnce names → HasNumber names name number →
+pub export-added : (old : Named) (names : List (List ℕ)) (owner number : ℕ) (name : List ℕ) → AreNamed old → Interns old.names names name → AreOnce names → HasNumber names name number →
     Adds old (record { names = names; rows = with_export old.rows (record { owner = owner; exported = number }) }) (Exported owner name)
 export-added old names owner number name named interns once has =
     let are = numbered-le old.names names old.rows (interned-le old.names names name interns) named.numbered in
@@ -144,7 +144,7 @@ export-added old names owner number name named interns once has =
     }
 
 -- a use with its name
-pub use-added : (old : Named) (names : List (List ℕ)) (owner exported used : ℕ) (name text : List ℕ) → IsNamed old → HasNumber old.names name exported → Interns old.names names text → AreOnce names → HasNumber names text used →
+pub use-added : (old : Named) (names : List (List ℕ)) (owner exported used : ℕ) (name text : List ℕ) → AreNamed old → HasNumber old.names name exported → Interns old.names names text → AreOnce names → HasNumber names text used →
     Adds old (record { names = names; rows = with_use old.rows (record { owner = owner; exported = exported; used = used }) }) (Used owner name (text ∷ []))
 use-added old names owner exported used name text named has_name interns once has =
     let are = numbered-le old.names names old.rows (interned-le old.names names text interns) named.numbered in
@@ -172,7 +172,7 @@ use-added old names owner exported used name text named has_name interns once ha
 
 -- ---- additions one after another
 
-pub adds-none : (n : Named) (P : Fact → Type 0) → IsNamed n → ((y : Fact) → ¬ P y) → Adds n n P
+pub adds-none : (n : Named) (P : Fact → Type 0) → AreNamed n → ((y : Fact) → ¬ P y) → Adds n n P
 adds-none n P named none = record {
   named = named;
   kept = λ text number has. has;

@@ -14,5 +14,5 @@ abbrev pub Interns : List (List ℕ) → List (List ℕ) → List ℕ → Type 0
 Interns old new text = ((number : ℕ) × HasNumber old text number × (new ≡ old)) ⊎ (((number : ℕ) → ¬ HasNumber old text number) × (new ≡ old ++ text ∷ []))
 
 -- the name with this number; beyond the last a text that is longer than each name, another for each number
-abbrev pub name_of : List (List ℕ) → ℕ → List ℕ
-name_of names number = unwrap_or (slice_get names number) (replicate (sum_by length names + 1 + number) 0)
+abbrev pub name_numbered : List (List ℕ) → ℕ → List ℕ
+name_numbered names number = unwrap_or (slice_get names number) (replicate (sum_by length names + 1 + number) 0)

@@ -47,8 +47,8 @@ abbrev pub is_use : ℕ → ℕ → Use → Bool
 is_use o p row = (row.owner == o) && (row.exported == p)
 
 -- what an owner's own exports of the package p use
-abbrev pub uses_of : RowLists → ℕ → ℕ → List Use
-uses_of R o p = filter (is_use o p) R.uses
+abbrev pub uses_for : RowLists → ℕ → ℕ → List Use
+uses_for R o p = filter (is_use o p) R.uses
 
 -- ---- facts
 

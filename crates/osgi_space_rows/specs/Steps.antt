@@ -10,6 +10,6 @@ step_wiring (wired r w) = record { revision = r; wires = w ∷ []; fragments = [
 
 -- the wirings with what the steps add, the last step first. A revision may then have several wirings: what it has is what they have
 -- together
-abbrev pub with_steps : List Wiring → List Step → List Wiring
-with_steps W [] = W
-with_steps W (s ∷ steps) = with_steps W steps ++ step_wiring s ∷ []
+abbrev pub after_steps : List Wiring → List Step → List Wiring
+after_steps W [] = W
+after_steps W (s ∷ steps) = after_steps W steps ++ step_wiring s ∷ []

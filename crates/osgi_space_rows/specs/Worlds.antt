@@ -5,7 +5,7 @@ use Rattle.osgi_world.specs.Lookups.{IsKnown}
 use Rattle.osgi_world.specs.declared.wiring.Wiring.{Wiring}
 use Rattle.osgi_world.specs.declared.world.Known.{Known}
 use Rattle.osgi_space_rows.specs.Agree.{AreRowsOf, id}
-use Rattle.osgi_space_rows.specs.Names.{AreOnce, name_of}
+use Rattle.osgi_space_rows.specs.Names.{AreOnce, name_numbered}
 use Rattle.osgi_space_rows.specs.Rows.{OwnExport, RowLists, with_attachment, with_import, with_required}
 use Rattle.osgi_space_rows.specs.Steps.{step_wiring}
 use Rattle.osgi_space_rows.specs.declared.added.Added.{Added}
@@ -29,13 +29,13 @@ pub record AreNumbered (names : List (List ℕ)) (R : RowLists) : Type 0 where
   pub uses : All (λ (row : Use). (row.exported < length names) × (row.used < length names)) R.uses
 
 -- packages in the rows are numbers of names, and no name has two
-pub record IsNamed (n : Named) : Type 0 where
+pub record AreNamed (n : Named) : Type 0 where
   pub numbered : AreNumbered n.names n.rows
   pub once : AreOnce n.names
 
 -- the rows are those of the wirings of what is known
 abbrev pub AreRowsIn : WorldLists → List Wiring → Type 0
-AreRowsIn world W = AreRowsOf world.known W (name_of world.names) world.rows
+AreRowsIn world W = AreRowsOf world.known W (name_numbered world.names) world.rows
 
 -- the rows with what was added
 abbrev pub with_added : RowLists → Added → RowLists

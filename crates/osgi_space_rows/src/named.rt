@@ -3,7 +3,7 @@
 ghost use Rattle.std.specs.Prelude.{◌≡◌, ℕ, List, [], ◌∷◌, IfOk, OnOk};
 ghost use Rattle.osgi_space_rows.specs.Names.{HasNumber};
 ghost use Rattle.osgi_space_rows.specs.Rows.{no_rows};
-ghost use Rattle.osgi_space_rows.specs.Worlds.{IsNamed};
+ghost use Rattle.osgi_space_rows.specs.Worlds.{AreNamed};
 ghost use Rattle.osgi_space_rows.specs.computed.Payloads.{Adds, Exported, KnownSays, OneSays, Says, Used};
 
 use crate::names::Names;
@@ -39,7 +39,7 @@ impl Named {
 
     /// Adds what these of the known revisions export and use. If memory runs out, some of it may have been added.
     pub fn add_known(&mut self, known: &KnownIndex, more: &[Known]) -> Result<(), AllocError>
-        requires named { IsNamed self.old }
+        requires named { AreNamed self.old }
         ensures adds { OnOk result (Adds self.old self.new (OneSays (KnownSays known.now) more.now)) }
     {
         for each in more {
@@ -55,7 +55,7 @@ impl Named {
         owner: u32,
         capabilities: &[Capability],
     ) -> Result<(), AllocError>
-        requires named { IsNamed self.old }
+        requires named { AreNamed self.old }
         ensures adds { OnOk result (Adds self.old self.new (OneSays (Says owner) capabilities.now)) }
     {
         for capability in capabilities {
@@ -66,19 +66,19 @@ impl Named {
 
     /// Adds an export, if the capability is one, and what it uses.
     fn add_capability(&mut self, owner: u32, capability: &Capability) -> Result<(), AllocError>
-        requires named { IsNamed self.old }
+        requires named { AreNamed self.old }
         ensures adds { OnOk result (Adds self.old self.new (Says owner capability.now)) }
     {
         if is_package(capability.namespace.bytes()) {
             let exported = self.add_export(owner, &capability.name)?;
-            self.add_uses(owner, exported, capability.uses.items())?;
+            self.add_uses(owner, exported, capability.uses.get().items())?;
         }
         Ok(())
     }
 
     /// Adds an export, and returns the number of its name.
     fn add_export(&mut self, owner: u32, name: &Text) -> Result<u32, AllocError>
-        requires named { IsNamed self.old }
+        requires named { AreNamed self.old }
         ensures number { IfOk result (λ number. HasNumber self.new.names name.now number) }
         ensures adds { OnOk result (Adds self.old self.new (Exported owner name.now)) }
     {
@@ -88,7 +88,7 @@ impl Named {
     }
 
     fn add_uses(&mut self, owner: u32, exported: u32, uses: &[Text]) -> Result<(), AllocError>
-        requires named { IsNamed self.old }
+        requires named { AreNamed self.old }
         requires known { (name : List ℕ) × HasNumber self.old.names name exported }
         ensures adds { OnOk result ((name : List ℕ) → HasNumber self.old.names name exported → Adds self.old self.new (Used owner name uses.now)) }
     {
@@ -99,7 +99,7 @@ impl Named {
     }
 
     fn add_use(&mut self, owner: u32, exported: u32, used: &Text) -> Result<(), AllocError>
-        requires named { IsNamed self.old }
+        requires named { AreNamed self.old }
         requires known { (name : List ℕ) × HasNumber self.old.names name exported }
         ensures adds { OnOk result ((name : List ℕ) → HasNumber self.old.names name exported → Adds self.old self.new (Used owner name (used.now ∷ []))) }
     {

@@ -2,7 +2,7 @@
 //! the numbers of their names.
 
 ghost use Rattle.std.specs.Prelude.{◌≡◌, ◌++◌, List, OnOk, OnErr};
-ghost use Rattle.osgi_space_rows.specs.Rows.{RowLists, attached_to, exports_for, exports_of, imports_for, imports_of, no_rows, required_by, uses_of, with_attachment, with_export, with_import, with_required, with_use};
+ghost use Rattle.osgi_space_rows.specs.Rows.{RowLists, attached_to, exports_for, exports_of, imports_for, imports_of, no_rows, required_by, uses_for, with_attachment, with_export, with_import, with_required, with_use};
 ghost use Rattle.osgi_space_rows.specs.declared.rows.Attachment.{Attachment};
 ghost use Rattle.osgi_space_rows.specs.declared.rows.Import.{Import};
 ghost use Rattle.osgi_space_rows.specs.declared.rows.Required.{Required};
@@ -230,7 +230,7 @@ impl Rows {
 
     /// What the owner's own exports of the package use.
     pub fn uses_of(&self, owner: u32, exported: u32) -> &[Use]
-        ensures rows { result.now ≡ uses_of self.now owner exported }
+        ensures rows { result.now ≡ uses_for self.now owner exported }
     {
         self.uses.of(owner, exported)
     }

@@ -5,9 +5,9 @@ ghost use Rattle.osgi_world.specs.Decisions.{attached, wired};
 ghost use Rattle.osgi_world.specs.declared.wiring.Wiring.{Wiring};
 ghost use Rattle.osgi_space_rows.specs.Agree.{AreRowsOf};
 ghost use Rattle.osgi_space_rows.specs.AllKnown.{AreAllKnown};
-ghost use Rattle.osgi_space_rows.specs.Names.{name_of};
+ghost use Rattle.osgi_space_rows.specs.Names.{name_numbered};
 ghost use Rattle.osgi_space_rows.specs.Steps.{step_wiring};
-ghost use Rattle.osgi_space_rows.specs.Worlds.{AddsKnown, AddsStep, AddsWirings, AreNumbered, AreRowsIn, IsNamed, TakesBack, with_added};
+ghost use Rattle.osgi_space_rows.specs.Worlds.{AddsKnown, AddsStep, AddsWirings, AreNumbered, AreRowsIn, AreNamed, TakesBack, with_added};
 ghost use Rattle.osgi_space_rows.specs.computed.Growing.{IsNumbered, RowsAfter};
 
 use crate::added::Added;
@@ -79,10 +79,10 @@ impl<'w> WorldRows<'w> {
         known: &'w [Known],
         first: usize,
     ) -> Result<WorldRows<'w>, AllocError>
-        requires named { IsNamed named }
+        requires named { AreNamed named }
         requires first { first ≤ length known.now }
         ensures known { IfOk result (λ made. made.known ≡ known.now) }
-        ensures added { IfOk result (λ made. (W : List Wiring) → AreAllKnown (take first known.now) W → AreRowsOf (take first known.now) W (name_of named.names) named.rows → AddsKnown (take first known.now) W named made) }
+        ensures added { IfOk result (λ made. (W : List Wiring) → AreAllKnown (take first known.now) W → AreRowsOf (take first known.now) W (name_numbered named.names) named.rows → AddsKnown (take first known.now) W named made) }
         ensures numbered { IfOk result (λ made. AreNumbered made.names made.rows) }
     {
         let index = KnownIndex::new(alloc, known)?;

@@ -1,11 +1,10 @@
 -- The rules of consistency, from what each wiring keeps.
 use Rattle.std.proofs.Common.{inl, inr, List, sym, refl, subst, IsTrue}
 use Rattle.osgi_base.specs.declared.ids.RevisionId.{RevisionId}
-use Rattle.osgi_space_rules.specs.Rules.{KeepsRules, UsesHold}
 use Rattle.osgi_space_rules.specs.computed.Entries.{OneProvider, SingletonsDiffer}
 use Rattle.osgi_space_rules.specs.computed.Growing.{Each}
-use Rattle.osgi_space_rules.specs.computed.Holding.{IsMet, place_of, WireHolds, WiringHolds}
-use Rattle.osgi_world.specs.Consistency.{IsCoherent}
+use Rattle.osgi_space_rules.specs.computed.Holding.{IsMet, requirement_ref, WireHolds, WiringHolds}
+use Rattle.osgi_world.specs.Consistency.{KeepsRules}
 use Rattle.osgi_world.specs.Lists.{In}
 use Rattle.osgi_world.specs.Lookups.{is_host_of}
 use Rattle.osgi_world.specs.Wirings.{Attached, HasWire, InForce, Owns}
@@ -40,35 +39,6 @@ module _ (K : List Known) (W : List Wiring) where
       singletons = differ;
     }
 
-  pub coherent : KeepsRules K W → UsesHold K W → IsCoherent K W
-  coherent is uses = record {
-    asked = is.asked;
-    single = is.single;
-    mandatory = is.mandatory;
-    provided = is.provided;
-    offered = is.offered;
-    not_owner = is.not_owner;
-    one_provider = is.one_provider;
-    attached = is.attached;
-    one_version = is.one_version;
-    singletons = is.singletons;
-    uses = uses;
-  }
-
-  pub rules : IsCoherent K W → KeepsRules K W
-  rules is = record {
-    asked = is.asked;
-    single = is.single;
-    mandatory = is.mandatory;
-    provided = is.provided;
-    offered = is.offered;
-    not_owner = is.not_owner;
-    one_provider = is.one_provider;
-    attached = is.attached;
-    one_version = is.one_version;
-    singletons = is.singletons;
-  }
-
   force_of : (g : Wiring) → In g W → InForce W g.revision
   force_of g stands = record { wiring = g; stands = stands; revision = refl }
 
@@ -78,8 +48,8 @@ module _ (K : List Known) (W : List Wiring) where
   pub each_holds : KeepsRules K W → Each (WiringHolds K W) W
   each_holds is g stands = record {
     met = record {
-      own = λ n within needed. is.mandatory g.revision (place_of g.revision n) (force_of g stands) (inl refl, within) needed;
-      fragments = λ f has n within needed. is.mandatory g.revision (place_of f n) (force_of g stands) (inr (attached_of g f stands has), within) needed;
+      own = λ n within needed. is.mandatory g.revision (requirement_ref g.revision n) (force_of g stands) (inl refl, within) needed;
+      fragments = λ f has n within needed. is.mandatory g.revision (requirement_ref f n) (force_of g stands) (inr (attached_of g f stands has), within) needed;
     };
     matching = λ f has. is.attached g.revision f (attached_of g f stands has);
     single = is.single g stands;

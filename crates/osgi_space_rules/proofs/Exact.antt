@@ -10,9 +10,10 @@ use Rattle.std.specs.declared.cmp.Ordering.{Ordering}
 use Rattle.std.specs.declared.cmp.Ordering.TheVariants.{Less, Equal, Greater}
 use Rattle.std.proofs.lemmas.Cmp.{eq_by_cmp_equiv, nat_cmp_total, nat_list_cmp_total, on_total, then_total}
 use Rattle.std.proofs.lemmas.Map.Lookups.{CmpEqualImpliesEq, exact_bytes, exact_unsigned}
+use Rattle.osgi_base.specs.computed.Texts.{text_cmp}
 use Rattle.osgi_base.specs.declared.ids.RevisionId.{RevisionId}
 use Rattle.osgi_space_rules.specs.computed.Growing.{Has}
-use Rattle.osgi_space_rules.specs.computed.Keys.{attachment_cmp, package_cmp, place_cmp, provided_cmp, revision_cmp, text_cmp, wire_cmp, wired_cmp}
+use Rattle.osgi_space_rules.specs.computed.Keys.{attachment_cmp, package_cmp, place_cmp, provided_cmp, revision_cmp, wire_cmp, wired_cmp}
 
 tie_first : (p q : Ordering) → ordering_then p q ≡ Equal → p ≡ Equal
 tie_first Less q tie = absurd (cc tie)

@@ -1,11 +1,11 @@
 //! Whether wirings keep the rules of consistency, that on `uses` apart.
 
 ghost use Rattle.std.specs.Prelude.{◌↔◌, IfOk, IsTrue};
-ghost use Rattle.osgi_space_rules.specs.Rules.{KeepsRules, UsesHold};
+ghost use Rattle.osgi_space_rules.specs.Rules.{UsesHold};
 ghost use Rattle.osgi_space_rules.specs.computed.Entries.{AreProviders};
 ghost use Rattle.osgi_space_rules.specs.computed.Growing.{Each};
 ghost use Rattle.osgi_space_rules.specs.computed.Holding.{WireHolds, WiringHolds};
-ghost use Rattle.osgi_world.specs.Consistency.{IsCoherent};
+ghost use Rattle.osgi_world.specs.Consistency.{IsCoherent, KeepsRules};
 
 use crate::doubles::{are_names_single, are_wires_single};
 use crate::imports::package_providers;

@@ -1,9 +1,9 @@
 //! Whether the singletons that are in use have different names.
 
 ghost use Rattle.std.specs.Prelude.{◌↔◌, IfOk, IsTrue};
+ghost use Rattle.osgi_base.specs.computed.Texts.{text_cmp};
 ghost use Rattle.osgi_space_rules.specs.computed.Entries.{SingletonsDiffer, IsEntry, IsEntryOf};
 ghost use Rattle.osgi_space_rules.specs.computed.Growing.{Extends, HasEntry, AnyOf};
-ghost use Rattle.osgi_space_rules.specs.computed.Keys.{text_cmp};
 ghost use Rattle.osgi_world.specs.Lookups.{is_current, is_singleton};
 
 use crate::entries::put_one;

@@ -4,10 +4,10 @@ use Rattle.std.specs.BTreeSet.{BTreeSet, contains}
 use Rattle.std.specs.Ordering.{nat_cmp}
 use Rattle.osgi_space_rows.specs.Rows.{RowLists}
 use Rattle.osgi_space_sources.specs.computed.Disputes.{AreDisputed, IsPossible}
-use Rattle.osgi_space_sources.specs.computed.RowSources.{Gives, substituted, itself, reexported, Sources, HasExport, Clash}
+use Rattle.osgi_space_sources.specs.computed.RowSources.{GivesPackage, substituted, itself, reexported, Sources, HasExport, Clash}
 
 module _ (R : RowLists) where
-  given-possible : {p b x : ℕ} → Gives R p b x → IsPossible R p x
+  given-possible : {p b x : ℕ} → GivesPackage R p b x → IsPossible R p x
   given-possible (substituted {b = b} at other has) = inl (b, at)
   given-possible (itself e) = inr e.0
   given-possible (reexported at g) = given-possible g

@@ -3,20 +3,20 @@ use Rattle.std.proofs.Common.{◌≡◌, ◌↔◌, ◌⊎◌, inl, inr, ℕ, ap
 use Rattle.osgi_space_rows.specs.Rows.{RowLists, Imports, Reexports, imports_for}
 use Rattle.osgi_space_sources.specs.computed.Givens.{IsGivenTo, IsImported, IsProvider, IsSeen, IsSourceOf, IsUnwired, IsWired}
 use Rattle.osgi_space_sources.specs.computed.Reach.{Reach, starts, steps}
-use Rattle.osgi_space_sources.specs.computed.RowSources.{Gives, substituted, itself, reexported, GivesDirectly, NotImported}
+use Rattle.osgi_space_sources.specs.computed.RowSources.{GivesPackage, substituted, itself, reexported, GivesDirectly, NotImported}
 use Rattle.osgi_space_sources.specs.declared.given.Given.{Given}
 use Rattle.osgi_space_sources.proofs.Rows.{some-import}
 
 module _ (R : RowLists) (p : ℕ) where
-  gives-direct : (b x : ℕ) → GivesDirectly R p b x → Gives R p b x
+  gives-direct : (b x : ℕ) → GivesDirectly R p b x → GivesPackage R p b x
   gives-direct b x (inl w) = substituted w.0 w.1 w.2
-  gives-direct b x (inr w) = let P : ℕ → Type 0 = λ y. Gives R p b y in subst P (sym w.0) (itself w.1)
+  gives-direct b x (inr w) = let P : ℕ → Type 0 = λ y. GivesPackage R p b y in subst P (sym w.0) (itself w.1)
 
-  gives-from_reach : {Start : ℕ → Type 0} {c x : ℕ} → Reach Start (Reexports R) c → Gives R p c x → (b : ℕ) × Start b × Gives R p b x
+  gives-from_reach : {Start : ℕ → Type 0} {c x : ℕ} → Reach Start (Reexports R) c → GivesPackage R p c x → (b : ℕ) × Start b × GivesPackage R p b x
   gives-from_reach (starts s) g = (_, s, g)
   gives-from_reach (steps r s) g = gives-from_reach r (reexported s g)
 
-  reach-from_gives : {Start : ℕ → Type 0} {b x : ℕ} → Reach Start (Reexports R) b → Gives R p b x → (c : ℕ) × Reach Start (Reexports R) c × GivesDirectly R p c x
+  reach-from_gives : {Start : ℕ → Type 0} {b x : ℕ} → Reach Start (Reexports R) b → GivesPackage R p b x → (c : ℕ) × Reach Start (Reexports R) c × GivesDirectly R p c x
   reach-from_gives r (substituted at other has) = (_, r, inl (at, other, has))
   reach-from_gives r (itself on_offer) = (_, r, inr (refl, on_offer))
   reach-from_gives r (reexported at g) = reach-from_gives (steps r at) g

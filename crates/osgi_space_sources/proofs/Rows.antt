@@ -1,7 +1,7 @@
 -- What is looked up in rows.
 use Rattle.std.proofs.Common.{◌≡◌, ◌==◌, ◌&&◌, ◌↔◌, ℕ, ◌<◌, length, get_or, true, false, Bool, List, [], ◌∷◌, refl, sym, subst, arith, Contains, Any, IsTrue}
 use Rattle.std.proofs.lemmas.Bool.{eqb-true, eq-eqb}
-use Rattle.osgi_space_rows.specs.Rows.{RowLists, is_import, imports_for, imports_of, required_by, attached_to, exports_of, exports_for, is_export, uses_of, is_use, Imports, Requires, Reexports, Attaches, OwnExport, OwnUse}
+use Rattle.osgi_space_rows.specs.Rows.{RowLists, is_import, imports_for, imports_of, required_by, attached_to, exports_of, exports_for, is_export, uses_for, is_use, Imports, Requires, Reexports, Attaches, OwnExport, OwnUse}
 use Rattle.osgi_space_rows.specs.declared.rows.Attachment.{Attachment}
 use Rattle.osgi_space_rows.specs.declared.rows.Export.{Export}
 use Rattle.osgi_space_rows.specs.declared.rows.Import.{Import}
@@ -102,16 +102,16 @@ module _ (R : RowLists) where
     λ (p, at, q). any-of (λ (i : Export). P i.exported) (exports_of R o) (record { owner = o; exported = p }) (contains-filter (λ (i : Export). i.owner == o) R.exports _ at (eq-eqb o o refl)) q,
   )
 
-  pub some-use : (P : ℕ → Type 0) (o p : ℕ) → Any (λ (row : Use). P row.used) (uses_of R o p) ↔ ((u : ℕ) × OwnUse R o p u × P u)
+  pub some-use : (P : ℕ → Type 0) (o p : ℕ) → Any (λ (row : Use). P row.used) (uses_for R o p) ↔ ((u : ℕ) × OwnUse R o p u × P u)
   some-use P o p = (
     λ any.
         let row = any.1 in
-        let f = filter-contains (is_use o p) R.uses row (any-in (λ (i : Use). P i.used) (uses_of R o p) any) in
+        let f = filter-contains (is_use o p) R.uses row (any-in (λ (i : Use). P i.used) (uses_for R o p) any) in
         let b = and-cases (row.owner == o) (row.exported == p) f.1 in
         let e = eqb-true row.owner o b.0 in
         let k = eqb-true row.exported p b.1 in
         (row.used, subst (Contains R.uses) (λ i. record { owner = e i; exported = k i; used = row.used }) f.0, any.4),
-    λ (u, at, q). any-of (λ (i : Use). P i.used) (uses_of R o p) (record { owner = o; exported = p; used = u })
+    λ (u, at, q). any-of (λ (i : Use). P i.used) (uses_for R o p) (record { owner = o; exported = p; used = u })
         (contains-filter (is_use o p) R.uses _ at (and-both (o == o) (p == p) (eq-eqb o o refl) (eq-eqb p p refl))) q,
   )
 

@@ -1,6 +1,6 @@
 -- Which exporters may use packages, and how this is seen in the rows.
 use Rattle.std.proofs.Common.{◌≡◌, ◌==◌, ◌↔◌, Bool, not, IsTrue, ℕ, inl, inr, List, [], ◌∷◌, length, refl, subst, Any}
-use Rattle.osgi_space_rows.specs.Rows.{RowLists, Attaches, OwnUse, attached_to, uses_of}
+use Rattle.osgi_space_rows.specs.Rows.{RowLists, Attaches, OwnUse, attached_to, uses_for}
 use Rattle.osgi_space_sources.specs.computed.Pairs.{IsUse, MayUse}
 use Rattle.osgi_space_sources.specs.declared.given.Given.{Given}
 use Rattle.osgi_space_sources.specs.laws.Adding.{any-none, any-of}
@@ -19,10 +19,10 @@ filled : {X : Type 0} (xs : List X) (b : Bool) → b ≡ (length xs == 0) → Is
 filled xs b is = (λ t. some-there xs (not_empty xs b is t), λ any. some_item xs b is (none-there xs any))
 
 module _ (R : RowLists) (e : ℕ) where
-  pub uses-filled : (p : ℕ) (b : Bool) → b ≡ (length (uses_of R e p) == 0) → IsTrue (not b) ↔ ((u : ℕ) × OwnUse R e p u)
+  pub uses-filled : (p : ℕ) (b : Bool) → b ≡ (length (uses_for R e p) == 0) → IsTrue (not b) ↔ ((u : ℕ) × OwnUse R e p u)
   uses-filled p b is =
       let some = some-use R (λ u. Unit {0}) e p in
-      let rows = filled (uses_of R e p) b is in
+      let rows = filled (uses_for R e p) b is in
       (λ t. let w = some.0 (rows.0 t) in (w.0, w.1), λ w. rows.1 (some.1 (w.0, w.1, tt)))
 
   pub attached-filled : (b : Bool) → b ≡ (length (attached_to R e) == 0) → IsTrue (not b) ↔ ((f : ℕ) × Attaches R e f)

@@ -1,6 +1,6 @@
 //! The bundles that a revision reaches along its bundle wires.
 
-ghost use Rattle.std.specs.Prelude.{◌↔◌, ℕ, Contains, IfOk};
+ghost use Rattle.std.specs.Prelude.{◌↔◌, ℕ, Contains, IfOk, OnOk};
 ghost use Rattle.std.specs.Ordering.{nat_cmp};
 ghost use Rattle.osgi_space_sources.specs.computed.Adds.{Adds};
 ghost use Rattle.osgi_space_sources.specs.computed.Collected.{IsCollected};
@@ -14,8 +14,8 @@ use std::alloc::{AllocError, Global};
 /// Adds the bundles that the revision requires.
 fn add_required(found: &mut Found<u32>, rows: &Rows, revision: u32) -> Result<(), AllocError>
     requires collected { IsCollected nat_cmp found.old }
-    ensures collected { IfOk result (λ _. IsCollected nat_cmp found.new) }
-    ensures added { IfOk result (λ _. Adds (Requires rows.now revision) found.old.items.items found.new.items.items) }
+    ensures collected { OnOk result (IsCollected nat_cmp found.new) }
+    ensures added { OnOk result (Adds (Requires rows.now revision) found.old.items.items found.new.items.items) }
 {
     for row in rows.required_by(revision) {
         found.add(row.provider)?;
@@ -26,8 +26,8 @@ fn add_required(found: &mut Found<u32>, rows: &Rows, revision: u32) -> Result<()
 /// Adds the bundles that the bundle reexports.
 fn add_reexported(found: &mut Found<u32>, rows: &Rows, bundle: u32) -> Result<(), AllocError>
     requires collected { IsCollected nat_cmp found.old }
-    ensures collected { IfOk result (λ _. IsCollected nat_cmp found.new) }
-    ensures added { IfOk result (λ _. Adds (Reexports rows.now bundle) found.old.items.items found.new.items.items) }
+    ensures collected { OnOk result (IsCollected nat_cmp found.new) }
+    ensures added { OnOk result (Adds (Reexports rows.now bundle) found.old.items.items found.new.items.items) }
 {
     for row in rows.required_by(bundle) {
         if row.reexport {

@@ -80,10 +80,10 @@ pub fn clashes(alloc: Global, rows: &Rows, revision: u32, pair: Given) -> Result
     ensures clash { IfOk result (λ answer. IsTrue answer ↔ IsClash rows.now revision pair) }
 {
     let Some(ours) = only_source(rows, revision, pair.package) else {
-        return Ok(lists_clash(alloc, rows, revision, pair)?);
+        return lists_clash(alloc, rows, revision, pair);
     };
     let Some(theirs) = only_source(rows, pair.source, pair.package) else {
-        return Ok(lists_clash(alloc, rows, revision, pair)?);
+        return lists_clash(alloc, rows, revision, pair);
     };
     Ok(ours != theirs)
 }

@@ -1,6 +1,6 @@
 //! The constraints that the `uses` of exports imply.
 
-ghost use Rattle.std.specs.Prelude.{◌↔◌, Contains, IfOk, IsTrue};
+ghost use Rattle.std.specs.Prelude.{◌↔◌, Contains, IfOk, OnOk, IsTrue};
 ghost use Rattle.osgi_space_sources.specs.computed.Adds.{Adds};
 ghost use Rattle.osgi_space_sources.specs.computed.Amongst.{IsAmong};
 ghost use Rattle.osgi_space_sources.specs.computed.Collected.{IsCollected};
@@ -25,8 +25,8 @@ fn add_own_uses(
     package: u32,
 ) -> Result<(), AllocError>
     requires collected { IsCollected given_cmp found.old }
-    ensures collected { IfOk result (λ _. IsCollected given_cmp found.new) }
-    ensures added { IfOk result (λ _. Adds (IsOwnUse rows.now exporter owner «package») found.old.items.items found.new.items.items) }
+    ensures collected { OnOk result (IsCollected given_cmp found.new) }
+    ensures added { OnOk result (Adds (IsOwnUse rows.now exporter owner «package») found.old.items.items found.new.items.items) }
 {
     for row in rows.uses_of(owner, package) {
         found.add(Given {
@@ -45,8 +45,8 @@ fn add_uses(
     package: u32,
 ) -> Result<(), AllocError>
     requires collected { IsCollected given_cmp found.old }
-    ensures collected { IfOk result (λ _. IsCollected given_cmp found.new) }
-    ensures added { IfOk result (λ _. Adds (IsUse rows.now exporter «package») found.old.items.items found.new.items.items) }
+    ensures collected { OnOk result (IsCollected given_cmp found.new) }
+    ensures added { OnOk result (Adds (IsUse rows.now exporter «package») found.old.items.items found.new.items.items) }
 {
     add_own_uses(found, rows, exporter, exporter, package)?;
     for row in rows.attached_to(exporter) {
@@ -73,8 +73,8 @@ fn add_uses_among(
     given: Given,
 ) -> Result<(), AllocError>
     requires collected { IsCollected given_cmp found.old }
-    ensures collected { IfOk result (λ _. IsCollected given_cmp found.new) }
-    ensures added { IfOk result (λ _. Adds (IsUseAmong rows.now (IsAmong among.entry) given) found.old.items.items found.new.items.items) }
+    ensures collected { OnOk result (IsCollected given_cmp found.new) }
+    ensures added { OnOk result (Adds (IsUseAmong rows.now (IsAmong among.entry) given) found.old.items.items found.new.items.items) }
 {
     if !may_use(rows, given.source, given.package) {
         return Ok(());
@@ -94,8 +94,8 @@ fn add_uses_of_all(
     givens: &[Given],
 ) -> Result<(), AllocError>
     requires collected { IsCollected given_cmp found.old }
-    ensures collected { IfOk result (λ _. IsCollected given_cmp found.new) }
-    ensures added { IfOk result (λ _. Adds (IsUseOfSome rows.now (IsAmong among.entry) givens.now) found.old.items.items found.new.items.items) }
+    ensures collected { OnOk result (IsCollected given_cmp found.new) }
+    ensures added { OnOk result (Adds (IsUseOfSome rows.now (IsAmong among.entry) givens.now) found.old.items.items found.new.items.items) }
 {
     for given in givens {
         add_uses_among(found, rows, among, *given)?;
@@ -111,8 +111,8 @@ fn add_uses_of_imports(
     imports: &[Import],
 ) -> Result<(), AllocError>
     requires collected { IsCollected given_cmp found.old }
-    ensures collected { IfOk result (λ _. IsCollected given_cmp found.new) }
-    ensures added { IfOk result (λ _. Adds (IsUseOfWired rows.now (IsAmong among.entry) imports.now) found.old.items.items found.new.items.items) }
+    ensures collected { OnOk result (IsCollected given_cmp found.new) }
+    ensures added { OnOk result (Adds (IsUseOfWired rows.now (IsAmong among.entry) imports.now) found.old.items.items found.new.items.items) }
 {
     for row in imports {
         let given = Given {
@@ -124,7 +124,8 @@ fn add_uses_of_imports(
     Ok(())
 }
 
-/// Adds the constraints that follow from one at once: what the exports of its package use, by its sources for the one that sees it.
+/// Adds the constraints that follow from one at once: what the exports of its package use, by its sources for the one that sees
+/// it.
 fn add_next(
     alloc: Global,
     found: &mut Found<Given>,
@@ -133,8 +134,8 @@ fn add_next(
     pair: Given,
 ) -> Result<(), AllocError>
     requires collected { IsCollected given_cmp found.old }
-    ensures collected { IfOk result (λ _. IsCollected given_cmp found.new) }
-    ensures added { IfOk result (λ _. Adds (IsNext rows.now (IsAmong among.entry) pair) found.old.items.items found.new.items.items) }
+    ensures collected { OnOk result (IsCollected given_cmp found.new) }
+    ensures added { OnOk result (Adds (IsNext rows.now (IsAmong among.entry) pair) found.old.items.items found.new.items.items) }
 {
     let imports = rows.imports_for(pair.source, pair.package);
     if !imports.is_empty() {

@@ -1,6 +1,6 @@
 //! The packages of which revisions may have different sources.
 
-ghost use Rattle.std.specs.Prelude.{◌≡◌, ℕ, Contains, IfOk};
+ghost use Rattle.std.specs.Prelude.{◌≡◌, ℕ, Contains, IfOk, OnOk};
 ghost use Rattle.osgi_world.specs.Lists.{In};
 ghost use Rattle.osgi_world.specs.declared.world.Known.{Known};
 ghost use Rattle.osgi_space_sources.specs.computed.Disputes.{AreDisputed, AreNoted, HoldsAll, IsNoted};
@@ -37,8 +37,8 @@ impl Possible {
     }
 
     pub fn note(&mut self, package: u32, source: u32) -> Result<(), AllocError>
-        ensures noted { IfOk result (λ _. IsNoted self.new «package» source) }
-        ensures kept { HoldsAll self.old self.new }
+        ensures noted { OnOk result (IsNoted self.new «package» source) }
+        ensures nothing_lost { HoldsAll self.old self.new }
     {
         match self.first.get(package).copied() {
             None => {
@@ -56,8 +56,8 @@ impl Possible {
 
 /// Notes the providers of wires for packages.
 pub fn note_imports(possible: &mut Possible, imports: &[Import]) -> Result<(), AllocError>
-    ensures noted { IfOk result (λ _. (r p x : ℕ) → Contains imports.now (record { revision = r; imported = p; provider = x }) → IsNoted possible.new p x) }
-    ensures kept { IfOk result (λ _. HoldsAll possible.old possible.new) }
+    ensures noted { OnOk result ((r p x : ℕ) → Contains imports.now (record { revision = r; imported = p; provider = x }) → IsNoted possible.new p x) }
+    ensures nothing_lost { OnOk result (HoldsAll possible.old possible.new) }
 {
     for row in imports {
         possible.note(row.imported, row.provider)?;
@@ -67,8 +67,8 @@ pub fn note_imports(possible: &mut Possible, imports: &[Import]) -> Result<(), A
 
 /// Notes the owners of exports.
 fn note_exports(possible: &mut Possible, rows: &Rows) -> Result<(), AllocError>
-    ensures noted { IfOk result (λ _. (o p : ℕ) → OwnExport rows.now o p → IsNoted possible.new p o) }
-    ensures kept { IfOk result (λ _. HoldsAll possible.old possible.new) }
+    ensures noted { OnOk result ((o p : ℕ) → OwnExport rows.now o p → IsNoted possible.new p o) }
+    ensures nothing_lost { OnOk result (HoldsAll possible.old possible.new) }
 {
     for row in rows.exports() {
         possible.note(row.exported, row.owner)?;
@@ -83,8 +83,8 @@ pub fn note_fragment(
     host: u32,
     fragment: u32,
 ) -> Result<(), AllocError>
-    ensures noted { IfOk result (λ _. (p : ℕ) → OwnExport rows.now fragment p → IsNoted possible.new p host) }
-    ensures kept { HoldsAll possible.old possible.new }
+    ensures noted { OnOk result ((p : ℕ) → OwnExport rows.now fragment p → IsNoted possible.new p host) }
+    ensures nothing_lost { HoldsAll possible.old possible.new }
 {
     for row in rows.exports_of(fragment) {
         possible.note(row.exported, host)?;
@@ -98,8 +98,8 @@ pub fn note_fragments(
     rows: &Rows,
     attached: &[Attachment],
 ) -> Result<(), AllocError>
-    ensures noted { IfOk result (λ _. (h f p : ℕ) → Contains attached.now (record { host = h; fragment = f }) → OwnExport rows.now f p → IsNoted possible.new p h) }
-    ensures kept { IfOk result (λ _. HoldsAll possible.old possible.new) }
+    ensures noted { OnOk result ((h f p : ℕ) → Contains attached.now (record { host = h; fragment = f }) → OwnExport rows.now f p → IsNoted possible.new p h) }
+    ensures nothing_lost { OnOk result (HoldsAll possible.old possible.new) }
 {
     for row in attached {
         note_fragment(possible, rows, row.host, row.fragment)?;
@@ -109,8 +109,8 @@ pub fn note_fragments(
 
 /// Notes these revisions as what their own exports come from.
 pub fn note_known(possible: &mut Possible, rows: &Rows, known: &[Known]) -> Result<(), AllocError>
-    ensures noted { IfOk result (λ _. (k : Known) (p : ℕ) → In k known.now → OwnExport rows.now k.id.0 p → IsNoted possible.new p k.id.0) }
-    ensures kept { IfOk result (λ _. HoldsAll possible.old possible.new) }
+    ensures noted { OnOk result ((k : Known) (p : ℕ) → In k known.now → OwnExport rows.now k.id.0 p → IsNoted possible.new p k.id.0) }
+    ensures nothing_lost { OnOk result (HoldsAll possible.old possible.new) }
 {
     for each in known {
         note_fragment(possible, rows, each.id.0, each.id.0)?;

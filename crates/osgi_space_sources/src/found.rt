@@ -1,6 +1,6 @@
 //! What was found so far, in order.
 
-ghost use Rattle.std.specs.Prelude.{◌≡◌, ◌↔◌, ◌⊎◌, ◌≤◌, [], length, Contains, IfOk, IsTrue};
+ghost use Rattle.std.specs.Prelude.{◌≡◌, ◌↔◌, ◌⊎◌, ◌≤◌, [], length, Contains, IfOk, OnOk, IsTrue};
 ghost use Rattle.std.specs.BTreeSet.{contains};
 ghost use Rattle.std.specs.Bool.{Decides};
 ghost use Rattle.std.specs.Ordering.{eq_by_cmp};
@@ -61,8 +61,8 @@ impl<T: Node> Found<T> {
     /// Adds a value, unless it is there.
     pub fn add(&mut self, node: T) -> Result<(), AllocError>
         requires collected { IsCollected T.cmp self.old }
-        ensures collected { IfOk result (λ _. IsCollected T.cmp self.new) }
-        ensures added { IfOk result (λ _. Adds (λ x. x ≡ node) self.old.items.items self.new.items.items) }
+        ensures collected { OnOk result (IsCollected T.cmp self.new) }
+        ensures added { OnOk result (Adds (λ x. x ≡ node) self.old.items.items self.new.items.items) }
     {
         if self.has(node) {
             return Ok(());
@@ -79,7 +79,7 @@ impl<T: Node> Found<T> {
         requires collected { IsCollected T.cmp self.old }
         requires enough { FEW ≤ length self.old.items.items }
         ensures items { self.new.items.items ≡ self.old.items.items }
-        ensures noted { IfOk result (λ _. Has T.cmp self.new.set (λ x. Contains self.old.items.items x ⊎ (node ≡ x))) }
+        ensures noted { OnOk result (Has T.cmp self.new.set (λ x. Contains self.old.items.items x ⊎ (node ≡ x))) }
     {
         if self.items.len() == FEW {
             put_all(&mut self.set, self.items.as_slice())?;
@@ -103,7 +103,7 @@ pub(crate) fn is_listed<T: Node>(list: &[T], node: T) -> bool
 
 /// Puts the values of the list into the set.
 fn put_all<T: Node>(set: &mut BTreeSet<T>, list: &[T]) -> Result<(), AllocError>
-    ensures put { IfOk result (λ _. Has T.cmp set.new (λ x. IsTrue (contains T.cmp set.old x) ⊎ Contains list.now x)) }
+    ensures put { OnOk result (Has T.cmp set.new (λ x. IsTrue (contains T.cmp set.old x) ⊎ Contains list.now x)) }
 {
     for item in list {
         set.insert(*item)?;

@@ -1,6 +1,6 @@
 //! Where a package comes from.
 
-ghost use Rattle.std.specs.Prelude.{◌↔◌, Contains, IfOk, IsTrue};
+ghost use Rattle.std.specs.Prelude.{◌↔◌, Contains, IfOk, OnOk, IsTrue};
 ghost use Rattle.osgi_space_sources.specs.computed.Adds.{Adds};
 ghost use Rattle.osgi_space_sources.specs.declared.given.Given.{Given};
 ghost use Rattle.osgi_space_sources.specs.computed.RowSources.{HasExport, ImportsElsewhere};
@@ -56,7 +56,7 @@ fn add_elsewhere(
     bundle: u32,
     package: u32,
 ) -> Result<(), AllocError>
-    ensures added { IfOk result (λ _. Adds (IsElsewhere rows.now bundle «package») givens.old.items givens.new.items) }
+    ensures added { OnOk result (Adds (IsElsewhere rows.now bundle «package») givens.old.items givens.new.items) }
 {
     for row in rows.imports_for(bundle, package) {
         if row.provider != bundle {
@@ -77,7 +77,7 @@ pub fn add_exported(
     package: u32,
 ) -> Result<(), AllocError>
     requires exported { HasExport rows.now bundle «package» }
-    ensures added { IfOk result (λ _. Adds (IsDirect rows.now bundle «package») givens.old.items givens.new.items) }
+    ensures added { OnOk result (Adds (IsDirect rows.now bundle «package») givens.old.items givens.new.items) }
 {
     if imports_elsewhere(rows, bundle, package) {
         add_elsewhere(givens, rows, bundle, package)?;
@@ -97,7 +97,7 @@ fn add_direct(
     bundle: u32,
     package: u32,
 ) -> Result<(), AllocError>
-    ensures added { IfOk result (λ _. Adds (IsDirect rows.now bundle «package») givens.old.items givens.new.items) }
+    ensures added { OnOk result (Adds (IsDirect rows.now bundle «package») givens.old.items givens.new.items) }
 {
     if has_export(rows, bundle, package) {
         add_exported(givens, rows, bundle, package)?;
@@ -107,7 +107,7 @@ fn add_direct(
 
 /// Adds the providers of these wires as sources of the package.
 fn add_imported(givens: &mut Vec<Given>, imports: &[Import], package: u32) -> Result<(), AllocError>
-    ensures added { IfOk result (λ _. Adds (IsProvider imports.now «package») givens.old.items givens.new.items) }
+    ensures added { OnOk result (Adds (IsProvider imports.now «package») givens.old.items givens.new.items) }
 {
     for row in imports {
         givens.push(Given {
@@ -126,7 +126,7 @@ fn add_given(
     revision: u32,
     package: u32,
 ) -> Result<(), AllocError>
-    ensures added { IfOk result (λ _. Adds (IsGivenTo rows.now revision «package») givens.old.items givens.new.items) }
+    ensures added { OnOk result (Adds (IsGivenTo rows.now revision «package») givens.old.items givens.new.items) }
 {
     let reached = reached_bundles(alloc, rows, revision)?;
     for bundle in &reached.items {

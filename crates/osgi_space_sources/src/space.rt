@@ -1,6 +1,6 @@
 //! The class space of a revision: all packages that it sees, with their sources.
 
-ghost use Rattle.std.specs.Prelude.{◌↔◌, Contains, IfOk};
+ghost use Rattle.std.specs.Prelude.{◌↔◌, Contains, IfOk, OnOk};
 ghost use Rattle.osgi_space_sources.specs.computed.Adds.{Adds};
 ghost use Rattle.osgi_space_sources.specs.computed.Givens.{IsGivenBy, IsGivenByOwner, IsGivenByReached, IsGivenOf, IsSeen, IsUnwired, IsWired};
 ghost use Rattle.osgi_space_sources.specs.computed.RowSources.{HasExport, Owns};
@@ -21,7 +21,7 @@ fn add_unless_imported(
     package: u32,
 ) -> Result<(), AllocError>
     requires exported { HasExport rows.now bundle «package» }
-    ensures added { IfOk result (λ _. Adds (IsGivenOf rows.now revision bundle «package») givens.old.items givens.new.items) }
+    ensures added { OnOk result (Adds (IsGivenOf rows.now revision bundle «package») givens.old.items givens.new.items) }
 {
     if rows.imports_for(revision, package).is_empty() {
         add_exported(givens, rows, bundle, package)?;
@@ -38,7 +38,7 @@ fn add_owner(
     owner: u32,
 ) -> Result<(), AllocError>
     requires owns { Owns rows.now bundle owner }
-    ensures added { IfOk result (λ _. Adds (IsGivenByOwner rows.now revision bundle owner) givens.old.items givens.new.items) }
+    ensures added { OnOk result (Adds (IsGivenByOwner rows.now revision bundle owner) givens.old.items givens.new.items) }
 {
     for row in rows.exports_of(owner) {
         add_unless_imported(givens, rows, revision, bundle, row.exported)?;
@@ -53,7 +53,7 @@ fn add_bundle(
     revision: u32,
     bundle: u32,
 ) -> Result<(), AllocError>
-    ensures added { IfOk result (λ _. Adds (IsGivenBy rows.now revision bundle) givens.old.items givens.new.items) }
+    ensures added { OnOk result (Adds (IsGivenBy rows.now revision bundle) givens.old.items givens.new.items) }
 {
     add_owner(givens, rows, revision, bundle, bundle)?;
     for row in rows.attached_to(bundle) {
@@ -64,7 +64,7 @@ fn add_bundle(
 
 /// Adds the providers of the revision's wires for packages.
 fn add_imports(givens: &mut Vec<Given>, rows: &Rows, revision: u32) -> Result<(), AllocError>
-    ensures added { IfOk result (λ _. Adds (IsWired rows.now revision) givens.old.items givens.new.items) }
+    ensures added { OnOk result (Adds (IsWired rows.now revision) givens.old.items givens.new.items) }
 {
     for row in rows.imports_of(revision) {
         givens.push(Given {
@@ -82,7 +82,7 @@ fn add_reached(
     rows: &Rows,
     revision: u32,
 ) -> Result<(), AllocError>
-    ensures added { IfOk result (λ _. Adds (IsGivenByReached rows.now revision) givens.old.items givens.new.items) }
+    ensures added { OnOk result (Adds (IsGivenByReached rows.now revision) givens.old.items givens.new.items) }
 {
     if rows.required_by(revision).is_empty() {
         return Ok(());

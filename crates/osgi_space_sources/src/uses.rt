@@ -70,7 +70,7 @@ fn is_violated(
     if !disputed.contains(&pair.package) {
         return Ok(false);
     }
-    Ok(clashes(alloc, rows, revision, pair)?)
+    clashes(alloc, rows, revision, pair)
 }
 
 /// Whether no constraint in the list is violated.
@@ -82,7 +82,7 @@ fn are_kept(
     pairs: &[Given],
 ) -> Result<bool, AllocError>
     requires disputed { AreDisputed rows.now disputed.now }
-    ensures kept { IfOk result (λ answer. IsTrue answer ↔ ¬ Any (IsClash rows.now revision) pairs.now) }
+    ensures uses { IfOk result (λ answer. IsTrue answer ↔ ¬ Any (IsClash rows.now revision) pairs.now) }
 {
     for pair in pairs {
         if is_violated(alloc, rows, disputed, revision, *pair)? {
@@ -112,7 +112,7 @@ pub fn keeps_uses(
     revision: u32,
 ) -> Result<bool, AllocError>
     requires disputed { AreDisputed rows.now disputed.now }
-    ensures kept { IfOk result (λ answer. IsTrue answer ↔ KeepsUsesAmong rows.now (IsAmong among.entry) revision) }
+    ensures uses { IfOk result (λ answer. IsTrue answer ↔ KeepsUsesAmong rows.now (IsAmong among.entry) revision) }
 {
     if disputed.is_empty() {
         return Ok(true);
@@ -134,7 +134,7 @@ pub fn keeps_uses(
 
 /// Whether no constraint of a revision in force is violated.
 pub fn all_keep_uses(alloc: Global, rows: &Rows, wirings: &[Wiring]) -> Result<bool, AllocError>
-    ensures kept { IfOk result (λ answer. IsTrue answer ↔ ¬ Any (λ (g : Wiring). ¬ KeepsUses rows.now g.revision.0) wirings.now) }
+    ensures uses { IfOk result (λ answer. IsTrue answer ↔ ¬ Any (λ (g : Wiring). ¬ KeepsUses rows.now g.revision.0) wirings.now) }
 {
     let disputed = disputed_packages(alloc, rows)?;
     for wiring in wirings {

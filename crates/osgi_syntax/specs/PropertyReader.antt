@@ -9,6 +9,7 @@ use Rattle.osgi_model.specs.declared.value.Value.{Value}
 use Rattle.osgi_syntax.specs.Properties.{is_bare_byte, is_key_byte}
 use Rattle.osgi_base.specs.QuoteReader.{quoted_of}
 
+-- a `"` (34) stands first
 abbrev pub begins_with_quote : List ℕ → Bool
 begins_with_quote [] = false
 begins_with_quote (b ∷ rest) = b == 34
@@ -25,6 +26,7 @@ abbrev pub attribute_of : List ℕ → List ℕ → List ℕ → Option Attribut
 attribute_of key type spelled =
     option_and_then (λ text. option_map (λ value. record { name = key; value = value }) (value_named type text)) (value_text_of spelled)
 
+-- `=` (61)
 abbrev pub is_equals : ℕ → Bool
 is_equals b = b == 61
 
@@ -32,7 +34,7 @@ is_equals b = b == 61
 abbrev pub typed_of : List ℕ → List ℕ → Option Attribute
 typed_of key rest = option_and_then (λ end. attribute_of key (take end rest) (drop (end + 1) rest)) (position is_equals rest)
 
--- the property of a key, by what follows it
+-- the property of a key, by what follows it: `=` (61), or `:` (58) and a type
 abbrev pub property_from : List ℕ → List ℕ → Option Attribute
 property_from key [] = None
 property_from key (b ∷ rest) =

@@ -29,6 +29,11 @@ first_word text = take (part_len 32 Bare (after_spaces text)) (after_spaces text
 abbrev pub after_word : List ℕ → List ℕ
 after_word text = drop (part_len 32 Bare (after_spaces text)) (after_spaces text)
 
+-- the one word, where there is one and no other
+abbrev pub only_word_of : List (List ℕ) → Option (List ℕ)
+only_word_of (word ∷ []) = Some word
+only_word_of _ = None
+
 -- the text has no word
 pub record HasNoWord (text : List ℕ) : Type 0 where
   pub words : words_of text ≡ []

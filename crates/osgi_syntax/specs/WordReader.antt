@@ -17,6 +17,7 @@ is_class name = is_some_of is_class_byte name
 abbrev pub class_of : List ℕ → Option (List ℕ)
 class_of word = if is_class word then Some word else None
 
+-- `,` (44)
 abbrev pub is_comma : ℕ → Bool
 is_comma b = b == 44
 
@@ -34,6 +35,7 @@ name_of word = if is_name word then Some word else None
 abbrev pub is_token : List ℕ → Bool
 is_token token = is_some_of is_token_byte token
 
+-- `.` (46)
 abbrev pub is_dot : ℕ → Bool
 is_dot b = b == 46
 
@@ -43,8 +45,8 @@ is_bundle_name name = list_all is_token (slice_split is_dot name)
 abbrev pub bundle_name_of : List ℕ → Option (List ℕ)
 bundle_name_of word = if is_bundle_name word then Some word else None
 
-abbrev pub id_of : List ℕ → Option ServiceId
-id_of word = if nat_le (length word) 10 && is_numeral word then Some (record { 0 = digits_value 10 word }) else None
+abbrev pub service_id_of : List ℕ → Option ServiceId
+service_id_of word = if nat_le (length word) 10 && is_numeral word then Some (record { 0 = digits_value 10 word }) else None
 
 -- the bundle with the same number, where it is below 2^32
 abbrev pub bundle_by : Option ServiceId → Option BundleId
@@ -52,4 +54,4 @@ bundle_by None = None
 bundle_by (Some number) = if nat_lt number.0 (2 ^ 32) then Some (record { 0 = number.0 }) else None
 
 abbrev pub bundle_id_of : List ℕ → Option BundleId
-bundle_id_of word = bundle_by (id_of word)
+bundle_id_of word = bundle_by (service_id_of word)

@@ -5,6 +5,7 @@ use Rattle.std.specs.Str.Parse.{IsNumeral, digits_value}
 use Rattle.osgi_base.specs.declared.ids.BundleId.{BundleId}
 use Rattle.osgi_base.specs.declared.ids.ServiceId.{ServiceId}
 
+-- spaces (32)
 abbrev pub AreSpaces : List ℕ → Type 0
 AreSpaces text = All (λ b. b ≡ 32) text
 
@@ -16,9 +17,11 @@ IsSeparated IsEnd (word ∷ words) text =
 
 -- ---- names
 
+-- `a` (97) to `z` (122), or `A` (65) to `Z` (90)
 abbrev pub is_letter : ℕ → Bool
 is_letter b = (nat_le 97 b && nat_le b 122) || (nat_le 65 b && nat_le b 90)
 
+-- `0` (48) to `9` (57)
 abbrev pub is_decimal_digit : ℕ → Bool
 is_decimal_digit b = nat_le 48 b && nat_le b 57
 

@@ -5,7 +5,7 @@ ghost use Rattle.std.specs.List.{list_all};
 ghost use Rattle.osgi_model.specs.computed.LongReader.{is_decimal, is_numeral};
 ghost use Rattle.osgi_base.specs.declared.ids.BundleId.{BundleId};
 ghost use Rattle.osgi_base.specs.declared.ids.ServiceId.{ServiceId};
-ghost use Rattle.osgi_syntax.specs.WordReader.{bundle_by, bundle_id_of, id_of};
+ghost use Rattle.osgi_syntax.specs.WordReader.{bundle_by, bundle_id_of, service_id_of};
 ghost use Rattle.osgi_syntax.specs.Words.{IsBundleId, IsId};
 
 use osgi_base::{BundleId, ServiceId};
@@ -24,10 +24,7 @@ fn has_digits(word: &[u8]) -> bool
 fn is_numeral(word: &[u8]) -> bool
     ensures numeral { result ≡ is_numeral word.now }
 {
-    if word.is_empty() {
-        return false;
-    }
-    has_digits(word)
+    !word.is_empty() && has_digits(word)
 }
 
 /// A word as the id of a bundle: one to ten decimal digits of a number below 2^32. None where it is none.
@@ -53,7 +50,7 @@ fn bundle_by(number: Option<ServiceId>) -> Option<BundleId>
 
 /// A word as the id of a service: one to ten decimal digits. None where it is none.
 pub fn id(word: &[u8]) -> Option<ServiceId>
-    ensures id { result ≡ id_of word.now }
+    ensures id { result ≡ service_id_of word.now }
     ensures reads { IfSome result (IsId word.now) }
     ensures only { (service : ServiceId) → IsId word.now service → result ≡ Some service }
 {
@@ -61,7 +58,7 @@ pub fn id(word: &[u8]) -> Option<ServiceId>
 }
 
 fn service_id(word: &[u8]) -> Option<ServiceId>
-    ensures id { result ≡ id_of word.now }
+    ensures id { result ≡ service_id_of word.now }
 {
     if word.len() > MAX_ID_LEN || !is_numeral(word) {
         return None;

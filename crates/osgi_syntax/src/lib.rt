@@ -11,4 +11,4 @@ mod words;
 pub use ids::{bundle_id, id};
 pub use lines::{says_nothing, split_line};
 pub use names::{bundle_name, class, classes, name};
-pub use words::{skip_spaces, split_word, split_words};
+pub use words::{only_word, skip_spaces, split_word, split_words};

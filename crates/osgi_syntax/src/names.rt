@@ -19,10 +19,7 @@ fn has_class_bytes(name: &[u8]) -> bool
 fn is_class(name: &[u8]) -> bool
     ensures class { result ≡ is_class name.now }
 {
-    if name.is_empty() {
-        return false;
-    }
-    has_class_bytes(name)
+    !name.is_empty() && has_class_bytes(name)
 }
 
 /// A word as a class name; none where it is no class name.
@@ -142,10 +139,7 @@ fn has_token_bytes(token: &[u8]) -> bool
 fn is_token(token: &[u8]) -> bool
     ensures token { result ≡ is_token token.now }
 {
-    if token.is_empty() {
-        return false;
-    }
-    has_token_bytes(token)
+    !token.is_empty() && has_token_bytes(token)
 }
 
 /// Whether each of the texts is a token.

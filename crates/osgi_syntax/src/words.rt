@@ -1,7 +1,7 @@
 //! The words of a line: spaces separate them, except between quotes.
 
-ghost use Rattle.std.specs.Prelude.{◌≡◌, ℕ, List, ◌∷◌, IfOk, MatchOption};
-ghost use Rattle.osgi_syntax.specs.Splitting.{after_spaces, texts_of, words_of, BeginsWithWord, HasNoWord};
+ghost use Rattle.std.specs.Prelude.{◌≡◌, ℕ, List, ◌∷◌, None, Some, IfOk, MatchOption};
+ghost use Rattle.osgi_syntax.specs.Splitting.{after_spaces, only_word_of, texts_of, words_of, BeginsWithWord, HasNoWord};
 ghost use Rattle.osgi_syntax.specs.LineWords.{AreLineWords};
 ghost use Rattle.osgi_syntax.specs.Words.{AreSpaces, IsSeparated};
 
@@ -28,6 +28,17 @@ pub fn split_word(text: &[u8]) -> Option<(&[u8], &[u8])>
         return None;
     }
     Some(text.split_at(part_len(b' ', text)))
+}
+
+/// The one word of a text; none where it has none or more.
+pub fn only_word(text: &[u8]) -> Option<&[u8]>
+    ensures word { MatchOption result (only_word_of (words_of text.now) ≡ None) (λ word. only_word_of (words_of text.now) ≡ Some word.now) }
+{
+    let (word, rest) = split_word(text)?;
+    match split_word(rest) {
+        Some(_) => None,
+        None => Some(word),
+    }
 }
 
 /// All words of a text, in order. A word with a quote that is not closed goes to the end of the text.

@@ -5,13 +5,13 @@ use Rattle.osgi_world.specs.Decisions.{Step}
 use Rattle.osgi_world.specs.declared.wiring.Wiring.{Wiring}
 use Rattle.osgi_world.specs.declared.world.Known.{Known}
 use Rattle.osgi_world.specs.declared.world.World.{World}
-use Rattle.osgi_space_rows.specs.Steps.{with_steps}
+use Rattle.osgi_space_rows.specs.Steps.{after_steps}
 use Rattle.osgi_space_rows.specs.Worlds.{AddsStep, AreRowsIn, WorldLists}
 use Rattle.osgi_uses.specs.computed.Trail.{AreRowsAlong, IsTrailOf, step_of}
 use Rattle.osgi_uses.specs.declared.trail.Taken.{Taken}
 
 -- they are rows of the wirings with all that was added
-pub rows-along : (rows : WorldLists) (W : List Wiring) (trail : List Taken) → AreRowsAlong rows W trail → AreRowsIn rows (with_steps W (map step_of trail))
+pub rows-along : (rows : WorldLists) (W : List Wiring) (trail : List Taken) → AreRowsAlong rows W trail → AreRowsIn rows (after_steps W (map step_of trail))
 rows-along rows W [] are = are
 rows-along rows W (t ∷ trail) along = along.0
 
@@ -25,7 +25,7 @@ trail-more world old new trail items t more step is = record {
   along =
       let turned : reverse items ≡ t ∷ reverse trail = ap reverse more ∙ reverse-append trail (t ∷ []) in
       let W = world.wirings in
-      let now = step.agree (with_steps W (map step_of (reverse trail))) (rows-along old W (reverse trail) is.along) in
+      let now = step.agree (after_steps W (map step_of (reverse trail))) (rows-along old W (reverse trail) is.along) in
       let before = subst (λ (rows : WorldLists). AreRowsAlong rows W (reverse trail)) (sym (with_rows_of new old step.known step.names)) is.along in
       subst (AreRowsAlong new W) (sym turned) (now, old.rows, step.rows, before);
 }

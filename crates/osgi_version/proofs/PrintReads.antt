@@ -7,15 +7,16 @@ use Rattle.std.proofs.lemmas.Grind.{common_steps}
 use Rattle.osgi_version.specs.Bytes.{Each, IsDigit, IsWordByte}
 use Rattle.osgi_version.specs.RangeValues.{range_text}
 use Rattle.osgi_version.specs.Ranges.{RangeParts, Opens, Closes, IsRangeOf, plain, bounded}
-use Rattle.osgi_version.specs.VersionValues.{qualifier_text, text_of}
-use Rattle.osgi_version.specs.Versions.{Parts, IsNumber, IsMinor, IsMicro, IsBody, major, minor, micro, qualified, SpellsVersion, blank, body, Fits, ReadsVersion}
+use Rattle.osgi_version.specs.VersionValues.{qualifier_text, parts_text}
+use Rattle.osgi_version.specs.Versions.{Parts, IsNumber, IsMinor, IsMicro, IsBody, major, minor, micro, qualified, SpellsVersion, blank, body, NumbersFit, ReadsVersion}
+use Rattle.osgi_version.specs.declared.version.TheConstants.{MAX_NUMBER}
 use Rattle.osgi_version.specs.laws.Capping.{grown}
 use Rattle.osgi_version.specs.laws.VersionSeen.{one_digit, digit_push}
 
 digit_byte : (k : ℕ) → k < 10 → IsDigit (48 + k)
 digit_byte k h = grind (arith, common_steps)
 
-pub decimal_number : (n : ℕ) → n < 2147483648 → IsNumber (decimal n) n
+pub decimal_number : (n : ℕ) → n ≤ MAX_NUMBER → IsNumber (decimal n) n
 decimal_number n h = decimal_by_steps (λ n ds. IsNumber ds n) one step n (omega arith)
   where
     one : (n : ℕ) → n < 10 → IsNumber ((48 + n) ∷ []) n
@@ -35,7 +36,7 @@ pub words : (text : List ℕ) (v : Parts) → SpellsVersion text v → Each IsWo
 words text v (blank h) = tt
 words text v (body lead inner end parts ls h bs) = body_words inner v h
 
-print_body : (m i n : ℕ) (q : List ℕ) → m < 2147483648 → i < 2147483648 → n < 2147483648 → Each IsWordByte q → IsBody (decimal m ++ 46 ∷ (decimal i ++ 46 ∷ (decimal n ++ qualifier_text q))) (record { major = m; minor = i; micro = n; qualifier = q })
+print_body : (m i n : ℕ) (q : List ℕ) → m ≤ MAX_NUMBER → i ≤ MAX_NUMBER → n ≤ MAX_NUMBER → Each IsWordByte q → IsBody (decimal m ++ 46 ∷ (decimal i ++ 46 ∷ (decimal n ++ qualifier_text q))) (record { major = m; minor = i; micro = n; qualifier = q })
 print_body m i n q hm hi hn hq =
     let b : IsMinor (decimal m ++ 46 ∷ decimal i) m i = record { prefix = decimal m; digits = decimal i; parts = refl; major = decimal_number m hm; number = decimal_number i hi } in
     let c : IsMicro ((decimal m ++ 46 ∷ decimal i) ++ 46 ∷ decimal n) m i n = record { prefix = decimal m ++ 46 ∷ decimal i; digits = decimal n; parts = refl; minor = b; number = decimal_number n hn } in
@@ -49,10 +50,10 @@ print_body m i n q hm hi hn hq =
     with_qualifier (b ∷ q) h c = qualified (record { prefix = (decimal m ++ 46 ∷ decimal i) ++ 46 ∷ decimal n; parts = refl; micro = c; some = omega arith; words = h })
 
 -- what is printed of a version reads as that version
-pub print_reads : (v : Parts) → Fits v → Each IsWordByte v.qualifier → ReadsVersion (text_of v) v
-print_reads v f w = record { spells = body [] (text_of v) [] (sym (append-nil (text_of v))) tt (print_body v.major v.minor v.micro v.qualifier f.major f.minor f.micro w) tt; fits = f }
+pub print_reads : (v : Parts) → NumbersFit v → Each IsWordByte v.qualifier → ReadsVersion (parts_text v) v
+print_reads v f w = record { spells = body [] (parts_text v) [] (sym (append-nil (parts_text v))) tt (print_body v.major v.minor v.micro v.qualifier f.major f.minor f.micro w) tt; fits = f }
 
-print_again : (bytes : List ℕ) (v : Parts) → ReadsVersion bytes v → ReadsVersion (text_of v) v
+print_again : (bytes : List ℕ) (v : Parts) → ReadsVersion bytes v → ReadsVersion (parts_text v) v
 print_again bytes v h = print_reads v h.fits (words bytes v h.spells)
 
 opens_if : (x : Bool) → Opens (if x then 91 else 40) x
@@ -68,8 +69,8 @@ print_range_reads bytes r (plain {v = v} h) = plain (print_again bytes v h)
 print_range_reads bytes r (bounded {low = low} {high = high} {low_in = low_in} {high_in = high_in} h) = bounded (record {
   lead = [];
   open_byte = if low_in then 91 else 40;
-  low_text = text_of low;
-  high_text = text_of high;
+  low_text = parts_text low;
+  high_text = parts_text high;
   close_byte = if high_in then 93 else 41;
   tail = [];
   parts = refl;

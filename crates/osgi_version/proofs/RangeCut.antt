@@ -1,6 +1,6 @@
 -- The parts of a range text, by what the last state counts.
 use Rattle.std.proofs.Common.{◌≡◌, ℕ, Bool, true, List, ◌∷◌, ◌++◌, take, drop, get_or, nat_eq, refl, ap, subst, ◌∙◌, sym, Some}
-use Rattle.osgi_version.specs.computed.RangeCut.{IsCut}
+use Rattle.osgi_version.specs.computed.RangeCut.{IsRangeCut}
 use Rattle.osgi_version.specs.computed.RangeMachine.{step_range, is_fine_range, may_end_range}
 use Rattle.osgi_version.specs.Ranges.{Opens, Closes, bounded}
 use Rattle.osgi_version.specs.computed.Run.{run, advance}
@@ -24,7 +24,7 @@ square_close b x Closes.round = refl
 
 pub cut_at : (text : List ℕ) (k n h w : ℕ) → run (advance is_fine_range step_range true) (Before 0) text ≡ Some (Closed k n h w)
     → (b1 b2 low b3 b4 high b5 : List ℕ) → b1 ≡ drop k text → b2 ≡ drop 1 b1 → low ≡ take n b2 → b3 ≡ drop n b2 → b4 ≡ drop 1 b3 → high ≡ take h b4 → b5 ≡ drop h b4
-    → IsCut text (nat_eq (get_or b1 0 0) 91) low high (nat_eq (get_or b5 0 0) 93)
+    → IsRangeCut text (nat_eq (get_or b1 0 0) 91) low high (nat_eq (get_or b5 0 0) 93)
 cut_at text k n h w e b1 b2 low b3 b4 high b5 e1 e2 el e3 e4 eh e5 =
     let s : IsBehindSeen (advance is_fine step true) text k n h w = strict_seen text (Closed k n h w) e in
     let t = s.before in

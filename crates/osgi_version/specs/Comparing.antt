@@ -10,6 +10,7 @@ use Rattle.std.specs.declared.cmp.Ordering.{Ordering}
 use Rattle.std.proofs.Common.{ap}
 use Rattle.std.proofs.lemmas.Bool.Decides.{Decides-and, Decides-eqb, Decides-like}
 use Rattle.osgi_version.specs.VersionValues.{parts}
+use Rattle.osgi_version.specs.declared.version.TheConstants.{MAX_NUMBER}
 use Rattle.osgi_version.specs.declared.version.Version.{Version}
 
 abbrev pub version_eq : Version → Version → Bool
@@ -33,7 +34,7 @@ same_parts v w e = λ i. record {
   micro = (e i).micro;
   qualifier = (e i).qualifier;
   in_range =
-      is_prop→PathP (λ j. ((e j).major ≤ 2147483647) × ((e j).minor ≤ 2147483647) × ((e j).micro ≤ 2147483647)) (λ j. ×₃_prop le_prop le_prop le_prop)
+      is_prop→PathP (λ j. ((e j).major ≤ MAX_NUMBER) × ((e j).minor ≤ MAX_NUMBER) × ((e j).micro ≤ MAX_NUMBER)) (λ j. ×₃_prop le_prop le_prop le_prop)
       v.in_range w.in_range i;
 }
 

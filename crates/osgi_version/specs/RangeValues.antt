@@ -5,7 +5,7 @@ use Rattle.std.specs.declared.cmp.Ordering.TheVariants.{Less, Equal, Greater}
 use Rattle.std.specs.Option.{option_map}
 use Rattle.osgi_version.specs.Ranges.{RangeParts}
 use Rattle.osgi_version.specs.Versions.{Parts}
-use Rattle.osgi_version.specs.VersionValues.{order, parts, text_of}
+use Rattle.osgi_version.specs.VersionValues.{order, parts, parts_text}
 use Rattle.osgi_version.specs.declared.range.VersionRange.{VersionRange}
 
 abbrev pub range_parts : VersionRange → RangeParts
@@ -25,9 +25,10 @@ is_below_high (Some high) closed v = is_above closed (order high v)
 abbrev pub is_within : RangeParts → Parts → Bool
 is_within r v = is_above r.low_in (order v r.low) && is_below_high r.high r.high_in v
 
+-- `[` (91) or `(` (40), the lower bound, a comma (44), the upper one, and `]` (93) or `)` (41); without an upper one the lower alone
 abbrev pub bounds_text : Parts → Bool → Option Parts → Bool → List ℕ
-bounds_text low low_in None high_in = text_of low
-bounds_text low low_in (Some high) high_in = (if low_in then 91 else 40) ∷ (text_of low ++ 44 ∷ (text_of high ++ (if high_in then 93 else 41) ∷ []))
+bounds_text low low_in None high_in = parts_text low
+bounds_text low low_in (Some high) high_in = (if low_in then 91 else 40) ∷ (parts_text low ++ 44 ∷ (parts_text high ++ (if high_in then 93 else 41) ∷ []))
 
 -- the brackets with the two versions and a comma between, or a plain version
 abbrev pub range_text : RangeParts → List ℕ

@@ -1,8 +1,9 @@
 -- The grammar of versions: `major[.minor[.micro[.qualifier]]]`, with white space round it. Each part is written from
 -- the left: a minor text is a number, a dot and a number.
-use Rattle.std.specs.Prelude.{ℕ, ◌≡◌, ◌<◌, List, [], ◌∷◌, ◌++◌, length}
+use Rattle.std.specs.Prelude.{ℕ, ◌≡◌, ◌<◌, ◌≤◌, List, [], ◌∷◌, ◌++◌, length}
 use Rattle.std.specs.Str.Parse.{IsNumeral, digits_value}
 use Rattle.osgi_version.specs.Bytes.{Each, IsBlank, IsWordByte}
+use Rattle.osgi_version.specs.declared.version.TheConstants.{MAX_NUMBER}
 
 -- what a version says
 pub record Parts : Type 0 where
@@ -57,16 +58,16 @@ pub data SpellsVersion : List ℕ → Parts → Type 0 where
   body : {text : List ℕ} {v : Parts} (lead inner end : List ℕ) → text ≡ lead ++ (inner ++ end) → Each IsBlank lead → IsBody inner v → Each IsBlank end →
       SpellsVersion text v
 
--- each number is at most 2147483647
-pub record Fits (v : Parts) : Type 0 where
-  pub major : v.major < 2147483648
-  pub minor : v.minor < 2147483648
-  pub micro : v.micro < 2147483648
+-- each number is at most the greatest of a version
+pub record NumbersFit (v : Parts) : Type 0 where
+  pub major : v.major ≤ MAX_NUMBER
+  pub minor : v.minor ≤ MAX_NUMBER
+  pub micro : v.micro ≤ MAX_NUMBER
 
 -- `text` reads as the version `v`
 pub record ReadsVersion (text : List ℕ) (v : Parts) : Type 0 where
   pub spells : SpellsVersion text v
-  pub fits : Fits v
+  pub fits : NumbersFit v
 
 abbrev pub IsSpelledVersion : List ℕ → Type 0
 IsSpelledVersion text = (v : Parts) × SpellsVersion text v

@@ -1,7 +1,7 @@
 //! The two version texts of a range text, by what the last state of its machine counts.
 
 ghost use Rattle.std.specs.Prelude.{◌≡◌, ◌≤◌, Some, true, length, MatchOption};
-ghost use Rattle.osgi_version.specs.computed.RangeCut.{IsCut};
+ghost use Rattle.osgi_version.specs.computed.RangeCut.{IsRangeCut};
 ghost use Rattle.osgi_version.specs.computed.RangeMachine.{step_range, is_fine_range, may_end_range, held_range};
 ghost use Rattle.osgi_version.specs.computed.Run.{run, advance};
 ghost use Rattle.osgi_version.specs.Versions.{IsReadableVersion};
@@ -23,7 +23,7 @@ pub fn cut(bytes: &[u8], state: RangeState) -> Option<Bounds>
     requires held { held_range state ≤ length bytes.now }
     requires runs { run (advance is_fine_range step_range true) (Before 0) bytes.now ≡ Some state }
     requires end { may_end_range state ≡ true }
-    ensures parts { MatchOption result (IsReadableVersion bytes.now) (λ b. IsCut bytes.now b.low_in b.low.now b.high.now b.high_in) }
+    ensures parts { MatchOption result (IsReadableVersion bytes.now) (λ b. IsRangeCut bytes.now b.low_in b.low.now b.high.now b.high_in) }
 {
     match state {
         RangeState::Closed(k, n, h, _) => {

@@ -22,4 +22,4 @@ mod version_state;
 pub use fault::VersionFault;
 pub use qualifier::Qualifier;
 pub use range::VersionRange;
-pub use version::Version;
+pub use version::{MAX_NUMBER, Version};

@@ -2,7 +2,7 @@
 
 ghost use Rattle.std.specs.Prelude.{◌≡◌, ◌++◌, IfOk, OnOk};
 ghost use Rattle.std.specs.Fmt.{decimal};
-ghost use Rattle.osgi_version.specs.VersionValues.{text_of};
+ghost use Rattle.osgi_version.specs.VersionValues.{parts_text};
 
 use itoa::Buffer;
 use std::alloc::{AllocError, Global};
@@ -22,7 +22,7 @@ pub fn printed(
     micro: u32,
     qualifier: &[u8],
 ) -> Result<Vec<u8>, AllocError>
-    ensures text { IfOk result (λ t. t.items ≡ text_of (record { major = major; minor = minor; micro = micro; qualifier = qualifier.now })) }
+    ensures text { IfOk result (λ t. t.items ≡ parts_text (record { major = major; minor = minor; micro = micro; qualifier = qualifier.now })) }
 {
     let mut out = Vec::new(alloc);
     add_number(&mut out, major)?;

@@ -30,7 +30,7 @@ pub trait Reader: Copy {
         ensures held { held result ≡ 0 };
 
     fn step(self, b: u8) -> Option<Self>
-        requires room { held self < 18446744073709551615 }
+        requires room { held self < usize.MAX }
         ensures next { result ≡ step self b }
         ensures held { IfSome result (λ t. held t ≤ held self + 1) };
 
@@ -44,7 +44,7 @@ pub trait Reader: Copy {
 /// A step that does not leave the limits of the grammar where `strict`.
 #[inline(always)]
 fn advance<M: Reader>(strict: bool, state: M, b: u8) -> Option<M>
-    requires room { M.held state < 18446744073709551615 }
+    requires room { M.held state < usize.MAX }
     ensures next { result ≡ advance M.is_fine M.step strict state b }
     ensures held { IfSome result (λ t. M.held t ≤ M.held state + 1) }
 {

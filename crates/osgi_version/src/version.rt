@@ -1,6 +1,7 @@
 //! Versions: three numbers and a qualifier.
 
 ghost use Rattle.std.specs.Prelude.{◌≤◌};
+ghost use Rattle.osgi_version.specs.declared.version.TheConstants.{MAX_NUMBER};
 
 use crate::fault::VersionFault;
 use crate::printing::printed;
@@ -10,6 +11,9 @@ use osgi_base::Copied;
 use std::alloc::{AllocError, Global};
 use std::cmp::Ordering;
 
+/// The greatest number of a version.
+pub const MAX_NUMBER: u32 = 2_147_483_647;
+
 /// A version. Versions are ordered by their numbers, then by the qualifiers' bytes.
 #[derive(Drop)]
 pub struct Version {
@@ -17,19 +21,19 @@ pub struct Version {
     pub minor: u32,
     pub micro: u32,
     pub qualifier: Qualifier,
-    pub ghost in_range: { (major ≤ 2147483647) × (minor ≤ 2147483647) × (micro ≤ 2147483647) },
+    pub ghost in_range: { (major ≤ MAX_NUMBER) × (minor ≤ MAX_NUMBER) × (micro ≤ MAX_NUMBER) },
 }
 
 impl Version {
     ghost use Rattle.std.specs.Prelude.{◌≡◌, ◌++◌, ◌↔◌, IfOk, IsNone, IsTrue, IsOkAnd, MatchResult, Some};
     ghost use Rattle.osgi_version.specs.Faults.{IsFault};
     ghost use Rattle.osgi_version.specs.computed.FoundParts.{found_parts};
-    ghost use Rattle.osgi_version.specs.VersionValues.{order, parts, text_of};
+    ghost use Rattle.osgi_version.specs.VersionValues.{order, parts, parts_text};
     ghost use Rattle.osgi_version.specs.Versions.{Parts, ReadsVersion, IsReadableVersion, IsSpelledVersion, numbered};
 
     /// The version of these numbers, with the empty qualifier.
     pub fn numbered(major: u32, minor: u32, micro: u32) -> Version
-        requires fit { (major ≤ 2147483647) × (minor ≤ 2147483647) × (micro ≤ 2147483647) }
+        requires fit { (major ≤ MAX_NUMBER) × (minor ≤ MAX_NUMBER) × (micro ≤ MAX_NUMBER) }
         ensures parts { parts result ≡ numbered major minor micro }
     {
         Version {
@@ -58,7 +62,7 @@ impl Version {
 
     /// Three numbers, and the qualifier unless it is empty, with dots between. It reads as this version again.
     pub fn print(&self, alloc: Global) -> Result<Vec<u8>, AllocError>
-        ensures prints { IfOk result (λ t. t.items ≡ text_of (parts self.now)) }
+        ensures prints { IfOk result (λ t. t.items ≡ parts_text (parts self.now)) }
         ensures reads_back { IfOk result (λ t. ReadsVersion t.items (parts self.now)) }
     {
         let qualifier = self.qualifier.bytes();

@@ -7,6 +7,7 @@ ghost use Rattle.osgi_version.specs.declared.version_state.VersionState.TheVaria
 
 use crate::bytes::{Class, class_of};
 use crate::reader::Reader;
+use crate::version::MAX_NUMBER;
 
 /// What was read of a version: its numbers so far, how many bytes its qualifier has, and how many blanks follow.
 #[derive(Clone, Copy)]
@@ -30,14 +31,14 @@ fn more(n: u32, b: u8) -> u32
     ensures number { result ≡ more n b }
 {
     let digit = u64::from(b.saturating_sub(b'0'));
-    (10 * u64::from(n) + digit).min(2_147_483_648) as u32
+    (10 * u64::from(n) + digit).min(u64::from(MAX_NUMBER) + 1) as u32
 }
 
 #[inline(always)]
 fn fits(n: u32) -> bool
     ensures fits { result ≡ is_fine_number n }
 {
-    n < 2_147_483_648
+    n <= MAX_NUMBER
 }
 
 /// In a number: it grows, or a dot or a blank ends it.
@@ -92,7 +93,7 @@ impl VersionState {
     /// The state after a byte of this class.
     #[inline(always)]
     fn next(self, b: u8, class: Class) -> Option<VersionState>
-        requires room { held self < 18446744073709551615 }
+        requires room { held self < usize.MAX }
         ensures next { result ≡ next self b class }
     {
         use VersionState::*;

@@ -48,7 +48,7 @@ host-known K f h t =
     none-known K f (λ o. IsTrue (option_map_or (λ fragment. option_map_or (λ host. matches_host fragment host) (revision_at K h) false) (option_map (λ (k : Known). k.revision) o) false)) (λ t. cc) t
 
 pub attached-known : {K L : List Known} {W : List Wiring} (g : Grown K L W) {r f : RevisionId} → Attached W r f → IsKnown K f
-attached-known {K = K} g {r = r} {f = f} a = host-known K f r (g.consistent.coherent.attached r f a)
+attached-known {K = K} g {r = r} {f = f} a = host-known K f r (g.consistent.coherent.rules.attached r f a)
 
 owner-known : {K L : List Known} {W : List Wiring} (g : Grown K L W) (r o : RevisionId) → IsKnown K r → Owns W r o → IsKnown K o
 owner-known {K = K} g r o k (inl e) = subst (IsKnown K) (sym e) k
@@ -77,7 +77,7 @@ giver-known : {K L : List Known} {W : List Wiring} (g : Grown K L W) {r : Revisi
 giver-known {K = K} g {r = r} {w = w} h = let s = g.consistent.satisfied r w h in capability-known K w.capability.owner w.capability.index s.capability s.capability_is
 
 provider-known : {K L : List Known} {W : List Wiring} (g : Grown K L W) {r : RevisionId} {w : Wire} → HasWire W r w → IsKnown K w.capability.provider
-provider-known g {r = r} {w = w} h = in_force-known g (g.consistent.coherent.provided r w h)
+provider-known g {r = r} {w = w} h = in_force-known g (g.consistent.coherent.rules.provided r w h)
 
 -- ---- exports and wires
 
@@ -166,13 +166,13 @@ exports-down g k e = record { exported = exported-down g k e.exported; stays = �
 -- ---- sources
 
 package-in_force : {K L : List Known} {W : List Wiring} (g : Grown K L W) {r x : RevisionId} {p : List ℕ} → PackageWire K W r p x → InForce W x
-package-in_force {W = W} g {r = r} w = subst (InForce W) w.provider (g.consistent.coherent.provided r w.wire w.has)
+package-in_force {W = W} g {r = r} w = subst (InForce W) w.provider (g.consistent.coherent.rules.provided r w.wire w.has)
 
 bundle-in_force : {K L : List Known} {W : List Wiring} (g : Grown K L W) {r x : RevisionId} → BundleWire K W r x → InForce W x
-bundle-in_force {W = W} g {r = r} w = subst (InForce W) w.provider (g.consistent.coherent.provided r w.wire w.has)
+bundle-in_force {W = W} g {r = r} w = subst (InForce W) w.provider (g.consistent.coherent.rules.provided r w.wire w.has)
 
 reexport-in_force : {K L : List Known} {W : List Wiring} (g : Grown K L W) {r x : RevisionId} → Reexports K W r x → InForce W x
-reexport-in_force {W = W} g {r = r} w = subst (InForce W) w.provider (g.consistent.coherent.provided r w.wire w.has)
+reexport-in_force {W = W} g {r = r} w = subst (InForce W) w.provider (g.consistent.coherent.rules.provided r w.wire w.has)
 
 gives-in_force : {K L : List Known} {W : List Wiring} (g : Grown K L W) {p : List ℕ} {b x : RevisionId} → InForce W b → GivesPackage K W p b x → InForce W x
 gives-in_force g i (substituted w other e) = package-in_force g w
@@ -258,7 +258,7 @@ asked-up : {K L : List Known} {W : List Wiring} (g : Grown K L W) (r : RevisionI
     (HasRequirement L W r w.requirement × IsTrue (is_effective L w.requirement)) ⊎ (w.requirement.owner ≡ r) × IsTrue (is_dynamic L w.requirement)
 asked-up g r w h =
     let e = g.same w.requirement.owner (asker-known g h) in
-    elim (g.consistent.coherent.asked r w h) [
+    elim (g.consistent.coherent.rules.asked r w h) [
       | inl x ↦ inl ((x.0.0, rw e x.0.1), rw e x.1)
       | inr d ↦ inr (d.0, rw e d.1)
     ]
@@ -266,7 +266,7 @@ asked-up g r w h =
 mandatory-up : {K L : List Known} {W : List Wiring} (g : Grown K L W) (r : RevisionId) (q : ReqRef) → InForce W r → HasRequirement L W r q → IsNeeded L q → (w : Wire) × HasWire W r w × (w.requirement ≡ q)
 mandatory-up g r q i h n =
     let e = g.same q.owner (owner-known g r q.owner (in_force-known g i) h.0) in
-    g.consistent.coherent.mandatory r q i (h.0, (rw e at h.1)) (record { effective = (rw e at n.effective); mandatory = (rw e at n.mandatory) })
+    g.consistent.coherent.rules.mandatory r q i (h.0, (rw e at h.1)) (record { effective = (rw e at n.effective); mandatory = (rw e at n.mandatory) })
 
 offered-up : {K L : List Known} {W : List Wiring} (g : Grown K L W) (c : CapRef) → OnOffer K W c → OnOffer L W c
 offered-up {K = K} g c o = record {
@@ -275,26 +275,28 @@ offered-up {K = K} g c o = record {
 }
 
 attached-up : {K L : List Known} {W : List Wiring} (g : Grown K L W) (r f : RevisionId) → Attached W r f → IsTrue (is_host_of L f r)
-attached-up g r f a = rw (g.same f (attached-known g a), g.same r (in_force-known g (attached-holder a))) (g.consistent.coherent.attached r f a)
+attached-up g r f a = rw (g.same f (attached-known g a), g.same r (in_force-known g (attached-holder a))) (g.consistent.coherent.rules.attached r f a)
 
 name-down : {K L : List Known} {W : List Wiring} (g : Grown K L W) (e f : RevisionId) → IsKnown K e → IsKnown K f → symbolic_name L e ≡ symbolic_name L f → symbolic_name K e ≡ symbolic_name K f
 name-down g e f k l s = rw (g.same e k, g.same f l) at s
 
 coherent-up : {K L : List Known} {W : List Wiring} (g : Grown K L W) → IsCoherent L W
 coherent-up {K = K} {L = L} g = record {
-  asked = asked-up g;
-  single = λ v i t. g.consistent.coherent.single v i
-      (two-within (AreDouble L) (AreDouble K) v.wires (λ a b j k. double-down g a b (asker-known g (record { wiring = v; stands = i; revision = refl; has = j }))) t);
-  mandatory = mandatory-up g;
-  provided = g.consistent.coherent.provided;
-  offered = λ r w h. offered-up g w.capability (g.consistent.coherent.offered r w h);
-  not_owner = λ r w h b. g.consistent.coherent.not_owner r w h (rw (g.same w.capability.owner (giver-known g h)) at b);
-  one_provider = λ r p x y a b. g.consistent.coherent.one_provider r p x y (package-down g a) (package-down g b);
-  attached = attached-up g;
-  one_version = λ v i t. g.consistent.coherent.one_version v i
-      (two-within (λ e f. symbolic_name L e ≡ symbolic_name L f) (λ e f. symbolic_name K e ≡ symbolic_name K f) v.fragments
-      (λ e f j k. name-down g e f (attached-known g (record { wiring = v; stands = i; revision = refl; has = j })) (attached-known g (record { wiring = v; stands = i; revision = refl; has = k }))) t);
-  singletons = λ r s i j a. g.consistent.coherent.singletons r s i j (rivals-down g (use-known g r i) (use-known g s j) a);
+  rules = record {
+    asked = asked-up g;
+    single = λ v i t. g.consistent.coherent.rules.single v i
+        (two-within (AreDouble L) (AreDouble K) v.wires (λ a b j k. double-down g a b (asker-known g (record { wiring = v; stands = i; revision = refl; has = j }))) t);
+    mandatory = mandatory-up g;
+    provided = g.consistent.coherent.rules.provided;
+    offered = λ r w h. offered-up g w.capability (g.consistent.coherent.rules.offered r w h);
+    not_owner = λ r w h b. g.consistent.coherent.rules.not_owner r w h (rw (g.same w.capability.owner (giver-known g h)) at b);
+    one_provider = λ r p x y a b. g.consistent.coherent.rules.one_provider r p x y (package-down g a) (package-down g b);
+    attached = attached-up g;
+    one_version = λ v i t. g.consistent.coherent.rules.one_version v i
+        (two-within (λ e f. symbolic_name L e ≡ symbolic_name L f) (λ e f. symbolic_name K e ≡ symbolic_name K f) v.fragments
+        (λ e f j k. name-down g e f (attached-known g (record { wiring = v; stands = i; revision = refl; has = j })) (attached-known g (record { wiring = v; stands = i; revision = refl; has = k }))) t);
+    singletons = λ r s i j a. g.consistent.coherent.rules.singletons r s i j (rivals-down g (use-known g r i) (use-known g s j) a);
+  };
   uses = λ r e u i p c. let q = implied-down g i p in g.consistent.coherent.uses r e u i q.1 (clash-down g i q.0 c);
 }
 

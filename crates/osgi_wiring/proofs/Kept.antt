@@ -18,19 +18,19 @@ use Rattle.osgi_world.specs.declared.wiring.Wiring.{Wiring}
 use Rattle.osgi_world.specs.declared.world.Known.{Known}
 use Rattle.osgi_world.specs.declared.world.World.{World}
 use Rattle.osgi_wiring.proofs.Grown.{attached-known, Grown, consistent-up, world-up}
-use Rattle.osgi_wiring.specs.States.{BecomesKnown, current_in, IsKeptWorld, MayExtend, id_of, with_known, with_wirings}
+use Rattle.osgi_wiring.specs.States.{BecomesKnown, current_in, IsKeptWorld, MayExtend, revision_number, with_known, with_wirings}
 
 -- ---- one more known revision
 
-rising-push : (issued : ℕ) (K : List Known) (k : Known) → IsStrictlyIncreasing (map id_of K) → All (λ l. id_of l ≤ issued) K → id_of k ≡ issued + 1 → IsStrictlyIncreasing (map id_of (K ++ k ∷ []))
+rising-push : (issued : ℕ) (K : List Known) (k : Known) → IsStrictlyIncreasing (map revision_number K) → All (λ l. revision_number l ≤ issued) K → revision_number k ≡ issued + 1 → IsStrictlyIncreasing (map revision_number (K ++ k ∷ []))
 rising-push issued K k rising given next =
-    let below : All (λ n. n ≤ issued) (map id_of K) = All-map (λ n. n ≤ issued) id_of K given in
-    let pairs = all_pairs_push (λ x y. x < y) (map id_of K) (id_of k) (AllPairs-from_increasing (map id_of K) rising) (λ i d within. omega (arith, below i d within, next)) in
-    subst IsStrictlyIncreasing (sym (map-append id_of K (k ∷ []))) (λ i within. pairs i (i + 1) 0 (omega arith) within)
+    let below : All (λ n. n ≤ issued) (map revision_number K) = All-map (λ n. n ≤ issued) revision_number K given in
+    let pairs = all_pairs_push (λ x y. x < y) (map revision_number K) (revision_number k) (AllPairs-from_increasing (map revision_number K) rising) (λ i d within. omega (arith, below i d within, next)) in
+    subst IsStrictlyIncreasing (sym (map-append revision_number K (k ∷ []))) (λ i within. pairs i (i + 1) 0 (omega arith) within)
 
-given-push : (issued : ℕ) (K : List Known) (k : Known) → All (λ l. id_of l ≤ issued) K → id_of k ≡ issued + 1 → All (λ l. id_of l ≤ issued + 1) (K ++ k ∷ [])
+given-push : (issued : ℕ) (K : List Known) (k : Known) → All (λ l. revision_number l ≤ issued) K → revision_number k ≡ issued + 1 → All (λ l. revision_number l ≤ issued + 1) (K ++ k ∷ [])
 given-push issued K k given next =
-    All-push (λ l. id_of l ≤ issued + 1) K k (All-weaker (λ l. id_of l ≤ issued) (λ l. id_of l ≤ issued + 1) (λ l le. omega (arith, le)) K given) (omega (arith, next))
+    All-push (λ l. revision_number l ≤ issued + 1) K k (All-weaker (λ l. revision_number l ≤ issued) (λ l. revision_number l ≤ issued + 1) (λ l le. omega (arith, le)) K given) (omega (arith, next))
 
 in-push : {X : Type 0} (xs : List X) (x y : X) → In y (xs ++ x ∷ []) → In y xs ⊎ (y ≡ x)
 in-push [] x y (inl e) = inr e
@@ -49,10 +49,10 @@ all-in P [] all k i = elim i [ ]
 all-in P (l ∷ K) all k (inl e) = subst P (sym e) (all 0 l (omega arith))
 all-in P (l ∷ K) all k (inr i) = all-in P K (λ n d within. all (suc n) d (omega arith)) k i
 
-once-push : (issued : ℕ) (K : List Known) (k : Known) → ¬ Two (λ (a b : Known). a.id ≡ b.id) K → All (λ l. id_of l ≤ issued) K → id_of k ≡ issued + 1 → ¬ Two (λ (a b : Known). a.id ≡ b.id) (K ++ k ∷ [])
+once-push : (issued : ℕ) (K : List Known) (k : Known) → ¬ Two (λ (a b : Known). a.id ≡ b.id) K → All (λ l. revision_number l ≤ issued) K → revision_number k ≡ issued + 1 → ¬ Two (λ (a b : Known). a.id ≡ b.id) (K ++ k ∷ [])
 once-push issued K k once given next t = elim (two-push (λ (a b : Known). a.id ≡ b.id) K k t) [
   | inl u ↦ once u
-  | inr a ↦ let le = all-in (λ l. id_of l ≤ issued) K given a.0 a.1 in let e = ap (λ (r : RevisionId). r.0) a.2 in omega (arith, le, e, next)
+  | inr a ↦ let le = all-in (λ l. revision_number l ≤ issued) K given a.0 a.1 in let e = ap (λ (r : RevisionId). r.0) a.2 in omega (arith, le, e, next)
 ]
 
 or-left : {X : Type 0} (a b : Option X) → IsSome a → option_or a b ≡ a
@@ -140,7 +140,7 @@ module _ (K : List Known) (k : Known) where
     ]
   ]
 
-ordered-known : (world : World) (issued : ℕ) → IsKeptWorld world issued → (k : Known) → id_of k ≡ issued + 1 → current_in world.known k.bundle ≡ None →
+ordered-known : (world : World) (issued : ℕ) → IsKeptWorld world issued → (k : Known) → revision_number k ≡ issued + 1 → current_in world.known k.bundle ≡ None →
     Grown world.known (world.known ++ k ∷ []) world.wirings → AreOrdered (world.known ++ k ∷ []) world.wirings
 ordered-known world issued kept k next none grown = record {
   by_id = rising-push issued world.known k kept.ordered.by_id kept.given next;
@@ -151,7 +151,7 @@ ordered-known world issued kept k next none grown = record {
   one_current = one-push world.known k kept.ordered.one_current none;
 }
 
-kept-known : (world : World) (issued : ℕ) → IsKeptWorld world issued → (k : Known) → id_of k ≡ issued + 1 → current_in world.known k.bundle ≡ None → IsKeptWorld (with_known world k) (issued + 1)
+kept-known : (world : World) (issued : ℕ) → IsKeptWorld world issued → (k : Known) → revision_number k ≡ issued + 1 → current_in world.known k.bundle ≡ None → IsKeptWorld (with_known world k) (issued + 1)
 kept-known world issued kept k next none =
     let grown : Grown world.known (world.known ++ k ∷ []) world.wirings = record { same = same-push world.known k; is_world = kept.is_world; consistent = kept.consistent } in
     record {
@@ -162,10 +162,10 @@ kept-known world issued kept k next none =
     }
 
 -- no id above those that were given is known
-none-above : (issued : ℕ) (K : List Known) (r : RevisionId) → All (λ k. id_of k ≤ issued) K → issued < r.0 → known_at K r ≡ None
+none-above : (issued : ℕ) (K : List Known) (r : RevisionId) → All (λ k. revision_number k ≤ issued) K → issued < r.0 → known_at K r ≡ None
 none-above issued [] r given above = refl
 none-above issued (k ∷ K) r given above =
-    let le : id_of k ≤ issued = given 0 k (omega arith) in
+    let le : revision_number k ≤ issued = given 0 k (omega arith) in
     let other : (k.id.0 == r.0) ≡ false = ne_eqb k.id.0 r.0 (λ e. omega (arith, le, e, above)) in
     rw other (none-above issued K r (λ n d within. given (suc n) d (omega arith)) above)
 
@@ -186,7 +186,7 @@ last-is k = let same : (k.id.0 == k.id.0) ≡ true = grind arith in rw same refl
 last-is_not : (k : Known) (r : RevisionId) → r ≢ k.id → known_at (k ∷ []) r ≡ None
 last-is_not k r other = let differs : (k.id.0 == r.0) ≡ false = ne_eqb k.id.0 r.0 (λ e. other (ap (λ n. record { 0 = n }) (sym e))) in rw differs refl
 
-becomes-known : (world : World) (issued : ℕ) → IsKeptWorld world issued → (k : Known) → id_of k ≡ issued + 1 → BecomesKnown world (with_known world k) k
+becomes-known : (world : World) (issued : ℕ) → IsKeptWorld world issued → (k : Known) → revision_number k ≡ issued + 1 → BecomesKnown world (with_known world k) k
 becomes-known world issued kept k next =
     let none : known_at world.known k.id ≡ None = none-above issued world.known k.id kept.given (omega (arith, next)) in
     record {
@@ -198,10 +198,10 @@ becomes-known world issued kept k next =
     }
 
 -- both, of a world that is the one with the revision
-pub kept-grown : (world : World) (issued : ℕ) (k : Known) (K : List Known) → K ≡ world.known ++ k ∷ [] → id_of k ≡ issued + 1 → current_in world.known k.bundle ≡ None → IsKeptWorld world issued → IsKeptWorld (record world { known = K }) (issued + 1)
+pub kept-grown : (world : World) (issued : ℕ) (k : Known) (K : List Known) → K ≡ world.known ++ k ∷ [] → revision_number k ≡ issued + 1 → current_in world.known k.bundle ≡ None → IsKeptWorld world issued → IsKeptWorld (record world { known = K }) (issued + 1)
 kept-grown world issued k K is next none kept = subst (λ (L : List Known). IsKeptWorld (record world { known = L }) (issued + 1)) (sym is) (kept-known world issued kept k next none)
 
-pub becomes-grown : (world : World) (issued : ℕ) (k : Known) (K : List Known) → K ≡ world.known ++ k ∷ [] → id_of k ≡ issued + 1 → IsKeptWorld world issued → BecomesKnown world (record world { known = K }) k
+pub becomes-grown : (world : World) (issued : ℕ) (k : Known) (K : List Known) → K ≡ world.known ++ k ∷ [] → revision_number k ≡ issued + 1 → IsKeptWorld world issued → BecomesKnown world (record world { known = K }) k
 becomes-grown world issued k K is next kept = subst (λ (L : List Known). BecomesKnown world (record world { known = L }) k) (sym is) (becomes-known world issued kept k next)
 
 -- ---- more wirings

@@ -2,7 +2,7 @@
 
 ghost use Rattle.std.specs.Prelude.{◌≡◌, ◌+◌, ◌<◌, ◌≤◌, None, IfOk, IsOk, OnOk, OnErr};
 ghost use Rattle.std.specs.Option.{option_copied};
-ghost use Rattle.osgi_wiring.specs.States.{BecomesKnown, current_in, current_of, first_world, IsKeptWorld, MayExtend, NeedsNothing, wiring_at, with_known, with_wirings};
+ghost use Rattle.osgi_wiring.specs.States.{BecomesKnown, current_in, current_of, bare_world, IsKeptWorld, MayExtend, NeedsNothing, wiring_at, with_known, with_wirings};
 ghost use Rattle.osgi_world.specs.Lookups.{known_at};
 
 use crate::index::{first_index, note_current, note_wirings};
@@ -68,9 +68,9 @@ impl Wirings {
     /// The system bundle alone, by its only revision, which is in force.
     pub fn new(alloc: Global, system: Shared<Revision>) -> Result<Wirings, AllocError>
         requires needs_nothing { NeedsNothing system }
-        ensures world { IfOk result (λ wirings. wirings.world ≡ first_world system) }
+        ensures world { IfOk result (λ wirings. wirings.world ≡ bare_world system) }
         ensures issued { IfOk result (λ wirings. wirings.issued ≡ 0) }
-        ensures kept { IfOk result (λ wirings. IsKeptWorld wirings.world wirings.issued) }
+        ensures holds { IfOk result (λ wirings. IsKeptWorld wirings.world wirings.issued) }
     {
         let id = RevisionId(0);
         let mut known = List::with_capacity(alloc, 1)?;
@@ -101,7 +101,7 @@ impl Wirings {
 
     pub fn world(&self) -> &World
         ensures world { result.now ≡ self.now.world }
-        ensures kept { IsKeptWorld self.now.world self.now.issued }
+        ensures holds { IsKeptWorld self.now.world self.now.issued }
     {
         &self.world
     }
@@ -159,13 +159,13 @@ impl Wirings {
         bundle: BundleId,
         revision: Shared<Revision>,
     ) -> Result<RevisionId, AllocError>
-        requires ids_left { self.old.issued < 4294967295 }
+        requires ids_left { self.old.issued < u32.MAX }
         requires no_current { current_in self.old.world.known bundle ≡ None }
         ensures id { IfOk result (λ id. id.0 ≡ self.old.issued + 1) }
         ensures issued { OnOk result (self.new.issued ≡ self.old.issued + 1) }
         ensures world { IfOk result (λ id. self.new.world ≡ with_known self.old.world (current_of id bundle revision)) }
         ensures known { IfOk result (λ id. BecomesKnown self.old.world self.new.world (current_of id bundle revision)) }
-        ensures kept { OnOk result (IsKeptWorld self.new.world self.new.issued) }
+        ensures holds { OnOk result (IsKeptWorld self.new.world self.new.issued) }
         ensures unchanged { OnErr result (self.new ≡ self.old) }
         ensures room { 0 < self.old.spare → IsOk result }
     {
@@ -194,7 +194,7 @@ impl Wirings {
     pub fn extend(&mut self, added: List<Wiring>) -> Result<(), AllocError>
         requires extends { MayExtend self.old.world added }
         ensures world { OnOk result (self.new.world ≡ with_wirings self.old.world added) }
-        ensures kept { OnOk result (IsKeptWorld self.new.world self.new.issued) }
+        ensures holds { OnOk result (IsKeptWorld self.new.world self.new.issued) }
         ensures issued { self.new.issued ≡ self.old.issued }
         ensures spare { self.new.spare ≡ self.old.spare }
         ensures unchanged { OnErr result (self.new ≡ self.old) }

@@ -20,6 +20,7 @@ use Rattle.osgi_world.specs.declared.wiring.CapRef.{CapRef}
 use Rattle.osgi_world.specs.declared.wiring.ReqRef.{ReqRef}
 use Rattle.osgi_world.specs.declared.wiring.Wiring.{Wiring}
 use Rattle.osgi_world.specs.declared.world.Known.{Known}
+use Rattle.osgi_world.specs.declared.world.World.{World}
 
 abbrev pub same_place : ReqRef → ReqRef → Bool
 same_place q n = (q.owner.0 == n.owner.0) && (q.index == n.index)
@@ -80,6 +81,17 @@ pub record AreOrdered (K : List Known) (W : List Wiring) : Type 0 where
   pub by_id : IsStrictlyIncreasing (map (λ (k : Known). k.id.0) K)
   pub fragments_ordered : (g : Wiring) → In g W → IsNonDecreasing (map (bundle_of K) g.fragments)
   pub one_current : (r s : RevisionId) → IsTrue (is_current K r) → IsTrue (is_current K s) → bundle_of K r ≡ bundle_of K s → r ≡ s
+
+-- the root may be given to a resolve in the world, whatever that then finds
+pub record IsResolvable (W : World) (root : RevisionId) : Type 0 where
+  -- each revision is known once, and those in force are known, no fragments, and in force once
+  pub is_world : IsWorld W.known W.wirings
+  -- known revisions and fragments are listed in order, and a bundle has at most one current revision
+  pub ordered : AreOrdered W.known W.wirings
+  -- the wirings in force keep all rules of consistency
+  pub consistent : Consistent W.known W.wirings
+  -- the root is current, no fragment, and not in force
+  pub unresolved : IsUnresolved W.known W.wirings root
 
 -- the root is unresolved in a consistent world, and the candidates of each requirement that can be asked are listed; every
 -- list has each of its candidates once, the preferred first

@@ -23,8 +23,8 @@ pub record AreRivals (K : List Known) (r s : RevisionId) : Type 0 where
 abbrev pub AreDouble : List Known → Wire → Wire → Type 0
 AreDouble K v w = (v.requirement ≡ w.requirement) × ((¬ IsTrue (is_multiple K v.requirement)) ⊎ (v.capability ≡ w.capability))
 
--- consistent, but that a wire's capability need not satisfy its requirement
-pub record IsCoherent (K : List Known) (W : List Wiring) : Type 0 where
+-- the rules of consistency, without the one on `uses` and the one that a wire's capability satisfies its requirement
+pub record KeepsRules (K : List Known) (W : List Wiring) : Type 0 where
   -- each wire is for an effective requirement of the payload, or for a dynamic import of the revision itself
   pub asked : (r : RevisionId) (w : Wire) → HasWire W r w →
       (HasRequirement K W r w.requirement × IsTrue (is_effective K w.requirement)) ⊎ (w.requirement.owner ≡ r) × IsTrue (is_dynamic K w.requirement)
@@ -45,6 +45,10 @@ pub record IsCoherent (K : List Known) (W : List Wiring) : Type 0 where
   pub one_version : (g : Wiring) → In g W → ¬ Two (λ (e f : RevisionId). symbolic_name K e ≡ symbolic_name K f) g.fragments
   -- of the current singletons that are in force or attached, no two have one symbolic name
   pub singletons : (r s : RevisionId) → InUse W r → InUse W s → ¬ AreRivals K r s
+
+-- consistent, but that a wire's capability need not satisfy its requirement
+pub record IsCoherent (K : List Known) (W : List Wiring) : Type 0 where
+  pub rules : KeepsRules K W
   -- where r in force has an implied constraint for u as e sees it, the sources of u for one of the two contain those for
   -- the other, or one of the two has none
   pub uses : (r e : RevisionId) (u : List ℕ) → InForce W r → Implied K W (λ x. Unit {0}) r e u → ¬ Clash K W r e u

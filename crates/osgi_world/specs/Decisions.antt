@@ -2,7 +2,7 @@
 use Rattle.std.specs.Prelude.{◌≡◌, ℕ, zero, suc, ◌==◌, ◌&&◌, Bool, true, false, is_none, List, [], ◌∷◌, ◌++◌, length, map, Option, None, Some, if◌then◌else◌}
 use Rattle.osgi_base.specs.declared.ids.RevisionId.{RevisionId}
 use Rattle.osgi_world.specs.Candidates.{candidates, same_place}
-use Rattle.osgi_world.specs.Lists.{entry}
+use Rattle.osgi_world.specs.Lists.{nth_list}
 use Rattle.osgi_world.specs.Lookups.{is_optional}
 use Rattle.osgi_world.specs.declared.problem.Problem.{Problem}
 use Rattle.osgi_world.specs.declared.wiring.CapRef.{CapRef}
@@ -52,7 +52,7 @@ abbrev pub arity : Problem → Decision → ℕ
 arity P d = length (menu P d)
 
 abbrev pub adds : Problem → Decision → ℕ → List Step
-adds P d v = entry (menu P d) v
+adds P d v = nth_list (menu P d) v
 
 -- ---- decisions that are made
 

@@ -19,8 +19,8 @@ fragments_of P D h = filter (λ f. is_yes (value_made D (attaching h f))) (match
 abbrev pub payload : Problem → Made → RevisionId → List ReqRef
 payload P D h = requirements_of P.world.known (h ∷ fragments_of P D h)
 
-abbrev pub is_other : List ℕ → Bool
-is_other namespace = not (is_bundle namespace || is_package namespace)
+abbrev pub is_generic : List ℕ → Bool
+is_generic namespace = not (is_bundle namespace || is_package namespace)
 
 -- the effective ones of a kind
 abbrev pub of_kind : Problem → (List ℕ → Bool) → List ReqRef → List ReqRef
@@ -28,7 +28,7 @@ of_kind P kind qs = filter (λ q. is_effective P.world.known q && kind (requirem
 
 -- bundle requirements, then imports, then others
 abbrev pub in_turn : Problem → List ReqRef → List ReqRef
-in_turn P qs = of_kind P is_bundle qs ++ (of_kind P is_package qs ++ of_kind P is_other qs)
+in_turn P qs = of_kind P is_bundle qs ++ (of_kind P is_package qs ++ of_kind P is_generic qs)
 
 -- the decisions of a requirement: one, or one for each candidate
 abbrev pub decisions_of : Problem → RevisionId → ReqRef → List Decision

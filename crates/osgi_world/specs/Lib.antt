@@ -1,5 +1,6 @@
 -- The system bundle; and the rules of the module layer: satisfaction, wirings, sources, consistency, and what a resolve decides.
 pub mod System
+pub mod SharedRanges
 pub mod Lists
 pub mod Satisfaction
 pub mod Lookups
@@ -14,3 +15,4 @@ pub mod Partial
 pub mod ChoiceWords
 pub mod Hopeless
 pub mod Effort
+pub mod laws

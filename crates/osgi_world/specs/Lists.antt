@@ -18,10 +18,10 @@ item_at (x ∷ xs) zero = x ∷ []
 item_at (x ∷ xs) (suc n) = item_at xs n
 
 -- the list at the place; an empty one after the end
-abbrev pub entry : {X : Type 0} → List (List X) → ℕ → List X
-entry [] n = []
-entry (x ∷ xs) zero = x
-entry (x ∷ xs) (suc n) = entry xs n
+abbrev pub nth_list : {X : Type 0} → List (List X) → ℕ → List X
+nth_list [] n = []
+nth_list (x ∷ xs) zero = x
+nth_list (x ∷ xs) (suc n) = nth_list xs n
 
 -- the numbers below n, rising
 abbrev pub below : ℕ → List ℕ

@@ -2,21 +2,22 @@
 
 ghost use Rattle.std.specs.Prelude.{◌≡◌, IfOk};
 
-use osgi_base::{Copied, List, Text, copy_three, copy_two};
+use osgi_base::{Copied, List, Shared, Text, copy_three, copy_two};
 use osgi_model::Attributes;
 use std::alloc::{AllocError, Global};
 
 /// A capability of a revision: in the package namespace a package that it exports, in the bundle namespace the bundle
-/// itself, in others what it provides. There the name is that of the namespace.
+/// itself, in others what it provides. There the name is that of the namespace. What the capabilities of a clause have in common
+/// they share.
 #[derive(Drop)]
 pub struct Capability {
     pub namespace: Text,
     pub name: Text,
-    pub attributes: Attributes,
+    pub attributes: Shared<Attributes>,
     /// The packages that the types of an exported package name.
-    pub uses: List<Text>,
+    pub uses: Shared<List<Text>>,
     /// The attributes that an import has to give.
-    pub mandatory: List<Text>,
+    pub mandatory: Shared<List<Text>>,
 }
 
 impl Capability {

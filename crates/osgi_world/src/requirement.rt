@@ -2,25 +2,26 @@
 
 ghost use Rattle.std.specs.Prelude.{◌≡◌, IfOk};
 
-use osgi_base::{Copied, Text, copy_three, copy_two};
+use crate::shared_range::SharedRange;
+use osgi_base::{Copied, Shared, Text, copy_three, copy_two};
 use osgi_model::{Attributes, Filter};
-use osgi_version::VersionRange;
 use std::alloc::{AllocError, Global};
 
 /// A requirement of a revision: in the package namespace an import, in the bundle namespace a required bundle or a
-/// fragment's host, in others a filter over what is provided. There the name is that of the namespace.
+/// fragment's host, in others a filter over what is provided. There the name is that of the namespace. What the requirements of a
+/// clause have in common they share.
 pub struct Requirement {
     pub namespace: Text,
     pub name: Text,
     /// The versions of the package or of the bundle.
-    pub range: VersionRange,
+    pub range: SharedRange,
     /// The symbolic name of the exporting bundle, where an import gives it.
     pub from_name: Option<Text>,
     /// The versions of the exporting bundle.
-    pub from_range: VersionRange,
+    pub from_range: SharedRange,
     /// The attributes that an export has to have with equal values.
-    pub equal: Attributes,
-    pub filter: Option<Filter>,
+    pub equal: Shared<Attributes>,
+    pub filter: Option<Shared<Filter>>,
     pub optional: bool,
     pub multiple: bool,
     /// Whether those who require the bundle see what it requires here.

@@ -119,8 +119,8 @@ fn plain_capability(
     Ok(Capability {
         namespace: Text::of(alloc, namespace)?,
         name: Text::of(alloc, name)?,
-        attributes,
-        uses: List::from(Vec::new(alloc)),
-        mandatory: List::from(Vec::new(alloc)),
+        attributes: Shared::new(alloc, attributes)?,
+        uses: Shared::new(alloc, List::new(alloc)?)?,
+        mandatory: Shared::new(alloc, List::new(alloc)?)?,
     })
 }

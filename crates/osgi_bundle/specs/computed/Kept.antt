@@ -1,10 +1,10 @@
 -- What is true of the table's fields between calls.
 use Rattle.std.specs.Prelude.{ℕ, ◌≡◌, cond, List, Option, None, Some, find, slice_get}
 use Rattle.std.specs.BTreeMap.{BTreeMap, get}
-use Rattle.std.specs.Cmp.Lexicographic.{slice_cmp}
 use Rattle.std.specs.Option.{option_map, option_or}
-use Rattle.std.specs.Ordering.{eq_by_cmp, nat_cmp, on, then_cmp}
+use Rattle.std.specs.Ordering.{eq_by_cmp, on, then_cmp}
 use Rattle.std.specs.declared.cmp.Ordering.{Ordering}
+use Rattle.osgi_base.specs.computed.Texts.{text_cmp}
 use Rattle.osgi_base.specs.declared.ids.BundleId.{BundleId}
 use Rattle.osgi_bundle.specs.Rows.{AreApart, AreInOrder, TableRows}
 use Rattle.osgi_bundle.specs.declared.directory.BundleName.{BundleName}
@@ -26,17 +26,14 @@ bundle_under cmp key_of key rows = option_map (λ (row : BundleKept). row.bundle
 abbrev pub IsIndexOf : {K : Type 0} → (K → K → Ordering) → (BundleKept → K) → BTreeMap K BundleId → List BundleKept → Type 0
 IsIndexOf {K} cmp key_of index rows = (key : K) → get cmp index key ≡ bundle_under cmp key_of key rows
 
-abbrev pub text_cmp : List ℕ → List ℕ → Ordering
-text_cmp = slice_cmp nat_cmp
-
 abbrev pub location_of : BundleKept → List ℕ
 location_of row = row.location
 
 abbrev pub named : List ℕ → Version → BundleName
 named name version = record { name = name; version = version }
 
-abbrev pub name_of : BundleKept → BundleName
-name_of row = named row.name row.version
+abbrev pub bundle_name : BundleKept → BundleName
+bundle_name row = named row.name row.version
 
 -- by name, then by version
 abbrev pub name_cmp : BundleName → BundleName → Ordering
@@ -45,7 +42,7 @@ name_cmp = then_cmp (on (λ n. n.name) text_cmp) (on (λ n. n.version) version_c
 -- the directory is that of these rows
 pub record IsDirectoryOf (directory : Directory) (rows : List BundleKept) : Type 0 where
   pub locations : IsIndexOf text_cmp location_of directory.locations rows
-  pub names : IsIndexOf name_cmp name_of directory.names rows
+  pub names : IsIndexOf name_cmp bundle_name directory.names rows
 
 -- the bundle is put under the key where none stands there
 abbrev pub AddsFirst : {K : Type 0} → (K → K → Ordering) → BTreeMap K BundleId → BTreeMap K BundleId → K → BundleId → Type 0

@@ -8,12 +8,12 @@ use Rattle.std.proofs.lemmas.List.Elements.{All-contains, All-contains_itself, A
 use Rattle.osgi_base.specs.declared.ids.BundleId.{BundleId}
 use Rattle.osgi_base.specs.declared.ids.RevisionId.{RevisionId}
 use Rattle.osgi_base.specs.declared.ids.Tag.{Tag}
-use Rattle.osgi_bundle.specs.Rows.{bundle_from, has_location as has_location_row, id_of, is_bundle, IsTwin, new_row, row_at, row_of, state_at, state_by, TableRows}
-use Rattle.osgi_bundle.specs.Stands.{IsNew, IsOfDepot, kept_of, StandsFor}
+use Rattle.osgi_bundle.specs.Rows.{bundle_from, has_location as has_location_row, bundle_number, has_bundle_id, IsTwin, new_row, row_at, row_of, state_at, state_by, TableRows}
+use Rattle.osgi_bundle.specs.Stands.{IsNewBundle, IsOfDepot, kept_of, StandsFor}
 use Rattle.osgi_bundle.specs.laws.Worlds.{resolved_other, unresolved_new}
 use Rattle.osgi_bundle.specs.declared.kept.BundleKept.{BundleKept}
-use Rattle.osgi_ops.specs.Bundles.{Bundle, brought, bundle_at, bundle_from as bundle_of, bundle_row, bundles, installed, installed_by, is_bundle as is_bundle_of, state_of, the_system_bundle}
-use Rattle.osgi_ops.specs.Depots.{revision_at}
+use Rattle.osgi_ops.specs.Bundles.{Bundle, brought, bundle_at, bundle_from as bundle_of, bundle_row, bundles, installed, installed_by, has_bundle_id as is_bundle_of, state_of, the_system_bundle}
+use Rattle.osgi_ops.specs.Depots.{stored_revision}
 use Rattle.osgi_ops.specs.Moments.{Moment}
 use Rattle.osgi_ops.specs.Operations.{IsDuplicate}
 use Rattle.osgi_ops.specs.declared.depot.DepotRow.{DepotRow}
@@ -41,15 +41,15 @@ stands_quiet depot history world table e stands quiet =
       issued = stands.issued ∙ ap length (sym same);
     }
 
-installs_it : (depot : List DepotRow) (location : List ℕ) (id : BundleId) (revision : Revision) → revision_at depot location ≡ Some revision →
+installs_it : (depot : List DepotRow) (location : List ℕ) (id : BundleId) (revision : Revision) → stored_revision depot location ≡ Some revision →
     installed_by depot (op.Install location) (answer.Bundle id false) ≡ Some (brought depot id location revision)
 installs_it depot location id revision is = ap (option_map (brought depot id location)) is
 
-new_state : (world : World) (r : RevisionId) (id : BundleId) (revision : Revision) (n : ℕ) → IsNew world r id → id.0 ≡ n + 1 → state_of (with_revision world r id revision) id ≡ INSTALLED
+new_state : (world : World) (r : RevisionId) (id : BundleId) (revision : Revision) (n : ℕ) → IsNewBundle world r id → id.0 ≡ n + 1 → state_of (with_revision world r id revision) id ≡ INSTALLED
 new_state world r id revision n new is = rw (ne_eqb id.0 0 (λ same. omega (arith, is, same)), unresolved_new world r id revision new) refl
 
 -- what an install adds is what is kept of the bundle that it brings
-kept_brought : (depot : List DepotRow) (location name : List ℕ) (version : Version) (fragment : Bool) (row : ℕ) (id : BundleId) (n : ℕ) (world : World) (r : RevisionId) (of : IsOfDepot depot location name version fragment row) → IsNew world r id →
+kept_brought : (depot : List DepotRow) (location name : List ℕ) (version : Version) (fragment : Bool) (row : ℕ) (id : BundleId) (n : ℕ) (world : World) (r : RevisionId) (of : IsOfDepot depot location name version fragment row) → IsNewBundle world r id →
     id.0 ≡ n + 1 → new_row id location name version fragment row ≡ kept_of (with_revision world r id of.revision) (brought depot id location of.revision)
 kept_brought depot location name version fragment row id n world r of new is = λ i. record {
   bundle = id;
@@ -63,7 +63,7 @@ kept_brought depot location name version fragment row id n world r of new is = �
 }
 
 -- the others are kept as they were
-kept_others : (world : World) (r : RevisionId) (id : BundleId) (revision : Revision) (n : ℕ) (list : List Bundle) → All (λ row. id_of row ≤ n) (map (kept_of world) list) → id.0 ≡ n + 1 →
+kept_others : (world : World) (r : RevisionId) (id : BundleId) (revision : Revision) (n : ℕ) (list : List Bundle) → All (λ row. bundle_number row ≤ n) (map (kept_of world) list) → id.0 ≡ n + 1 →
     map (kept_of world) list ≡ map (kept_of (with_revision world r id revision)) list
 kept_others world r id revision n [] given is = refl
 kept_others world r id revision n (b ∷ rest) given is =
@@ -75,7 +75,7 @@ kept_others world r id revision n (b ∷ rest) given is =
 
 -- an Install that was accepted
 pub stands_installed : (depot : List DepotRow) (history : List Entry) (world : World) (r : RevisionId) (old new : TableRows) (tag : Tag) (location name : List ℕ) (version : Version) (fragment : Bool) (row : ℕ) (id : BundleId)
-    (of : IsOfDepot depot location name version fragment row) → IsNew world r id → All (λ row. id_of row ≤ old.issued) old.rows → StandsFor depot history world old → id.0 ≡ old.issued + 1 →
+    (of : IsOfDepot depot location name version fragment row) → IsNewBundle world r id → All (λ row. bundle_number row ≤ old.issued) old.rows → StandsFor depot history world old → id.0 ≡ old.issued + 1 →
     new.rows ≡ old.rows ++ new_row id location name version fragment row ∷ [] → new.issued ≡ old.issued + 1 →
     StandsFor depot (history ++ record { tag = tag; op = op.Install location; reply = answer.Bundle id false } ∷ []) (with_revision world r id of.revision) new
 stands_installed depot history world r old new tag location name version fragment row id of fresh given stands is rows issued =
@@ -83,7 +83,7 @@ stands_installed depot history world r old new tag location name version fragmen
     let b : Bundle = brought depot id location of.revision in
     let after : World = with_revision world r id of.revision in
     let more : installed depot (history ++ e ∷ []) ≡ installed depot history ++ b ∷ [] = installed-push depot history e b (installs_it depot location id of.revision of.is) in
-    let others : map (kept_of world) (bundles depot history) ≡ map (kept_of after) (bundles depot history) = kept_others world r id of.revision old.issued (bundles depot history) (subst (All (λ row. id_of row ≤ old.issued)) stands.rows given) is in
+    let others : map (kept_of world) (bundles depot history) ≡ map (kept_of after) (bundles depot history) = kept_others world r id of.revision old.issued (bundles depot history) (subst (All (λ row. bundle_number row ≤ old.issued)) stands.rows given) is in
     record {
       rows =
           rows
@@ -107,7 +107,7 @@ found_map f p (x ∷ xs) = by (p (f x)) (found_map f p xs)
 
 -- the row of a bundle is what is kept of the bundle
 pub row_of_bundle : (depot : List DepotRow) (history : List Entry) (world : World) (table : TableRows) (id : BundleId) → StandsFor depot history world table → row_at id table.rows ≡ option_map (kept_of world) (bundle_at depot history id)
-row_of_bundle depot history world table id stands = ap (row_at id) stands.rows ∙ found_map (kept_of world) (is_bundle id) (bundles depot history)
+row_of_bundle depot history world table id stands = ap (row_at id) stands.rows ∙ found_map (kept_of world) (has_bundle_id id) (bundles depot history)
 
 bundle_by : (world : World) (o : Option Bundle) → option_map (λ (row : BundleKept). row.bundle) (option_map (kept_of world) o) ≡ option_map (λ (b : Bundle). b.bundle) o
 bundle_by world None = refl
@@ -145,7 +145,7 @@ contains_of {X} f xs y there =
     (All-map (λ z. (x : X) × Contains xs x × (z ≡ f x)) f xs (λ k d within. (slice_index_or xs k d, All-contains_itself xs k d within, refl))) there
 
 -- a row of the name and version is that of a bundle with them
-pub twin_is_duplicate : (now : Moment) (table : TableRows) (location : List ℕ) (revision : Revision) (refusal : Refusal) → StandsFor now.setting.depot now.before now.world table → revision_at now.setting.depot location ≡ Some revision →
+pub twin_is_duplicate : (now : Moment) (table : TableRows) (location : List ℕ) (revision : Revision) (refusal : Refusal) → StandsFor now.setting.depot now.before now.world table → stored_revision now.setting.depot location ≡ Some revision →
     IsTwin revision.name revision.version table.rows refusal → IsDuplicate now location refusal
 twin_is_duplicate now table location revision refusal stands is twin =
     let found = contains_of (kept_of now.world) (bundles now.setting.depot now.before) twin.other (subst (λ l. Contains l twin.other) stands.rows twin.live) in
@@ -160,7 +160,7 @@ twin_is_duplicate now table location revision refusal stands is twin =
     }
 
 -- and the other way round
-pub duplicate_is_twin : (now : Moment) (table : TableRows) (location : List ℕ) (revision : Revision) (refusal : Refusal) → StandsFor now.setting.depot now.before now.world table → revision_at now.setting.depot location ≡ Some revision →
+pub duplicate_is_twin : (now : Moment) (table : TableRows) (location : List ℕ) (revision : Revision) (refusal : Refusal) → StandsFor now.setting.depot now.before now.world table → stored_revision now.setting.depot location ≡ Some revision →
     IsDuplicate now location refusal → IsTwin revision.name revision.version table.rows refusal
 duplicate_is_twin now table location revision refusal stands is duplicate =
     let same : duplicate.revision ≡ revision = cc (duplicate.is, is) in

@@ -26,8 +26,8 @@ pub record AddsAsked (w : World) (Asked : ReqRef → Type 0) (old new : List Cho
 abbrev pub AddsChoice : World → ReqRef → List Choice → List Choice → Type 0
 AddsChoice w at = AddsAsked w (λ q. q ≡ at)
 
-abbrev pub place_of : RevisionId → ℕ → ReqRef
-place_of owner n = record { owner = owner; index = n }
+abbrev pub requirement_ref : RevisionId → ℕ → ReqRef
+requirement_ref owner n = record { owner = owner; index = n }
 
 -- the requirements of a known revision at places below n
 abbrev pub IsBelow : Known → ℕ → ReqRef → Type 0

@@ -3,8 +3,8 @@ use Rattle.std.specs.Prelude.{◌≡◌, ◌≢◌, ◌⊎◌, ◌↔◌, ℕ, I
 use Rattle.std.specs.BTreeMap.{get}
 use Rattle.std.specs.BTreeSet.{BTreeSet, contains}
 use Rattle.std.specs.Ordering.{nat_cmp}
+use Rattle.osgi_base.specs.computed.Texts.{text_cmp}
 use Rattle.osgi_base.specs.declared.ids.RevisionId.{RevisionId}
-use Rattle.osgi_space_rules.specs.computed.Keys.{text_cmp}
 use Rattle.osgi_candidates.specs.declared.held.Held.{Held}
 use Rattle.osgi_candidates.specs.declared.held.HeldWirings.{HeldWirings}
 use Rattle.osgi_world.specs.Lists.{In}

@@ -1,5 +1,6 @@
 -- What stands under the names of known revisions.
 use Rattle.std.specs.Prelude.{◌≡◌, ◌⊎◌, ◌↔◌, ℕ, IsTrue, List, [], slice_get, Some}
+use Rattle.osgi_base.specs.computed.Texts.{text_cmp}
 use Rattle.osgi_base.specs.declared.ids.RevisionId.{RevisionId}
 use Rattle.osgi_candidates.specs.declared.names.KnownNames.{KnownNames}
 use Rattle.osgi_candidates.specs.declared.names.Place.{Place}
@@ -8,7 +9,6 @@ use Rattle.osgi_world.specs.Lookups.{IsKnown, known_at, symbolic_name}
 use Rattle.osgi_world.specs.declared.capability.Capability.{Capability}
 use Rattle.osgi_world.specs.declared.requirement.Requirement.{Requirement}
 use Rattle.osgi_world.specs.declared.world.Known.{Known}
-use Rattle.osgi_space_rules.specs.computed.Keys.{text_cmp}
 use Rattle.osgi_space_rows.specs.computed.Groups as groups
 use Rattle.osgi_space_rows.specs.declared.grouped.Grouped.{Grouped}
 

@@ -14,13 +14,13 @@ pub record IsPlainLen (clauses : List ClauseAt) (n : ℕ) : Type 0 where
   pub before : All (λ (c : ClauseAt). ¬ Repeats c.clause) (take n clauses)
   pub at : (clause : ClauseAt) (rest : List ClauseAt) → drop n clauses ≡ clause ∷ rest → Repeats clause.clause
 
-abbrev pub place_of : Option ClauseAt → ℕ
-place_of None = 0
-place_of (Some clause) = clause.at
+abbrev pub clause_place : Option ClauseAt → ℕ
+clause_place None = 0
+clause_place (Some clause) = clause.at
 
 -- the fault, where the faulty clause begins
 abbrev pub fault_in : List ClauseAt → ManifestKind → PackageFault → ClauseFault
-fault_in clauses unversioned found = record { kind = kind_of unversioned found.kind; at = place_of (slice_get clauses found.clause) }
+fault_in clauses unversioned found = record { kind = kind_of unversioned found.kind; at = clause_place (slice_get clauses found.clause) }
 
 -- a clause that repeats something follows, or none
 abbrev pub or_repeated_of : {A : Type 0} → List ClauseAt → A → Result A ClauseFault

@@ -14,7 +14,7 @@ use Rattle.osgi_version.specs.Ranges.{IsReadableRange, ReadsRange}
 use Rattle.osgi_version.specs.RangeValues.{range_parts}
 use Rattle.osgi_package.specs.Only.{IsOnly}
 use Rattle.osgi_package.specs.computed.ImportReader.{IsRangeOf}
-use Rattle.osgi_package.specs.Parameters.{HasValue, IsAttribute, is_directed, is_double, version_text}
+use Rattle.osgi_package.specs.Parameters.{IsReadableAttribute, IsAttribute, is_directed, is_double, version_text}
 use Rattle.osgi_clause.specs.Members.{IsFilterOf, bundle_namespace}
 use Rattle.osgi_clause.specs.Directives.{takes_part}
 
@@ -96,6 +96,6 @@ provided_in capability namespace = record capability { namespace = namespace; na
 -- the values of all attributes, or what is wrong with them
 pub data AreAttributesRead (clause : Clause) : Result (List Attribute) ManifestKind → Type 0 where
   double : list_any is_double clause.attributes ≡ true → AreAttributesRead clause (Err DoubleType)
-  bad : list_any is_double clause.attributes ≡ false → ¬ All HasValue clause.attributes → AreAttributesRead clause (Err BadValue)
-  good : {attributes : List Attribute} → list_any is_double clause.attributes ≡ false → All HasValue clause.attributes → IsOnly (AllZip IsAttribute clause.attributes) attributes →
+  bad : list_any is_double clause.attributes ≡ false → ¬ All IsReadableAttribute clause.attributes → AreAttributesRead clause (Err BadValue)
+  good : {attributes : List Attribute} → list_any is_double clause.attributes ≡ false → All IsReadableAttribute clause.attributes → IsOnly (AllZip IsAttribute clause.attributes) attributes →
       AreAttributesRead clause (Ok attributes)

@@ -16,27 +16,27 @@ use Rattle.osgi_console.specs.declared.commands.Search.{Search}
 use Rattle.osgi_console.specs.declared.commands.Verb.{Verb}
 use Rattle.osgi_console.specs.declared.commands.Verb.TheVariants as verb
 use Rattle.osgi_syntax.specs.LineReader.{is_silent}
-use Rattle.osgi_syntax.specs.Splitting.{after_spaces, after_word, first_word, words_of}
+use Rattle.osgi_syntax.specs.Splitting.{after_spaces, after_word, first_word, only_word_of, words_of}
 use Rattle.osgi_base.specs.QuoteReader.{quoted_of}
-use Rattle.osgi_syntax.specs.WordReader.{bundle_id_of, class_of, classes_of, id_of}
+use Rattle.osgi_syntax.specs.WordReader.{bundle_id_of, class_of, classes_of, service_id_of}
 use Rattle.osgi_syntax.specs.PropertyReader.{properties_of}
 
 -- ---- commands
 
 -- the first word of a command
-abbrev pub name_of : Verb → List ℕ
-name_of verb.Register = codes "register"
-name_of verb.Modify = codes "modify"
-name_of verb.Unregister = codes "unregister"
-name_of verb.Find = codes "find"
-name_of verb.FindAll = codes "findall"
-name_of verb.Get = codes "get"
-name_of verb.Unget = codes "unget"
-name_of verb.Install = codes "install"
-name_of verb.Resolve = codes "resolve"
-name_of verb.Wires = codes "wires"
-name_of verb.Bundles = codes "bundles"
-name_of verb.Services = codes "services"
+abbrev pub verb_name : Verb → List ℕ
+verb_name verb.Register = codes "register"
+verb_name verb.Modify = codes "modify"
+verb_name verb.Unregister = codes "unregister"
+verb_name verb.Find = codes "find"
+verb_name verb.FindAll = codes "findall"
+verb_name verb.Get = codes "get"
+verb_name verb.Unget = codes "unget"
+verb_name verb.Install = codes "install"
+verb_name verb.Resolve = codes "resolve"
+verb_name verb.Wires = codes "wires"
+verb_name verb.Bundles = codes "bundles"
+verb_name verb.Services = codes "services"
 
 abbrev pub verbs : List Verb
 verbs =
@@ -44,7 +44,7 @@ verbs =
     ∷ verb.Resolve ∷ verb.Wires ∷ verb.Bundles ∷ verb.Services ∷ []
 
 abbrev pub verb_of : List ℕ → Option Verb
-verb_of word = find (λ verb. bytes_eq (name_of verb) word) verbs
+verb_of word = find (λ verb. bytes_eq (verb_name verb) word) verbs
 
 abbrev pub register_of : List (List ℕ) → Option Command
 register_of (names ∷ quoted ∷ words) =
@@ -53,15 +53,10 @@ register_of _ = None
 
 abbrev pub modify_of : List (List ℕ) → Option Command
 modify_of [] = None
-modify_of (id ∷ words) = option_and_then (λ service. option_map (λ properties. command.Modify service properties) (properties_of words)) (id_of id)
-
--- the one argument, where there is one and no other
-abbrev pub only_word_of : List (List ℕ) → Option (List ℕ)
-only_word_of (word ∷ []) = Some word
-only_word_of _ = None
+modify_of (id ∷ words) = option_and_then (λ service. option_map (λ properties. command.Modify service properties) (properties_of words)) (service_id_of id)
 
 abbrev pub only_id_of : List (List ℕ) → Option ServiceId
-only_id_of arguments = option_and_then id_of (only_word_of arguments)
+only_id_of arguments = option_and_then service_id_of (only_word_of arguments)
 
 abbrev pub only_bundle_of : List (List ℕ) → Option BundleId
 only_bundle_of arguments = option_and_then bundle_id_of (only_word_of arguments)
@@ -70,6 +65,7 @@ only_bundle_of arguments = option_and_then bundle_id_of (only_word_of arguments)
 abbrev pub alone : Command → List (List ℕ) → Option Command
 alone c arguments = if length arguments == 0 then Some c else None
 
+-- a space (32)
 abbrev pub is_space : ℕ → Bool
 is_space b = b == 32
 

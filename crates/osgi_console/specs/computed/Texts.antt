@@ -26,7 +26,7 @@ text_of history number = if list_any (is_of number) history then Some (entries_t
 abbrev pub AreTextsOf : List Entry → Texts → Type 0
 AreTextsOf history texts = (number : ℕ) → text_at texts number ≡ text_of history number
 
--- what a line writes, by the text of its entries, where it has some
+-- what a line writes, by the text of its entries, where it has some; 10 is a line feed
 abbrev pub line_text_by : Content → Option (List ℕ) → List ℕ
 line_text_by Empty text = []
 line_text_by Join text = []

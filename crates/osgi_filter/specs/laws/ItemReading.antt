@@ -5,7 +5,7 @@ use Rattle.osgi_model.specs.declared.filter.Test.{Test}
 use Rattle.osgi_model.specs.declared.filter.Filter.{Filter, roll-Filter}
 use Rattle.osgi_model.specs.declared.filter.Filter.TheOpen.{Item}
 use Rattle.osgi_version.specs.Bytes.{Each, IsBlank, is_blank}
-use Rattle.osgi_model.specs.Filters.{is_item_name_byte, IsItemNameByte, IsItemName, IsCut, IsTest, equal, present, pieces, approx, at_least, at_most}
+use Rattle.osgi_model.specs.Filters.{is_item_name_byte, IsItemNameByte, IsItemName, HasPieces, IsTest, equal, present, pieces, approx, at_least, at_most}
 use Rattle.osgi_filter.specs.computed.Reader.{◌>>=◌, skip, after, name_at, value_at, is_order, order_test, equal_at, plain_at, order_at, signed_at, named_at, item_at, opens}
 use Rattle.osgi_filter.specs.laws.ValueReading.{equal_test, equal_pieces, star_alone, equal_sound, equal_is, plain_again, plain_sound}
 use Rattle.osgi_filter.specs.laws.Scans.{bind_ok, ok_is, chosen, skip_over, skip_sound, skip_stops, after_sound, name_again, NameFound, name_sound, value_again, value_sound}
@@ -23,7 +23,7 @@ signed_again text test rest (approx t v k) = ap (λ (x : Result (List ℕ × Lis
 signed_again text test rest (at_least t v k) = ap (λ (x : Result (List ℕ × List ℕ) ℕ). x >>= λ v. Ok (order_test 62 v.0, v.1)) (plain_again t v rest k)
 signed_again text test rest (at_most t v k) = ap (λ (x : Result (List ℕ × List ℕ) ℕ). x >>= λ v. Ok (order_test 60 v.0, v.1)) (plain_again t v rest k)
 
-order_sound : (b : ℕ) (text value : List ℕ) → is_order b ≡ true → IsCut false text value [] → IsTest (b ∷ 61 ∷ text) (order_test b value)
+order_sound : (b : ℕ) (text value : List ℕ) → is_order b ≡ true → HasPieces false text value [] → IsTest (b ∷ 61 ∷ text) (order_test b value)
 order_sound b text value h k =
     elim (or_cases (b == 126 || b == 62) (b == 60) h) [
       | inr e ↦ subst (λ (x : ℕ). IsTest (x ∷ 61 ∷ text) (order_test x value)) (sym (eqb-true b 60 e)) (at_most text value k)

@@ -3,7 +3,7 @@ use Rattle.std.proofs.Common.{◌≡◌, ℕ, Bool, true, false, cond, ◌||◌,
 use Rattle.std.proofs.lemmas.Bool.{cases_Bool, cond-false, or_cases, eqb-true}
 use Rattle.std.proofs.lemmas.List.{append-nil}
 use Rattle.osgi_version.specs.Bytes.{Each, IsBlank, is_blank}
-use Rattle.osgi_model.specs.Filters.{is_item_name_byte, IsItemNameByte, is_plain, IsItemName, IsCut, end, plain, escaped, star}
+use Rattle.osgi_model.specs.Filters.{is_item_name_byte, IsItemNameByte, is_plain, IsItemName, HasPieces, end, plain, escaped, star}
 use Rattle.osgi_filter.specs.computed.Reader.{◌>>=◌, skip, after, name_at, value_at}
 
 pub bind_ok : {A B : Type 0} (r : Result A ℕ) (f : A → Result B ℕ) (y : B) → (r >>= f) ≡ Ok y → (x : A) × (r ≡ Ok x) × (f x ≡ Ok y)
@@ -178,7 +178,7 @@ starred cut b bs before start = cond (b == 42) (value_at cut false (before ++ st
 abbrev special : Bool → ℕ → List ℕ → List (List ℕ) → List ℕ → Result (List (List ℕ) × List ℕ) ℕ
 special cut b bs before start = cond (b == 92) (value_at cut true before start bs) (starred cut b bs before start)
 
-pub value_again : (cut : Bool) (text piece : List ℕ) (more : List (List ℕ)) → IsCut cut text piece more → (before : List (List ℕ)) (start rest : List ℕ) → value_at cut false before start (text ++ 41 ∷ rest) ≡ Ok (before ++ (start ++ piece) ∷ more, rest)
+pub value_again : (cut : Bool) (text piece : List ℕ) (more : List (List ℕ)) → HasPieces cut text piece more → (before : List (List ℕ)) (start rest : List ℕ) → value_at cut false before start (text ++ 41 ∷ rest) ≡ Ok (before ++ (start ++ piece) ∷ more, rest)
 value_again cut text piece more end before start rest = ap (λ (x : List ℕ). done (before ++ x ∷ [], rest)) (sym (append-nil start))
 value_again cut text piece more (plain b t p m h k) before start rest = rw h (value_again cut t p m k before (start ++ b ∷ []) rest ∙ ap (λ (x : List ℕ). done (before ++ x ∷ m, rest)) (append_assoc start (b ∷ []) p))
 value_again cut text piece more (escaped b t p m k) before start rest = value_again cut t p m k before (start ++ b ∷ []) rest ∙ ap (λ (x : List ℕ). done (before ++ x ∷ m, rest)) (append_assoc start (b ∷ []) p)
@@ -189,8 +189,8 @@ value_again cut text piece more (star t p m h k) before start rest =
 
 -- what a value that is read is written so
 abbrev pub ValueFound : Bool → Bool → List (List ℕ) → List ℕ → List ℕ → List (List ℕ) → List ℕ → Type 0
-ValueFound cut false before start bytes all rest = (text : List ℕ) × (piece : List ℕ) × (more : List (List ℕ)) × (bytes ≡ text ++ 41 ∷ rest) × IsCut cut text piece more × (all ≡ before ++ (start ++ piece) ∷ more)
-ValueFound cut true before start bytes all rest = (b : ℕ) × (text : List ℕ) × (piece : List ℕ) × (more : List (List ℕ)) × (bytes ≡ b ∷ (text ++ 41 ∷ rest)) × IsCut cut text piece more × (all ≡ before ++ (start ++ b ∷ piece) ∷ more)
+ValueFound cut false before start bytes all rest = (text : List ℕ) × (piece : List ℕ) × (more : List (List ℕ)) × (bytes ≡ text ++ 41 ∷ rest) × HasPieces cut text piece more × (all ≡ before ++ (start ++ piece) ∷ more)
+ValueFound cut true before start bytes all rest = (b : ℕ) × (text : List ℕ) × (piece : List ℕ) × (more : List (List ℕ)) × (bytes ≡ b ∷ (text ++ 41 ∷ rest)) × HasPieces cut text piece more × (all ≡ before ++ (start ++ b ∷ piece) ∷ more)
 
 plain_star : (cut : Bool) → is_plain cut 42 ≡ false → cut ≡ true
 plain_star true h = refl

@@ -3,7 +3,7 @@ use Rattle.std.proofs.Common.{◌≡◌, ℕ, ◌≤◌, ◌<◌, Bool, true, fa
 use Rattle.std.proofs.lemmas.Bool.{cases_Bool, eqb-true, cond-false, cond-true, false≢true}
 use Rattle.osgi_model.specs.declared.filter.Test.{Test}
 use Rattle.osgi_model.specs.declared.filter.Test.TheVariants.{Equal, Present, Pieces}
-use Rattle.osgi_model.specs.Filters.{is_plain, IsCut, end, plain, escaped, star, IsTest, equal, present, pieces}
+use Rattle.osgi_model.specs.Filters.{is_plain, HasPieces, end, plain, escaped, star, IsTest, equal, present, pieces}
 use Rattle.osgi_filter.specs.computed.Reader.{◌>>=◌, after, piece_at, ended_piece, value_at, closes, starred_at, equal_from, equal_at, plain_at}
 use Rattle.osgi_filter.specs.laws.Scans.{bind_ok, bind_same, ok_is, value_again, value_sound}
 
@@ -87,13 +87,13 @@ piece_ends false (c ∷ cs) start piece b rest e =
 
 -- ---- the value of =
 
-pub none_left : (text piece : List ℕ) (more : List (List ℕ)) → IsCut true text piece more → piece ≡ [] → more ≡ [] → text ≡ []
+pub none_left : (text piece : List ℕ) (more : List (List ℕ)) → HasPieces true text piece more → piece ≡ [] → more ≡ [] → text ≡ []
 none_left text piece more end p m = refl
 none_left text piece more (plain b t q n h k) p m = absurd cc
 none_left text piece more (escaped b t q n k) p m = absurd cc
 none_left text piece more (star t q n h k) p m = absurd cc
 
-pub star_alone : (text piece : List ℕ) (more : List (List ℕ)) → IsCut true text piece more → piece ≡ [] → more ≡ [] ∷ [] → text ≡ 42 ∷ []
+pub star_alone : (text piece : List ℕ) (more : List (List ℕ)) → HasPieces true text piece more → piece ≡ [] → more ≡ [] ∷ [] → text ≡ 42 ∷ []
 star_alone text piece more end p m = absurd cc
 star_alone text piece more (plain b t q n h k) p m = absurd cc
 star_alone text piece more (escaped b t q n k) p m = absurd cc
@@ -109,20 +109,20 @@ equal_pieces (f ∷ fs) [] (m ∷ ms) h = refl
 equal_pieces (f ∷ fs) (s ∷ ss) [] h = refl
 equal_pieces (f ∷ fs) (s ∷ ss) (m ∷ ms) h = refl
 
-pub empty_pieces : (text piece : List ℕ) (more : List (List ℕ)) → IsCut true text piece more → text ≡ [] → (piece ≡ []) × (more ≡ [])
+pub empty_pieces : (text piece : List ℕ) (more : List (List ℕ)) → HasPieces true text piece more → text ≡ [] → (piece ≡ []) × (more ≡ [])
 empty_pieces text piece more end e = (refl, refl)
 empty_pieces text piece more (plain b t q n h k) e = absurd cc
 empty_pieces text piece more (escaped b t q n k) e = absurd cc
 empty_pieces text piece more (star t q n h k) e = absurd cc
 
-pub star_only : (text piece : List ℕ) (more : List (List ℕ)) → IsCut true text piece more → text ≡ 42 ∷ [] → ((piece ≡ []) × (more ≡ [] ∷ []) → ⊥) → ⊥
+pub star_only : (text piece : List ℕ) (more : List (List ℕ)) → HasPieces true text piece more → text ≡ 42 ∷ [] → ((piece ≡ []) × (more ≡ [] ∷ []) → ⊥) → ⊥
 star_only text piece more end e nope = absurd cc
 star_only text piece more (plain b t q n h k) e nope = let is : b ≡ 42 = cc in absurd (let w = subst (λ (x : ℕ). is_plain true x ≡ true) is h in cc)
 star_only text piece more (escaped b t q n k) e nope = absurd cc
 star_only text piece more (star t q n h k) e nope = let w : t ≡ [] = cc in let r = empty_pieces t q n k w in nope (refl, rw (r.0, r.1) refl)
 
 -- a value and its pieces stand for the test that they make
-pub equal_sound : (text first : List ℕ) (more : List (List ℕ)) → IsCut true text first more → IsTest (61 ∷ text) (equal_test (first ∷ more))
+pub equal_sound : (text first : List ℕ) (more : List (List ℕ)) → HasPieces true text first more → IsTest (61 ∷ text) (equal_test (first ∷ more))
 equal_sound text first [] k = equal text first k
 equal_sound text [] ([] ∷ []) k = rw (star_alone text [] ([] ∷ []) k refl refl) present
 equal_sound text [] ([] ∷ m ∷ ms) k = pieces text [] [] (m ∷ ms) k (λ e. star_only text [] ([] ∷ m ∷ ms) k e (λ h. absurd (let e = h.1 in cc)))
@@ -195,21 +195,21 @@ plain_is bytes = by_pieces (List ℕ) false (λ v. first_of v) (λ p. after 41 p
 
 -- ---- a value in which stars do not cut
 
-uncut : (text piece : List ℕ) (more : List (List ℕ)) → IsCut false text piece more → more ≡ []
+uncut : (text piece : List ℕ) (more : List (List ℕ)) → HasPieces false text piece more → more ≡ []
 uncut text piece more end = refl
 uncut text piece more (plain b t q n h k) = uncut t q n k
 uncut text piece more (escaped b t q n k) = uncut t q n k
 uncut text piece more (star t q n h k) = absurd cc
 
-pub plain_again : (text value rest : List ℕ) → IsCut false text value [] → plain_at (text ++ 41 ∷ rest) ≡ Ok (value, rest)
+pub plain_again : (text value rest : List ℕ) → HasPieces false text value [] → plain_at (text ++ 41 ∷ rest) ≡ Ok (value, rest)
 plain_again text value rest k = plain_is (text ++ 41 ∷ rest) ∙ ap (λ (x : Result (List (List ℕ) × List ℕ) ℕ). x >>= λ v. Ok (first_of v.0, v.1)) (value_again false text value [] k [] [] rest)
 
-pub plain_sound : (bytes value rest : List ℕ) → plain_at bytes ≡ Ok (value, rest) → (text : List ℕ) × (bytes ≡ text ++ 41 ∷ rest) × IsCut false text value []
+pub plain_sound : (bytes value rest : List ℕ) → plain_at bytes ≡ Ok (value, rest) → (text : List ℕ) × (bytes ≡ text ++ 41 ∷ rest) × HasPieces false text value []
 plain_sound bytes value rest e =
     let v = bind_ok (value_at false false [] [] bytes) (λ v. Ok (first_of v.0, v.1)) (value, rest) (sym (plain_is bytes) ∙ e) in
     let r = value_sound false bytes false [] [] v.0.0 v.0.1 v.1 in
     let both = ok_is (first_of v.0.0, v.0.1) (value, rest) v.2 in
     let none = uncut r.0 r.1 r.2 r.4 in
     let is : r.1 ≡ value = ap first_of (sym r.5) ∙ ap (λ (x : List ℕ × List ℕ). x.0) both in
-    let one : IsCut false r.0 value [] = subst (λ (x : List ℕ). IsCut false r.0 x []) is (subst (λ (x : List (List ℕ)). IsCut false r.0 r.1 x) none r.4) in
+    let one : HasPieces false r.0 value [] = subst (λ (x : List ℕ). HasPieces false r.0 x []) is (subst (λ (x : List (List ℕ)). HasPieces false r.0 r.1 x) none r.4) in
     (r.0, r.3 ∙ ap (λ (x : List ℕ). r.0 ++ 41 ∷ x) (ap (λ (x : List ℕ × List ℕ). x.1) both), one)

@@ -17,7 +17,7 @@ use Rattle.osgi_hall.specs.computed.Stages.{HasPlace, IsOut, InTurn, stage_of, h
 module _ {O R Z : Type 0} where
   -- What is true of a caller that has not joined, at the seat j. The history of all begins with what it has seen, which a machine of
   -- the setting can make, and both have exactly its own calls of its number. Only caller 0 knows of callers that have joined.
-  pub record Fits (CanMake : Z → List (Entry O R) → Type 0) (z : Z) (all : List (Entry O R)) (low high j : ℕ) (k : Known O R Z) : Type 0 where
+  pub record IsSeated (CanMake : Z → List (Entry O R) → Type 0) (z : Z) (all : List (Entry O R)) (low high j : ℕ) (k : Known O R Z) : Type 0 where
     pub caller : k.caller ≡ j
     pub setting : k.setting ≡ z ∷ []
     pub begins : BeginsWith all k.seen
@@ -31,7 +31,7 @@ module _ {O R Z : Type 0} where
   -- the same of any seat: one that is spent is that of a caller that has joined
   abbrev pub Sound : (Z → List (Entry O R) → Type 0) → Z → List (Entry O R) → ℕ → ℕ → List (Joined O R) → ℕ → View O R Z → Type 0
   Sound CanMake z all low high ended j Spent = (i : ℕ) × (x : Joined O R) × (get_elem? ended i ≡ some x) × (x.caller ≡ j)
-  Sound CanMake z all low high ended j (Live k) = Fits CanMake z all low high j k
+  Sound CanMake z all low high ended j (Live k) = IsSeated CanMake z all low high j k
 
   -- what caller 0 knows of all callers
   pub record IsRoot (made out : ℕ) (ended : List (Joined O R)) (k : Known O R Z) : Type 0 where

@@ -23,11 +23,11 @@ module _ {O R : Type 0} where
   places_of (Done _) = 1
 
   -- its place, or 0
-  abbrev pub place_of : Stage O R → ℕ
-  place_of Idle = 0
-  place_of (Waits p) = p
-  place_of (Has p _) = p
-  place_of (Done p) = p
+  abbrev pub stage_place : Stage O R → ℕ
+  stage_place Idle = 0
+  stage_place (Waits p) = p
+  stage_place (Has p _) = p
+  stage_place (Done p) = p
 
   -- what it noted when it took the machine
   abbrev pub noted_of : Stage O R → List (Entry O R)

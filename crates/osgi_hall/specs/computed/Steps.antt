@@ -13,7 +13,7 @@ use Rattle.osgi_hall.specs.declared.board.View.TheVariants.{Live, Spent}
 use Rattle.osgi_hall.specs.Histories.{BeginsWith, calls_by, longer}
 use Rattle.osgi_hall.specs.Passes.{IsLegalFor}
 use Rattle.osgi_hall.specs.computed.Lists.{Each}
-use Rattle.osgi_hall.specs.computed.Stages.{place_of, noted_of, stage_of}
+use Rattle.osgi_hall.specs.computed.Stages.{stage_place, noted_of, stage_of}
 
 module _ {O R Z : Type 0} where
   -- caller 0 in a new hall
@@ -28,7 +28,7 @@ module _ {O R Z : Type 0} where
   -- the caller has seen this history, and what that has beyond the noted one is its own
   abbrev pub told : List (Entry O R) → View O R Z → View O R Z
   told es Spent = Spent
-  told es (Live k) = Live record k { stage = Done (place_of k.stage); seen = es; own = k.own ++ drop (length (noted_of k.stage)) es }
+  told es (Live k) = Live record k { stage = Done (stage_place k.stage); seen = es; own = k.own ++ drop (length (noted_of k.stage)) es }
 
 module _ {M O R : Type 0} where
   -- the history of the machine in the slot that was taken last
@@ -54,8 +54,8 @@ module _ {M O R Z : Type 0} where
 
   -- where the place is served, the machine is out with the caller, who knows what it has; else nothing changed
   abbrev pub found : (M → List (Entry O R)) → (M → Z) → Step (Option M) → Sat M O R Z → ℕ → Sat M O R Z → Type 0
-  found entries setting st m r m' = (r ≡ place_of (stage_of m.0) % 2 ^ 64 → (x : M) × (m' ≡ (staged (Has (place_of (stage_of m.0)) (entries x)) m.0, (0, Some x) ∷ m.1)) × Knows entries setting m.0 x)
-      × (r ≢ place_of (stage_of m.0) % 2 ^ 64 → m' ≡ m)
+  found entries setting st m r m' = (r ≡ stage_place (stage_of m.0) % 2 ^ 64 → (x : M) × (m' ≡ (staged (Has (stage_place (stage_of m.0)) (entries x)) m.0, (0, Some x) ∷ m.1)) × Knows entries setting m.0 x)
+      × (r ≢ stage_place (stage_of m.0) % 2 ^ 64 → m' ≡ m)
 
   -- the slot is given back, and the caller has seen the history of the machine in it
   abbrev pub noted : (M → List (Entry O R)) → Step (Option M) → Sat M O R Z → ℕ → Sat M O R Z → Type 0

@@ -9,67 +9,73 @@ use Rattle.osgi_header.specs.declared.fault.HeaderFault.{HeaderFault}
 use Rattle.osgi_header.specs.declared.fault.HeaderKind.{HeaderKind}
 use Rattle.osgi_header.specs.declared.fault.HeaderKind.TheVariants.{BadName, BadUtf8, LongLine, NoColon}
 use Rattle.osgi_header.specs.declared.header.Header.{Header}
-use Rattle.osgi_header.specs.declared.lines.Line as code
+use Rattle.osgi_header.specs.declared.unfolding.TheConstants.{MAX_LINE_LEN}
+use Rattle.osgi_header.specs.declared.lines.LineAt.{LineAt}
 use Rattle.osgi_header.specs.Headers.{counting, is_header_name_byte}
-use Rattle.osgi_header.specs.Lines.{continues, Group, joined, Line}
+use Rattle.osgi_header.specs.Lines.{continues, Group, joined, PhysicalLine}
 
 -- ---- lines
 
+-- without the line feed (10) that may stand first
 abbrev pub without_line_feed : List ℕ → List ℕ
 without_line_feed [] = []
 without_line_feed (b ∷ rest) = if b == 10 then rest else b ∷ rest
 
+-- what is left after a line end that begins with a carriage return (13), or else is a line feed
 abbrev pub after_end : List ℕ → List ℕ
 after_end [] = []
 after_end (b ∷ rest) = if b == 13 then without_line_feed rest else rest
 
 -- a line of the code
-abbrev pub line_seen : code.Line → Line
+abbrev pub line_seen : LineAt → PhysicalLine
 line_seen line = record { at = line.at; text = line.text.now }
 
-abbrev pub lines_seen : List code.Line → List Line
+abbrev pub lines_seen : List LineAt → List PhysicalLine
 lines_seen lines = map line_seen lines
 
 -- ---- the lines of each header
 
-abbrev pub group : Line → List Line → Group
+abbrev pub group : PhysicalLine → List PhysicalLine → Group
 group first more = record { first = first; more = more }
 
 -- the lines at the start that continue the one before
-abbrev pub leading : List Line → List Line
+abbrev pub leading : List PhysicalLine → List PhysicalLine
 leading [] = []
 leading (line ∷ lines) = if continues line then line ∷ leading lines else []
 
 -- the groups after the lines at the start that continue the one before
-abbrev pub following : List Line → List Group
+abbrev pub following : List PhysicalLine → List Group
 following [] = []
 following (line ∷ lines) = if continues line then following lines else group line (leading lines) ∷ following lines
 
-abbrev pub groups_of : List Line → List Group
+abbrev pub groups_of : List PhysicalLine → List Group
 groups_of [] = []
 groups_of (line ∷ lines) = group line (leading lines) ∷ following lines
 
 -- the lines from here on begin with those of one header
-pub record BeginsWithGroup (lines : List code.Line) (start : ℕ) (first : Line) (more : List code.Line) : Type 0 where
+pub record BeginsWithGroup (lines : List LineAt) (start : ℕ) (first : PhysicalLine) (more : List LineAt) : Type 0 where
   pub groups : groups_of (lines_seen (drop start lines)) ≡ group first (lines_seen more) ∷ groups_of (lines_seen (drop (start + (length more + 1)) lines))
   pub within : start + (length more + 1) ≤ length lines
 
 -- ---- headers
 
-abbrev pub is_long : Line → Bool
-is_long line = nat_lt 65536 (length line.text)
+abbrev pub is_long : PhysicalLine → Bool
+is_long line = nat_lt MAX_LINE_LEN (length line.text)
 
-abbrev pub first_long : List Line → Option ℕ
+abbrev pub first_long : List PhysicalLine → Option ℕ
 first_long [] = None
 first_long (line ∷ lines) = if is_long line then Some line.at else first_long lines
 
+-- `:` (58)
 abbrev pub is_colon : ℕ → Bool
 is_colon b = b == 58
 
+-- the bytes of a name, of which `_` (95) and `-` (45) are not the first
 abbrev pub is_header_name : List ℕ → Bool
 is_header_name [] = false
 is_header_name (b ∷ rest) = if (b == 95) || (b == 45) then false else list_all is_header_name_byte (b ∷ rest)
 
+-- without the space (32) that may stand first
 abbrev pub without_space : List ℕ → List ℕ
 without_space [] = []
 without_space (b ∷ rest) = if b == 32 then rest else b ∷ rest

@@ -4,6 +4,7 @@ use Rattle.std.specs.Prelude.{ℕ, ◌==◌, Bool, List, map}
 use Rattle.std.specs.List.{slice_split}
 use Rattle.osgi_header.specs.computed.ClauseReader.{trimmed}
 
+-- `,` (44)
 abbrev pub is_comma : ℕ → Bool
 is_comma b = b == 44
 

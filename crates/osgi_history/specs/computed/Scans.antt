@@ -11,7 +11,7 @@ use Rattle.osgi_ops.specs.declared.entry.Entry.{Entry}
 
 -- an accepted Register
 abbrev pub is_registration : Op → Reply → Bool
-is_registration (Register owner classes object properties) reply = is_accepted reply
+is_registration (Register owner classes object scope properties) reply = is_accepted reply
 is_registration _ reply = false
 
 -- how often the user holds the service by these entries

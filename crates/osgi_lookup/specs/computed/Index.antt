@@ -11,9 +11,9 @@ use Rattle.osgi_world.specs.declared.world.Known.{Known}
 abbrev pub IsIndexOf : BTreeMap ℕ (Bor Known) → List Known → Type 0
 IsIndexOf index K = (id : ℕ) → option_copied (get nat_cmp index id) ≡ find (λ (k : Known). k.id.0 == id) K
 
-abbrev pub id_of : Known → ℕ
-id_of k = k.id.0
+abbrev pub revision_number : Known → ℕ
+revision_number k = k.id.0
 
 -- the ids rise from one revision to the next
 abbrev pub AreRising : List Known → Type 0
-AreRising K = IsStrictlyIncreasing (map id_of K)
+AreRising K = IsStrictlyIncreasing (map revision_number K)

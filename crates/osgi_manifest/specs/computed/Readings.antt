@@ -7,8 +7,8 @@ use Rattle.osgi_header.specs.declared.header.Header.{Header}
 use Rattle.osgi_header.specs.Headers.{AreHeadersOf, IsHeaderFault}
 use Rattle.osgi_package.specs.Only.{IsOnly}
 use Rattle.osgi_manifest.specs.computed.Answers.{in_header}
-use Rattle.osgi_manifest.specs.declared.stop.Stop.{Stop}
-use Rattle.osgi_manifest.specs.declared.stop.Stop.TheVariants.{Fault, Memory}
+use Rattle.osgi_base.specs.declared.stop.Stop.{Stop}
+use Rattle.osgi_base.specs.declared.stop.Stop.TheVariants.{Fault, Memory}
 use Rattle.osgi_manifest.specs.Manifests.{IsRevisionOf, manifest_faults}
 use Rattle.osgi_world.specs.declared.manifest_fault.ManifestFault.{ManifestFault}
 use Rattle.osgi_world.specs.declared.manifest_fault.ManifestKind.{ManifestKind}
@@ -16,13 +16,13 @@ use Rattle.osgi_world.specs.declared.manifest_fault.ManifestKind.TheVariants as 
 use Rattle.osgi_world.specs.declared.revision.Revision.{Revision}
 
 -- the one verdict that is said, or memory ran out
-abbrev pub AnswersOnly : (Verdict ManifestFault Revision → Type 0) → Result Revision Stop → Type 0
+abbrev pub AnswersOnly : (Verdict ManifestFault Revision → Type 0) → Result Revision (Stop ManifestFault) → Type 0
 AnswersOnly Says (Ok revision) = IsOnly Says (answers revision)
 AnswersOnly Says (Err (Fault found)) = IsOnly Says (refuses found)
 AnswersOnly Says (Err Memory) = ⊤
 
 -- a fault of no header
-abbrev pub IsStopAt : ManifestKind → ℕ → Stop → Type 0
+abbrev pub IsStopAt : ManifestKind → ℕ → Stop ManifestFault → Type 0
 IsStopAt kind at (Fault found) = found ≡ in_header [] kind at
 IsStopAt kind at Memory = ⊤
 

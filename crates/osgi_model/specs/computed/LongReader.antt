@@ -18,7 +18,7 @@ trimmed text =
     let begun : List ℕ = drop (prefix_len is_ascii_whitespace text) text in
     take (length begun - suffix_len is_ascii_whitespace begun) begun
 
--- a number of 64 bits
+-- a number of 64 bits, from -(2 ^ 63) to 2 ^ 63 - 1
 abbrev pub fits : ℤ → Bool
 fits number = int_le (negsuc 9223372036854775807) number && int_le number (pos 9223372036854775807)
 

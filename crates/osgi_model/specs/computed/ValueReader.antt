@@ -27,7 +27,7 @@ kind_named name = if bytes_eq name (codes "List") then Some (value_type.List sca
 
 -- ---- the elements of a list
 
--- what a byte after a `\` stands for, together with it
+-- what a `\` (92) and the byte after it stand for: `,` (44) or `\`, or else both bytes
 abbrev pub unescaped : ℕ → List ℕ
 unescaped b = if (b == 44) || (b == 92) then b ∷ [] else 92 ∷ b ∷ []
 

@@ -9,6 +9,7 @@ use Rattle.osgi_version.specs.VersionReading.{parts_of}
 use Rattle.osgi_version.specs.laws.VersionReading.{parts_read, parts_sound}
 use Rattle.osgi_version.specs.VersionValues.{parts}
 use Rattle.osgi_version.specs.Versions.{Parts, ReadsVersion}
+use Rattle.osgi_version.specs.declared.version.TheConstants.{MAX_NUMBER}
 use Rattle.osgi_version.specs.declared.version.Version.{Version}
 use Rattle.osgi_model.specs.computed.VersionReader.{is_within, version_by, version_of, version_with}
 
@@ -26,8 +27,8 @@ within_one x y = λ i. (le_prop x.0 y.0 i, le_prop x.1 y.1 i, le_prop x.2 y.2 i)
 
 is_within-from : (w : Version) → is_within (parts w) ≡ true
 is_within-from w =
-    and_from (nat_le w.major 2147483647) (nat_le w.minor 2147483647 && nat_le w.micro 2147483647) (le-leb w.major 2147483647 w.in_range.0)
-    (and_from (nat_le w.minor 2147483647) (nat_le w.micro 2147483647) (le-leb w.minor 2147483647 w.in_range.1) (le-leb w.micro 2147483647 w.in_range.2))
+    and_from (nat_le w.major MAX_NUMBER) (nat_le w.minor MAX_NUMBER && nat_le w.micro MAX_NUMBER) (le-leb w.major MAX_NUMBER w.in_range.0)
+    (and_from (nat_le w.minor MAX_NUMBER) (nat_le w.micro MAX_NUMBER) (le-leb w.minor MAX_NUMBER w.in_range.1) (le-leb w.micro MAX_NUMBER w.in_range.2))
 
 with_read : (w : Version) (test : Bool) (e : is_within (parts w) ≡ test) → version_by (parts w) test e ≡ Some w
 with_read w true e =

@@ -73,7 +73,7 @@ none_search false now bundle = (not_unresolvable now bundle, (not_over_budget no
 
 none_full : (now : Moment) (op : Op) → NoneCalls HistoryFull (conditions now op)
 unfolding NoneCalls
-none_full now (Register owner classes object properties) = ((λ c. cc c.0), ((λ c. cc c.0), ((λ c. cc c.0), ((λ c. cc c.0), tt))))
+none_full now (Register owner classes object scope properties) = ((λ c. cc c.0), ((λ c. cc c.0), ((λ c. cc c.0), ((λ c. cc c.0), ((λ c. cc c.0), tt)))))
 none_full now (Modify owner service properties) = ((λ c. cc c.0), ((λ c. cc c.0), ((λ c. cc c.0), (no_owner owner (live_at service now.before), ((λ c. cc c.0), tt)))))
 none_full now (Unregister owner service) = ((λ c. cc c.0), ((λ c. cc c.0), ((λ c. cc c.0), (no_owner owner (live_at service now.before), tt))))
 none_full now (Find asker class filter) = ((λ c. cc c.0), ((λ c. cc c.0), tt))

@@ -12,11 +12,12 @@ use Rattle.osgi_base.specs.declared.ids.ServiceId.{ServiceId}
 use Rattle.osgi_model.specs.declared.value.Attribute.{Attribute}
 use Rattle.osgi_ops.specs.Properties.{with_framework}
 use Rattle.osgi_ops.specs.Replies.{is_accepted}
-use Rattle.osgi_ops.specs.Services.{gets, given_by, given_last, is_get, is_live, is_service, is_unget, live, Registered, registered, registered_after, registered_by, service_now, takes_out, ungets, uses, uses_of}
+use Rattle.osgi_ops.specs.Services.{gets, given_by, given_last, is_get, is_live, is_service, is_unget, live, Registered, registered, registered_after, registered_by, service_now, takes_out, ungets, uses, uses_held}
 use Rattle.osgi_ops.specs.declared.op.Op.{Op}
 use Rattle.osgi_ops.specs.declared.op.Op.TheVariants.{Register}
 use Rattle.osgi_ops.specs.declared.reply.Reply.{Reply}
 use Rattle.osgi_ops.specs.declared.entry.Entry.{Entry}
+use Rattle.osgi_ops.specs.declared.scope.Scope.{Scope}
 
 -- a registered service with one more entry since
 abbrev pub later : Entry → Registered → Registered
@@ -24,15 +25,15 @@ later e r = record r { since = r.since ++ e ∷ [] }
 
 -- ---- what is registered
 
-registered_with : (earlier : ℕ) (owner : BundleId) (classes : List (List ℕ)) (object : List ℕ) (properties : List Attribute) (since : List Entry) (e : Entry) (accepted : Bool) →
+registered_with : (earlier : ℕ) (owner : BundleId) (classes : List (List ℕ)) (object : List ℕ) (scope : Scope) (properties : List Attribute) (since : List Entry) (e : Entry) (accepted : Bool) →
     let r : List Entry → Registered
-    = λ entries. record { service = record { 0 = earlier + 1 }; owner = owner; classes = classes; object = object; given = properties; since = entries } in
+    = λ entries. record { service = record { 0 = earlier + 1 }; owner = owner; classes = classes; object = object; scope = scope; given = properties; since = entries } in
     cond accepted (r (since ++ e ∷ []) ∷ []) [] ≡ map (later e) (cond accepted (r since ∷ []) [])
-registered_with earlier owner classes object properties since e true = refl
-registered_with earlier owner classes object properties since e false = refl
+registered_with earlier owner classes object scope properties since e true = refl
+registered_with earlier owner classes object scope properties since e false = refl
 
 registered_by-later : (earlier : ℕ) (op : Op) (reply : Reply) (since : List Entry) (e : Entry) → registered_by earlier op reply (since ++ e ∷ []) ≡ map (later e) (registered_by earlier op reply since)
-registered_by-later earlier (Register owner classes object properties) reply since e = registered_with earlier owner classes object properties since e (is_accepted reply)
+registered_by-later earlier (Register owner classes object scope properties) reply since e = registered_with earlier owner classes object scope properties since e (is_accepted reply)
 registered_by-later earlier op reply since e = refl
 
 length_later : (e : Entry) (list : List Registered) → length (map (later e) list) ≡ length list
@@ -60,7 +61,7 @@ few_if true r = omega arith
 few_if false r = omega arith
 
 registered_by-few : (earlier : ℕ) (op : Op) (reply : Reply) (since : List Entry) → length (registered_by earlier op reply since) ≤ 1
-registered_by-few earlier (Register owner classes object properties) reply since = few_if (is_accepted reply) _
+registered_by-few earlier (Register owner classes object scope properties) reply since = few_if (is_accepted reply) _
 registered_by-few earlier op reply since = omega arith
 
 length-registered_after : (earlier : ℕ) (history : List Entry) → length (registered_after earlier history) ≤ length history
@@ -94,14 +95,14 @@ live-later : (e : Entry) (list : List Registered) → filter is_live (map (later
 live-later e [] = refl
 live-later e (r ∷ rest) = live_by e r rest (filter is_live rest) _ _ refl refl (live-later e rest) refl
 
-live_if : (earlier : ℕ) (owner : BundleId) (classes : List (List ℕ)) (object : List ℕ) (properties : List Attribute) (accepted : Bool) →
-    let r : Registered = record { service = record { 0 = earlier + 1 }; owner = owner; classes = classes; object = object; given = properties; since = [] } in
+live_if : (earlier : ℕ) (owner : BundleId) (classes : List (List ℕ)) (object : List ℕ) (scope : Scope) (properties : List Attribute) (accepted : Bool) →
+    let r : Registered = record { service = record { 0 = earlier + 1 }; owner = owner; classes = classes; object = object; scope = scope; given = properties; since = [] } in
     filter is_live (cond accepted (r ∷ []) []) ≡ cond accepted (r ∷ []) []
-live_if earlier owner classes object properties true = refl
-live_if earlier owner classes object properties false = refl
+live_if earlier owner classes object scope properties true = refl
+live_if earlier owner classes object scope properties false = refl
 
 new_live : (earlier : ℕ) (op : Op) (reply : Reply) → filter is_live (registered_by earlier op reply []) ≡ registered_by earlier op reply []
-new_live earlier (Register owner classes object properties) reply = live_if earlier owner classes object properties (is_accepted reply)
+new_live earlier (Register owner classes object scope properties) reply = live_if earlier owner classes object scope properties (is_accepted reply)
 new_live earlier op reply = refl
 
 -- those that the entry leaves, and the one that it registers
@@ -129,8 +130,8 @@ given_with r e (Some properties) is =
 pub given-push : (r : Registered) (e : Entry) → given_last (later e r) ≡ unwrap_or (given_by r.service e.op e.reply) (given_last r)
 given-push r e = given_with r e (given_by r.service e.op e.reply) refl
 
-pub service-push : (r : Registered) (e : Entry) → service_now (later e r) ≡ record (service_now r) { properties = with_framework (unwrap_or (given_by r.service e.op e.reply) (given_last r)) r.classes r.service r.owner }
-service-push r e = ap (λ p. record (service_now r) { properties = with_framework p r.classes r.service r.owner }) (given-push r e)
+pub service-push : (r : Registered) (e : Entry) → service_now (later e r) ≡ record (service_now r) { properties = with_framework (unwrap_or (given_by r.service e.op e.reply) (given_last r)) r.classes r.scope r.service r.owner }
+service-push r e = ap (λ p. record (service_now r) { properties = with_framework p r.classes r.scope r.service r.owner }) (given-push r e)
 
 abbrev pub one_where : Bool → ℕ
 one_where holds = cond holds 1 0
@@ -152,7 +153,7 @@ short_if most true r short = All-cons (IsShort most) r [] short (All-nil (IsShor
 short_if most false r short = All-nil (IsShort most)
 
 short_by : (most earlier : ℕ) (op : Op) (reply : Reply) (since : List Entry) → length since ≤ most → All (IsShort most) (registered_by earlier op reply since)
-short_by most earlier (Register owner classes object properties) reply since short = short_if most (is_accepted reply) _ short
+short_by most earlier (Register owner classes object scope properties) reply since short = short_if most (is_accepted reply) _ short
 short_by most earlier op reply since short = All-nil (IsShort most)
 
 short_after : (most earlier : ℕ) (history : List Entry) → length history ≤ most → All (IsShort most) (registered_after earlier history)
@@ -171,12 +172,12 @@ found-le f most p [] all = omega arith
 found-le f most p (r ∷ rest) all =
     found_by f most (p r) r (find p rest) (All-head (λ x. f x ≤ most) r rest all) (found-le f most p rest (All-tail (λ x. f x ≤ most) r rest all))
 
-uses-short : (user : BundleId) (most : ℕ) (r : Registered) → IsShort most r → uses_of user r ≤ most
+uses-short : (user : BundleId) (most : ℕ) (r : Registered) → IsShort most r → uses_held user r ≤ most
 uses-short user most r short = omega (arith, short, count_by-le-length (λ (e : Entry). is_get user r.service e.op e.reply) r.since)
 
 -- nobody uses a service more often than there are entries
 pub uses-le-length : (user : BundleId) (service : ServiceId) (history : List Entry) → uses user service history ≤ length history
 uses-le-length user service history =
-    found-le (uses_of user) (length history) (is_service service) (live history)
-    (All-weaker (IsShort (length history)) (λ r. uses_of user r ≤ length history) (λ r short. uses-short user (length history) r short) (live history)
+    found-le (uses_held user) (length history) (is_service service) (live history)
+    (All-weaker (IsShort (length history)) (λ r. uses_held user r ≤ length history) (λ r short. uses-short user (length history) r short) (live history)
     (All-filter is_live (IsShort (length history)) (registered history) (short_after (length history) 0 history (omega arith))))

@@ -8,7 +8,7 @@ use Rattle.osgi_model.specs.computed.ValueReader.{kind_named, value_of}
 use Rattle.osgi_model.specs.declared.value.Attribute.{Attribute}
 use Rattle.osgi_package.specs.declared.fault.PackageKind.{PackageKind}
 use Rattle.osgi_package.specs.declared.fault.PackageKind.TheVariants.{BadValue, DoubleType}
-use Rattle.osgi_package.specs.Parameters.{is_double, is_other}
+use Rattle.osgi_package.specs.Parameters.{is_double, is_plain_attribute}
 
 abbrev pub attribute_of : Typed → Option Attribute
 attribute_of typed =
@@ -16,7 +16,7 @@ attribute_of typed =
 
 -- an attribute before others, if it counts among them
 abbrev pub with_other : Typed → Attribute → List Attribute → List Attribute
-with_other typed attribute others = if is_other typed then attribute ∷ others else others
+with_other typed attribute others = if is_plain_attribute typed then attribute ∷ others else others
 
 -- the other attributes, where all attributes have values
 abbrev pub others_of : List Typed → Option (List Attribute)

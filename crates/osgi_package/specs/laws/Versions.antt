@@ -4,10 +4,10 @@ use Rattle.std.specs.Prelude.{None, Some}
 use Rattle.osgi_model.specs.computed.VersionReader.{version_of}
 use Rattle.osgi_model.specs.laws.VersionTexts.{version_read, version_sound}
 use Rattle.osgi_version.specs.declared.version.Version.{Version}
-use Rattle.osgi_version.specs.Versions.{Fits, IsReadableVersion, Parts, ReadsVersion}
+use Rattle.osgi_version.specs.Versions.{NumbersFit, IsReadableVersion, Parts, ReadsVersion}
 use Rattle.osgi_version.specs.VersionValues.{parts}
 
-made : (v : Parts) → Fits v → Version
+made : (v : Parts) → NumbersFit v → Version
 made v fits = record {
   major = v.major;
   minor = v.minor;
@@ -16,7 +16,7 @@ made v fits = record {
   in_range = (omega (arith, fits.major), omega (arith, fits.minor), omega (arith, fits.micro));
 }
 
-made_parts : (v : Parts) (fits : Fits v) → parts (made v fits) ≡ v
+made_parts : (v : Parts) (fits : NumbersFit v) → parts (made v fits) ≡ v
 unfolding made
 made_parts v fits = refl
 

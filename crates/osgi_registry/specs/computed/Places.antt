@@ -13,7 +13,7 @@ use Rattle.osgi_ops.specs.Classes.{has_class, is_among}
 use Rattle.osgi_ops.specs.Properties.{ranking}
 use Rattle.osgi_registry.specs.declared.place.Place.{Place}
 use Rattle.osgi_ops.specs.declared.service.Service.{Service}
-use Rattle.osgi_registry.specs.Rows.{Row}
+use Rattle.osgi_registry.specs.Rows.{LiveService}
 
 -- higher rankings first, then lower ids
 abbrev pub place_cmp : Place → Place → Ordering
@@ -72,13 +72,13 @@ place_with properties service = record { ranking = record { 0 = ranking properti
 abbrev pub place_of : Service → Place
 place_of service = place_with service.properties service.service
 
-abbrev pub is_placed : List ℕ → Place → Row → Bool
+abbrev pub is_placed : List ℕ → Place → LiveService → Bool
 is_placed class place row = has_class class row.service && same_place (place_of row.service) place
 
 -- each class has the places of its services and no others
-abbrev pub IsIndexOf : Classes → List Row → Type 0
+abbrev pub IsIndexOf : Classes → List LiveService → Type 0
 IsIndexOf classes rows = (c : List ℕ) (p : Place) → holds classes c p ≡ list_any (is_placed c p) rows
 
 -- and what stands at a place is the service as it is now
-abbrev pub AreCurrent : Classes → List Row → Type 0
+abbrev pub AreCurrent : Classes → List LiveService → Type 0
 AreCurrent classes rows = (c : List ℕ) (p : Place) (service : Service) → service_under classes c p ≡ Some service → All (λ row. place_of row.service ≡ p → service ≡ row.service) rows

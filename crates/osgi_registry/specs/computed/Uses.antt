@@ -2,6 +2,6 @@
 use Rattle.std.specs.Prelude.{ℕ, List, ◌∷◌, Option, None, Some}
 
 -- the first user's count, if there is one, and those of the others
-abbrev pub uses_of : Option (ℕ × ℕ) → List (ℕ × ℕ) → List (ℕ × ℕ)
-uses_of None others = others
-uses_of (Some first) others = first ∷ others
+abbrev pub all_uses : Option (ℕ × ℕ) → List (ℕ × ℕ) → List (ℕ × ℕ)
+all_uses None others = others
+all_uses (Some first) others = first ∷ others

@@ -14,72 +14,73 @@ use Rattle.osgi_model.specs.declared.filter.Filter.{Filter}
 use Rattle.osgi_model.specs.declared.value.Attribute.{Attribute}
 use Rattle.osgi_ops.specs.laws.Services.{gets-push, later, left_by, live-push, one_where, registered-push, service-push, ungets-push}
 use Rattle.osgi_ops.specs.Properties.{with_framework}
-use Rattle.osgi_ops.specs.Services.{gets, given_by, given_last, is_get, is_service, is_unget, live, Registered, registered, registered_by, service_now, takes_out, ungets, uses_of}
+use Rattle.osgi_ops.specs.Services.{gets, given_by, given_last, is_get, is_service, is_unget, live, Registered, registered, registered_by, service_now, takes_out, ungets, uses_held}
 use Rattle.osgi_ops.specs.declared.entry.Entry.{Entry}
 use Rattle.osgi_ops.specs.declared.op.Op.{Op}
 use Rattle.osgi_ops.specs.declared.op.Op.TheVariants as op
 use Rattle.osgi_ops.specs.declared.reply.Reply.TheVariants as answer
 use Rattle.osgi_ops.specs.declared.refusal.Refusal.{Refusal}
+use Rattle.osgi_ops.specs.declared.scope.Scope.{Scope}
 use Rattle.osgi_ops.specs.declared.service.Service.{Service}
 use Rattle.osgi_ops.specs.declared.service.ServiceRow.{ServiceRow}
-use Rattle.osgi_registry.specs.Rows.{change, count_of, is_service as is_row_of, new_row, object_at, RegistryRows, Row, row_at, services_in, use_count, used_less, used_more, with_count, with_properties, without}
+use Rattle.osgi_registry.specs.Rows.{change, count_of, is_service as is_row_of, new_row, object_at, RegistryRows, LiveService, row_at, services_in, use_count, used_less, used_more, with_count, with_properties, without}
 use Rattle.osgi_registry.specs.Stands.{AreRowsOf, IsRowOf, StandsFor}
 
 -- ---- rows one by one
 
-rows_map : (f : Row → Row) (g : Registered → Registered) → ((row : Row) (r : Registered) → IsRowOf row r → IsRowOf (f row) (g r)) → (rows : List Row) (list : List Registered) → AreRowsOf rows list → AreRowsOf (map f rows) (map g list)
+rows_map : (f : LiveService → LiveService) (g : Registered → Registered) → ((row : LiveService) (r : Registered) → IsRowOf row r → IsRowOf (f row) (g r)) → (rows : List LiveService) (list : List Registered) → AreRowsOf rows list → AreRowsOf (map f rows) (map g list)
 rows_map f g each [] [] are = tt
 rows_map f g each [] (r ∷ list) are = absurd are
 rows_map f g each (row ∷ rows) [] are = absurd are
 rows_map f g each (row ∷ rows) (r ∷ list) are = (each row r are.0, rows_map f g each rows list are.1)
 
-rows_append : (rows more : List Row) (list others : List Registered) → AreRowsOf rows list → AreRowsOf more others → AreRowsOf (rows ++ more) (list ++ others)
+rows_append : (rows more : List LiveService) (list others : List Registered) → AreRowsOf rows list → AreRowsOf more others → AreRowsOf (rows ++ more) (list ++ others)
 rows_append [] more [] others are new = new
 rows_append [] more (r ∷ list) others are new = absurd are
 rows_append (row ∷ rows) more [] others are new = absurd are
 rows_append (row ∷ rows) more (r ∷ list) others are new = (are.0, rows_append rows more list others are.1 new)
 
-filter_by : (p : Bool) (q : Bool) (row : Row) (r : Registered) (rows : List Row) (list : List Registered) → p ≡ q → IsRowOf row r → AreRowsOf rows list → AreRowsOf (cond p (row ∷ rows) rows) (cond q (r ∷ list) list)
+filter_by : (p : Bool) (q : Bool) (row : LiveService) (r : Registered) (rows : List LiveService) (list : List Registered) → p ≡ q → IsRowOf row r → AreRowsOf rows list → AreRowsOf (cond p (row ∷ rows) rows) (cond q (r ∷ list) list)
 filter_by true true row r rows list same is are = (is, are)
 filter_by true false row r rows list same is are = absurd (cc same)
 filter_by false true row r rows list same is are = absurd (cc same)
 filter_by false false row r rows list same is are = are
 
-rows_filter : (p : Row → Bool) (q : Registered → Bool) → ((row : Row) (r : Registered) → IsRowOf row r → p row ≡ q r) → (rows : List Row) (list : List Registered) → AreRowsOf rows list → AreRowsOf (filter p rows) (filter q list)
+rows_filter : (p : LiveService → Bool) (q : Registered → Bool) → ((row : LiveService) (r : Registered) → IsRowOf row r → p row ≡ q r) → (rows : List LiveService) (list : List Registered) → AreRowsOf rows list → AreRowsOf (filter p rows) (filter q list)
 rows_filter p q each [] [] are = tt
 rows_filter p q each [] (r ∷ list) are = absurd are
 rows_filter p q each (row ∷ rows) [] are = absurd are
 rows_filter p q each (row ∷ rows) (r ∷ list) are = filter_by (p row) (q r) row r (filter p rows) (filter q list) (each row r are.0) are.0 (rows_filter p q each rows list are.1)
 
 -- as many of one as of the other
-pub rows_length : (rows : List Row) (list : List Registered) → AreRowsOf rows list → length rows ≡ length list
+pub rows_length : (rows : List LiveService) (list : List Registered) → AreRowsOf rows list → length rows ≡ length list
 rows_length [] [] are = refl
 rows_length [] (r ∷ list) are = absurd are
 rows_length (row ∷ rows) [] are = absurd are
 rows_length (row ∷ rows) (r ∷ list) are = ap suc (rows_length rows list are.1)
 
 -- and the same services
-pub rows_services : (rows : List Row) (list : List Registered) → AreRowsOf rows list → services_in rows ≡ map service_now list
+pub rows_services : (rows : List LiveService) (list : List Registered) → AreRowsOf rows list → services_in rows ≡ map service_now list
 rows_services [] [] are = refl
 rows_services [] (r ∷ list) are = absurd are
 rows_services (row ∷ rows) [] are = absurd are
 rows_services (row ∷ rows) (r ∷ list) are = λ i. are.0.service i ∷ rows_services rows list are.1 i
 
 -- the row of a service and the service, found by its id
-pub data Found : Option Row → Option Registered → Type 0 where
+pub data Found : Option LiveService → Option Registered → Type 0 where
   nowhere : Found None None
-  there : {row : Row} {r : Registered} → IsRowOf row r → Found (Some row) (Some r)
+  there : {row : LiveService} {r : Registered} → IsRowOf row r → Found (Some row) (Some r)
 
-found_by : (p q : Bool) (row : Row) (r : Registered) (at : Option Row) (of : Option Registered) → p ≡ q → IsRowOf row r → Found at of → Found (cond p (Some row) at) (cond q (Some r) of)
+found_by : (p q : Bool) (row : LiveService) (r : Registered) (at : Option LiveService) (of : Option Registered) → p ≡ q → IsRowOf row r → Found at of → Found (cond p (Some row) at) (cond q (Some r) of)
 found_by true true row r at of same is found = there is
 found_by true false row r at of same is found = absurd (cc same)
 found_by false true row r at of same is found = absurd (cc same)
 found_by false false row r at of same is found = found
 
-same_service : (service : ServiceId) (row : Row) (r : Registered) → IsRowOf row r → is_row_of service row ≡ is_service service r
+same_service : (service : ServiceId) (row : LiveService) (r : Registered) → IsRowOf row r → is_row_of service row ≡ is_service service r
 same_service service row r is = ap (λ (s : Service). service.0 == s.service.0) is.service
 
-pub rows_found : (service : ServiceId) (rows : List Row) (list : List Registered) → AreRowsOf rows list → Found (row_at service rows) (find (is_service service) list)
+pub rows_found : (service : ServiceId) (rows : List LiveService) (list : List Registered) → AreRowsOf rows list → Found (row_at service rows) (find (is_service service) list)
 rows_found service [] [] are = nowhere
 rows_found service [] (r ∷ list) are = absurd are
 rows_found service (row ∷ rows) [] are = absurd are
@@ -96,8 +97,8 @@ pub record IsQuiet (e : Entry) : Type 0 where
   pub gets : (user : BundleId) (service : ServiceId) → is_get user service e.op e.reply ≡ false
   pub ungets : (user : BundleId) (service : ServiceId) → is_unget user service e.op e.reply ≡ false
 
-service_kept : (row : Row) (r : Registered) (e : Entry) → row.service ≡ service_now r → given_by r.service e.op e.reply ≡ None → row.service ≡ service_now (later e r)
-service_kept row r e is none = is ∙ sym (service-push r e ∙ ap (λ o. record (service_now r) { properties = with_framework (unwrap_or o (given_last r)) r.classes r.service r.owner }) none)
+service_kept : (row : LiveService) (r : Registered) (e : Entry) → row.service ≡ service_now r → given_by r.service e.op e.reply ≡ None → row.service ≡ service_now (later e r)
+service_kept row r e is none = is ∙ sym (service-push r e ∙ ap (λ o. record (service_now r) { properties = with_framework (unwrap_or o (given_last r)) r.classes r.scope r.service r.owner }) none)
 
 gets_kept : (user : BundleId) (r : Registered) (e : Entry) → is_get user r.service e.op e.reply ≡ false → gets user (later e r) ≡ gets user r
 gets_kept user r e none = gets-push user r e ∙ (rw none (let same : gets user r + 0 ≡ gets user r = omega arith in same))
@@ -105,10 +106,11 @@ gets_kept user r e none = gets-push user r e ∙ (rw none (let same : gets user 
 ungets_kept : (user : BundleId) (r : Registered) (e : Entry) → is_unget user r.service e.op e.reply ≡ false → ungets user (later e r) ≡ ungets user r
 ungets_kept user r e none = ungets-push user r e ∙ (rw none (let same : ungets user r + 0 ≡ ungets user r = omega arith in same))
 
-quiet_row : (e : Entry) (row : Row) (r : Registered) → ((user : BundleId) → is_get user r.service e.op e.reply ≡ false) → ((user : BundleId) → is_unget user r.service e.op e.reply ≡ false) → given_by r.service e.op e.reply ≡ None →
+quiet_row : (e : Entry) (row : LiveService) (r : Registered) → ((user : BundleId) → is_get user r.service e.op e.reply ≡ false) → ((user : BundleId) → is_unget user r.service e.op e.reply ≡ false) → given_by r.service e.op e.reply ≡ None →
     IsRowOf row r → IsRowOf row (later e r)
 quiet_row e row r no_get no_unget no_given is = record {
   service = service_kept row r e is.service no_given;
+  scope = is.scope;
   uses = λ user. is.uses user ∙ (λ i. sym (gets_kept user r e (no_get user)) i - sym (ungets_kept user r e (no_unget user)) i);
   paid = λ user. let p = is.paid user in omega (arith, p, gets_kept user r e (no_get user), ungets_kept user r e (no_unget user));
 }
@@ -154,19 +156,19 @@ stands_quiet history registry e stands quiet =
 
 -- ---- a registration
 
-pub stands_registered : (history : List Entry) (old new : RegistryRows) (tag : Tag) (owner : BundleId) (classes : List (List ℕ)) (object : List ℕ) (properties : List Attribute) (service : ServiceId) → StandsFor history old →
-    service.0 ≡ old.issued + 1 → new.rows ≡ old.rows ++ new_row service owner classes object properties ∷ [] → new.issued ≡ old.issued + 1 →
-    StandsFor (history ++ record { tag = tag; op = op.Register owner classes object properties; reply = answer.Service service } ∷ []) new
-stands_registered history old new tag owner classes object properties service stands id rows issued =
-    let e : Entry = record { tag = tag; op = op.Register owner classes object properties; reply = answer.Service service } in
-    let r : ServiceId → Registered = λ s. record { service = s; owner = owner; classes = classes; object = object; given = properties; since = [] } in
-    let first : IsRowOf (new_row service owner classes object properties) (r service) = record { service = refl; uses = λ user. refl; paid = λ user. omega arith } in
+pub stands_registered : (history : List Entry) (old new : RegistryRows) (tag : Tag) (owner : BundleId) (classes : List (List ℕ)) (object : List ℕ) (scope : Scope) (properties : List Attribute) (service : ServiceId) → StandsFor history old →
+    service.0 ≡ old.issued + 1 → new.rows ≡ old.rows ++ new_row service owner classes object scope properties ∷ [] → new.issued ≡ old.issued + 1 →
+    StandsFor (history ++ record { tag = tag; op = op.Register owner classes object scope properties; reply = answer.Service service } ∷ []) new
+stands_registered history old new tag owner classes object scope properties service stands id rows issued =
+    let e : Entry = record { tag = tag; op = op.Register owner classes object scope properties; reply = answer.Service service } in
+    let r : ServiceId → Registered = λ s. record { service = s; owner = owner; classes = classes; object = object; scope = scope; given = properties; since = [] } in
+    let first : IsRowOf (new_row service owner classes object scope properties) (r service) = record { service = refl; scope = refl; uses = λ user. refl; paid = λ user. omega arith } in
     let number : length (registered history) + 1 ≡ service.0 = ap (λ n. n + 1) (sym stands.issued) ∙ sym id in
     let one : r service ∷ [] ≡ registered_by (length (registered history)) e.op e.reply [] = λ i. r (record { 0 = sym number i }) ∷ [] in
     stands_by history old new e stands
     (subst (λ l. AreRowsOf l (map (later e) (left_by e (live history)) ++ registered_by (length (registered history)) e.op e.reply [])) (sym rows)
-    (subst (λ l. AreRowsOf (old.rows ++ new_row service owner classes object properties ∷ []) (map (later e) (left_by e (live history)) ++ l)) one
-    (rows_append old.rows (new_row service owner classes object properties ∷ []) (map (later e) (left_by e (live history))) (r service ∷ [])
+    (subst (λ l. AreRowsOf (old.rows ++ new_row service owner classes object scope properties ∷ []) (map (later e) (left_by e (live history)) ++ l)) one
+    (rows_append old.rows (new_row service owner classes object scope properties ∷ []) (map (later e) (left_by e (live history))) (r service ∷ [])
     (subst (λ l. AreRowsOf old.rows (map (later e) l)) (sym (all_left e (live history) (λ s. refl)))
     (subst (λ l. AreRowsOf l (map (later e) (live history))) (map_same old.rows)
     (rows_map (λ row. row) (later e) (λ row x is. quiet_row e row x (λ user. refl) (λ user. refl) refl is) old.rows (live history) stands.rows)))
@@ -175,12 +177,13 @@ stands_registered history old new tag owner classes object properties service st
 
 -- ---- a change of properties
 
-modified_by : (e : Entry) (service : ServiceId) (properties : List Attribute) (row : Row) (r : Registered) (here : Bool) → is_service service r ≡ here → given_by r.service e.op e.reply ≡ cond here (Some properties) None →
+modified_by : (e : Entry) (service : ServiceId) (properties : List Attribute) (row : LiveService) (r : Registered) (here : Bool) → is_service service r ≡ here → given_by r.service e.op e.reply ≡ cond here (Some properties) None →
     ((user : BundleId) → is_get user r.service e.op e.reply ≡ false) → ((user : BundleId) → is_unget user r.service e.op e.reply ≡ false) → IsRowOf row r → IsRowOf (cond here (with_properties properties row) row) (later e r)
 modified_by e service properties row r true here gives no_get no_unget is = record {
   service =
-      ap (λ (s : Service). record s { properties = with_framework properties s.classes s.service s.owner }) is.service
-      ∙ sym (service-push r e ∙ ap (λ o. record (service_now r) { properties = with_framework (unwrap_or o (given_last r)) r.classes r.service r.owner }) gives);
+      (λ i. record (is.service i) { properties = with_framework properties (is.service i).classes (is.scope i) (is.service i).service (is.service i).owner })
+      ∙ sym (service-push r e ∙ ap (λ o. record (service_now r) { properties = with_framework (unwrap_or o (given_last r)) r.classes r.scope r.service r.owner }) gives);
+  scope = is.scope;
   uses = λ user. is.uses user ∙ (λ i. sym (gets_kept user r e (no_get user)) i - sym (ungets_kept user r e (no_unget user)) i);
   paid = λ user. let p = is.paid user in omega (arith, p, gets_kept user r e (no_get user), ungets_kept user r e (no_unget user));
 }
@@ -260,10 +263,10 @@ and_true false = refl
 
 -- ---- one use more
 
-more_by : (user other : BundleId) (row : Row) (r : Registered) (e : Entry) (own : Bool) → (user.0 == other.0) ≡ own → is_get other r.service e.op e.reply ≡ own → is_unget other r.service e.op e.reply ≡ false → IsRowOf row r →
-    cond own (count_of user row.uses + 1) (count_of other row.uses) ≡ uses_of other (later e r)
+more_by : (user other : BundleId) (row : LiveService) (r : Registered) (e : Entry) (own : Bool) → (user.0 == other.0) ≡ own → is_get other r.service e.op e.reply ≡ own → is_unget other r.service e.op e.reply ≡ false → IsRowOf row r →
+    cond own (count_of user row.uses + 1) (count_of other row.uses) ≡ uses_held other (later e r)
 more_by user other row r e true own get no_unget is =
-    let held : count_of other row.uses ≡ uses_of other r = is.uses other in
+    let held : count_of other row.uses ≡ uses_held other r = is.uses other in
     let same : count_of user row.uses ≡ count_of other row.uses = same_count user other row.uses (eqb-true user.0 other.0 own) in
     let paid = is.paid other in
     let more : gets other (later e r) ≡ gets other r + 1 = gets-push other r e ∙ ap (λ b. gets other r + one_where b) get in
@@ -271,13 +274,14 @@ more_by user other row r e true own get no_unget is =
     rw (more, less, same, held) (omega (arith, paid))
 more_by user other row r e false own get no_unget is = is.uses other ∙ (λ i. sym (gets_kept other r e get) i - sym (ungets_kept other r e no_unget) i)
 
-used_by : (tag : Tag) (user : BundleId) (service : ServiceId) (text : List ℕ) (row : Row) (r : Registered) (here : Bool) → is_service service r ≡ here → IsRowOf row r →
+used_by : (tag : Tag) (user : BundleId) (service : ServiceId) (text : List ℕ) (row : LiveService) (r : Registered) (here : Bool) → is_service service r ≡ here → IsRowOf row r →
     IsRowOf (cond here (used_more user row) row) (later (record { tag = tag; op = op.Get user service; reply = answer.Object text }) r)
 used_by tag user service text row r true here is =
     let e : Entry = record { tag = tag; op = op.Get user service; reply = answer.Object text } in
     let get : (other : BundleId) → is_get other r.service e.op e.reply ≡ (user.0 == other.0) = λ other. ap (λ b. (user.0 == other.0) && b) here ∙ and_true (user.0 == other.0) in
     record {
       service = service_kept row r e is.service refl;
+      scope = is.scope;
       uses = λ other. count-with user other (count_of user row.uses + 1) row.uses ∙ more_by user other row r e (user.0 == other.0) refl (get other) refl is;
       paid = λ other. let p = is.paid other in omega (arith, p, gets-push other r e, ungets_kept other r e refl);
     }
@@ -297,36 +301,37 @@ stands_used history old new tag user service text stands rows issued =
 
 -- ---- one use less
 
-less_by : (user other : BundleId) (row : Row) (r : Registered) (e : Entry) (own : Bool) → (user.0 == other.0) ≡ own → is_unget other r.service e.op e.reply ≡ own → is_get other r.service e.op e.reply ≡ false → IsRowOf row r →
-    cond own (count_of user row.uses - 1) (count_of other row.uses) ≡ uses_of other (later e r)
+less_by : (user other : BundleId) (row : LiveService) (r : Registered) (e : Entry) (own : Bool) → (user.0 == other.0) ≡ own → is_unget other r.service e.op e.reply ≡ own → is_get other r.service e.op e.reply ≡ false → IsRowOf row r →
+    cond own (count_of user row.uses - 1) (count_of other row.uses) ≡ uses_held other (later e r)
 less_by user other row r e true own unget no_get is =
-    let held : count_of other row.uses ≡ uses_of other r = is.uses other in
+    let held : count_of other row.uses ≡ uses_held other r = is.uses other in
     let same : count_of user row.uses ≡ count_of other row.uses = same_count user other row.uses (eqb-true user.0 other.0 own) in
     let more : ungets other (later e r) ≡ ungets other r + 1 = ungets-push other r e ∙ ap (λ b. ungets other r + one_where b) unget in
     let less : gets other (later e r) ≡ gets other r = gets_kept other r e no_get in
     rw (more, less, same, held) (omega arith)
 less_by user other row r e false own unget no_get is = is.uses other ∙ (λ i. sym (gets_kept other r e no_get) i - sym (ungets_kept other r e unget) i)
 
-paid_by : (user other : BundleId) (row : Row) (r : Registered) (e : Entry) (own : Bool) → (user.0 == other.0) ≡ own → is_unget other r.service e.op e.reply ≡ own → is_get other r.service e.op e.reply ≡ false → IsRowOf row r →
+paid_by : (user other : BundleId) (row : LiveService) (r : Registered) (e : Entry) (own : Bool) → (user.0 == other.0) ≡ own → is_unget other r.service e.op e.reply ≡ own → is_get other r.service e.op e.reply ≡ false → IsRowOf row r →
     0 < count_of user row.uses → ungets other (later e r) ≤ gets other (later e r)
 paid_by user other row r e true own unget no_get is held =
-    let uses : count_of other row.uses ≡ uses_of other r = is.uses other in
+    let uses : count_of other row.uses ≡ uses_held other r = is.uses other in
     let same : count_of user row.uses ≡ count_of other row.uses = same_count user other row.uses (eqb-true user.0 other.0 own) in
     let more : ungets other (later e r) ≡ ungets other r + 1 = ungets-push other r e ∙ ap (λ b. ungets other r + one_where b) unget in
     omega (arith, held, uses, same, more, gets_kept other r e no_get)
 paid_by user other row r e false own unget no_get is held = let p = is.paid other in omega (arith, p, gets_kept other r e no_get, ungets_kept other r e unget)
 
 -- the user holds each service of this id
-abbrev pub Holds : BundleId → ServiceId → Row → Type 0
+abbrev pub Holds : BundleId → ServiceId → LiveService → Type 0
 Holds user service row = is_row_of service row ≡ true → 0 < count_of user row.uses
 
-returned_by : (tag : Tag) (user : BundleId) (service : ServiceId) (row : Row) (r : Registered) (here : Bool) → is_service service r ≡ here → (here ≡ true → 0 < count_of user row.uses) → IsRowOf row r →
+returned_by : (tag : Tag) (user : BundleId) (service : ServiceId) (row : LiveService) (r : Registered) (here : Bool) → is_service service r ≡ here → (here ≡ true → 0 < count_of user row.uses) → IsRowOf row r →
     IsRowOf (cond here (used_less user row) row) (later (record { tag = tag; op = op.Unget user service; reply = answer.Flag true }) r)
 returned_by tag user service row r true here held is =
     let e : Entry = record { tag = tag; op = op.Unget user service; reply = answer.Flag true } in
     let unget : (other : BundleId) → is_unget other r.service e.op e.reply ≡ (user.0 == other.0) = λ other. ap (λ b. (user.0 == other.0) && b) here ∙ and_true (user.0 == other.0) in
     record {
       service = service_kept row r e is.service refl;
+      scope = is.scope;
       uses = λ other. count-with user other (count_of user row.uses - 1) row.uses ∙ less_by user other row r e (user.0 == other.0) refl (unget other) refl is;
       paid = λ other. paid_by user other row r e (user.0 == other.0) refl (unget other) refl is (held refl);
     }
@@ -334,7 +339,7 @@ returned_by tag user service row r false here held is =
     let e : Entry = record { tag = tag; op = op.Unget user service; reply = answer.Flag true } in
     quiet_row e row r (λ other. refl) (λ other. ap (λ b. (user.0 == other.0) && b) here ∙ and_false (user.0 == other.0)) refl is
 
-rows_returned : (tag : Tag) (user : BundleId) (service : ServiceId) (rows : List Row) (list : List Registered) → All (Holds user service) rows → AreRowsOf rows list →
+rows_returned : (tag : Tag) (user : BundleId) (service : ServiceId) (rows : List LiveService) (list : List Registered) → All (Holds user service) rows → AreRowsOf rows list →
     AreRowsOf (change service (used_less user) rows) (map (later (record { tag = tag; op = op.Unget user service; reply = answer.Flag true })) list)
 rows_returned tag user service [] [] held are = tt
 rows_returned tag user service [] (r ∷ list) held are = absurd are
@@ -364,7 +369,7 @@ stands_unreturned history registry tag user service stands =
 
 -- a refused operation does none of it
 pub quiet_refused : (tag : Tag) (o : Op) (refusal : Refusal) → IsQuiet (record { tag = tag; op = o; reply = answer.Refused refusal })
-quiet_refused tag (op.Register owner classes object properties) refusal = record { registers = λ n. refl; takes = λ s. refl; gives = λ s. refl; gets = λ u s. refl; ungets = λ u s. refl }
+quiet_refused tag (op.Register owner classes object scope properties) refusal = record { registers = λ n. refl; takes = λ s. refl; gives = λ s. refl; gets = λ u s. refl; ungets = λ u s. refl }
 quiet_refused tag (op.Modify owner service properties) refusal = record { registers = λ n. refl; takes = λ s. refl; gives = λ s. refl; gets = λ u s. refl; ungets = λ u s. refl }
 quiet_refused tag (op.Unregister owner service) refusal = record { registers = λ n. refl; takes = λ s. refl; gives = λ s. refl; gets = λ u s. refl; ungets = λ u s. refl }
 quiet_refused tag (op.Find asker class filter) refusal = record { registers = λ n. refl; takes = λ s. refl; gives = λ s. refl; gets = λ u s. refl; ungets = λ u s. refl }
@@ -390,85 +395,9 @@ stands_ungot history old new tag user service true stands rows same issued held 
 stands_ungot history old new tag user service false stands rows same issued held =
     subst (StandsFor (history ++ record { tag = tag; op = op.Unget user service; reply = answer.Flag false } ∷ [])) (sym same) (stands_unreturned history old tag user service stands)
 
-held_by : (user : BundleId) (service : ServiceId) (row r : Row) (held : Bool) → held ≡ nat_lt 0 (count_of user row.uses) → held ≡ true → (is_row_of service r ≡ true → r ≡ row) → Holds user service r
+held_by : (user : BundleId) (service : ServiceId) (row r : LiveService) (held : Bool) → held ≡ nat_lt 0 (count_of user row.uses) → held ≡ true → (is_row_of service r ≡ true → r ≡ row) → Holds user service r
 held_by user service row r held is held_is only here = rw (only here) (ltb-true _ _ (sym is ∙ held_is))
 
 -- where the one service of the id is held
-pub all_held : (user : BundleId) (service : ServiceId) (row : Row) (rows : List Row) (held : Bool) → held ≡ nat_lt 0 (count_of user row.uses) → held ≡ true → All (λ r. is_row_of service r ≡ true → r ≡ row) rows → All (Holds user service) rows
+pub all_held : (user : BundleId) (service : ServiceId) (row : LiveService) (rows : List LiveService) (held : Bool) → held ≡ nat_lt 0 (count_of user row.uses) → held ≡ true → All (λ r. is_row_of service r ≡ true → r ≡ row) rows → All (Holds user service) rows
 all_held user service row rows held is held_is only = λ k d within. held_by user service row _ held is held_is (only k d within)
-
--- ---- a use counted and given back
-
-restored_row : (user : BundleId) (row : Row) (r : Registered) → IsRowOf row r → IsRowOf (used_less user (used_more user row)) r
-restored_row user row r is = record {
-  service = is.service;
-  uses = λ other. restored_count user other row ∙ is.uses other;
-  paid = is.paid;
-}
-  where
-    same_by : (user other : BundleId) (row : Row) (own : Bool) → (user.0 == other.0) ≡ own → cond own (count_of user row.uses) (count_of other row.uses) ≡ count_of other row.uses
-    same_by user other row true own = same_count user other row.uses (eqb-true user.0 other.0 own)
-    same_by user other row false own = refl
-
-    cond_twice : (own : Bool) (a b c : ℕ) → cond own a (cond own b c) ≡ cond own a c
-    cond_twice true a b c = refl
-    cond_twice false a b c = refl
-
-    one_less : (user : BundleId) (row : Row) → count_of user (used_more user row).uses - 1 ≡ count_of user row.uses
-    one_less user row =
-        ap (λ n. n - 1) (count-with user user (count_of user row.uses + 1) row.uses ∙ ap (λ b. cond b (count_of user row.uses + 1) (count_of user row.uses)) (eq-eqb user.0 user.0 refl))
-        ∙ (let same : count_of user row.uses + 1 - 1 ≡ count_of user row.uses = omega arith in same)
-
-    restored_count : (user other : BundleId) (row : Row) → count_of other (used_less user (used_more user row)).uses ≡ count_of other row.uses
-    restored_count user other row =
-        count-with user other (count_of user (used_more user row).uses - 1) (used_more user row).uses
-        ∙ (λ i. cond (user.0 == other.0) (one_less user row i) (count-with user other (count_of user row.uses + 1) row.uses i))
-        ∙ cond_twice (user.0 == other.0) (count_of user row.uses) (count_of user row.uses + 1) (count_of other row.uses)
-        ∙ same_by user other row (user.0 == other.0) refl
-
-restored_by : (user : BundleId) (service : ServiceId) (row : Row) (r : Registered) (here : Bool) → is_row_of service row ≡ here → IsRowOf row r →
-    IsRowOf (cond (is_row_of service (cond here (used_more user row) row)) (used_less user (cond here (used_more user row) row)) (cond here (used_more user row) row)) r
-restored_by user service row r true here is = subst (λ b. IsRowOf (cond b (used_less user (used_more user row)) (used_more user row)) r) (sym here) (restored_row user row r is)
-restored_by user service row r false here is = subst (λ b. IsRowOf (cond b (used_less user row) row) r) (sym here) is
-
-rows_restored : (user : BundleId) (service : ServiceId) (rows : List Row) (list : List Registered) → AreRowsOf rows list → AreRowsOf (change service (used_less user) (change service (used_more user) rows)) list
-rows_restored user service [] [] are = tt
-rows_restored user service [] (r ∷ list) are = absurd are
-rows_restored user service (row ∷ rows) [] are = absurd are
-rows_restored user service (row ∷ rows) (r ∷ list) are = (restored_by user service row r (is_row_of service row) refl are.0, rows_restored user service rows list are.1)
-
-more_found_by : (user : BundleId) (service : ServiceId) (row : Row) (rest : Option Row) (here : Bool) → is_row_of service row ≡ here → (all : Option Row) → all ≡ option_map (used_more user) rest →
-    cond (is_row_of service (cond here (used_more user row) row)) (Some (cond here (used_more user row) row)) all ≡ option_map (used_more user) (cond here (Some row) rest)
-more_found_by user service row rest true here all more = ap (λ b. cond b (Some (used_more user row)) all) here
-more_found_by user service row rest false here all more = ap (λ b. cond b (Some row) all) here ∙ more
-
-more_found : (user : BundleId) (service : ServiceId) (rows : List Row) → row_at service (change service (used_more user) rows) ≡ option_map (used_more user) (row_at service rows)
-more_found user service [] = refl
-more_found user service (row ∷ rows) = more_found_by user service row (row_at service rows) (is_row_of service row) refl _ (more_found user service rows)
-
-held_more : (user : BundleId) (service : ServiceId) (rows : List Row) (row : Row) → row_at service rows ≡ Some row → nat_lt 0 (use_count user service (change service (used_more user) rows)) ≡ true
-held_more user service rows row is =
-    ap (λ o. nat_lt 0 (option_map_or (λ (x : Row). count_of user x.uses) o 0)) (more_found user service rows ∙ ap (option_map (used_more user)) is)
-    ∙ lt-ltb 0 _
-    (let count : count_of user (used_more user row).uses ≡ count_of user row.uses + 1
-    = count-with user user (count_of user row.uses + 1) row.uses ∙ ap (λ b. cond b (count_of user row.uses + 1) (count_of user row.uses)) (eq-eqb user.0 user.0 refl) in
-    omega (arith, count))
-
-object_there : (at : Option Row) (text : List ℕ) → Ok text ≡ object_at at → (row : Row) × (at ≡ Some row)
-object_there None text got = absurd (cc got)
-object_there (Some row) text got = (row, refl)
-
-restored_with : (history : List Entry) (old mid new : RegistryRows) (user : BundleId) (service : ServiceId) (value : Bool) → StandsFor history old → mid.rows ≡ change service (used_more user) old.rows → mid.issued ≡ old.issued →
-    value ≡ true → OnTrue value (new.rows ≡ change service (used_less user) mid.rows) → new.issued ≡ mid.issued → StandsFor history new
-restored_with history old mid new user service false stands more first held less second = absurd (cc held)
-restored_with history old mid new user service true stands more first held less second = record {
-  rows = subst (λ l. AreRowsOf l (live history)) (ap (change service (used_less user)) (sym more) ∙ sym less) (rows_restored user service old.rows (live history) stands.rows);
-  issued = second ∙ first ∙ stands.issued;
-}
-
--- leaves what the registry stands for
-pub stands_restored : (history : List Entry) (old mid new : RegistryRows) (user : BundleId) (service : ServiceId) (text : List ℕ) (value : Bool) → StandsFor history old → Ok text ≡ object_at (row_at service old.rows) →
-    mid.rows ≡ change service (used_more user) old.rows → mid.issued ≡ old.issued → value ≡ nat_lt 0 (use_count user service mid.rows) → OnTrue value (new.rows ≡ change service (used_less user) mid.rows) → new.issued ≡ mid.issued → StandsFor history new
-stands_restored history old mid new user service text value stands got more first held less second =
-    let row = object_there (row_at service old.rows) text got in
-    restored_with history old mid new user service value stands more first (held ∙ ap (λ l. nat_lt 0 (use_count user service l)) more ∙ held_more user service old.rows row.0 row.1) less second

@@ -4,20 +4,20 @@ use Rattle.std.specs.List.{list_any}
 use Rattle.osgi_base.specs.declared.ids.RevisionId.{RevisionId}
 use Rattle.osgi_world.specs.Candidates.{matching}
 use Rattle.osgi_world.specs.Decisions.{Decision, Made, attaching, is_open}
-use Rattle.osgi_world.specs.DueDecisions.{attachments, decisions_of, in_turn, is_other, of_kind, payload}
+use Rattle.osgi_world.specs.DueDecisions.{attachments, decisions_of, in_turn, is_generic, of_kind, payload}
 use Rattle.osgi_world.specs.Payloads.{own_requirements, requirements_of}
 use Rattle.osgi_world.specs.Satisfaction.{is_bundle, is_package}
 use Rattle.osgi_world.specs.declared.problem.Problem.{Problem}
 use Rattle.osgi_world.specs.declared.wiring.ReqRef.{ReqRef}
 use Rattle.osgi_resolver_decisions.specs.declared.kind.Kind.{Kind}
 use Rattle.osgi_resolver_decisions.specs.declared.kind.Kind.TheVariants.{Bundle, Package, Other}
-use Rattle.osgi_resolver_decisions.specs.declared.decision.Decision as code
+use Rattle.osgi_resolver_decisions.specs.declared.decision_ref.DecisionRef.{DecisionRef}
 use Rattle.osgi_resolver_decisions.specs.DecisionOf.{decision_of}
 
 abbrev pub has_kind : Kind → List ℕ → Bool
 has_kind Bundle namespace = is_bundle namespace
 has_kind Package namespace = is_package namespace
-has_kind Other namespace = is_other namespace
+has_kind Other namespace = is_generic namespace
 
 -- the decisions of these requirements, those of the kind that are effective
 abbrev pub asks_among : Problem → RevisionId → Kind → List ReqRef → List Decision
@@ -43,5 +43,5 @@ first_among P m (f ∷ fs) = map (attaching m) (f ∷ fs)
 abbrev pub first_due : Problem → RevisionId → List Decision
 first_due P m = first_among P m (matching P m)
 
-abbrev pub decisions_in : List code.Decision → List Decision
+abbrev pub decisions_in : List DecisionRef → List Decision
 decisions_in ds = map decision_of ds

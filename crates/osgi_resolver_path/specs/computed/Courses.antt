@@ -14,12 +14,12 @@ use Rattle.osgi_resolver_decisions.specs.computed.Known.{Knows}
 use Rattle.osgi_resolver_path.specs.computed.Steps.{steps_in}
 use Rattle.osgi_resolver_path.specs.declared.course.Course.{Course}
 use Rattle.osgi_resolver_path.specs.declared.course.Mark.{Mark}
-use Rattle.osgi_resolver_decisions.specs.declared.decision.Decision.{Decision}
+use Rattle.osgi_resolver_decisions.specs.declared.decision_ref.DecisionRef.{DecisionRef}
 use Rattle.osgi_resolver_decisions.specs.declared.lists.Lists.{Lists}
 
 pub record CourseLists : Type 0 where
   pub ids : List RevisionId
-  pub queue : List Decision
+  pub queue : List DecisionRef
   pub last : ℕ
 
 abbrev pub lists_of : Course → CourseLists

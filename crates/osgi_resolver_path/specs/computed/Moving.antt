@@ -14,7 +14,7 @@ use Rattle.osgi_resolver_path.specs.computed.Placed.{ArePlaces}
 use Rattle.osgi_resolver_path.specs.computed.Steps.{IsListed, steps_in}
 use Rattle.osgi_resolver_path.specs.declared.course.Course.{Course}
 use Rattle.osgi_resolver_path.specs.declared.course.Mark.{Mark}
-use Rattle.osgi_resolver_decisions.specs.declared.decision.Decision.{Decision}
+use Rattle.osgi_resolver_decisions.specs.declared.decision_ref.DecisionRef.{DecisionRef}
 use Rattle.osgi_resolver_decisions.specs.declared.lists.Lists.{Lists}
 
 -- the lists know the members, and the fragments that are attached
@@ -27,7 +27,7 @@ abbrev pub IsLearnt : Lists → Course → Type 0
 IsLearnt lists c = AreLearnt lists c.ids.items (reverse c.marks.items)
 
 -- the mark of the next decision, with what it adds
-pub record IsMarkOf (lists : Lists) (c : Course) (decision : Decision) (value : ℕ) (mark : Mark) : Type 0 where
+pub record IsMarkOf (lists : Lists) (c : Course) (decision : DecisionRef) (value : ℕ) (mark : Mark) : Type 0 where
   pub decision_is : mark.decision ≡ decision
   pub value_is : mark.value ≡ value
   pub ids : mark.ids ≡ length c.ids.items

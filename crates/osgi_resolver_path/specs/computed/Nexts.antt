@@ -13,15 +13,15 @@ use Rattle.osgi_resolver_decisions.specs.computed.Known.{IsProblemIn}
 use Rattle.osgi_resolver_path.specs.computed.Openings.{IsOpened}
 use Rattle.osgi_resolver_path.specs.declared.course.Course.{Course}
 use Rattle.osgi_resolver_path.specs.declared.course.Mark.{Mark}
-use Rattle.osgi_resolver_decisions.specs.declared.decision.Decision.{Decision}
+use Rattle.osgi_resolver_decisions.specs.declared.decision_ref.DecisionRef.{DecisionRef}
 use Rattle.osgi_resolver_path.specs.declared.opening.More.{More}
 
 -- what is decided then
-abbrev pub made_with : List Mark → Decision → ℕ → Made
+abbrev pub made_with : List Mark → DecisionRef → ℕ → Made
 made_with ms decision value = (decision_of decision, value) ∷ made_of ms
 
 -- the decision is next, the value in range, and the members that the course had before, with who joins, are those then
-pub record IsNextOf (P : Problem) (c : Course) (ids : List RevisionId) (decision : Decision) (value : ℕ) : Type 0 where
+pub record IsNextOf (P : Problem) (c : Course) (ids : List RevisionId) (decision : DecisionRef) (value : ℕ) : Type 0 where
   pub next : slice_get c.queue.items (length c.marks.items) ≡ Some decision
   pub range : value < arity P (decision_of decision)
   pub joined : List RevisionId
@@ -29,7 +29,7 @@ pub record IsNextOf (P : Problem) (c : Course) (ids : List RevisionId) (decision
   pub members_are : c.ids.items ≡ members P (made_with (reverse c.marks.items) decision value)
 
 -- with these decisions more the queue is that of the members that are opened then, and a decision waits or none is left
-pub record IsOpenedBy (P : Problem) (c : Course) (decision : Decision) (value : ℕ) (more : More) : Type 0 where
+pub record IsOpenedBy (P : Problem) (c : Course) (decision : DecisionRef) (value : ℕ) (more : More) : Type 0 where
   pub opened : IsOpened P (made_with (reverse c.marks.items) decision value) c.ids.items (decisions_in (c.queue.items ++ more.decisions.items)) more.last
   pub pending : (length c.marks.items + 1 < length (c.queue.items ++ more.decisions.items)) ⊎ (more.last + 1 ≡ length c.ids.items)
 
@@ -41,7 +41,7 @@ pub record IsSameCourse (old new : Course) : Type 0 where
 -- the decision of the mark is made: the members stay, the queue is longer, and it is opened as it should be
 pub record IsDecidedBy (offers : World) (old new : Course) (mark : Mark) : Type 0 where
   pub ids : new.ids.items ≡ old.ids.items
-  pub more : List Decision
+  pub more : List DecisionRef
   pub queue : new.queue.items ≡ old.queue.items ++ more
   pub opened : (P : Problem) (ids : List RevisionId) → IsProblemIn offers P → IsRight P (reverse old.marks.items) (record (lists_of old) { ids = ids }) → IsNextOf P old ids mark.decision mark.value →
       IsOpened P (made_with (reverse old.marks.items) mark.decision mark.value) new.ids.items (decisions_in new.queue.items) new.last
@@ -50,7 +50,7 @@ pub record IsDecidedBy (offers : World) (old new : Course) (mark : Mark) : Type 
 -- the same, with who joins
 pub record IsDecidedWith (offers : World) (old new : Course) (mark : Mark) (joining : Option RevisionId) : Type 0 where
   pub ids : new.ids.items ≡ old.ids.items ++ option_to_list joining
-  pub more : List Decision
+  pub more : List DecisionRef
   pub queue : new.queue.items ≡ old.queue.items ++ more
   pub opened : (P : Problem) → IsProblemIn offers P → IsRight P (reverse old.marks.items) (lists_of old) → slice_get old.queue.items (length old.marks.items) ≡ Some mark.decision → mark.value < arity P (decision_of mark.decision) →
       new.ids.items ≡ members P (made_with (reverse old.marks.items) mark.decision mark.value) →

@@ -10,6 +10,6 @@ abbrev pub ArePlaces : NumberMap ℕ → List RevisionId → Type 0
 ArePlaces places ids = (r : RevisionId) (n : ℕ) → slice_get ids n ≡ Some r → value_at places r.0 ≡ Some n
 
 -- who joins, if anyone does, is no member
-abbrev pub IsNew : Option RevisionId → List RevisionId → Type 0
-IsNew None ids = Unit {0}
-IsNew (Some r) ids = list_any (λ k. k.0 == r.0) ids ≡ false
+abbrev pub IsNoMember : Option RevisionId → List RevisionId → Type 0
+IsNoMember None ids = Unit {0}
+IsNoMember (Some r) ids = list_any (λ k. k.0 == r.0) ids ≡ false

@@ -18,7 +18,7 @@ use Rattle.osgi_resolver_decisions.specs.computed.Known.{IsProblemIn}
 use Rattle.osgi_resolver_path.specs.computed.Moving.{IsLearnt}
 use Rattle.osgi_resolver_path.specs.computed.Valued.{AreValues}
 use Rattle.osgi_resolver_path.specs.declared.course.Course.{Course}
-use Rattle.osgi_resolver_decisions.specs.declared.decision.Decision.{Decision}
+use Rattle.osgi_resolver_decisions.specs.declared.decision_ref.DecisionRef.{DecisionRef}
 use Rattle.osgi_resolver_decisions.specs.declared.lists.Lists.{Lists}
 use Rattle.osgi_resolver_path.specs.declared.values.Values.{Values}
 
@@ -38,7 +38,7 @@ is_spatial K (choose h q) = is_of_space (requirement_namespace K q)
 is_spatial K (pick h q c) = is_of_space (requirement_namespace K q)
 
 -- the next decision is one of these, where one is left
-abbrev pub is_spatial_next : List Known → Option Decision → Bool
+abbrev pub is_spatial_next : List Known → Option DecisionRef → Bool
 is_spatial_next K None = false
 is_spatial_next K (Some d) = is_spatial K (decision_of d)
 

@@ -8,11 +8,11 @@ use Rattle.std.specs.Ordering.{nat_cmp}
 use Rattle.std.specs.Str.{bytes_eq}
 use Rattle.osgi_ops.specs.declared.section.Section.{Section}
 use Rattle.osgi_ops.specs.declared.section.Section.TheVariants.{Start, Stop, On, Job}
-use Rattle.osgi_script.specs.declared.statement.Statement.{Statement}
+use Rattle.osgi_session.specs.declared.statement.Statement.{Statement}
 use Rattle.osgi_script.specs.declared.lines.ScriptLine.{ScriptLine}
 use Rattle.osgi_script.specs.declared.lines.ScriptLine.TheVariants as line
-use Rattle.osgi_script.specs.declared.script.Part.{Part}
-use Rattle.osgi_script.specs.declared.script.Script.{Script}
+use Rattle.osgi_session.specs.declared.script.Part.{Part}
+use Rattle.osgi_session.specs.declared.script.Script.{Script}
 use Rattle.osgi_script.specs.declared.script.ScriptFault.{ScriptFault}
 use Rattle.osgi_script.specs.declared.taken.Taken.{Taken}
 use Rattle.osgi_script.specs.computed.HeadReader.{head_of}

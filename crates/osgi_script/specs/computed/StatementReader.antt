@@ -7,13 +7,13 @@ use Rattle.osgi_filter.specs.computed.Reader.{read_filter}
 use Rattle.osgi_model.specs.declared.filter.Filter.{Filter}
 use Rattle.osgi_ops.specs.declared.kind.Kind.{Kind}
 use Rattle.osgi_ops.specs.declared.kind.Kind.TheVariants.{Service, All, Bundle, Framework}
-use Rattle.osgi_script.specs.declared.statement.Statement.{Statement}
-use Rattle.osgi_script.specs.declared.statement.Statement.TheVariants as statement
+use Rattle.osgi_session.specs.declared.statement.Statement.{Statement}
+use Rattle.osgi_session.specs.declared.statement.Statement.TheVariants as statement
 use Rattle.osgi_script.specs.declared.statements.Verb.{Verb}
 use Rattle.osgi_script.specs.declared.statements.Verb.TheVariants as verb
 use Rattle.osgi_script.specs.Statements.{kind_word}
 use Rattle.osgi_syntax.specs.PropertyReader.{properties_of}
-use Rattle.osgi_syntax.specs.Splitting.{after_spaces, after_word, first_word, words_of}
+use Rattle.osgi_syntax.specs.Splitting.{after_spaces, after_word, first_word, only_word_of, words_of}
 use Rattle.osgi_syntax.specs.WordReader.{bundle_name_of, class_of, classes_of, name_of}
 
 -- the first word of a statement
@@ -49,14 +49,9 @@ kind_of word = find (λ kind. bytes_eq (kind_word kind) word) kinds
 
 -- ---- arguments
 
--- the one word
-abbrev pub only_word : List (List ℕ) → Option (List ℕ)
-only_word (word ∷ []) = Some word
-only_word _ = None
-
 -- the one argument, read like this
 abbrev pub only_of : (List ℕ → Option (List ℕ)) → List (List ℕ) → Option (List ℕ)
-only_of read words = option_and_then read (only_word words)
+only_of read words = option_and_then read (only_word_of words)
 
 -- a text begins with a name, and this is left after it
 pub record IsSplitName (text name left : List ℕ) : Type 0 where

@@ -2,16 +2,11 @@
 use Rattle.std.specs.Prelude.{◌≡◌, ◌↔◌, ◌⊎◌, ℕ, List, IsTrue, Some, map}
 use Rattle.std.specs.BTreeMap.{BTreeMap, get}
 use Rattle.std.specs.BTreeSet.{BTreeSet, contains}
-use Rattle.std.specs.Cmp.Lexicographic.{slice_cmp}
 use Rattle.std.specs.Option.{ForSome}
 use Rattle.std.specs.Ordering.{nat_cmp}
-use Rattle.std.specs.declared.cmp.Ordering.{Ordering}
+use Rattle.osgi_base.specs.computed.Texts.{text_cmp}
 use Rattle.osgi_space_rows.specs.Agree.{id}
 use Rattle.osgi_space.specs.declared.seen_packages.PackageSources.{PackageSources}
-
--- by bytes
-abbrev pub text_cmp : List ℕ → List ℕ → Ordering
-text_cmp = slice_cmp nat_cmp
 
 -- x stands under p
 abbrev pub HasSource : BTreeMap (List ℕ) (BTreeSet ℕ) → List ℕ → ℕ → Type 0

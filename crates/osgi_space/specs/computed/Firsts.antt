@@ -1,6 +1,6 @@
 -- The first of the pairs that clash.
 use Rattle.std.specs.Prelude.{◌≡◌, ℕ, ◌<◌, ◌⊎◌, List, length, Any, Contains, Option, None, Some}
-use Rattle.osgi_space_rows.specs.Names.{name_of}
+use Rattle.osgi_space_rows.specs.Names.{name_numbered}
 use Rattle.osgi_space_rows.specs.Rows.{RowLists}
 use Rattle.osgi_space_sources.specs.computed.Clashes.{IsClash}
 use Rattle.osgi_space_sources.specs.computed.Pairs.{IsImplied}
@@ -9,7 +9,7 @@ use Rattle.osgi_space.specs.Violations.{IsBelow}
 
 -- by the package's name, then by the revision that sees it
 abbrev pub IsBefore : List (List ℕ) → Given → Given → Type 0
-IsBefore names a b = IsBelow (name_of names a.package) (name_of names b.package) ⊎ (name_of names a.package ≡ name_of names b.package) × (a.source < b.source)
+IsBefore names a b = IsBelow (name_numbered names a.package) (name_numbered names b.package) ⊎ (name_numbered names a.package ≡ name_numbered names b.package) × (a.source < b.source)
 
 -- of those that clash none comes before this one; or none clashes
 abbrev pub IsFirstClash : RowLists → List (List ℕ) → ℕ → List Given → Option Given → Type 0

@@ -6,7 +6,7 @@ use Rattle.osgi_world.specs.declared.wiring.Wiring.{Wiring}
 use Rattle.osgi_world.specs.declared.world.Known.{Known}
 use Rattle.osgi_space_rows.specs.Agree.{AreRowsOf}
 use Rattle.osgi_space_rows.specs.AllKnown.{AreAllKnown}
-use Rattle.osgi_space_rows.specs.Names.{name_of}
+use Rattle.osgi_space_rows.specs.Names.{name_numbered}
 use Rattle.osgi_space.specs.Kept.{FollowsRows}
 use Rattle.osgi_space.specs.declared.kept_rows.KeptRows.{KeptRows}
 
@@ -19,8 +19,8 @@ follows-more kept K L W V follows =
       wirings = omega (arith, follows.wirings, length-append W V);
       all_known = subst (λ (S : List Known). AreAllKnown S (take kept.wirings (W ++ V))) (sym known) (subst (AreAllKnown (take kept.known K)) (sym wirings) follows.all_known);
       rows =
-          subst (λ (S : List Known). AreRowsOf S (take kept.wirings (W ++ V)) (name_of kept.named.names) kept.named.rows) (sym known)
-          (subst (λ (T : List Wiring). AreRowsOf (take kept.known K) T (name_of kept.named.names) kept.named.rows) (sym wirings) follows.rows);
+          subst (λ (S : List Known). AreRowsOf S (take kept.wirings (W ++ V)) (name_numbered kept.named.names) kept.named.rows) (sym known)
+          (subst (λ (T : List Wiring). AreRowsOf (take kept.known K) T (name_numbered kept.named.names) kept.named.rows) (sym wirings) follows.rows);
       numbered = follows.numbered;
       noted = follows.noted;
     }

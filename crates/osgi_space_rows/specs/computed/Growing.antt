@@ -3,7 +3,7 @@ use Rattle.std.specs.Prelude.{ℕ, ◌<◌, List, [], ◌∷◌, ◌++◌, lengt
 use Rattle.osgi_world.specs.Decisions.{Step}
 use Rattle.osgi_world.specs.declared.wiring.Wiring.{Wiring}
 use Rattle.osgi_space_rows.specs.Agree.{AreRowsOf}
-use Rattle.osgi_space_rows.specs.Names.{name_of}
+use Rattle.osgi_space_rows.specs.Names.{name_numbered}
 use Rattle.osgi_space_rows.specs.Rows.{RowLists}
 use Rattle.osgi_space_rows.specs.Steps.{step_wiring}
 use Rattle.osgi_space_rows.specs.Worlds.{AreRowsIn, WorldLists}
@@ -19,4 +19,4 @@ IsNumbered names Nothing = Unit {0}
 
 -- with the step, rows of any wirings grow so
 abbrev pub RowsAfter : WorldLists → Step → (RowLists → RowLists) → Type 0
-RowsAfter world s grown = (W : List Wiring) → AreRowsIn world W → AreRowsOf world.known (W ++ step_wiring s ∷ []) (name_of world.names) (grown world.rows)
+RowsAfter world s grown = (W : List Wiring) → AreRowsIn world W → AreRowsOf world.known (W ++ step_wiring s ∷ []) (name_numbered world.names) (grown world.rows)

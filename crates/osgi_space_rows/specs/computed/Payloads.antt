@@ -10,7 +10,7 @@ use Rattle.osgi_world.specs.declared.revision.Revision.{Revision}
 use Rattle.osgi_world.specs.declared.world.Known.{Known}
 use Rattle.osgi_space_rows.specs.Names.{HasNumber}
 use Rattle.osgi_space_rows.specs.Rows.{OwnExport, OwnUse}
-use Rattle.osgi_space_rows.specs.Worlds.{IsNamed}
+use Rattle.osgi_space_rows.specs.Worlds.{AreNamed}
 use Rattle.osgi_space_rows.specs.declared.named.Named.{Named}
 
 -- an owner exports a package; an export of it uses another
@@ -25,7 +25,7 @@ HasFact n (using o p u) = (i : ℕ) × (j : ℕ) × HasNumber n.names p i × Has
 
 -- these facts are added
 pub record Adds (old new : Named) (P : Fact → Type 0) : Type 0 where
-  pub named : IsNamed new
+  pub named : AreNamed new
   pub kept : (text : List ℕ) (number : ℕ) → HasNumber old.names text number → HasNumber new.names text number
   pub facts : (y : Fact) → HasFact new y ↔ (HasFact old y ⊎ P y)
   pub imports : new.rows.imports ≡ old.rows.imports

@@ -73,10 +73,10 @@ host-some (Some k) h is = refl
 
 pub coherent-all_known : (K : List Known) (W : List Wiring) → IsCoherent K W → AreAllKnown K W
 coherent-all_known K W coherent = record {
-  requirements = λ r w has. elim (coherent.asked r w has) [
+  requirements = λ r w has. elim (coherent.rules.asked r w has) [
     | inl asked ↦ requirement-known K w.requirement.owner w.requirement.index asked.0.1
     | inr own ↦ dynamic-some (known_at K w.requirement.owner) w.requirement.index own.1
   ];
-  capabilities = λ r w has. capability-known K w.capability.owner w.capability.index (coherent.offered r w has).has.1;
-  fragments = λ h f a. host-some (known_at K f) (revision_at K h) (coherent.attached h f a);
+  capabilities = λ r w has. capability-known K w.capability.owner w.capability.index (coherent.rules.offered r w has).has.1;
+  fragments = λ h f a. host-some (known_at K f) (revision_at K h) (coherent.rules.attached h f a);
 }

@@ -22,12 +22,12 @@ pub record WireHolds (K : List Known) (W : List Wiring) (r : RevisionId) (w : Wi
   pub another : IsBundleWire K w → w.capability.provider ≢ w.requirement.owner
   pub offered : OnOffer K W w.capability
 
-abbrev pub place_of : RevisionId → ℕ → ReqRef
-place_of owner n = record { owner = owner; index = n }
+abbrev pub requirement_ref : RevisionId → ℕ → ReqRef
+requirement_ref owner n = record { owner = owner; index = n }
 
 -- r has a wire for each mandatory effective requirement of the owner
 abbrev pub IsMet : List Known → List Wiring → RevisionId → RevisionId → Type 0
-IsMet K W r owner = (n : ℕ) → n < requirement_count K owner → IsNeeded K (place_of owner n) → IsWired W r (place_of owner n)
+IsMet K W r owner = (n : ℕ) → n < requirement_count K owner → IsNeeded K (requirement_ref owner n) → IsWired W r (requirement_ref owner n)
 
 -- and of the payload
 pub record IsPayloadMet (K : List Known) (W : List Wiring) (g : Wiring) : Type 0 where

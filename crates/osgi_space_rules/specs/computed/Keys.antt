@@ -1,9 +1,9 @@
 -- How keys are ordered.
 use Rattle.std.specs.Prelude.{ℕ, List, None, Some, if◌then◌else◌}
-use Rattle.std.specs.Cmp.Lexicographic.{slice_cmp}
 use Rattle.std.specs.Option.{option_cmp}
 use Rattle.std.specs.Ordering.{nat_cmp, on, then_cmp}
 use Rattle.std.specs.declared.cmp.Ordering.{Ordering}
+use Rattle.osgi_base.specs.computed.Texts.{text_cmp}
 use Rattle.osgi_base.specs.declared.ids.RevisionId.{RevisionId}
 use Rattle.osgi_space_rules.specs.declared.keys.Attachment.{Attachment}
 use Rattle.osgi_space_rules.specs.declared.keys.PackageAt.{PackageAt}
@@ -34,9 +34,6 @@ attachment host fragment = record { host = host; fragment = fragment }
 
 abbrev pub wired_place : RevisionId → ReqRef → WiredPlace
 wired_place r q = record { revision = r; requirement = record { owner = q.owner; index = q.index } }
-
-abbrev pub text_cmp : List ℕ → List ℕ → Ordering
-text_cmp = slice_cmp nat_cmp
 
 abbrev pub package_cmp : PackageAt → PackageAt → Ordering
 package_cmp = then_cmp (on (λ p. p.revision) revision_cmp) (on (λ p. p.name) text_cmp)

@@ -19,17 +19,17 @@ abbrev pub Exports : RowLists → ℕ → ℕ → Type 0
 Exports R r p = HasExport R r p × ¬ ImportsElsewhere R r p
 
 -- b gives p from x to those that require b
-pub data Gives (R : RowLists) (p : ℕ) : ℕ → ℕ → Type 0 where
-  substituted : {b x : ℕ} → Imports R b p x → x ≢ b → HasExport R b p → Gives R p b x
-  itself : {b : ℕ} → Exports R b p → Gives R p b b
-  reexported : {b c x : ℕ} → Reexports R b c → Gives R p c x → Gives R p b x
+pub data GivesPackage (R : RowLists) (p : ℕ) : ℕ → ℕ → Type 0 where
+  substituted : {b x : ℕ} → Imports R b p x → x ≢ b → HasExport R b p → GivesPackage R p b x
+  itself : {b : ℕ} → Exports R b p → GivesPackage R p b b
+  reexported : {b c x : ℕ} → Reexports R b c → GivesPackage R p c x → GivesPackage R p b x
 
 abbrev pub NotImported : RowLists → ℕ → ℕ → Type 0
 NotImported R r p = ¬ ((y : ℕ) × Imports R r p y)
 
 -- x is a source of p for r
 abbrev pub Sources : RowLists → ℕ → ℕ → ℕ → Type 0
-Sources R r p x = Imports R r p x ⊎ NotImported R r p × (((c : ℕ) × Requires R r c × Gives R p c x) ⊎ (x ≡ r) × Exports R r p)
+Sources R r p x = Imports R r p x ⊎ NotImported R r p × (((c : ℕ) × Requires R r c × GivesPackage R p c x) ⊎ (x ≡ r) × Exports R r p)
 
 -- r has an implied constraint for u as e sees it, which comes from revisions of A alone
 pub data Implied (R : RowLists) (A : ℕ → Type 0) (r : ℕ) : ℕ → ℕ → Type 0 where

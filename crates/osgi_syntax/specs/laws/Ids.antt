@@ -10,7 +10,7 @@ use Rattle.osgi_base.specs.declared.ids.ServiceId.{ServiceId}
 use Rattle.osgi_model.specs.laws.Numerals.{digits_pass, is_numeral-from, numeral_from}
 use Rattle.osgi_model.specs.computed.LongReader.{is_decimal, is_numeral}
 use Rattle.osgi_syntax.specs.laws.Whole.{bare_by, whole_bare}
-use Rattle.osgi_syntax.specs.WordReader.{bundle_by, bundle_id_of, id_of}
+use Rattle.osgi_syntax.specs.WordReader.{bundle_by, bundle_id_of, service_id_of}
 use Rattle.osgi_syntax.specs.LineWords.{IsLineWord}
 use Rattle.osgi_syntax.specs.Words.{IsBundleId, IsId}
 
@@ -26,16 +26,16 @@ id_parsed word r short digits parses =
     let numeral = numeral_from word digits in
     parse_gives own 64 word r parses numeral.1 numeral.0 (omega (arith, digits_value_short own word 10 numeral.1 (leb-true (length word) 10 short)))
 
-pub id_sound : (word : List ℕ) (service : ServiceId) → id_of word ≡ Some service → IsId word service
+pub id_sound : (word : List ℕ) (service : ServiceId) → service_id_of word ≡ Some service → IsId word service
 id_sound word service e =
     let read = cond_some (nat_le (length word) 10 && is_numeral word) (record { 0 = digits_value 10 word }) service e in
     let tests = and_parts (nat_le (length word) 10) (is_numeral word) read.0 in
     record { numeral = numeral_from word tests.1; short = leb-true (length word) 10 tests.0; number = ap (λ (s : ServiceId). s.0) (sym read.1) }
 
-pub id_of-digits : (word : List ℕ) → nat_le (length word) 10 ≡ true → is_numeral word ≡ true → id_of word ≡ Some (record { 0 = digits_value 10 word })
+pub id_of-digits : (word : List ℕ) → nat_le (length word) 10 ≡ true → is_numeral word ≡ true → service_id_of word ≡ Some (record { 0 = digits_value 10 word })
 id_of-digits word short digits = cond-true _ _ _ (and_from (nat_le (length word) 10) (is_numeral word) short digits)
 
-pub id_read : (word : List ℕ) (service : ServiceId) → IsId word service → id_of word ≡ Some service
+pub id_read : (word : List ℕ) (service : ServiceId) → IsId word service → service_id_of word ≡ Some service
 id_read word service id =
     let same : ◌≡◌ {A = ServiceId} (record { 0 = digits_value 10 word }) service = λ i. record { 0 = sym id.number i } in
     id_of-digits word (le-leb (length word) 10 id.short) (is_numeral-from word id.numeral) ∙ ap Some same
@@ -49,7 +49,7 @@ whole_id word service id = whole_bare word id.numeral.0 (bare_by is_decimal word
 as_service : (word : List ℕ) (bundle : BundleId) → IsBundleId word bundle → IsId word (record { 0 = digits_value 10 word })
 as_service word bundle id = record { numeral = id.numeral; short = id.short; number = refl }
 
-bundle_sound_by : (word : List ℕ) (number : Option ServiceId) (bundle : BundleId) → id_of word ≡ number → bundle_by number ≡ Some bundle → IsBundleId word bundle
+bundle_sound_by : (word : List ℕ) (number : Option ServiceId) (bundle : BundleId) → service_id_of word ≡ number → bundle_by number ≡ Some bundle → IsBundleId word bundle
 bundle_sound_by word None bundle is e = absurd (cc e)
 bundle_sound_by word (Some service) bundle is e =
     let id = id_sound word service is in
@@ -62,7 +62,7 @@ bundle_sound_by word (Some service) bundle is e =
     }
 
 pub bundle_id_sound : (word : List ℕ) (bundle : BundleId) → bundle_id_of word ≡ Some bundle → IsBundleId word bundle
-bundle_id_sound word bundle e = bundle_sound_by word (id_of word) bundle refl e
+bundle_id_sound word bundle e = bundle_sound_by word (service_id_of word) bundle refl e
 
 pub bundle_id_read : (word : List ℕ) (bundle : BundleId) → IsBundleId word bundle → bundle_id_of word ≡ Some bundle
 bundle_id_read word bundle id =

@@ -4,7 +4,7 @@ use Rattle.osgi_world.specs.Decisions.{Step, attached, wired}
 use Rattle.osgi_world.specs.declared.wiring.Wiring.{Wiring}
 use Rattle.osgi_world.specs.declared.world.World.{World}
 use Rattle.osgi_space_rows.specs.Rows.{RowLists}
-use Rattle.osgi_space_rows.specs.Steps.{with_steps}
+use Rattle.osgi_space_rows.specs.Steps.{after_steps}
 use Rattle.osgi_space_rows.specs.Worlds.{AreRowsIn, WorldLists, with_added}
 use Rattle.osgi_uses.specs.declared.trail.Addition.{Addition}
 use Rattle.osgi_uses.specs.declared.trail.Addition.TheVariants.{Attached, Wired}
@@ -22,7 +22,7 @@ step_of t = step_added t.addition
 abbrev pub AreRowsAlong : WorldLists → List Wiring → List Taken → Type 0
 AreRowsAlong rows W [] = AreRowsIn rows W
 AreRowsAlong rows W (t ∷ trail) =
-    AreRowsIn rows (with_steps W (map step_of (t ∷ trail)))
+    AreRowsIn rows (after_steps W (map step_of (t ∷ trail)))
     × (R : RowLists) × (rows.rows ≡ with_added R t.added) × AreRowsAlong (record rows { rows = R }) W trail
 
 -- they are rows of the world with what was added

@@ -1,15 +1,16 @@
 -- The machine that reads a version. No public promise speaks of this: it is proved to give the readings of the grammar.
-use Rattle.std.specs.Prelude.{ℕ, ◌+◌, ◌-◌, ◌*◌, min, Bool, true, false, ◌&&◌, nat_lt, List, [], Option, Some, None, length, take, drop}
+use Rattle.std.specs.Prelude.{ℕ, ◌+◌, ◌-◌, ◌*◌, min, Bool, true, false, ◌&&◌, nat_le, List, [], Option, Some, None, length, take, drop}
 use Rattle.osgi_version.specs.computed.Classes.{class_of}
 use Rattle.osgi_version.specs.Versions.{Parts}
 use Rattle.osgi_version.specs.declared.bytes.Class.{Class}
 use Rattle.osgi_version.specs.declared.bytes.Class.TheVariants.{Digit, Dot, Blank, Letter}
+use Rattle.osgi_version.specs.declared.version.TheConstants.{MAX_NUMBER}
 use Rattle.osgi_version.specs.declared.version_state.VersionState.{VersionState}
 use Rattle.osgi_version.specs.declared.version_state.VersionState.TheVariants.{Lead, Major, MinorDot, Minor, MicroDot, Micro, QualifierDot, Qualifier, Trail}
 
--- a number with one more digit; a number that is too large stands at 2147483648
+-- a number with one more digit; a number that is too large stands one above the greatest
 abbrev pub more : ℕ → ℕ → ℕ
-more n b = min (10 * n + (b - 48)) 2147483648
+more n b = min (10 * n + (b - 48)) (MAX_NUMBER + 1)
 
 -- in a number: it grows, or a dot or white space ends it
 abbrev pub in_number : Class → VersionState → VersionState → VersionState → Option VersionState
@@ -52,7 +53,7 @@ abbrev pub step : VersionState → ℕ → Option VersionState
 step s b = next s b (class_of b)
 
 abbrev pub is_fine_number : ℕ → Bool
-is_fine_number n = nat_lt n 2147483648
+is_fine_number n = nat_le n MAX_NUMBER
 
 -- no number is too large
 abbrev pub is_fine : VersionState → Bool

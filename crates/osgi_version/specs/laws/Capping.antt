@@ -9,6 +9,7 @@ use Rattle.osgi_version.specs.computed.Run.{run}
 use Rattle.osgi_version.specs.computed.VersionMachine.{is_fine, is_fine_number, may_end, more, next, next_by, step}
 use Rattle.osgi_version.specs.declared.bytes.Class.{Class}
 use Rattle.osgi_version.specs.declared.bytes.Class.TheVariants.{Digit, Dot, Blank, Letter}
+use Rattle.osgi_version.specs.declared.version.TheConstants.{MAX_NUMBER}
 use Rattle.osgi_version.specs.declared.version_state.VersionState.{VersionState}
 use Rattle.osgi_version.specs.declared.version_state.VersionState.TheVariants.{Lead, Major, MinorDot, Minor, MicroDot, Micro, QualifierDot, Qualifier, Trail}
 
@@ -23,7 +24,7 @@ abbrev pub free_step : VersionState → ℕ → Option VersionState
 free_step s b = free_next s b (class_of b)
 
 abbrev pub cap : ℕ → ℕ
-cap n = min n 2147483648
+cap n = min n (MAX_NUMBER + 1)
 
 abbrev pub capped : VersionState → VersionState
 capped Lead = Lead

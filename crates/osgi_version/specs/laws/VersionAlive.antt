@@ -1,12 +1,12 @@
 -- Each state of the strict machine can be completed, and numbers that fit are fine.
-use Rattle.std.proofs.Common.{◌≡◌, ◌<◌, ℕ, Bool, true, false, ◌&&◌, Option, Some, None, List, [], ◌∷◌, ◌++◌, refl, ap, ◌∙◌, arith}
+use Rattle.std.proofs.Common.{◌≡◌, ◌≤◌, ℕ, Bool, true, false, ◌&&◌, Option, Some, None, List, [], ◌∷◌, ◌++◌, refl, ap, ◌∙◌, arith}
 use Rattle.std.specs.Option.{IfSome, option_map}
 use Rattle.std.proofs.lemmas.List.{append-nil}
 use Rattle.std.proofs.lemmas.Grind.{common_steps}
 use Rattle.osgi_version.specs.computed.Classes.{class_of}
 use Rattle.osgi_version.specs.computed.Run.{run, advance}
 use Rattle.osgi_version.specs.computed.VersionMachine.{more, next, step, is_fine, is_fine_number, finish}
-use Rattle.osgi_version.specs.Versions.{Parts, SpellsVersion, Fits, ReadsVersion, IsReadableVersion}
+use Rattle.osgi_version.specs.Versions.{Parts, SpellsVersion, NumbersFit, ReadsVersion, IsReadableVersion}
 use Rattle.osgi_version.specs.laws.Capping.{cap, capped, free_next, run_capped}
 use Rattle.osgi_version.specs.laws.Classes.{zero_digit}
 use Rattle.osgi_version.specs.laws.Running.{run_strict, run_loose, run_fine}
@@ -14,6 +14,7 @@ use Rattle.osgi_version.specs.laws.VersionRuns.{spells_runs}
 use Rattle.osgi_version.specs.laws.VersionSeen.{Seen, seen_fine, seen_next, seen_finish}
 use Rattle.osgi_version.specs.declared.bytes.Class.{Class}
 use Rattle.osgi_version.specs.declared.bytes.Class.TheVariants.{Digit, Dot, Blank, Letter}
+use Rattle.osgi_version.specs.declared.version.TheConstants.{MAX_NUMBER}
 use Rattle.osgi_version.specs.declared.version_state.VersionState.{VersionState}
 use Rattle.osgi_version.specs.declared.version_state.VersionState.TheVariants.{Lead, Major, MinorDot, Minor, MicroDot, Micro, QualifierDot, Qualifier, Trail}
 
@@ -50,16 +51,16 @@ fine_back (Qualifier m i n k) b Blank = λ h. h
 fine_back (Trail m i n k w) b Blank = λ h. h
 fine_back s b c = tt
 
-fine_1 : (m : ℕ) (q : List ℕ) → is_fine_number m ≡ true → Fits (record { major = m; minor = 0; micro = 0; qualifier = q })
+fine_1 : (m : ℕ) (q : List ℕ) → is_fine_number m ≡ true → NumbersFit (record { major = m; minor = 0; micro = 0; qualifier = q })
 fine_1 m q h = record { major = grind (arith, common_steps); minor = omega arith; micro = omega arith }
 
-fine_2 : (m i : ℕ) (q : List ℕ) → is_fine_number m && is_fine_number i ≡ true → Fits (record { major = m; minor = i; micro = 0; qualifier = q })
+fine_2 : (m i : ℕ) (q : List ℕ) → is_fine_number m && is_fine_number i ≡ true → NumbersFit (record { major = m; minor = i; micro = 0; qualifier = q })
 fine_2 m i q h = record { major = grind (arith, common_steps); minor = grind (arith, common_steps); micro = omega arith }
 
-fine_3 : (m i n : ℕ) (q : List ℕ) → is_fine_number m && is_fine_number i && is_fine_number n ≡ true → Fits (record { major = m; minor = i; micro = n; qualifier = q })
+fine_3 : (m i n : ℕ) (q : List ℕ) → is_fine_number m && is_fine_number i && is_fine_number n ≡ true → NumbersFit (record { major = m; minor = i; micro = n; qualifier = q })
 fine_3 m i n q h = record { major = grind (arith, common_steps); minor = grind (arith, common_steps); micro = grind (arith, common_steps) }
 
-fine_fits : (text : List ℕ) (s : VersionState) → is_fine s ≡ true → IfSome (finish text s) Fits
+fine_fits : (text : List ℕ) (s : VersionState) → is_fine s ≡ true → IfSome (finish text s) NumbersFit
 fine_fits text Lead h = record { major = omega arith; minor = omega arith; micro = omega arith }
 fine_fits text (Major m) h = fine_1 m [] h
 fine_fits text (Minor m i) h = fine_2 m i [] h
@@ -68,19 +69,19 @@ fine_fits text (Qualifier m i n k) h = fine_3 m i n _ h
 fine_fits text (Trail m i n k w) h = fine_3 m i n _ h
 fine_fits text s h = tt
 
-cap_fits : (n : ℕ) → n < 2147483648 → cap n ≡ n
+cap_fits : (n : ℕ) → n ≤ MAX_NUMBER → cap n ≡ n
 cap_fits n h = omega arith
 
-fits_1 : (m : ℕ) → m < 2147483648 → is_fine_number m ≡ true
+fits_1 : (m : ℕ) → m ≤ MAX_NUMBER → is_fine_number m ≡ true
 fits_1 m h = grind (arith, common_steps)
 
-fits_2 : (m i : ℕ) → m < 2147483648 → i < 2147483648 → is_fine_number m && is_fine_number i ≡ true
+fits_2 : (m i : ℕ) → m ≤ MAX_NUMBER → i ≤ MAX_NUMBER → is_fine_number m && is_fine_number i ≡ true
 fits_2 m i h j = rw (fits_1 m h) (fits_1 i j)
 
-fits_3 : (m i n : ℕ) → m < 2147483648 → i < 2147483648 → n < 2147483648 → is_fine_number m && is_fine_number i && is_fine_number n ≡ true
+fits_3 : (m i n : ℕ) → m ≤ MAX_NUMBER → i ≤ MAX_NUMBER → n ≤ MAX_NUMBER → is_fine_number m && is_fine_number i && is_fine_number n ≡ true
 fits_3 m i n h j k = rw (fits_1 m h) (rw (fits_1 i j) (fits_1 n k))
 
-fits_fine : (text : List ℕ) (s : VersionState) → IfSome (finish text s) (λ v. Fits v → is_fine s ≡ true)
+fits_fine : (text : List ℕ) (s : VersionState) → IfSome (finish text s) (λ v. NumbersFit v → is_fine s ≡ true)
 fits_fine text Lead = λ h. refl
 fits_fine text (Major m) = λ h. fits_1 m h.major
 fits_fine text (Minor m i) = λ h. fits_2 m i h.major h.minor
@@ -92,7 +93,7 @@ fits_fine text s = tt
 pub reads_of : (p : List ℕ) (s : VersionState) → Seen p s → is_fine s ≡ true → IfSome (finish p s) (ReadsVersion p)
 reads_of p s h f = made p (finish p s) (seen_finish p s h) (fine_fits p s f)
   where
-    made : (p : List ℕ) (o : Option Parts) → IfSome o (SpellsVersion p) → IfSome o Fits → IfSome o (ReadsVersion p)
+    made : (p : List ℕ) (o : Option Parts) → IfSome o (SpellsVersion p) → IfSome o NumbersFit → IfSome o (ReadsVersion p)
     made p None h f = tt
     made p (Some v) h f = record { spells = h; fits = f }
 
@@ -122,7 +123,7 @@ pub alive : (p : List ℕ) (s : VersionState) → run (advance is_fine step true
 alive p s e = alive_at p s (strict_seen p s e) (run_fine is_fine step Lead s p refl e)
 
 -- where all numbers fit, the machine has them
-fits_capped : (text : List ℕ) (s : VersionState) → IfSome (finish text s) (λ v. Fits v → capped s ≡ s)
+fits_capped : (text : List ℕ) (s : VersionState) → IfSome (finish text s) (λ v. NumbersFit v → capped s ≡ s)
 fits_capped text Lead = λ h. refl
 fits_capped text (Major m) = λ h. ap Major (cap_fits m h.major)
 fits_capped text (Minor m i) = λ h. rw (cap_fits m h.major) (rw (cap_fits i h.minor) refl)

@@ -4,7 +4,7 @@ use Rattle.std.specs.Option.{option_map}
 use Rattle.osgi_world.specs.declared.wiring.Wiring.{Wiring}
 use Rattle.osgi_world.specs.declared.world.Known.{Known}
 use Rattle.osgi_world.specs.declared.world.World.{World}
-use Rattle.osgi_wiring.specs.States.{current_in, id_of, IsKeptWorld}
+use Rattle.osgi_wiring.specs.States.{current_in, revision_number, IsKeptWorld}
 
 abbrev pub revision_of : Wiring → ℕ
 revision_of wiring = wiring.revision.0
@@ -15,8 +15,8 @@ puts key at value before = if at == key then Some value else before
 
 -- the ids of the known revisions and of those in force, in order, and of each bundle that of its current revision
 pub record IsIndexed (world : World) (ids : List ℕ) (current : ℕ → Option ℕ) (in_force : List ℕ) : Type 0 where
-  pub known : ids ≡ map id_of world.known
-  pub current_ones : (b : ℕ) → current b ≡ option_map id_of (current_in world.known (record { 0 = b }))
+  pub known : ids ≡ map revision_number world.known
+  pub current_ones : (b : ℕ) → current b ≡ option_map revision_number (current_in world.known (record { 0 = b }))
   pub wired : in_force ≡ map revision_of world.wirings
 
 -- where room was reserved there is room for one more known revision

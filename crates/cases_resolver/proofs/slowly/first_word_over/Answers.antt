@@ -13,12 +13,12 @@ use Rattle.cases_resolver.proofs.slowly.first_word_over.Goals as goal
 pub invariant_of-walk : goal.invariant_of-walk
 invariant_of-walk c =
     subst (λ (s : Standing). IsProblem (the_problem s.world s.root)) (sym c.in_ok-path.ensures.empty)
-    (the_problem-is c.args.world.now c.args.root c.requires.is_world c.requires.ordered c.requires.consistent c.requires.unresolved)
+    (the_problem-is c.args.world.now c.args.root c.requires.resolvable)
 
 pub search_all_words-requires-clause-problem : goal.search_all_words-requires-clause-problem
 search_all_words-requires-clause-problem c =
     subst (λ (s : Standing). IsProblem (the_problem s.world s.root)) (sym c.in_ok-path.ensures.empty)
-    (the_problem-is c.args.world.now c.args.root c.requires.is_world c.requires.ordered c.requires.consistent c.requires.unresolved)
+    (the_problem-is c.args.world.now c.args.root c.requires.resolvable)
 
 pub returns : goal.returns
 returns c =

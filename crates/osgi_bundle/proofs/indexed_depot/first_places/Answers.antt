@@ -3,7 +3,7 @@ use Rattle.std.proofs.Common.{◌≡◌, ◌+◌, ◌++◌, ◌∷◌, [], lengt
 use Rattle.std.specs.Prelude.{Some}
 use Rattle.std.specs.BTreeMap.{Updates}
 use Rattle.std.proofs.lemmas.List.{length-take-le, take_more}
-use Rattle.osgi_bundle.specs.computed.Kept.{text_cmp}
+use Rattle.osgi_base.specs.computed.Texts.{text_cmp}
 use Rattle.osgi_bundle.specs.computed.Places.{AreFirstPlaces}
 use Rattle.osgi_bundle.proofs.Indices.{nothing}
 use Rattle.osgi_bundle.proofs.Numbers.{places_known, places_new}

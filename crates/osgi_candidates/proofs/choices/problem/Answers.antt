@@ -8,5 +8,6 @@ use Rattle.osgi_candidates.proofs.choices.problem.Goals as goal
 pub returns : goal.returns
 returns c =
     let P : Problem = record { world = c.args.world; root = c.args.root; choices = c.in_ok-choices.choices } in
-    let fit : IsFit c.args.world = record { world_is = c.requires.is_world; ordered = c.requires.ordered; consistent = c.requires.consistent } in
-    record { world = refl; root = refl; problem = problem_is P (c.in_ok-choices.ensures.choices fit) fit c.requires.unresolved }
+    let is = c.requires.resolvable in
+    let fit : IsFit c.args.world = record { world_is = is.is_world; ordered = is.ordered; consistent = is.consistent } in
+    record { world = refl; root = refl; problem = problem_is P (c.in_ok-choices.ensures.choices fit) fit is.unresolved }

@@ -1,8 +1,8 @@
 -- The packages of the wires so far.
 use Rattle.std.proofs.Common.{take}
+use Rattle.osgi_base.specs.computed.Texts.{text_cmp}
 use Rattle.osgi_candidates.specs.computed.Holding.{IsElsewhere}
 use Rattle.osgi_space_rules.specs.computed.Growing.{Grows, Has, Nothing}
-use Rattle.osgi_space_rules.specs.computed.Keys.{text_cmp}
 use Rattle.osgi_candidates.proofs.held.imported_elsewhere.Given as goal
 
 abbrev pub invariant-loop-wire : goal.invariant-loop-wire

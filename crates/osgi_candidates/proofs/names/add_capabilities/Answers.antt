@@ -2,10 +2,10 @@
 use Rattle.std.proofs.lemmas.Option.{slice_get_read}
 use Rattle.std.proofs.Common.{◌≡◌, ◌<◌, ℕ, List, length, refl, ap, subst, ◌∙◌}
 use Rattle.std.specs.Prelude.{slice_get, Some}
+use Rattle.osgi_base.specs.computed.Texts.{text_cmp}
 use Rattle.osgi_candidates.proofs.Naming.{capabilities_all, capability_more, none_added, got_below}
 use Rattle.osgi_candidates.specs.computed.Names.{place_at}
 use Rattle.osgi_space_rows.specs.computed.Groups.{Adds}
-use Rattle.osgi_space_rules.specs.computed.Keys.{text_cmp}
 use Rattle.osgi_world.specs.declared.capability.Capability.{Capability}
 use Rattle.osgi_world.specs.declared.revision.Revision.{Revision}
 use Rattle.osgi_candidates.proofs.names.add_capabilities.Goals as goal

@@ -1,8 +1,8 @@
 -- A fragment that is current, and what is none.
 use Rattle.std.proofs.Common.{ap, sym, subst, ◌∙◌}
+use Rattle.osgi_base.specs.computed.Texts.{text_cmp}
 use Rattle.osgi_candidates.proofs.Naming.{no_fragment, no_host, one_fragment}
 use Rattle.osgi_space_rows.specs.computed.Groups.{Adds}
-use Rattle.osgi_space_rules.specs.computed.Keys.{text_cmp}
 use Rattle.osgi_world.specs.declared.revision.Revision.{Revision}
 use Rattle.osgi_candidates.proofs.names.add_fragment.Goals as goal
 

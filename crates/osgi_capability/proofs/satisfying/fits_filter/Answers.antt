@@ -8,5 +8,5 @@ use Rattle.osgi_capability.proofs.satisfying.fits_filter.Goals as goal
 
 pub returns-in-Some : goal.returns-in-Some
 returns-in-Some c =
-    let same : c.matches.result ≡ matches bytes_eq c.args.attributes.now c.in-Some.filter.now = same_from_decides _ _ c.matches.ensures.matches (matches_decides bytes_eq c.args.attributes.now _) in
-    record { fits = search (rules, same) }
+    let same : c.matches.result ≡ matches bytes_eq c.args.attributes.now c.get.result.now = same_from_decides _ _ c.matches.ensures.matches (matches_decides bytes_eq c.args.attributes.now _) in
+    record { fits = search (rules, same, c.get.ensures.value) }

@@ -4,7 +4,7 @@ use Rattle.std.specs.Bool.{MatchBool}
 use Rattle.std.specs.Prelude.{Err, MatchResult, Ok, Result}
 use Rattle.std.specs.Result.{is_ok}
 use Rattle.osgi_script.specs.Scripts.{IsScript, IsScriptFault, ReadsScript}
-use Rattle.osgi_script.specs.declared.script.Script.{Script}
+use Rattle.osgi_session.specs.declared.script.Script.{Script}
 use Rattle.osgi_script.specs.declared.script.ScriptFault.{ScriptFault}
 use Rattle.osgi_manifest.proofs.scripts.is_script.Goals as goal
 

@@ -8,9 +8,9 @@ use Rattle.osgi_reply.proofs.wires.rows.Goals as goal
 pub wire_rows-requires : goal.wire_rows-requires
 wire_rows-requires c =
     let W = c.args.wirings.now.world in
-    record { known = subst (All (λ w. IsSome (wire_row W.known w))) (sym c.items.ensures.items) (wires_known W c.args.wirings.now.issued c.args.revision c.in-Some.wiring.now c.requires.kept c.in-Some.ensures.wiring) }
+    record { known = subst (All (λ w. IsSome (wire_row W.known w))) (sym c.items.ensures.items) (wires_known W c.args.wirings.now.issued c.args.revision c.in-Some.wiring.now c.requires.holds c.in-Some.ensures.wiring) }
 
 pub fragment_rows-requires : goal.fragment_rows-requires
 fragment_rows-requires c =
     let W = c.args.wirings.now.world in
-    record { known = subst (All (λ f. IsSome (fragment_row W.known f))) (sym c.items-2.ensures.items) (fragments_known W c.args.wirings.now.issued c.args.revision c.in-Some.wiring.now c.requires.kept c.in-Some.ensures.wiring) }
+    record { known = subst (All (λ f. IsSome (fragment_row W.known f))) (sym c.items-2.ensures.items) (fragments_known W c.args.wirings.now.issued c.args.revision c.in-Some.wiring.now c.requires.holds c.in-Some.ensures.wiring) }

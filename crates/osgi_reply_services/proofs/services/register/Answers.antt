@@ -1,17 +1,23 @@
--- A service registered.
-use Rattle.osgi_reply_services.proofs.Serving.{by_refused, served_registered, served_unregistered}
-use Rattle.osgi_reply_services.specs.Served.{IsServed}
-use Rattle.osgi_ops.specs.declared.op.Op.TheVariants as op
+-- A service that is made, and a refusal.
+use Rattle.osgi_reply_services.proofs.Deciding.{decided_no_singleton, decided_registered, decided_unregistered}
 use Rattle.osgi_reply_services.proofs.services.register.Goals as goal
 
-pub returns-in-Ok-clause-served : goal.returns-in-Ok-clause-served
-returns-in-Ok-clause-served c =
-    served_registered c.args.owner c.args.classes.now c.args.object.now c.args.properties.now c.args.registry.now c.register-2.new.self c.in-Ok.service
-    (rw (c.in-Ok.is, c.in_ok-copy-3.ensures.same) at c.in_ok-issued.ensures.refusal) (rw c.in-Ok.is at c.in_ok-issued.ensures.id)
-    (rw (c.in-Ok.is, c.in_ok-copy.ensures.same, c.in_ok-copy-2.ensures.same, c.in_ok-copy-3.ensures.same) at c.in_ok-issued.ensures.stands)
+pub returns-in_default : goal.returns-in_default
+returns-in_default c = record {
+  decided = decided_no_singleton c.args.owner c.args.classes.now c.args.object.now c.args.scope c.args.properties.now c.args.registry.now c.in_default.not-Singleton;
+}
 
-pub returns-in-Err-clause-served : goal.returns-in-Err-clause-served
-returns-in-Err-clause-served c =
-    by_refused c.refused.result (IsServed (op.Register c.args.owner c.args.classes.now c.args.object.now c.args.properties.now) c.args.registry.now c.register-2.new.self) c.in-Err.refusal c.refused.ensures.refused
-    (served_unregistered c.args.owner c.args.classes.now c.args.object.now c.args.properties.now c.args.registry.now c.register-2.new.self c.in-Err.refusal (rw (c.in-Err.is, c.in_ok-copy-3.ensures.same) at c.in_ok-issued.ensures.refusal)
-    (rw c.in-Err.is at c.in_ok-issued.ensures.refused))
+pub returns-in-Ok : goal.returns-in-Ok
+returns-in-Ok c = record {
+  decided =
+      decided_registered c.args.owner c.args.classes.now c.args.object.now c.args.scope c.args.properties.now c.args.registry.now c.in-Ok.made c.in-Singleton.is
+      (rw (c.in-Ok.is, c.in_ok-copy-3.ensures.same) at c.in_ok-made.ensures.refusal)
+      (rw (c.in-Ok.is, c.in_ok-copy.ensures.same, c.in_ok-copy-2.ensures.same, c.in_ok-copy-3.ensures.same) at c.in_ok-made.ensures.made) c.requires.ids (rw c.in-Ok.is at c.in_ok-made.ensures.room);
+}
+
+pub returns-in-Err : goal.returns-in-Err
+returns-in-Err c = record {
+  decided =
+      decided_unregistered c.args.owner c.args.classes.now c.args.object.now c.args.scope c.args.properties.now c.args.registry.now c.in-Err.refusal c.in-Singleton.is
+      (rw (c.in-Err.is, c.in_ok-copy-3.ensures.same) at c.in_ok-made.ensures.refusal);
+}

@@ -1,13 +1,9 @@
--- A service taken out.
-use Rattle.osgi_reply_services.proofs.Serving.{by_refused, served_taken, served_untaken}
-use Rattle.osgi_reply_services.specs.Served.{IsServed}
-use Rattle.osgi_ops.specs.declared.op.Op.TheVariants as op
+-- A service that may be taken out, and a refusal.
+use Rattle.osgi_reply_services.proofs.Deciding.{decided_taken, decided_untaken}
 use Rattle.osgi_reply_services.proofs.services.unregister.Goals as goal
 
-pub returns-in-Ok-clause-served : goal.returns-in-Ok-clause-served
-returns-in-Ok-clause-served c = served_taken c.args.owner c.args.service c.args.registry.now c.unregister.new.self c.in-Ok.ensures.refusal c.in-Ok.ensures.stands
+pub returns-in-Some : goal.returns-in-Some
+returns-in-Some c = record { decided = decided_untaken c.args.owner c.args.service c.args.registry.now c.in-Some.refusal c.in-Some.ensures.refusal }
 
-pub returns-in-Err-clause-served : goal.returns-in-Err-clause-served
-returns-in-Err-clause-served c =
-    by_refused c.refused.result (IsServed (op.Unregister c.args.owner c.args.service) c.args.registry.now c.unregister.new.self) c.in-Err.refusal c.refused.ensures.refused
-    (served_untaken c.args.owner c.args.service c.args.registry.now c.unregister.new.self c.in-Err.refusal c.in-Err.ensures.refusal c.in-Err.ensures.refused)
+pub returns-in-None : goal.returns-in-None
+returns-in-None c = record { decided = decided_taken c.args.owner c.args.service c.args.registry.now c.in-None.ensures.refusal }

@@ -16,12 +16,12 @@ use Rattle.osgi_resolver.proofs.resolving.answer_over.Goals as goal
 pub invariant_of-walk : goal.invariant_of-walk
 invariant_of-walk c =
     subst (λ (s : Standing). IsProblem (the_problem s.world s.root)) (sym c.in_ok-path.ensures.empty)
-    (the_problem-is c.args.world.now c.args.root c.requires.is_world c.requires.ordered c.requires.consistent c.requires.unresolved)
+    (the_problem-is c.args.world.now c.args.root c.requires.resolvable)
 
 pub search-requires-clause-problem : goal.search-requires-clause-problem
 search-requires-clause-problem c =
     subst (λ (s : Standing). IsProblem (the_problem s.world s.root)) (sym c.in_ok-path.ensures.empty)
-    (the_problem-is c.args.world.now c.args.root c.requires.is_world c.requires.ordered c.requires.consistent c.requires.unresolved)
+    (the_problem-is c.args.world.now c.args.root c.requires.resolvable)
 
 pub keep-requires-clause-all_known : goal.keep-requires-clause-all_known
 keep-requires-clause-all_known c =
@@ -31,7 +31,7 @@ keep-requires-clause-all_known c =
     let known : c.into_rows.result.known ≡ K
     = c.into_rows.ensures.known ∙ ap (λ (x : Standing). x.world.known) c.walk.view_is ∙ ap (λ (world : World). world.known) (ap (λ (P : Problem). P.world) same ∙ ap (λ (x : Standing). x.world) c.in_ok-path.ensures.empty) in
     subst (AreAllKnown c.into_rows.result.known) (sym c.items-wirings.ensures.items)
-    (subst (λ (known : List Known). AreAllKnown known W) (sym known) (coherent-all_known K W c.requires.consistent.coherent))
+    (subst (λ (known : List Known). AreAllKnown known W) (sym known) (coherent-all_known K W c.requires.resolvable.consistent.coherent))
 
 pub returns : goal.returns
 returns c =
@@ -45,7 +45,7 @@ returns c =
     record {
       answer =
           let first : IsProblem (the_problem s.world s.root)
-          = subst (λ (x : Standing). IsProblem (the_problem x.world x.root)) (sym at) (the_problem-is c.args.world.now c.args.root c.requires.is_world c.requires.ordered c.requires.consistent c.requires.unresolved) in
+          = subst (λ (x : Standing). IsProblem (the_problem x.world x.root)) (sym at) (the_problem-is c.args.world.now c.args.root c.requires.resolvable) in
           let ended : IsOutcome (the_problem t.world t.root) budget t.word outcome = subst (λ (P : Problem). IsOutcome P budget t.word outcome) (sym same) c.in_ok-outcome.ensures.outcome in
           record {
             problem = the_problem t.world t.root;

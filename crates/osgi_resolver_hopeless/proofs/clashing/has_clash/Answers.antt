@@ -7,7 +7,7 @@ use Rattle.osgi_resolver_hopeless.proofs.Clashes.{clash-breaks, clash-of, clash-
 use Rattle.osgi_resolver_hopeless.specs.computed.Clashing.{IsBroken}
 use Rattle.osgi_resolver_path.specs.Standing.{made}
 use Rattle.osgi_space_rows.specs.Agree.{AreRowsOf}
-use Rattle.osgi_space_rows.specs.Names.{name_of}
+use Rattle.osgi_space_rows.specs.Names.{name_numbered}
 use Rattle.osgi_space_rows.specs.Rows.{RowLists}
 use Rattle.osgi_space_rows.specs.Worlds.{WorldLists}
 use Rattle.osgi_world.specs.DueDecisions.{members}
@@ -33,7 +33,7 @@ returns c = record {
       let D = made P c.args.path.now in
       let set = c.args.unsettled.now in
       let rows = c.disputed_rows-rows.result.now in
-      let N = name_of rows.names in
+      let N = name_numbered rows.names in
       let is : AreRowsOf P.world.known (partial P D) N rows.rows = subst (λ K. AreRowsOf K (partial P D) N rows.rows) (known-is c.args.path.now P L rows.known c.disputed_rows-rows.ensures.known) (c.disputed_rows-rows.ensures.rows P L) in
       let answer = c.in_ok-is_one_broken.field-0 in
       let one : IsTrue answer ↔ ((m : RevisionId) × In m (members P D) × IsBroken rows.rows set m.0) =

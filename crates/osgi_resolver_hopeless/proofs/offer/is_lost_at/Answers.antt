@@ -6,7 +6,7 @@ use Rattle.osgi_resolver_hopeless.proofs.Offering.{may-reach}
 use Rattle.osgi_resolver_hopeless.specs.computed.Clashing.{MayReach}
 use Rattle.osgi_resolver_path.specs.Standing.{made}
 use Rattle.osgi_space_rows.specs.Agree.{AreRowsOf}
-use Rattle.osgi_space_rows.specs.Names.{name_of}
+use Rattle.osgi_space_rows.specs.Names.{name_numbered}
 use Rattle.osgi_world.specs.Partial.{partial}
 use Rattle.osgi_resolver_hopeless.proofs.offer.is_lost_at.Goals as goal
 
@@ -17,8 +17,8 @@ returns-then-not-may_reach c = record {
       let W = partial P (made P c.args.path.now) in
       let rows = c.rows.result.now in
       let known = known-is c.args.path.now P L rows.known c.rows.ensures.known in
-      let is : AreRowsOf P.world.known W (name_of rows.names) rows.rows = subst (λ K. AreRowsOf K W (name_of rows.names) rows.rows) known (c.rows.ensures.rows P L) in
-      let may = may-reach P.world.known W (name_of rows.names) rows.rows is c.args.wired c.args.host lost.0 in
+      let is : AreRowsOf P.world.known W (name_numbered rows.names) rows.rows = subst (λ K. AreRowsOf K W (name_numbered rows.names) rows.rows) known (c.rows.ensures.rows P L) in
+      let may = may-reach P.world.known W (name_numbered rows.names) rows.rows is c.args.wired c.args.host lost.0 in
       absurd (not_true _ c.if-not-may_reach.true (c.may_reach.ensures.may.1 (subst (λ R. MayReach R c.args.wired c.args.host) (sym c.rows-2.ensures.rows) may)));
 }
 

@@ -6,7 +6,7 @@ use Rattle.osgi_space_sources.proofs.Lengths.{empty-true}
 use Rattle.osgi_space.proofs.Bridge.{elsewhere-from, elsewhere-to}
 use Rattle.osgi_space.proofs.Numbering.{named, source-number}
 use Rattle.osgi_space_sources.specs.computed.RowSources.{ImportsElsewhere as RowsElsewhere}
-use Rattle.osgi_space_rows.specs.Names.{HasNumber, name_of}
+use Rattle.osgi_space_rows.specs.Names.{HasNumber, name_numbered}
 use Rattle.osgi_space_rows.specs.Rows.{RowLists, imports_of}
 use Rattle.osgi_world.specs.Wirings.{ImportsElsewhere, IsExport}
 use Rattle.osgi_world.specs.declared.world.Known.{Known}
@@ -44,7 +44,7 @@ pub returns-in-Some-number : goal.returns-in-Some-number
 returns-in-Some-number c = record {
   replaced = λ W is.
       let world = c.args.rows.now in
-      let N = name_of world.names in
+      let N = name_numbered world.names in
       let q = c.in-Some.package.now in
       let number = c.in-Some-number.number in
       let provider = c.args.capability.provider in

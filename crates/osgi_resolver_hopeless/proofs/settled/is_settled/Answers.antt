@@ -8,7 +8,7 @@ use Rattle.osgi_space_sources.proofs.Lengths.{empty-true}
 use Rattle.osgi_space_sources.specs.computed.Reach.{Reach}
 use Rattle.osgi_space.proofs.Ids.{contains-in, in-contains}
 use Rattle.osgi_space_rows.specs.Agree.{AreRowsOf}
-use Rattle.osgi_space_rows.specs.Names.{name_of}
+use Rattle.osgi_space_rows.specs.Names.{name_numbered}
 use Rattle.osgi_space_rows.specs.Rows.{Reexports, Requires, RowLists, required_by}
 use Rattle.osgi_world.specs.Lists.{In}
 use Rattle.osgi_world.specs.Partial.{partial}
@@ -22,7 +22,7 @@ returns-then-is_empty c = record {
   settled = λ P L i.
       let D = made P c.args.path.now in
       let rows = c.rows.result.now in
-      let N = name_of rows.names in
+      let N = name_numbered rows.names in
       let is : AreRowsOf P.world.known (partial P D) N rows.rows = subst (λ K. AreRowsOf K (partial P D) N rows.rows) (known-is c.args.path.now P L rows.known c.rows.ensures.known) (c.rows.ensures.rows P L) in
       let none : required_by c.rows-rows.result.now c.args.revision.0 ≡ [] = sym c.required_by.ensures.rows ∙ empty-true c.required_by.result.now (sym c.is_empty.ensures ∙ c.if-is_empty.true) in
       let none' : required_by rows.rows c.args.revision.0 ≡ [] = subst (λ R. required_by R c.args.revision.0 ≡ []) c.rows-rows.ensures.rows none in
@@ -35,7 +35,7 @@ returns c = record {
       let D = made P c.args.path.now in
       let r = c.args.revision in
       let rows = c.rows.result.now in
-      let N = name_of rows.names in
+      let N = name_numbered rows.names in
       let is : AreRowsOf P.world.known (partial P D) N rows.rows = subst (λ K. AreRowsOf K (partial P D) N rows.rows) (known-is c.args.path.now P L rows.known c.rows.ensures.known) (c.rows.ensures.rows P L) in
       let items = c.in_ok-reached.reached.items.items in
       let reached : (n : ℕ) → Contains items n ↔ Reach (Requires rows.rows r.0) (Reexports rows.rows) n =

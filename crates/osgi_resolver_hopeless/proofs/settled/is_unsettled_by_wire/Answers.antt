@@ -6,7 +6,7 @@ use Rattle.osgi_resolver_hopeless.proofs.Settling.{none-reached, settled-by}
 use Rattle.osgi_resolver_path.specs.Standing.{made}
 use Rattle.osgi_space_sources.proofs.Lengths.{empty-true}
 use Rattle.osgi_space_rows.specs.Agree.{AreRowsOf}
-use Rattle.osgi_space_rows.specs.Names.{name_of}
+use Rattle.osgi_space_rows.specs.Names.{name_numbered}
 use Rattle.osgi_space_rows.specs.Rows.{required_by}
 use Rattle.osgi_world.specs.Partial.{partial}
 use Rattle.osgi_resolver_hopeless.proofs.settled.is_unsettled_by_wire.Goals as goal
@@ -18,7 +18,7 @@ returns-then-is_empty c = record {
       let D = made P c.args.path.now in
       let m = c.args.member in
       let rows = c.rows.result.now in
-      let N = name_of rows.names in
+      let N = name_numbered rows.names in
       let is : AreRowsOf P.world.known (partial P D) N rows.rows = subst (λ K. AreRowsOf K (partial P D) N rows.rows) (known-is c.args.path.now P L rows.known c.rows.ensures.known) (c.rows.ensures.rows P L) in
       let empty : required_by c.rows-2.result.now m.0 ≡ [] = sym c.required_by.ensures.rows ∙ empty-true c.required_by.result.now (sym c.is_empty.ensures ∙ c.if-is_empty.true) in
       let none : required_by rows.rows m.0 ≡ [] = subst (λ R. required_by R m.0 ≡ []) c.rows-2.ensures.rows empty in

@@ -8,7 +8,7 @@ use Rattle.osgi_resolver_hopeless.proofs.Settling.{Covers, alone-unsettled, cove
 use Rattle.osgi_resolver_path.specs.Standing.{made}
 use Rattle.osgi_space_sources.proofs.Lengths.{empty-true}
 use Rattle.osgi_space_rows.specs.Agree.{AreRowsOf}
-use Rattle.osgi_space_rows.specs.Names.{name_of}
+use Rattle.osgi_space_rows.specs.Names.{name_numbered}
 use Rattle.osgi_space_rows.specs.Rows.{RowLists}
 use Rattle.osgi_world.specs.Lists.{In}
 use Rattle.osgi_world.specs.Partial.{partial}
@@ -20,7 +20,7 @@ returns-then-is_empty c = record {
   unsettled = λ P L.
       let D = made P c.args.path.now in
       let rows = c.rows.result.now in
-      let N = name_of rows.names in
+      let N = name_numbered rows.names in
       let is : AreRowsOf P.world.known (partial P D) N rows.rows = subst (λ K. AreRowsOf K (partial P D) N rows.rows) (known-is c.args.path.now P L rows.known c.rows.ensures.known) (c.rows.ensures.rows P L) in
       let empty : c.rows-2.result.now.required ≡ [] = sym c.required.ensures.rows ∙ empty-true c.required.result.now (sym c.is_empty.ensures ∙ c.if-is_empty.true) in
       let none : rows.rows.required ≡ [] = subst (λ (R : RowLists). R.required ≡ []) c.rows-2.ensures.rows empty in

@@ -13,6 +13,6 @@ loop-owner-preserved c =
     record {
       offers = c.in_ok-learn.ensures.offers ∙ c.loop-owner.invariant.offers;
       right = c.in_ok-learn.ensures.right;
-      kept = λ o k. c.in_ok-learn.ensures.kept o (c.loop-owner.invariant.kept o k);
-      known = All-more (Knows c.learn.new.self) all i zero c.loop-owner-test.true (λ k d h. c.in_ok-learn.ensures.kept _ (c.loop-owner.invariant.known k d h)) c.in_ok-learn.ensures.known;
+      kept = λ o k. c.in_ok-learn.ensures.nothing_lost o (c.loop-owner.invariant.kept o k);
+      known = All-more (Knows c.learn.new.self) all i zero c.loop-owner-test.true (λ k d h. c.in_ok-learn.ensures.nothing_lost _ (c.loop-owner.invariant.known k d h)) c.in_ok-learn.ensures.known;
     }

@@ -17,8 +17,8 @@ returns-clause-learnt c =
     let then = c.decide_with.new.lists in
     let mark = c.mark_of-mark.result in
     let joining = c.joining_of-joining.result in
-    let yes : IsDecidedWith learnt.offers old new mark joining → new.marks.items ≡ old.marks.items ++ mark ∷ [] → IsLearnt then new = λ by marks. learnt-more lists learnt then old new mark joining c.requires.learnt c.learn_new.ensures.kept c.in_ok-learn_new.ensures.attached c.in_ok-learn_new.ensures.joined c.decide_with.ensures.kept by.ids marks in
-    let no : IsSameCourse old new → IsLearnt then new = λ same. learnt-still lists then old new c.requires.learnt (λ o k. c.decide_with.ensures.kept o (c.learn_new.ensures.kept o k)) same in
+    let yes : IsDecidedWith learnt.offers old new mark joining → new.marks.items ≡ old.marks.items ++ mark ∷ [] → IsLearnt then new = λ by marks. learnt-more lists learnt then old new mark joining c.requires.learnt c.learn_new.ensures.nothing_lost c.in_ok-learn_new.ensures.attached c.in_ok-learn_new.ensures.joined c.decide_with.ensures.nothing_lost by.ids marks in
+    let no : IsSameCourse old new → IsLearnt then new = λ same. learnt-still lists then old new c.requires.learnt (λ o k. c.decide_with.ensures.nothing_lost o (c.learn_new.ensures.nothing_lost o k)) same in
     elim c.decide_with.result as (λ r. OnOk r (IsDecidedWith learnt.offers old new mark joining) → OnOk r (new.marks.items ≡ old.marks.items ++ mark ∷ []) → OnErr r (IsSameCourse old new) → IsLearnt then new) [
       | Ok x ↦ λ by marks same. yes by marks
       | Err e ↦ λ by marks same. no same

@@ -7,7 +7,7 @@ use Rattle.osgi_resolver_theory.proofs.States.{member-current}
 use Rattle.osgi_resolver_decisions.specs.computed.Asks.{decisions_in}
 use Rattle.osgi_resolver_decisions.specs.computed.Known.{IsProblemIn}
 use Rattle.osgi_resolver_path.specs.computed.Openings.{IsOpened}
-use Rattle.osgi_resolver_decisions.specs.declared.decision.Decision.{Decision}
+use Rattle.osgi_resolver_decisions.specs.declared.decision_ref.DecisionRef.{DecisionRef}
 use Rattle.osgi_resolver_path.proofs.Fresh.{get-in, opened-next}
 use Rattle.osgi_resolver_path.proofs.opening.open.Goals as goal
 
@@ -21,7 +21,7 @@ members-preserved c =
     record {
       offers = c.in_ok-decisions.ensures.offers ∙ c.members.invariant.offers;
       right = c.in_ok-decisions.ensures.right;
-      kept = λ o k. c.in_ok-decisions.ensures.kept o (c.members.invariant.kept o k);
+      kept = λ o k. c.in_ok-decisions.ensures.nothing_lost o (c.members.invariant.kept o k);
       last_in = within;
       opened = λ P D qs in_it s members-are same o.
           let before = c.members.invariant.opened P D qs in_it s members-are same o in
@@ -32,6 +32,6 @@ members-preserved c =
           subst (λ q. IsOpened P D ids (qs ++ q) (last + 1)) (sym (c.in_ok-decisions.ensures.first P is_problem current)) now;
     }
   where
-    nothing-in : (ds : List Decision) → length ds ≡ 0 → ds ≡ []
+    nothing-in : (ds : List DecisionRef) → length ds ≡ 0 → ds ≡ []
     nothing-in [] e = refl
     nothing-in (d ∷ ds) e = absurd (omega arith)

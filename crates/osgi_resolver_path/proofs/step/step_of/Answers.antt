@@ -8,7 +8,7 @@ use Rattle.osgi_world.specs.declared.problem.Problem.{Problem}
 use Rattle.osgi_resolver_decisions.specs.DecisionOf.{decision_of}
 use Rattle.osgi_resolver_decisions.specs.computed.Known.{IsProblemIn}
 use Rattle.osgi_resolver_path.specs.computed.Steps.{IsListed, steps_in}
-use Rattle.osgi_resolver_decisions.specs.declared.decision.Decision.{Decision}
+use Rattle.osgi_resolver_decisions.specs.declared.decision_ref.DecisionRef.{DecisionRef}
 use Rattle.osgi_resolver_path.proofs.Entries.{entry-chosen}
 use Rattle.osgi_resolver_path.proofs.step.step_of.Goals as goal
 
@@ -19,7 +19,7 @@ returns-in-Choose c = record {
       let value = c.args.value in
       let h = c.in-Choose.host in
       let q = c.in-Choose.requirement in
-      let says : Decision → Type 0 = λ d. (P : Problem) → IsProblemIn lists.offers P → IsListed lists P d → steps_in c.chosen.result ≡ adds P (decision_of d) value in
+      let says : DecisionRef → Type 0 = λ d. (P : Problem) → IsProblemIn lists.offers P → IsListed lists P d → steps_in c.chosen.result ≡ adds P (decision_of d) value in
       subst says (sym c.in-Choose.is)
       (λ P is asked.
       c.chosen.ensures.step

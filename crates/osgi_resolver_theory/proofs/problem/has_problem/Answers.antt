@@ -7,5 +7,5 @@ use Rattle.osgi_resolver_theory.proofs.problem.has_problem.Goals as goal
 pub returns : goal.returns
 returns c = record {
   is = the_problem-is;
-  exists = λ W root world ordered consistent unresolved. (the_problem W root, refl, refl, the_problem-is W root world ordered consistent unresolved);
+  exists = λ W root is. (the_problem W root, refl, refl, the_problem-is W root is);
 }

@@ -3,7 +3,7 @@ use Rattle.std.proofs.Common.{◌≡◌, List, sym, subst}
 use Rattle.osgi_world.specs.Consistency.{IsCoherent}
 use Rattle.osgi_world.specs.declared.world.Known.{Known}
 use Rattle.osgi_space_rows.specs.Agree.{AreRowsOf}
-use Rattle.osgi_space_rows.specs.Names.{name_of}
+use Rattle.osgi_space_rows.specs.Names.{name_numbered}
 use Rattle.osgi_space_rows.specs.Rows.{RowLists}
 use Rattle.osgi_space.proofs.Coherent.{uses-hold, uses-kept}
 use Rattle.osgi_space.proofs.consistent.are_consistent.Goals as goal
@@ -11,7 +11,7 @@ use Rattle.osgi_space.proofs.consistent.are_consistent.Goals as goal
 pub returns : goal.returns
 returns c =
     let rows = c.args.rows.now in
-    let N = name_of rows.names in
+    let N = name_numbered rows.names in
     let K = c.known.result.now in
     let W = c.args.wirings.now in
     let R = c.rows.result.now in
@@ -20,7 +20,7 @@ returns c =
     let known : K ≡ rows.known = c.known.ensures.known in
     record {
       consistent = (
-        λ t. subst (λ (k : List Known). IsCoherent k W) known (c.in_ok-keeps_wiring_rules.ensures.holds c.if-not-branch.false (uses-hold K W N R is (c.in_ok-all_keep_uses.ensures.kept.0 t))),
-        λ h. c.in_ok-all_keep_uses.ensures.kept.1 (uses-kept K W N R is (subst (λ (k : List Known). IsCoherent k W) (sym known) h).uses),
+        λ t. subst (λ (k : List Known). IsCoherent k W) known (c.in_ok-keeps_wiring_rules.ensures.holds c.if-not-branch.false (uses-hold K W N R is (c.in_ok-all_keep_uses.ensures.uses.0 t))),
+        λ h. c.in_ok-all_keep_uses.ensures.uses.1 (uses-kept K W N R is (subst (λ (k : List Known). IsCoherent k W) (sym known) h).uses),
       );
     }

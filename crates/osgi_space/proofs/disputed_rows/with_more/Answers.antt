@@ -6,7 +6,7 @@ use Rattle.osgi_space_rows.specs.declared.rows.Import.{Import}
 use Rattle.osgi_space.proofs.disputed_rows.with_more.Goals as goal
 
 pub returns-clause-imports : goal.returns-clause-imports
-returns-clause-imports c = λ r p x at. c.in_ok-note_fragments.ensures.kept p x (c.in_ok-note_imports.ensures.noted r p x
+returns-clause-imports c = λ r p x at. c.in_ok-note_fragments.ensures.nothing_lost p x (c.in_ok-note_imports.ensures.noted r p x
     (subst (λ (l : List Import). Contains l (record { revision = r; imported = p; provider = x })) (sym (take_rest c.imports.result.now c.args.imports ∙ ap (drop c.args.imports) c.imports.ensures.rows)) at))
 
 pub returns-clause-attached : goal.returns-clause-attached

@@ -8,7 +8,7 @@ use Rattle.std.proofs.lemmas.List.{get_or_default}
 use Rattle.std.proofs.lemmas.List.Elements.{All-contains}
 use Rattle.osgi_base.specs.declared.ids.RevisionId.{RevisionId}
 use Rattle.osgi_space_rows.specs.Agree.{id}
-use Rattle.osgi_space_rows.specs.Names.{name_of}
+use Rattle.osgi_space_rows.specs.Names.{name_numbered}
 use Rattle.osgi_world.specs.Lists.{In}
 use Rattle.osgi_space_sources.specs.declared.given.Given.{Given}
 use Rattle.osgi_space_sources.specs.laws.Adding.{all-more, all-of}
@@ -74,8 +74,8 @@ returns-in-Some c =
     let none : (m : ℕ) → A m → m < n → P m = λ m a below.
     let at = subst (λ (xs : List ℕ). Contains xs m) (c.as_slice.ensures.value ∙ sym c.deref-number-items.ensures.value) ((c.in_ok-listed.ensures.listed m).0 a) in
     All-contains P (take i items) m c.loop-number.invariant (stands-before items rising i m h below at) in
-    let v : Violation = record { revision = id n; seen_by = id pair.source; «package» = name_of world.names pair.package } in
-    let is_v : c.in_ok-violation_of.field-0 ≡ v = c.in_ok-violation_of.ensures.violation ∙ ap (λ (names : List (List ℕ)). record { revision = id n; seen_by = id pair.source; «package» = name_of names pair.package }) c.names.ensures.names in
+    let v : Violation = record { revision = id n; seen_by = id pair.source; «package» = name_numbered world.names pair.package } in
+    let is_v : c.in_ok-violation_of.field-0 ≡ v = c.in_ok-violation_of.ensures.violation ∙ ap (λ (names : List (List ℕ)). record { revision = id n; seen_by = id pair.source; «package» = name_numbered names pair.package }) c.names.ensures.names in
     record {
       first = λ W is. subst (λ (w : Violation). IsFirstViolation world.known W (λ r. In r c.args.among.now) (Some w)) (sym is_v)
           (first-violated world.known W world.names world.rows is c.args.among.now A same n pair first none);

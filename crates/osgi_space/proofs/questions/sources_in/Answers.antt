@@ -1,6 +1,6 @@
 -- A package without a number has no sources, and one with a number has those by the rows.
 use Rattle.std.proofs.Common.{◌≡◌, ◌↔◌, ℕ, List, Any, Contains, refl, sym, subst}
-use Rattle.osgi_space_rows.specs.Names.{HasNumber, name_of}
+use Rattle.osgi_space_rows.specs.Names.{HasNumber, name_numbered}
 use Rattle.osgi_world.specs.Sources.{Sources}
 use Rattle.osgi_space_sources.specs.computed.Givens.{IsSourceOf}
 use Rattle.osgi_space_sources.specs.computed.RowSources.{Sources as RowSources}
@@ -22,12 +22,12 @@ returns-clause-sources c = λ W is x.
     let world = c.args.rows.now in
     let number = c.in-Some.number in
     let has = subst (λ names. HasNumber names c.args.package.now number) c.names.ensures.names c.in-Some.ensures.number in
-    let name : name_of world.names number ≡ c.args.package.now = named world.names c.args.package.now number has in
+    let name : name_numbered world.names number ≡ c.args.package.now = named world.names c.args.package.now number has in
     let P : List Given → Type 0 = λ givens. Any (λ (g : Given). g.source ≡ x.0) givens in
     let S : List ℕ → Type 0 = λ p. Sources world.known W c.args.revision p x in
     let same = c.in_ok-source_ids-2.ensures.same x in
     let givens = c.in_ok-givens.givens.items in
-    let N = name_of world.names in
+    let N = name_numbered world.names in
     let rows : (g : Given) → Contains givens g ↔ IsSourceOf world.rows c.args.revision.0 number g =
     subst (λ R. (g : Given) → Contains givens g ↔ IsSourceOf R c.args.revision.0 number g) c.rows.ensures.rows c.in_ok-givens.ensures.sources in (
       λ i. let any = subst P c.as_slice.ensures.value (same.0 i) in

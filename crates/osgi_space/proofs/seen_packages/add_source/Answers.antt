@@ -3,7 +3,7 @@ use Rattle.std.proofs.Common.{◌≡◌, ℕ, List, cond, sym, rules}
 use Rattle.std.specs.Prelude.{Some}
 use Rattle.std.specs.BTreeMap.{get}
 use Rattle.std.specs.Ordering.{eq_by_cmp}
-use Rattle.osgi_space.specs.computed.ByName.{text_cmp}
+use Rattle.osgi_base.specs.computed.Texts.{text_cmp}
 use Rattle.osgi_space.proofs.SeenPackages.{adds-source, fills, has-none, has-some}
 use Rattle.osgi_space.proofs.seen_packages.add_source.Goals as goal
 

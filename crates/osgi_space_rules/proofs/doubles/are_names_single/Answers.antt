@@ -3,8 +3,8 @@ use Rattle.std.proofs.Common.{◌≡◌, get_or, refl, subst}
 use Rattle.std.specs.Prelude.{true}
 use Rattle.std.specs.BTreeSet.{Updates}
 use Rattle.std.proofs.lemmas.Bool.{false≢true}
+use Rattle.osgi_base.specs.computed.Texts.{text_cmp}
 use Rattle.osgi_base.specs.declared.ids.RevisionId.{RevisionId}
-use Rattle.osgi_space_rules.specs.computed.Keys.{text_cmp}
 use Rattle.osgi_space_rules.proofs.Distinct.{differ_done, differ_step, fresh, no_two, seen, two_found}
 use Rattle.osgi_space_rules.proofs.Exact.{inserted, text_exact, text_total}
 use Rattle.osgi_space_rules.proofs.Grow.{grow_step}

@@ -3,10 +3,10 @@ use Rattle.std.proofs.Common.{◌↔◌, IsTrue, sym, subst}
 use Rattle.std.specs.Prelude.{MatchOption}
 use Rattle.osgi_space_rules.specs.computed.Entries.{AreProviders, OneProvider}
 use Rattle.osgi_space_rules.specs.computed.Growing.{Each}
-use Rattle.osgi_space_rules.specs.Rules.{KeepsRules}
 use Rattle.osgi_space_rules.specs.computed.Holding.{WiringHolds}
-use Rattle.osgi_space_rules.proofs.Coherent.{coherent, each_holds, kept, rules}
+use Rattle.osgi_space_rules.proofs.Coherent.{each_holds, kept}
 use Rattle.osgi_space_rules.proofs.Providers.{one_of}
+use Rattle.osgi_world.specs.Consistency.{KeepsRules}
 use Rattle.osgi_space_rules.proofs.rules.keeps_wiring_rules.Goals as goal
 
 pub each_holds-requires : goal.each_holds-requires
@@ -26,6 +26,6 @@ returns c =
     kept K W (each.0 t) (one_of K W c.in-Some.providers are) (c.in_ok-singletons_differ.ensures.differ.0 c.if-not-branch.false) in
     record {
       rules = (keeps, λ is. each.1 (each_holds K W is));
-      holds = λ t uses. coherent K W (keeps t) uses;
-      needed = λ is. each.1 (each_holds K W (rules K W is));
+      holds = λ t uses. record { rules = keeps t; uses = uses };
+      needed = λ is. each.1 (each_holds K W is.rules);
     }

@@ -1,8 +1,8 @@
 -- The next fragment, the last one and the first that is refused.
 use Rattle.std.proofs.Common.{get_or}
+use Rattle.osgi_base.specs.computed.Texts.{text_cmp}
 use Rattle.osgi_space_rules.specs.computed.Entries.{IsEntry}
 use Rattle.osgi_space_rules.specs.computed.Growing.{HasEntry}
-use Rattle.osgi_space_rules.specs.computed.Keys.{text_cmp}
 use Rattle.osgi_space_rules.proofs.Grow.{grow_done, grow_step}
 use Rattle.osgi_space_rules.proofs.Items.{no_revision, there}
 use Rattle.osgi_space_rules.proofs.OneValue.{extends_all, not_true, refused_extends}

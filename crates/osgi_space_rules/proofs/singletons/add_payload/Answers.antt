@@ -1,7 +1,7 @@
 -- The revision itself, then its fragments.
+use Rattle.osgi_base.specs.computed.Texts.{text_cmp}
 use Rattle.osgi_space_rules.specs.computed.Entries.{IsEntry}
 use Rattle.osgi_space_rules.specs.computed.Growing.{HasEntry, AnyOf}
-use Rattle.osgi_space_rules.specs.computed.Keys.{text_cmp}
 use Rattle.osgi_space_rules.proofs.OneValue.{extends_first_fails, extends_two}
 use Rattle.osgi_space_rules.proofs.singletons.add_payload.Goals as goal
 

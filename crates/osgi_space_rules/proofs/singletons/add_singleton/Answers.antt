@@ -1,7 +1,7 @@
 -- A current singleton.
+use Rattle.osgi_base.specs.computed.Texts.{text_cmp}
 use Rattle.osgi_space_rules.specs.computed.Entries.{IsEntry}
 use Rattle.osgi_space_rules.specs.computed.Growing.{HasEntry}
-use Rattle.osgi_space_rules.specs.computed.Keys.{text_cmp}
 use Rattle.osgi_space_rules.proofs.Exact.{text_exact, text_total}
 use Rattle.osgi_space_rules.proofs.OneValue.{extends_like, put_extends}
 use Rattle.osgi_space_rules.proofs.Rivals.{entry_of_one}

@@ -1,9 +1,9 @@
 -- The next wiring, the last one and the first that is refused.
 use Rattle.std.proofs.Common.{refl}
 use Rattle.std.proofs.lemmas.Bool.{false≢true}
+use Rattle.osgi_base.specs.computed.Texts.{text_cmp}
 use Rattle.osgi_space_rules.specs.computed.Entries.{IsEntryOf}
 use Rattle.osgi_space_rules.specs.computed.Growing.{HasEntry, Nothing}
-use Rattle.osgi_space_rules.specs.computed.Keys.{text_cmp}
 use Rattle.osgi_space_rules.proofs.Grow.{grow_done, grow_step}
 use Rattle.osgi_space_rules.proofs.OneValue.{not_true, refused_at}
 use Rattle.osgi_space_rules.proofs.Rivals.{entries_clash, entries_differ}

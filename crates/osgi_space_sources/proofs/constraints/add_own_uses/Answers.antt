@@ -6,7 +6,7 @@ use Rattle.osgi_space_sources.specs.computed.Pairs.{IsOwnUse}
 use Rattle.osgi_space_sources.specs.declared.given.Given.{Given}
 use Rattle.osgi_space_sources.specs.laws.Adding.{Each, adds-more, adds-whole, adds-same}
 use Rattle.osgi_space_sources.proofs.Rows.{some-use}
-use Rattle.osgi_space_rows.specs.Rows.{RowLists, OwnUse, uses_of}
+use Rattle.osgi_space_rows.specs.Rows.{RowLists, OwnUse, uses_for}
 use Rattle.osgi_space_rows.specs.declared.rows.Use.{Use}
 use Rattle.osgi_space_sources.proofs.constraints.add_own_uses.Goals as goal
 
@@ -22,7 +22,7 @@ loop-row-preserved c =
       added = adds-more (gives c.args.exporter) rows c.loop-row.row-index _ c.loop-row-test.true at c.loop-row.invariant.added c.in_ok-add.ensures.added;
     }
 
-own-each : (R : RowLists) (e o p : ℕ) (g : Given) → Each (gives e) (uses_of R o p) g ↔ IsOwnUse R e o p g
+own-each : (R : RowLists) (e o p : ℕ) (g : Given) → Each (gives e) (uses_for R o p) g ↔ IsOwnUse R e o p g
 own-each R e o p g =
     let some = some-use R (λ u. g ≡ record { «package» = u; source = e }) o p in (
       λ any. let s = some.0 any in

@@ -14,8 +14,8 @@ loop-row-preserved c =
     let at = get_or_default rows c.loop-row.row-index _ _ c.loop-row-test.true in
     record {
       noted = all-more (λ (row : Export). IsNoted c.loop-row.possible row.exported c.args.host) (λ (row : Export). IsNoted c.note.new.self row.exported c.args.host) rows c.loop-row.row-index _ c.loop-row-test.true at
-          (λ row before. c.in_ok-note.ensures.kept _ _ before) c.loop-row.invariant.noted c.in_ok-note.ensures.noted;
-      kept = λ p x before. c.in_ok-note.ensures.kept p x (c.loop-row.invariant.kept p x before);
+          (λ row before. c.in_ok-note.ensures.nothing_lost _ _ before) c.loop-row.invariant.noted c.in_ok-note.ensures.noted;
+      kept = λ p x before. c.in_ok-note.ensures.nothing_lost p x (c.loop-row.invariant.kept p x before);
     }
 
 pub returns-clause-noted : goal.returns-clause-noted

@@ -14,8 +14,8 @@ loop-row-preserved c =
     record {
       noted = all-more (λ (row : Attachment). (p : ℕ) → OwnExport c.args.rows.now row.fragment p → IsNoted c.loop-row.possible p row.host)
           (λ (row : Attachment). (p : ℕ) → OwnExport c.args.rows.now row.fragment p → IsNoted c.note_fragment.new.possible p row.host) rows c.loop-row.row-index _ c.loop-row-test.true at
-          (λ row before p own. c.in_ok-note_fragment.ensures.kept _ _ (before p own)) c.loop-row.invariant.noted c.in_ok-note_fragment.ensures.noted;
-      kept = λ p x before. c.in_ok-note_fragment.ensures.kept p x (c.loop-row.invariant.kept p x before);
+          (λ row before p own. c.in_ok-note_fragment.ensures.nothing_lost _ _ (before p own)) c.loop-row.invariant.noted c.in_ok-note_fragment.ensures.noted;
+      kept = λ p x before. c.in_ok-note_fragment.ensures.nothing_lost p x (c.loop-row.invariant.kept p x before);
     }
 
 pub returns-clause-noted : goal.returns-clause-noted

@@ -14,12 +14,12 @@ loop-each-preserved c =
     let each = c.each-item.result in
     record {
       noted = λ k p at own. elim ((in-more each k c.args.known.now c.loop-each.each-index c.loop-each-test.true c.each-item.is).0 at) [
-        | inl before ↦ c.in_ok-note_fragment.ensures.kept p k.id.0 (c.loop-each.invariant.noted k p before own)
+        | inl before ↦ c.in_ok-note_fragment.ensures.nothing_lost p k.id.0 (c.loop-each.invariant.noted k p before own)
         | inr new ↦
             let same = in-one k each new in
             subst (λ (j : Known). IsNoted c.note_fragment.new.possible p j.id.0) (sym same) (c.in_ok-note_fragment.ensures.noted p (subst (λ (j : Known). OwnExport c.args.rows.now j.id.0 p) same own))
       ];
-      kept = λ p x before. c.in_ok-note_fragment.ensures.kept p x (c.loop-each.invariant.kept p x before);
+      kept = λ p x before. c.in_ok-note_fragment.ensures.nothing_lost p x (c.loop-each.invariant.kept p x before);
     }
 
 pub returns-clause-noted : goal.returns-clause-noted

@@ -19,7 +19,7 @@ returns-then-branch c =
     let at = get_or_default pairs c.loop-pair.pair-index _ _ c.loop-pair-test.true in
     let any : Any (IsClash c.args.rows.now c.args.revision) pairs =
     any-at (IsClash c.args.rows.now c.args.revision) pairs c.loop-pair.pair-index _ c.loop-pair-test.true at (c.in_ok-is_violated.ensures.violated.0 c.if-branch.true) in
-    record { kept = (λ t. absurd (false≢true t), λ none. absurd (none any)) }
+    record { uses = (λ t. absurd (false≢true t), λ none. absurd (none any)) }
 
 pub returns : goal.returns
-returns c = record { kept = (λ t. none-whole (IsClash c.args.rows.now c.args.revision) c.args.pairs.now c.loop-pair.pair-index c.loop-pair-test.false c.loop-pair.invariant, λ none. refl) }
+returns c = record { uses = (λ t. none-whole (IsClash c.args.rows.now c.args.revision) c.args.pairs.now c.loop-pair.pair-index c.loop-pair-test.false c.loop-pair.invariant, λ none. refl) }

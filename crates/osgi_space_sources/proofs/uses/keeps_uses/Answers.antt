@@ -28,19 +28,19 @@ pub returns-then-is_empty : goal.returns-then-is_empty
 returns-then-is_empty c =
     let keeps : KeepsUsesAmong c.args.rows.now (IsAmong c.args.among) c.args.revision = λ e u implied clash.
     absurd (none-in c.args.disputed.now u (without c.args.disputed.now.keys (c.is_empty.ensures.0 c.if-is_empty.true)) (clash-disputed c.args.rows.now c.args.disputed.now c.requires.disputed clash)) in
-    record { kept = (λ t. keeps, λ k. refl) }
+    record { uses = (λ t. keeps, λ k. refl) }
 
 pub returns-then-not-has : goal.returns-then-not-has
 returns-then-not-has c =
     let away : ¬ IsAmong c.args.among c.args.revision = λ there. let yes = c.has.ensures.among.1 there in let no = c.if-not-has.true in cc in
     let keeps : KeepsUsesAmong c.args.rows.now (IsAmong c.args.among) c.args.revision = λ e u implied clash.
     none-implied c.args.rows.now (IsAmong c.args.among) c.args.revision away (record { «package» = u; source = e }) implied in
-    record { kept = (λ t. keeps, λ k. refl) }
+    record { uses = (λ t. keeps, λ k. refl) }
 
 pub returns-then-not-has_wires : goal.returns-then-not-has_wires
 returns-then-not-has_wires c =
     let none : ¬ HasWires c.args.rows.now c.args.revision = λ has. let yes = c.has_wires.ensures.wires.1 has in let no = c.if-not-has_wires.true in cc in
-    record { kept = (λ t. agrees-with-itself c.args.rows.now c.args.revision none (IsAmong c.args.among), λ k. refl) }
+    record { uses = (λ t. agrees-with-itself c.args.rows.now c.args.revision none (IsAmong c.args.among), λ k. refl) }
 
 pub returns-then-not-sees_disputed : goal.returns-then-not-sees_disputed
 returns-then-not-sees_disputed c =
@@ -58,7 +58,7 @@ returns-then-not-sees_disputed c =
     ] in
     let yes = c.sees_disputed.ensures.disputed.1 sees in
     let no = c.if-not-sees_disputed.true in cc in
-    record { kept = (λ t. keeps, λ k. refl) }
+    record { uses = (λ t. keeps, λ k. refl) }
 
 pub returns : goal.returns
 returns c =
@@ -75,9 +75,9 @@ returns c =
     let implied : (g : Given) → Contains pairs g ↔ IsImplied R A r g = λ g.
     let carried = space-implied R A r there imports c.imports_of-imports.ensures.rows givens c.in_ok-givens.ensures.sources g in
     (λ at. carried.0 ((following g).0 at), λ i. (following g).1 (carried.1 i)) in
-    let kept : IsTrue c.in_ok-are_kept.field-0 ↔ ¬ Any P pairs = subst (λ xs. IsTrue c.in_ok-are_kept.field-0 ↔ ¬ Any P xs) c.as_slice-3.ensures.value c.in_ok-are_kept.ensures.kept in
+    let kept : IsTrue c.in_ok-are_kept.field-0 ↔ ¬ Any P pairs = subst (λ xs. IsTrue c.in_ok-are_kept.field-0 ↔ ¬ Any P xs) c.as_slice-3.ensures.value c.in_ok-are_kept.ensures.uses in
     record {
-      kept = (
+      uses = (
         λ t e u i clash. kept.0 t (any-of P pairs (record { «package» = u; source = e }) ((implied (record { «package» = u; source = e })).1 i) clash),
         λ keeps. kept.1 (λ any. keeps any.1.source any.1.package ((implied any.1).0 (any-in P pairs any)) any.4),
       );

@@ -2,7 +2,7 @@
 use Rattle.std.proofs.Common.{sym, subst, ◌∙◌}
 use Rattle.std.specs.Prelude.{Some}
 use Rattle.std.specs.BTreeMap.{Updates}
-use Rattle.osgi_bundle.specs.computed.Kept.{text_cmp}
+use Rattle.osgi_base.specs.computed.Texts.{text_cmp}
 use Rattle.osgi_bundle.proofs.Indices.{adds_new, adds_none, nothing, undone}
 use Rattle.osgi_bundle.proofs.Names.{name_total, text_total}
 use Rattle.osgi_bundle.proofs.directory.Directory.add.Goals as goal

@@ -2,14 +2,14 @@
 use Rattle.std.proofs.Common.{ap, ◌∙◌, rules}
 use Rattle.std.proofs.lemmas.List.Sorted.{answers_always}
 use Rattle.osgi_bundle.specs.computed.Kept.{row_in}
-use Rattle.osgi_bundle.specs.Rows.{id_of}
+use Rattle.osgi_bundle.specs.Rows.{bundle_number}
 use Rattle.osgi_bundle.proofs.Finding.{searched}
 use Rattle.osgi_bundle.proofs.table.Table.place.Goals as goal
 
 pub returns : goal.returns
 returns c =
     let facts = c.binary_search_by_key.ensures in
-    let by_key = facts.position id_of (answers_always _ _ _ (λ f a r g called. search rules)) in
+    let by_key = facts.position bundle_number (answers_always _ _ _ (λ f a r g called. search rules)) in
     let same = c.deref.ensures.value in
     rw (← c.self.view_is)
     (record {

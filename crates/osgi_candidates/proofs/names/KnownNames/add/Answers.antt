@@ -1,8 +1,8 @@
 -- The capabilities, the fragment and the name of the revision are added.
 use Rattle.std.proofs.Common.{◌≡◌, ap, subst, ◌∙◌}
+use Rattle.osgi_base.specs.computed.Texts.{text_cmp}
 use Rattle.osgi_candidates.proofs.Naming.{adds_in}
 use Rattle.osgi_space_rows.specs.computed.Groups.{Adds}
-use Rattle.osgi_space_rules.specs.computed.Keys.{text_cmp}
 use Rattle.osgi_world.specs.declared.revision.Revision.{Revision}
 use Rattle.osgi_candidates.proofs.names.KnownNames.add.Goals as goal
 

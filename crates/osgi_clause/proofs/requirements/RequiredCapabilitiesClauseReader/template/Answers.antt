@@ -21,7 +21,7 @@ returns c =
       template = (
         required_none clause (not_so _ c.in_ok-repeats.field-0 c.if-branch.false c.in_ok-repeats.ensures.repeats) filtered.0 (λ reserved. false≢true (sym free ∙ reserved)),
         λ path.
-            subst (λ (t : Requirement). IsOnly (IsRequired clause path) (required_in t path)) (sym c.requirement.ensures.required)
+            subst (λ (t : Requirement). IsOnly (IsRequired clause path) (required_in t path)) (sym c.in_ok-requirement.ensures.required)
             (required_capability clause c.in-Ok.filter c.in_ok-ranges.ranges.0 c.in_ok-ranges.ranges.1 filtered.1 c.in_ok-ranges.ensures.first c.in_ok-ranges.ensures.second path),
       );
     }

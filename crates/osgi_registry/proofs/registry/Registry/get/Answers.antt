@@ -1,70 +1,20 @@
--- One more use.
-use Rattle.std.proofs.Common.{◌≡◌, ap, sym, ◌∙◌, refl, nat_eq}
-use Rattle.std.specs.Prelude.{None, Some, Ok}
-use Rattle.std.specs.Map.{lookup, values_of}
-use Rattle.std.proofs.lemmas.Result.{err_from_is_err_and}
-use Rattle.osgi_registry.proofs.Changed.{kept_set, rows_set, written_same}
-use Rattle.osgi_registry.proofs.Current.{current_kept}
-use Rattle.osgi_registry.proofs.Entries.{found_under, row_absent, row_present}
-use Rattle.osgi_registry.proofs.Keys.{found_by, set_by}
-use Rattle.osgi_registry.proofs.Placed.{index_kept}
-use Rattle.osgi_registry.specs.Rows.{row_at, used_more}
+-- The object of a live service, of which one use more is counted.
+use Rattle.std.proofs.Common.{◌≡◌, ap, ◌∙◌, subst}
+use Rattle.std.specs.Prelude.{Ok}
+use Rattle.std.specs.Bool.{OnTrue}
+use Rattle.osgi_registry.specs.Rows.{change, row_at, used_more}
+use Rattle.osgi_registry.proofs.Objects.{object_absent, object_there}
 use Rattle.osgi_registry.specs.laws.Standing.{stands_used}
 use Rattle.osgi_registry.proofs.registry.Registry.get.Goals as goal
 
 pub returns-in_default-clause-object : goal.returns-in_default-clause-object
-returns-in_default-clause-object c =
-    let none : row_at c.args.service c.args.self.now.rows ≡ None = row_absent _ c.args.service _ _ (ap (λ r. r.rows) c.self.view_is) c.self.invariant.rows.under (found_by c.args.service.0 _ _ c.in_default.ensures.value) in
-    rw none refl
-
-pub invariant_of-self-in_err-object : goal.invariant_of-self-in_err-object
-invariant_of-self-in_err-object c =
-    rw (written_same c.args.service.0 c.in-Some.held.now c.in-Some.held.now _ _ refl c.in-Some.ensures.value (c.get_mut.follows.holds c.in-Some.held.now).0) c.self.invariant
-
-pub returns-in_err-object-clause-unchanged : goal.returns-in_err-object-clause-unchanged
-returns-in_err-object-clause-unchanged c =
-    let p = err_from_is_err_and c.from_residual.result c.from_residual.ensures.1 in
-    rw p.1
-    (ap (λ es. record { rows = values_of es; issued = c.self.inside.issued })
-    (written_same c.args.service.0 c.in-Some.held.now c.in-Some.held.now _ _ refl c.in-Some.ensures.value (c.get_mut.follows.holds c.in-Some.held.now).0)
-    ∙ c.self.view_is)
-
-pub add_use-requires : goal.add_use-requires
-add_use-requires c =
-    let some : row_at c.args.service c.args.self.now.rows ≡ Some c.in-Some.held.now = row_present _ c.args.service _ _ _ (ap (λ r. r.rows) c.self.view_is) c.self.invariant.rows.under (found_by c.args.service.0 _ _ c.in-Some.ensures.value) in
-    record { room = rw some at c.requires.countable }
-
-pub invariant_of-self-in_err-add_use : goal.invariant_of-self-in_err-add_use
-invariant_of-self-in_err-add_use c =
-    rw (written_same c.args.service.0 c.in-Some.held.now c.add_use.new.self _ _ c.in_err-add_use.ensures.unchanged c.in-Some.ensures.value (c.get_mut.follows.holds c.add_use.new.self).0) c.self.invariant
-
-pub returns-in_err-add_use-clause-unchanged : goal.returns-in_err-add_use-clause-unchanged
-returns-in_err-add_use-clause-unchanged c =
-    let p = err_from_is_err_and c.from_residual-in_err-add_use.result c.from_residual-in_err-add_use.ensures.1 in
-    rw p.1
-    (ap (λ es. record { rows = values_of es; issued = c.self.inside.issued })
-    (written_same c.args.service.0 c.in-Some.held.now c.add_use.new.self _ _ c.in_err-add_use.ensures.unchanged c.in-Some.ensures.value (c.get_mut.follows.holds c.add_use.new.self).0)
-    ∙ c.self.view_is)
-
-pub invariant_of-self-2 : goal.invariant_of-self-2
-invariant_of-self-2 c =
-    let found : lookup (nat_eq c.args.service.0) c.self.inside.services.entries ≡ Some c.in-Some.held.now = found_by c.args.service.0 _ _ c.in-Some.ensures.value in
-    rw (set_by c.args.service.0 _ _ _ (c.get_mut.follows.holds c.add_use.new.self).0)
-    (record {
-      rows = kept_set _ c.args.service.0 _ _ c.self.invariant.rows (ap (λ s. s.service.0) c.add_use.ensures.service ∙ sym (found_under _ _ _ _ c.self.invariant.rows.under found).key);
-      index = index_kept _ c.args.service c.in-Some.held.now c.add_use.new.self _ c.self.inside.index.classes c.self.invariant.rows c.self.invariant.index c.add_use.ensures.service found;
-      current = current_kept _ c.args.service c.in-Some.held.now c.add_use.new.self _ c.self.inside.index.classes c.self.invariant.rows c.self.invariant.current c.add_use.ensures.service found;
-    })
+returns-in_default-clause-object c = object_absent (row_at c.args.service c.args.self.now.rows) c.in_default.ensures.object
 
 pub returns-clause-object : goal.returns-clause-object
-returns-clause-object c =
-    let some : row_at c.args.service c.args.self.now.rows ≡ Some c.in-Some.held.now = row_present _ c.args.service _ _ _ (ap (λ r. r.rows) c.self.view_is) c.self.invariant.rows.under (found_by c.args.service.0 _ _ c.in-Some.ensures.value) in
-    rw some (ap Ok (c.in_ok-object.ensures.same ∙ ap (λ s. s.object) c.service.ensures.service))
-
-pub returns-clause-rows : goal.returns-clause-rows
-returns-clause-rows c =
-    rw (set_by c.args.service.0 _ _ _ (c.get_mut.follows.holds c.add_use.new.self).0, ← c.self.view_is)
-    (rows_set _ c.args.service c.in-Some.held.now c.add_use.new.self (used_more c.args.user) _ c.self.invariant.rows.under c.self.invariant.rows.rising (sym c.in_ok-add_use.ensures.used) (found_by c.args.service.0 _ _ c.in-Some.ensures.value))
+returns-clause-object c = ap Ok c.in_ok-object.ensures.same ∙ object_there (row_at c.args.service c.args.self.now.rows) c.in-Some.object.now c.in-Some.ensures.object
 
 pub returns-clause-stands : goal.returns-clause-stands
-returns-clause-stands c = λ history tag stands. stands_used history c.args.self.now _ tag c.args.user c.args.service _ stands (returns-clause-rows c) (ap (λ r. r.issued) c.self.view_is)
+returns-clause-stands c =
+    let new = c.add_use.new.self in
+    let rows = subst (λ live. OnTrue live (new.rows ≡ change c.args.service (used_more c.args.user) c.args.self.now.rows)) c.if-not-branch.false c.in_ok-add_use.ensures.rows in
+    λ history tag stands. stands_used history c.args.self.now new tag c.args.user c.args.service _ stands rows c.add_use.ensures.issued

@@ -10,7 +10,7 @@ use Rattle.osgi_registry.proofs.Entries.{found_under, row_absent}
 use Rattle.osgi_registry.proofs.Keys.{found_by, set_by}
 use Rattle.osgi_registry.proofs.Placed.{any_found, fresh_move, index_same, only_one, placed_change, stands}
 use Rattle.osgi_registry.specs.computed.Places.{Moves, place_of}
-use Rattle.osgi_registry.specs.Rows.{id_of, is_service, row_at, with_properties}
+use Rattle.osgi_registry.specs.Rows.{service_number, is_service, row_at, with_properties}
 use Rattle.osgi_registry.proofs.registry.Registry.put_properties.Goals as goal
 
 pub returns-in_default-clause-absent : goal.returns-in_default-clause-absent
@@ -46,7 +46,7 @@ pub move_all-requires-clause-fresh : goal.move_all-requires-clause-fresh
 move_all-requires-clause-fresh c =
     let found : lookup (nat_eq c.args.service.0) c.self.inside.services.entries ≡ Some c.in-Some.held.now = found_by c.args.service.0 _ _ c.in-Some.ensures.value in
     let next : c.in_ok-next.next ≡ (with_properties c.args.properties c.in-Some.held.now).service
-    = rw (c.in_ok-next.ensures.modified, c.service-now.ensures.service) refl in
+    = rw (c.in_ok-next.ensures.modified, c.service-now.ensures.service, c.scope.ensures.scope) refl in
     let is : c.of-place.result.service ≡ c.args.service.0
     = ap (λ p. p.service) c.of-place.ensures.place ∙ ap (λ s. s.service.0) (c.get.ensures.value ∙ next) ∙ sym (found_under _ _ _ _ c.self.invariant.rows.under found).key in
     rw (c.of.ensures.place, c.service-now.ensures.service)
@@ -75,10 +75,10 @@ invariant_of-self-2 c =
     let new = c.move_all.new.self.classes in
     let row = c.in-Some.held.now in
     let found : lookup (nat_eq c.args.service.0) c.self.inside.services.entries ≡ Some row = found_by c.args.service.0 _ _ c.in-Some.ensures.value in
-    let key : c.args.service.0 ≡ id_of row = (found_under _ _ _ _ c.self.invariant.rows.under found).key in
+    let key : c.args.service.0 ≡ service_number row = (found_under _ _ _ _ c.self.invariant.rows.under found).key in
     let next : c.in_ok-next.next ≡ (with_properties c.args.properties row).service
-    = rw (c.in_ok-next.ensures.modified, c.service-now.ensures.service) refl in
-    let is : with_properties c.args.properties row ≡ c.replace.new.self = sym (c.replace.ensures.replaced ∙ ap (λ s. record { service = s; uses = row.uses }) next) in
+    = rw (c.in_ok-next.ensures.modified, c.service-now.ensures.service, c.scope.ensures.scope) refl in
+    let is : with_properties c.args.properties row ≡ c.replace.new.self = sym (c.replace.ensures.replaced ∙ ap (λ s. record row { service = s }) next) in
     let among : c.items.result.now ≡ row.service.classes = c.items.ensures.items ∙ ap (λ s. s.classes) c.service-now.ensures.service in
     let from : c.of.result ≡ place_of row.service = c.of.ensures.place ∙ ap place_of c.service-now.ensures.service in
     let changed = (with_properties c.args.properties row).service in
@@ -96,7 +96,7 @@ invariant_of-self-2 c =
       index =
           rw (rows_set _ c.args.service row c.replace.new.self (with_properties c.args.properties) _ rows.under rows.rising is found)
           (placed_change old new c.args.service (with_properties c.args.properties) row (values_of c.self.inside.services.entries) c.self.invariant.index moved refl (sym key) only
-          (any_found (is_service c.args.service) c.args.service.0 row c.self.inside.services.entries (eq-eqb c.args.service.0 (id_of row) key) found));
+          (any_found (is_service c.args.service) c.args.service.0 row c.self.inside.services.entries (eq-eqb c.args.service.0 (service_number row) key) found));
       current =
           rw (rows_set _ c.args.service row c.replace.new.self (with_properties c.args.properties) _ rows.under rows.rising is found)
           (current_change old new c.args.service (with_properties c.args.properties) row (values_of c.self.inside.services.entries) (place_of row.service) c.self.invariant.current c.self.invariant.index moved (sym key) only);
@@ -106,7 +106,7 @@ pub returns-clause-rows : goal.returns-clause-rows
 returns-clause-rows c =
     let row = c.in-Some.held.now in
     let next : c.in_ok-next.next ≡ (with_properties c.args.properties row).service
-    = rw (c.in_ok-next.ensures.modified, c.service-now.ensures.service) refl in
-    let is : with_properties c.args.properties row ≡ c.replace.new.self = sym (c.replace.ensures.replaced ∙ ap (λ s. record { service = s; uses = row.uses }) next) in
+    = rw (c.in_ok-next.ensures.modified, c.service-now.ensures.service, c.scope.ensures.scope) refl in
+    let is : with_properties c.args.properties row ≡ c.replace.new.self = sym (c.replace.ensures.replaced ∙ ap (λ s. record row { service = s }) next) in
     rw (set_by c.args.service.0 _ _ _ (c.get_mut.follows.holds c.replace.new.self).0, ← c.self.view_is)
     (rows_set _ c.args.service row c.replace.new.self (with_properties c.args.properties) _ c.self.invariant.rows.under c.self.invariant.rows.rising is (found_by c.args.service.0 _ _ c.in-Some.ensures.value))

@@ -5,7 +5,7 @@ use Rattle.osgi_base.specs.declared.ids.RevisionId.{RevisionId}
 use Rattle.osgi_world.specs.Decisions.{value_made}
 use Rattle.osgi_resolver_path.specs.computed.Courses.{made_of}
 use Rattle.osgi_resolver_path.specs.declared.course.Mark.{Mark}
-use Rattle.osgi_resolver_decisions.specs.declared.decision.Decision.TheVariants.{Attach}
+use Rattle.osgi_resolver_decisions.specs.declared.decision_ref.DecisionRef.TheVariants.{Attach}
 use Rattle.osgi_resolver_path.proofs.Marks.{last-first}
 use Rattle.osgi_resolver_path.proofs.Valued.{value-more}
 use Rattle.osgi_resolver_path.proofs.values.Values.of.Goals as goal

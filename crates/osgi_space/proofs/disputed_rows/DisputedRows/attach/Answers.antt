@@ -11,7 +11,7 @@ invariant_of-self c = subst (λ (w : WorldLists). AreNoted w.rows c.self.inside.
 pub invariant_of-self-in-Err : goal.invariant_of-self-in-Err
 invariant_of-self-in-Err c = λ p x at.
     let back = c.take_back.ensures.taken.rows c.self.inside.rows.rows c.in_ok-added.ensures.added.rows in
-    c.note.ensures.kept p x (c.self.invariant p x (subst (λ (R : RowLists). IsPossible R p x) back at))
+    c.note.ensures.nothing_lost p x (c.self.invariant p x (subst (λ (R : RowLists). IsPossible R p x) back at))
 
 pub invariant_of-self-in_default : goal.invariant_of-self-in_default
 invariant_of-self-in_default c =

@@ -29,9 +29,9 @@ invariant_of-result c =
     let attached = c.attached-attached.ensures.rows ∙ ap (λ (R : RowLists). R.attached) c.rows-3.ensures.rows in
     resumed-noted K kept.known front kept.named before after kept.possible c.in_ok-possible-2.possible c.in_ok-before.ensures.known (c.in_ok-before.ensures.added front follows.all_known follows.rows) follows.all_known
     c.in_ok-rows.ensures.added.grown
-    (λ p x noted. c.in_ok-possible-2.ensures.kept p x (c.in_ok-possible.ensures.kept p x noted))
+    (λ p x noted. c.in_ok-possible-2.ensures.nothing_lost p x (c.in_ok-possible.ensures.nothing_lost p x noted))
     follows.noted
-    (λ k p at own. c.in_ok-possible-2.ensures.kept p k.id.0 (c.in_ok-possible.ensures.noted k p (subst (λ (l : List Known). In k l) (sym (take_rest K kept.known)) at) (subst (λ (R : RowLists). OwnExport R k.id.0 p) (sym c.rows.ensures.rows) own)))
+    (λ k p at own. c.in_ok-possible-2.ensures.nothing_lost p k.id.0 (c.in_ok-possible.ensures.noted k p (subst (λ (l : List Known). In k l) (sym (take_rest K kept.known)) at) (subst (λ (R : RowLists). OwnExport R k.id.0 p) (sym c.rows.ensures.rows) own)))
     (λ r p x at. c.in_ok-possible-2.ensures.imports r p x
     (subst (λ (R : RowLists). Contains (drop (length c.imports-imports.result.now) R.imports) (record { revision = r; imported = p; provider = x })) (sym c.rows-4.ensures.rows)
     (subst (λ (l : List Import). Contains (drop (length l) after.rows.imports) (record { revision = r; imported = p; provider = x })) (sym imports) at)))

@@ -1,7 +1,7 @@
 -- One step less; without steps, the rows are those of the world.
 use Rattle.std.proofs.Common.{◌≡◌, List, [], length, reverse, refl, ap, sym, ◌∙◌, subst, arith}
 use Rattle.osgi_world.specs.Decisions.{Step}
-use Rattle.osgi_space_rows.specs.Steps.{with_steps}
+use Rattle.osgi_space_rows.specs.Steps.{after_steps}
 use Rattle.osgi_space_rows.specs.Worlds.{AreRowsIn}
 use Rattle.osgi_uses.specs.States.{SpacesState, wirings_of}
 use Rattle.osgi_uses.proofs.Trails.{first-step, no-steps, rows-along, steps-length}
@@ -28,4 +28,4 @@ returns-clause-rows c =
     let rows = c.rest-2.inside.rows in
     let left : c.loop.rest.steps ≡ [] = no-steps c.loop.rest.steps (omega (arith, c.loop.invariant.left, c.loop-test.false)) in
     let are = subst (λ (s : SpacesState). AreRowsIn rows (wirings_of s)) c.rest-2.view_is (rows-along rows c.rest-2.inside.world.now.wirings (reverse c.rest-2.inside.trail.items) c.rest-2.invariant.along) in
-    subst (AreRowsIn rows) c.loop.invariant.wirings (subst (λ (steps : List Step). AreRowsIn rows (with_steps c.loop.rest.wirings steps)) left are)
+    subst (AreRowsIn rows) c.loop.invariant.wirings (subst (λ (steps : List Step). AreRowsIn rows (after_steps c.loop.rest.wirings steps)) left are)

@@ -1,0 +1,12 @@
+//! The scopes of services.
+
+/// Who shares an object of a service.
+#[derive(Clone, Copy, Debug, PartialEq, Eq)]
+pub enum Scope {
+    /// All users have one object.
+    Singleton,
+    /// Each bundle that uses the service has an object of its own.
+    Bundle,
+    /// Each request gets an object of its own.
+    Prototype,
+}

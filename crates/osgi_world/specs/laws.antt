@@ -1,0 +1,2 @@
+-- Laws of ranges of versions.
+pub mod Ranges
