@@ -7,7 +7,7 @@ use cases_text::{complain, put, put_shown};
 use osgi_base::{BundleId, ServiceId, Tag};
 use osgi_ops::{Entry, Op, Reply};
 use osgi_registry::Registry;
-use std::alloc::{AllocError, Global};
+use std::alloc::AllocError;
 
 /// The tag of all calls of the registry.
 pub const TAG: Tag = Tag {
@@ -83,55 +83,15 @@ pub fn add_uses(
     Ok(())
 }
 
-/// An unget that counts one use less.
-fn unget(user: BundleId, service: ServiceId) -> Entry {
-    Entry {
+/// Adds the end of a stop of the bundle, whose clean up is what a release comes to.
+pub fn add_release(entries: &mut Vec<Entry>, bundle: BundleId) -> Result<(), AllocError> {
+    entries.push(Entry {
         tag: TAG,
-        op: Op::Unget { user, service },
-        reply: Reply::Flag { value: true },
-    }
-}
-
-/// An unregister that takes a service out.
-fn unregister(owner: BundleId, service: ServiceId) -> Entry {
-    Entry {
-        tag: TAG,
-        op: Op::Unregister { owner, service },
+        op: Op::EndStop {
+            bundle,
+            failed: false,
+        },
         reply: Reply::Done,
-    }
-}
-
-/// Adds an unget for each use of the service by the bundle.
-fn give_back_one(
-    entries: &mut Vec<Entry>,
-    user: BundleId,
-    service: ServiceId,
-) -> Result<(), AllocError> {
-    for _ in 0..osgi_history::uses(entries.as_slice(), user, service) {
-        entries.push(unget(user, service))?;
-    }
-    Ok(())
-}
-
-/// Adds an unget for each use of the bundle.
-fn give_back(alloc: Global, entries: &mut Vec<Entry>, user: BundleId) -> Result<(), AllocError> {
-    let live = osgi_history::live(alloc, entries.as_slice())?;
-    for service in live.items() {
-        give_back_one(entries, user, *service)?;
-    }
-    Ok(())
-}
-
-/// Adds the ungets and the unregisters that the release of a bundle with these services comes to.
-pub fn add_release(
-    alloc: Global,
-    entries: &mut Vec<Entry>,
-    bundle: BundleId,
-    services: &[ServiceId],
-) -> Result<(), AllocError> {
-    give_back(alloc, entries, bundle)?;
-    for service in services {
-        entries.push(unregister(bundle, *service))?;
-    }
+    })?;
     Ok(())
 }

@@ -57,13 +57,7 @@ impl Trial {
     }
 
     pub fn release(&mut self, out: &mut String, bundle: BundleId) -> Result<(), AllocError> {
-        release(
-            self.alloc,
-            out,
-            &mut self.registry,
-            &mut self.entries,
-            bundle,
-        )
+        release(out, &mut self.registry, &mut self.entries, bundle)
     }
 
     pub fn count(&self, out: &mut String) -> Result<(), AllocError> {
@@ -120,9 +114,8 @@ fn ask(
     add_last(alloc, out, entries.as_slice())
 }
 
-/// Releases a bundle. Its entries are the ungets and the unregisters that come to the same.
+/// Releases a bundle. Its entry is the end of a stop of the bundle.
 fn release(
-    alloc: Global,
     out: &mut String,
     registry: &mut Registry,
     entries: &mut Vec<Entry>,
@@ -131,7 +124,7 @@ fn release(
     ensures issued { registry.new.issued ≡ registry.old.issued }
 {
     let services = registry.release(bundle)?;
-    add_release(alloc, entries, bundle, services.items())?;
+    add_release(entries, bundle)?;
     add_ids(out, services.items())
 }
 

@@ -1,5 +1,5 @@
 -- A bundle that is made, and then inserted.
-use Rattle.std.proofs.Common.{◌≡◌, inl, inr, ℕ, List, [], ◌∷◌, ap, sym, subst, ◌∙◌}
+use Rattle.std.proofs.Common.{◌≡◌, inl, inr, ℕ, List, [], ◌∷◌, ap, sym, ◌∙◌}
 use Rattle.std.specs.Prelude.{Bool}
 use Rattle.osgi_base.specs.Verdict.{answers, Gives, refuses}
 use Rattle.osgi_base.specs.declared.ids.BundleId.{BundleId}

@@ -2,7 +2,7 @@
 use Rattle.std.proofs.Common.{◌≡◌, ◌<◌, ◌≤◌, ℕ, suc, zero, List, [], ◌∷◌, length, map, set, get_or, ap, sym, subst, ◌∙◌, refl, arith}
 use Rattle.std.proofs.lemmas.List.{get_or-map, length-map}
 use Rattle.std.proofs.lemmas.Option.{slice_get_within, unwrap_or-slice_get}
-use Rattle.std.specs.Prelude.{Bool, true, false, cond, ◌==◌, Option, None, Some, All, AllPairs, find, IsSomeAnd, slice_get, unwrap_or}
+use Rattle.std.specs.Prelude.{Bool, true, false, cond, Option, None, Some, All, find, IsSomeAnd, slice_get, unwrap_or}
 use Rattle.std.specs.List.Sorted.{IsStrictlyIncreasing}
 use Rattle.std.specs.Option.{option_map}
 use Rattle.std.specs.Ordering.{eq_by_cmp}
@@ -11,9 +11,9 @@ use Rattle.std.proofs.lemmas.Bool.{eq-eqb, eqb-true, ne_eqb}
 use Rattle.std.proofs.lemmas.List.Elements.{All-map}
 use Rattle.osgi_base.specs.computed.Texts.{text_cmp}
 use Rattle.osgi_base.specs.declared.ids.BundleId.{BundleId}
-use Rattle.osgi_bundle.specs.Rows.{AreApart, AreInOrder, bundle_number, has_bundle_id, IsSettable, row_at, set_in, TableRows, with_state}
+use Rattle.osgi_bundle.specs.Rows.{AreApart, bundle_number, has_bundle_id, IsSettable, row_at, set_in, TableRows, with_state}
 use Rattle.osgi_ops.specs.States.{is_up}
-use Rattle.osgi_bundle.specs.computed.Kept.{bundle_under, IsKept, location_of, name_cmp, bundle_name, row_in}
+use Rattle.osgi_bundle.specs.computed.Kept.{bundle_under, IsKept, location_of, name_cmp, bundle_name}
 use Rattle.osgi_bundle.specs.declared.directory.Directory.{Directory}
 use Rattle.osgi_bundle.specs.declared.kept.BundleKept.{BundleKept}
 use Rattle.osgi_bundle.specs.laws.Standing.{found_map}

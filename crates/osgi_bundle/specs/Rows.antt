@@ -6,7 +6,7 @@ use Rattle.std.specs.Str.{bytes_eq}
 use Rattle.osgi_base.specs.Verdict.{Verdict, answers, refuses, Where}
 use Rattle.osgi_base.specs.declared.ids.BundleId.{BundleId}
 use Rattle.osgi_bundle.specs.declared.kept.BundleKept.{BundleKept}
-use Rattle.osgi_ops.specs.Bundles.{level_of, system}
+use Rattle.osgi_ops.specs.Bundles.{system}
 use Rattle.osgi_ops.specs.declared.limits.TheConstants.{MAX_BUNDLES}
 use Rattle.osgi_ops.specs.declared.refusal.Many.TheVariants.{Bundles}
 use Rattle.osgi_ops.specs.declared.refusal.Refusal.{Refusal}
@@ -84,12 +84,16 @@ resolved_state resolved = if resolved then RESOLVED else INSTALLED
 abbrev pub IsSettable : BundleId → List BundleKept → Type 0
 IsSettable id rows = IsSomeAnd (row_at id rows) (λ (row : BundleKept). is_up row.state ≡ false)
 
+-- the start level that a bundle has from its Install on; the system bundle's is 0. The table keeps no other
+abbrev pub first_level_of : BundleId → ℕ
+first_level_of id = if id.0 == 0 then 0 else 1
+
 -- what a list of bundles shows of one
 abbrev pub row_of : BundleKept → BundleRow
 row_of row = record {
   bundle = row.bundle;
   state = row.state;
-  level = level_of row.bundle;
+  level = first_level_of row.bundle;
   name = row.name;
   version = row.version;
 }

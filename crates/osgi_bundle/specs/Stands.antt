@@ -5,7 +5,7 @@ use Rattle.osgi_base.specs.declared.ids.RevisionId.{RevisionId}
 use Rattle.osgi_base.specs.declared.ids.Tag.{Tag}
 use Rattle.osgi_bundle.specs.Rows.{TableRows}
 use Rattle.osgi_bundle.specs.declared.kept.BundleKept.{BundleKept}
-use Rattle.osgi_ops.specs.Bundles.{Bundle, bundles, installed, state_of, the_system_bundle}
+use Rattle.osgi_ops.specs.Bundles.{Bundle, bundles, idle, installed, last_begin, number_of, phase, state, the_system_bundle}
 use Rattle.osgi_ops.specs.Depots.{stored_revision, row_number}
 use Rattle.osgi_ops.specs.Moments.{first_world}
 use Rattle.osgi_ops.specs.Resolved.{current_revision, is_in_use}
@@ -18,27 +18,28 @@ use Rattle.osgi_version.specs.declared.version.Version.{Version}
 use Rattle.osgi_world.specs.declared.revision.Revision.{Revision}
 use Rattle.osgi_world.specs.declared.world.World.{World}
 
--- the row of a bundle, with its state in the world; a revision with a host is a fragment's. No start or stop has begun yet
-abbrev pub kept_of : World → Bundle → BundleKept
-kept_of world b = record {
+-- the row of a bundle, with its state in the world after the history and the tag of its last begin; a revision with a host is a
+-- fragment's
+abbrev pub kept_of : World → List Entry → Bundle → BundleKept
+kept_of world history b = record {
   bundle = b.bundle;
   location = b.location;
   name = b.revision.name;
   version = b.revision.version;
   fragment = is_some b.revision.host;
   row = b.row;
-  state = state_of world b.bundle;
-  by = None;
+  state = number_of (state world history b.bundle);
+  by = last_begin b.bundle history;
 }
 
 -- row by row the live bundles of the history with their states in the world after it, and as many ids as it installed bundles
 pub record StandsFor (depot : List DepotRow) (history : List Entry) (world : World) (table : TableRows) : Type 0 where
-  pub rows : table.rows ≡ map (kept_of world) (bundles depot history)
-  pub issued : table.issued ≡ length (installed depot history)
+  pub rows : table.rows ≡ map (kept_of world history) (bundles depot history)
+  pub issued : table.issued ≡ length (installed history)
 
 -- the table of the system bundle alone
 abbrev pub first_table : TableRows
-first_table = record { rows = kept_of first_world the_system_bundle ∷ []; issued = 0 }
+first_table = record { rows = kept_of first_world [] the_system_bundle ∷ []; issued = 0 }
 
 -- whatever the depot has, it stands for the history of no entries
 abbrev pub StandsForNone : TableRows → Type 0
@@ -53,14 +54,17 @@ pub record IsOfDepot (depot : List DepotRow) (location name : List ℕ) (version
   pub has_host : fragment ≡ is_some revision.host
   pub number : row ≡ row_number depot location
 
--- the bundle has no current revision, and no wiring is of the revision that it is to get, or has it as a fragment
-pub record IsNewBundle (world : World) (revision : RevisionId) (bundle : BundleId) : Type 0 where
+-- the bundle has no current revision, no wiring is of the revision that it is to get, or has it as a fragment, and the history tells of no
+-- start or stop of it
+pub record IsNewBundle (world : World) (history : List Entry) (revision : RevisionId) (bundle : BundleId) : Type 0 where
   pub no_current : current_revision world bundle ≡ None
   pub unused : is_in_use world.wirings revision ≡ false
+  pub at_rest : phase bundle history ≡ idle
+  pub never_begun : last_begin bundle history ≡ None
 
 -- if it stood for a history, it stands for that history with one more entry: the Install of this location, with what the depot has
 -- there, which becomes known
 abbrev pub StandsAfter : List ℕ → List ℕ → Version → Bool → ℕ → BundleId → TableRows → TableRows → Type 0
 StandsAfter location name version fragment row id old new =
-    (depot : List DepotRow) (history : List Entry) (world : World) (revision : RevisionId) (tag : Tag) (of : IsOfDepot depot location name version fragment row) → IsNewBundle world revision id → StandsFor depot history world old →
+    (depot : List DepotRow) (history : List Entry) (world : World) (revision : RevisionId) (tag : Tag) (of : IsOfDepot depot location name version fragment row) → IsNewBundle world history revision id → StandsFor depot history world old →
     StandsFor depot (history ++ record { tag = tag; op = op.Install location; reply = answer.Bundle id false } ∷ []) (with_revision world revision id of.revision) new

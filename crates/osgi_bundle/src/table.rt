@@ -248,7 +248,7 @@ fn resolved_state(resolved: bool) -> u8
 
 /// The row of the system bundle.
 fn system_row(alloc: Global) -> Result<BundleKept, AllocError>
-    ensures system { IfOk result (λ row. row ≡ kept_of first_world the_system_bundle) }
+    ensures system { IfOk result (λ row. row ≡ kept_of first_world [] the_system_bundle) }
 {
     let revision = system_revision(alloc)?;
     // Copied, since no field can be moved out of a value whose type has a `Drop` of its own.

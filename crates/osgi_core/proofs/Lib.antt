@@ -1,3 +1,3 @@
 -- Lemmas on the machine.
 pub mod Keeping
-pub mod ToldOnce
+pub mod Room

@@ -1,7 +1,8 @@
 -- The machine as contracts see it.
-use Rattle.std.specs.Prelude.{List}
+use Rattle.std.specs.Prelude.{◌≡◌, List}
 use Rattle.osgi_base.specs.declared.ids.Tag.{Tag}
-use Rattle.osgi_ops.specs.Moments.{Moment}
+use Rattle.osgi_ops.specs.Legal.{IsReplayed}
+use Rattle.osgi_ops.specs.Moments.{Moment, Seen, sights_in}
 use Rattle.osgi_ops.specs.Settings.{Setting}
 use Rattle.osgi_ops.specs.declared.entry.Entry.{Entry}
 use Rattle.osgi_world.specs.declared.world.World.{World}
@@ -12,6 +13,10 @@ pub record Machine : Type 0 where
   pub entries : List Entry
   pub world : World
 
--- the moment at which the tag's operation is asked of it
-abbrev pub moment_of : Machine → Tag → Moment
-moment_of machine tag = record { setting = machine.setting; before = machine.entries; world = machine.world; tag = tag }
+-- what listeners saw in its history, as a telling of it says; each says the same
+abbrev pub AreSightsOf : Machine → List Seen → Type 0
+AreSightsOf machine sights = (t : IsReplayed machine.setting machine.entries machine.world) × (sights_in t.told ≡ sights)
+
+-- the moment at which the tag's operation is asked of it, where listeners saw this
+abbrev pub moment_of : Machine → Tag → List Seen → Moment
+moment_of machine tag sights = record { setting = machine.setting; before = machine.entries; world = machine.world; sights = sights; tag = tag }

@@ -20,13 +20,12 @@ abbrev pub IsTrulyUnresolvable : List Told → Told → Type 0
 IsTrulyUnresolvable before t =
     (bundle : BundleId) (cause : Unmet) → t.entry.op ≡ op.Resolve bundle → t.entry.reply ≡ answer.Refused (Unresolvable cause) → (world : World) → ¬ ExtendsWorld (world_after before) world bundle
 
--- the history replays from the empty framework and ends with this world. After every step the wirings in force are consistent, and
--- each bundle that was refused as unresolvable was so
+-- after every step of what was told the wirings in force are consistent, and each bundle that was refused as unresolvable was so
+pub record IsSoundTelling (told : List Told) : Type 0 where
+  pub worlds : AllSound told
+  pub unresolvable : AllAlong IsTrulyUnresolvable [] told
+
+-- the history replays from the empty framework and ends with this world, sound at every step
 pub record IsSoundlyTold (setting : Setting) (history : List Entry) (world : World) : Type 0 where
   pub replayed : IsReplayed setting history world
-  pub sound : AllSound replayed.told
-  pub unresolvable : AllAlong IsTrulyUnresolvable [] replayed.told
-
--- such a history, whatever world it ends with
-abbrev pub Sound : Setting → List Entry → Type 0
-Sound setting history = (world : World) × IsSoundlyTold setting history world
+  pub sound : IsSoundTelling replayed.told

@@ -14,13 +14,13 @@ use Rattle.std.proofs.lemmas.List.Folds.{list_any-append}
 use Rattle.std.proofs.lemmas.Map.Text.{is_eq-slice_cmp}
 use Rattle.osgi_depot.specs.Depots.{firsts, is_among, location_in}
 use Rattle.osgi_depot.specs.computed.Locations.{AreSeen}
-use Rattle.osgi_ops.specs.laws.Histories.{along-push}
+use Rattle.osgi_ops.specs.laws.Along.{along-last}
 use Rattle.osgi_session.specs.declared.line.Line.{Line}
 
 -- ---- a text more
 
 firsts_push : (texts : List (List ℕ)) (text : List ℕ) → firsts (texts ++ text ∷ []) ≡ firsts texts ++ (if is_among texts text then [] else text ∷ [])
-firsts_push texts text = along-push (λ before text. if is_among before text then [] else text ∷ []) [] texts text
+firsts_push texts text = along-last (λ before text. if is_among before text then [] else text ∷ []) texts text
 
 or_last : (a b : Bool) → cond a true b ≡ (b || (a || false))
 or_last true true = refl

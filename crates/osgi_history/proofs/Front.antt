@@ -1,14 +1,16 @@
 -- The services of a history with one more entry at its start.
 use Rattle.std.proofs.Common.{◌≡◌, ℕ, ◌+◌, ◌-◌, ◌<◌, List, [], ◌∷◌, ◌++◌, length, length-drop, get_or, drop, take, map, ap, sym, ◌∙◌, refl, arith, eq-eqb}
-use Rattle.std.specs.Prelude.{Bool, true, false, cond, nat_eq, Option, None, Some, filter, find}
+use Rattle.std.specs.Prelude.{Bool, true, false, cond, nat_eq, not, Option, None, Some, filter, find}
+use Rattle.std.specs.Bool.{then_some}
+use Rattle.std.specs.List.{list_any}
 use Rattle.std.specs.Option.{option_eq, option_map_or, option_to_list}
 use Rattle.std.proofs.lemmas.Bool.{cond-false, cond-true, eqb-false, eqb-true, ne_eqb}
 use Rattle.std.proofs.lemmas.List.{at_drop_more, map-append, take_all}
 use Rattle.std.proofs.lemmas.List.Elements.{filter-append}
 use Rattle.osgi_base.specs.declared.ids.BundleId.{BundleId}
 use Rattle.osgi_base.specs.declared.ids.ServiceId.{ServiceId}
-use Rattle.osgi_ops.specs.Replies.{is_accepted}
-use Rattle.osgi_ops.specs.Services.{is_live, is_service, Registered, registered_after, registered_by, uses_held}
+use Rattle.osgi_ops.specs.Replies.{is_accepted, is_refusal}
+use Rattle.osgi_ops.specs.Services.{is_live, is_service, Registered, registered_after, registered_by, takes_out, uses_held}
 use Rattle.osgi_ops.specs.declared.op.Op.{Op}
 use Rattle.osgi_ops.specs.declared.op.Op.TheVariants.{Register}
 use Rattle.osgi_ops.specs.declared.reply.Reply.{Reply}
@@ -36,6 +38,16 @@ length_if false r = refl
 count_by_one : (earlier : ℕ) (op : Op) (reply : Reply) (since : List Entry) → length (registered_by earlier op reply since) ≡ one_if (is_registration op reply)
 count_by_one earlier (Register owner classes object scope properties) reply since = length_if (is_accepted reply) _
 count_by_one earlier op reply since = refl
+
+kept_if : (r : Registered) (live : Bool) → option_to_list (then_some live r.service) ≡ ids_of (cond live (r ∷ []) [])
+kept_if r true = refl
+kept_if r false = refl
+
+-- an accepted registration is live where the entries since do not take the service out
+pub newly_is : (r : Registered) (reply : Reply) (gone : Bool) → false ≡ is_refusal reply → gone ≡ list_any (λ e. takes_out r.service r.owner e.op e.reply) r.since →
+    option_to_list (then_some (not gone) r.service) ≡ ids_of (filter is_live (cond (is_accepted reply) (r ∷ []) []))
+newly_is r reply gone accepted is =
+    ap (λ g. option_to_list (then_some (not g) r.service)) is ∙ kept_if r (is_live r) ∙ ap (λ refused. ids_of (filter is_live (cond (not refused) (r ∷ []) []))) accepted
 
 pub live-cons : (earlier : ℕ) (e : Entry) (since : List Entry) → live_after earlier (e ∷ since) ≡ newly earlier e since ++ live_after (earlier + one_if (is_registration e.op e.reply)) since
 live-cons earlier e since =

@@ -3,28 +3,58 @@
 ghost use Rattle.std.specs.Prelude.{◌≡◌, ◌<◌, count_by, filter, map, IfOk};
 ghost use Rattle.std.specs.List.{list_any};
 ghost use Rattle.std.specs.Option.{option_map_or, option_to_list};
-ghost use Rattle.osgi_ops.specs.Services.{is_get, is_live, is_unget, live, registered_by, takes_out, uses};
-ghost use Rattle.osgi_history.specs.computed.Scans.{held, is_registration};
+ghost use Rattle.osgi_ops.specs.Cleaning.{cleaned_by, cleans};
+ghost use Rattle.osgi_ops.specs.Services.{is_get, is_live, is_unget, live, registered_by, since_cleaning, takes_out, uses};
+ghost use Rattle.osgi_history.specs.computed.Scans.{has_failed, held, is_registration};
 
 use osgi_base::{BundleId, List, ServiceId};
-use osgi_ops::{Entry, Op, Reply};
+use osgi_ops::{Entry, Op, Refusal, Reply};
 use std::alloc::{AllocError, Global};
 
-/// Whether the entry is an accepted Unregister of the service.
-fn takes_out(entry: &Entry, service: ServiceId) -> bool
-    ensures taken { result ≡ takes_out service entry.now.op entry.now.reply }
+/// Whether the reply refuses because a section failed.
+fn has_failed(reply: &Reply) -> bool
+    ensures failed { result ≡ has_failed reply.now }
 {
-    match &entry.op {
-        Op::Unregister { service: taken, .. } => !entry.reply.is_refusal() && *taken == service,
+    match reply {
+        Reply::Refused { refusal } => matches!(refusal, Refusal::ActivatorError),
         _ => false,
     }
 }
 
-/// Whether one of the entries is an accepted Unregister of the service.
-fn is_taken_out(entries: &[Entry], service: ServiceId) -> bool
-    ensures taken { result ≡ list_any (λ e. takes_out service e.op e.reply) entries.now }
+/// The bundle that the entry cleans: a start of it failed, or a stop of it ended.
+fn cleaned_by(entry: &Entry) -> Option<BundleId>
+    ensures cleaned { result ≡ cleaned_by entry.now.op entry.now.reply }
 {
-    entries.iter().any(|entry| takes_out(entry, service))
+    let reply = &entry.reply;
+    match &entry.op {
+        Op::EndStart { bundle, .. } => has_failed(reply).then_some(*bundle),
+        Op::EndStop { bundle, .. } => (!reply.is_refusal() || has_failed(reply)).then_some(*bundle),
+        _ => None,
+    }
+}
+
+/// Whether the entry cleans the bundle.
+fn cleans(entry: &Entry, bundle: BundleId) -> bool
+    ensures cleaned { result ≡ cleans bundle entry.now.op entry.now.reply }
+{
+    cleaned_by(entry) == Some(bundle)
+}
+
+/// Whether the entry takes the service out: it is an accepted Unregister of it, or cleans its owner.
+fn takes_out(entry: &Entry, service: ServiceId, owner: BundleId) -> bool
+    ensures taken { result ≡ takes_out service owner entry.now.op entry.now.reply }
+{
+    match &entry.op {
+        Op::Unregister { service: taken, .. } => !entry.reply.is_refusal() && *taken == service,
+        _ => cleans(entry, owner),
+    }
+}
+
+/// Whether one of the entries takes the service out.
+fn is_taken_out(entries: &[Entry], service: ServiceId, owner: BundleId) -> bool
+    ensures taken { result ≡ list_any (λ e. takes_out service owner e.op e.reply) entries.now }
+{
+    entries.iter().any(|entry| takes_out(entry, service, owner))
 }
 
 /// Whether the entry is an accepted Register.
@@ -42,11 +72,14 @@ fn registered(earlier: u64, entry: &Entry, since: &[Entry]) -> Option<ServiceId>
     requires countable { earlier < u64.MAX }
     ensures registered { option_to_list result ≡ map (λ r. r.service) (filter is_live (registered_by earlier entry.now.op entry.now.reply since.now)) }
 {
-    if !is_registration(entry) {
+    let Op::Register { owner, .. } = &entry.op else {
+        return None;
+    };
+    if entry.reply.is_refusal() {
         return None;
     }
     let service = ServiceId(earlier + 1);
-    (!is_taken_out(since, service)).then_some(service)
+    (!is_taken_out(since, service, *owner)).then_some(service)
 }
 
 /// The live services after these entries, in order of their registration.
@@ -96,6 +129,19 @@ fn is_unget(entry: &Entry, user: BundleId, service: ServiceId) -> bool
     }
 }
 
+/// The entries since the bundle's last cleaning.
+fn since_cleaning(entries: &[Entry], bundle: BundleId) -> &[Entry]
+    ensures since { result.now ≡ since_cleaning bundle entries.now }
+{
+    let mut start = 0;
+    for (place, entry) in entries.iter().enumerate() {
+        if cleans(entry, bundle) {
+            start = place + 1;
+        }
+    }
+    &entries[start..]
+}
+
 /// How many of the entries are a Get of the service by the user that answered its object.
 fn gets(entries: &[Entry], user: BundleId, service: ServiceId) -> usize
     ensures count { result ≡ count_by (λ e. is_get user service e.op e.reply) entries.now }
@@ -138,6 +184,7 @@ pub fn uses(entries: &[Entry], user: BundleId, service: ServiceId) -> u64
     let Some(since) = since_registered(entries, service) else {
         return 0;
     };
+    let since = since_cleaning(since, user);
     let held = gets(since, user, service).saturating_sub(ungets(since, user, service));
     held as u64
 }

@@ -1,7 +1,8 @@
 -- Which histories a framework can have, and what one call does.
 use Rattle.std.specs.Prelude.{◌≡◌, ◌<◌, ◌≤◌, List, [], ◌∷◌, ◌++◌, length}
 use Rattle.osgi_ops.specs.Along.{AllAlong}
-use Rattle.osgi_ops.specs.Moments.{entries_in, Moment, moment, Told, world_after}
+use Rattle.osgi_ops.specs.Listening.{AreSights}
+use Rattle.osgi_ops.specs.Moments.{entries_in, Moment, moment, Sight, sights_in, Told, world_after}
 use Rattle.osgi_ops.specs.Operations.{IsReply}
 use Rattle.osgi_ops.specs.Settings.{Setting}
 use Rattle.osgi_ops.specs.Worlds.{Leaves}
@@ -13,15 +14,23 @@ use Rattle.osgi_ops.specs.declared.reply.Reply.{Reply}
 use Rattle.osgi_ops.specs.declared.reply.Reply.TheVariants.{Refused}
 use Rattle.osgi_world.specs.declared.world.World.{World}
 
--- an operation at a moment: there is room for its entry, and it has the reply that it is due and leaves a world that it may leave
-pub record IsAllowedNow (now : Moment) (op : Op) (reply : Reply) (world : World) : Type 0 where
+abbrev pub entry_of : Moment → Op → Reply → Entry
+entry_of now op reply = record { tag = now.tag; op = op; reply = reply }
+
+-- an operation at a moment: there is room for its entry, it has the reply that it is due, it leaves a world that it may leave, and these
+-- are what the listeners see of it
+pub record IsAllowedNow (now : Moment) (op : Op) (reply : Reply) (world : World) (sights : List Sight) : Type 0 where
   pub room : length now.before < now.setting.bounds.entries
   pub replied : IsReply now op reply
   pub left : Leaves now op reply world
+  pub seen : AreSights now.before now.world world (entry_of now op reply) sights
 
--- an entry with the world after it, after what was told before
+-- an entry with the world after it and what is seen of it, after what was told before
 abbrev pub IsAllowed : Setting → List Told → Told → Type 0
-IsAllowed setting before t = IsAllowedNow (moment setting before t.entry.tag) t.entry.op t.entry.reply t.world
+IsAllowed setting before t = IsAllowedNow (moment setting before t.entry.tag) t.entry.op t.entry.reply t.world t.sights
+
+abbrev pub AreAllowed : Setting → List Told → Type 0
+AreAllowed setting told = AllAlong (IsAllowed setting) [] told
 
 -- the history replays from the empty framework, and then this is the world: some telling of it, each entry with the world after it, is
 -- allowed step by step and ends with that world
@@ -29,18 +38,19 @@ pub record IsReplayed (setting : Setting) (history : List Entry) (world : World)
   pub told : List Told
   pub tells : entries_in told ≡ history
   pub ends : world_after told ≡ world
-  pub allowed : AllAlong (IsAllowed setting) [] told
+  pub allowed : AreAllowed setting told
 
 -- a history that replays from the empty framework
 abbrev pub Legal : Setting → List Entry → Type 0
 Legal setting history = (world : World) × IsReplayed setting history world
 
--- the moment is one of a history that replays: some telling of it, allowed step by step, has its entries and ends with its world
+-- the moment is one of a history that replays: some telling of it has its entries, ends with its world, and was seen so
 pub record IsTold (now : Moment) : Type 0 where
   pub told : List Told
   pub tells : entries_in told ≡ now.before
   pub ends : world_after told ≡ now.world
-  pub allowed : AllAlong (IsAllowed now.setting) [] told
+  pub seen : sights_in told ≡ now.sights
+  pub allowed : AreAllowed now.setting told
 
 -- the moment is one at which this is asked for: who asks is the moment's, and the moment is one of a history that replays
 pub record IsAskedAt (asked : Asked) (now : Moment) : Type 0 where
@@ -52,4 +62,4 @@ pub record IsAskedAt (asked : Asked) (now : Moment) : Type 0 where
 pub record IsStep (now : Moment) (after : List Entry) (world : World) (op : Op) (reply : Reply) : Type 0 where
   pub full : now.setting.bounds.entries ≤ length now.before → (reply ≡ Refused HistoryFull) × (after ≡ now.before) × (world ≡ now.world)
   pub room : length now.before < now.setting.bounds.entries →
-      let e : Entry = record { tag = now.tag; op = op; reply = reply } in IsAllowedNow now op reply world × (after ≡ now.before ++ e ∷ [])
+      (sights : List Sight) × IsAllowedNow now op reply world sights × (after ≡ now.before ++ entry_of now op reply ∷ [])

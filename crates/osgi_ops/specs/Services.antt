@@ -5,6 +5,8 @@ use Rattle.std.specs.Option.{option_map_or}
 use Rattle.osgi_base.specs.declared.ids.BundleId.{BundleId}
 use Rattle.osgi_base.specs.declared.ids.ServiceId.{ServiceId}
 use Rattle.osgi_model.specs.declared.value.Attribute.{Attribute}
+use Rattle.osgi_ops.specs.Along.{carry}
+use Rattle.osgi_ops.specs.Cleaning.{cleans}
 use Rattle.osgi_ops.specs.Properties.{with_framework}
 use Rattle.osgi_ops.specs.Replies.{is_accepted}
 use Rattle.osgi_ops.specs.declared.op.Op.{Op}
@@ -15,7 +17,7 @@ use Rattle.osgi_ops.specs.declared.entry.Entry.{Entry}
 use Rattle.osgi_ops.specs.declared.scope.Scope.{Scope}
 use Rattle.osgi_ops.specs.declared.service.Service as declared
 
--- a service as its Register gives it, with the properties that were given, and the entries since
+-- a service as its Register tells it, with the properties that were given, and the entries since
 pub record Registered : Type 0 where
   pub service : ServiceId
   pub owner : BundleId
@@ -33,7 +35,7 @@ registered_by earlier (Register owner classes object scope properties) reply sin
     else []
 registered_by earlier _ reply since = []
 
--- what was registered after so many earlier ones, in order
+-- what was registered behind so many earlier ones, in order
 abbrev pub registered_after : ℕ → List Entry → List Registered
 registered_after earlier [] = []
 registered_after earlier (e ∷ since) =
@@ -43,14 +45,14 @@ registered_after earlier (e ∷ since) =
 abbrev pub registered : List Entry → List Registered
 registered history = registered_after 0 history
 
--- the operation took the service out, being an accepted Unregister of it
-abbrev pub takes_out : ServiceId → Op → Reply → Bool
-takes_out service (Unregister owner taken) reply = is_accepted reply && (taken.0 == service.0)
-takes_out service _ reply = false
+-- the operation takes the service out, being an accepted Unregister of it or a cleaning of its owner
+abbrev pub takes_out : ServiceId → BundleId → Op → Reply → Bool
+takes_out service owner (Unregister by taken) reply = is_accepted reply && (taken.0 == service.0)
+takes_out service owner op reply = cleans owner op reply
 
 -- live from its Register on, until it is taken out
 abbrev pub is_live : Registered → Bool
-is_live r = not (list_any (λ e. takes_out r.service e.op e.reply) r.since)
+is_live r = not (list_any (λ e. takes_out r.service r.owner e.op e.reply) r.since)
 
 -- the live services, in order of their registration
 abbrev pub live : List Entry → List Registered
@@ -100,13 +102,17 @@ abbrev pub is_unget : BundleId → ServiceId → Op → Reply → Bool
 is_unget user service (Unget by let_go) (Flag value) = value && (by.0 == user.0) && (let_go.0 == service.0)
 is_unget user service _ _ = false
 
--- how often the user got the service since its Register
+-- the entries since the bundle's last cleaning
+abbrev pub since_cleaning : BundleId → List Entry → List Entry
+since_cleaning bundle entries = carry (λ kept e. if cleans bundle e.op e.reply then [] else kept ++ e ∷ []) [] entries
+
+-- how often the user got the service since its Register and its own last cleaning
 abbrev pub gets : BundleId → Registered → ℕ
-gets user r = count_by (λ e. is_get user r.service e.op e.reply) r.since
+gets user r = count_by (λ e. is_get user r.service e.op e.reply) (since_cleaning user r.since)
 
 -- and how often it gave it back
 abbrev pub ungets : BundleId → Registered → ℕ
-ungets user r = count_by (λ e. is_unget user r.service e.op e.reply) r.since
+ungets user r = count_by (λ e. is_unget user r.service e.op e.reply) (since_cleaning user r.since)
 
 -- how often the user holds it
 abbrev pub uses_held : BundleId → Registered → ℕ

@@ -1,16 +1,22 @@
 -- How operations change the world: the revisions that are known, and their wirings.
-use Rattle.std.specs.Prelude.{◌≡◌, ◌+◌, [], ◌∷◌, ◌++◌, true, length, MatchOption}
+use Rattle.std.specs.Prelude.{◌≡◌, ◌==◌, ◌+◌, ◌&&◌, ◌||◌, not, Bool, if◌then◌else◌, ℕ, List, [], ◌∷◌, ◌++◌, true, false, Some, filter, map, IsSomeAnd}
+use Rattle.std.specs.List.{list_any}
 use Rattle.osgi_base.specs.declared.ids.BundleId.{BundleId}
 use Rattle.osgi_base.specs.declared.ids.RevisionId.{RevisionId}
-use Rattle.osgi_ops.specs.Bundles.{installed, installed_by}
+use Rattle.osgi_ops.specs.Bundles.{revisions}
+use Rattle.osgi_ops.specs.Depots.{stored_revision}
+use Rattle.osgi_ops.specs.Levels.{refresh}
 use Rattle.osgi_ops.specs.Moments.{Moment}
-use Rattle.osgi_ops.specs.Resolved.{is_resolved}
+use Rattle.osgi_ops.specs.Resolved.{is_current_of, is_in_use, is_resolved}
 use Rattle.osgi_ops.specs.Resolving.{Resolves}
 use Rattle.osgi_ops.specs.declared.op.Op.{Op}
 use Rattle.osgi_ops.specs.declared.op.Op.TheVariants as op
 use Rattle.osgi_ops.specs.declared.reply.Reply.{Reply}
 use Rattle.osgi_ops.specs.declared.reply.Reply.TheVariants as answer
+use Rattle.osgi_world.specs.Lookups.{bundle_of}
 use Rattle.osgi_world.specs.declared.revision.Revision.{Revision}
+use Rattle.osgi_world.specs.declared.wiring.Wiring.{Wiring}
+use Rattle.osgi_world.specs.declared.world.Known.{Known}
 use Rattle.osgi_world.specs.declared.world.World.{World}
 
 -- the world with one more revision, the current one of its bundle
@@ -20,13 +26,42 @@ with_revision world id bundle revision = record {
   wirings = world.wirings;
 }
 
--- the world that an operation with this reply leaves. An accepted Install of a bundle that was not known brings its revision, whose id is one more
--- than the number of those brought before; an accepted Resolve brings wirings, where the bundle was not resolved; nothing else changes the
--- world yet
+-- the revision, no longer current where it was the bundle's current one
+abbrev pub passed : BundleId → Known → Known
+passed bundle k = if is_current_of bundle k then record k { current = false } else k
+
+-- it is not the bundle's current revision, or it is in use
+abbrev pub stays_known : List Wiring → BundleId → Known → Bool
+stays_known wirings bundle k = not (is_current_of bundle k) || is_in_use wirings k.id
+
+-- the bundle's revision is current no longer, and forgotten where it is not in use
+abbrev pub pended : BundleId → World → World
+pended bundle world = record { known = map (passed bundle) (filter (stays_known world.wirings bundle) world.known); wirings = world.wirings }
+
+abbrev pub is_member : List BundleId → ℕ → Bool
+is_member bundles bundle = list_any (λ (b : BundleId). b.0 == bundle) bundles
+
+-- the members' wirings are dropped, and their revisions that are not current are forgotten
+abbrev pub dropped : List BundleId → World → World
+dropped members world = record {
+  known = filter (λ (k : Known). not (is_member members k.bundle.0) || k.current) world.known;
+  wirings = filter (λ (g : Wiring). not (is_member members (bundle_of world.known g.revision))) world.wirings;
+}
+
+-- the revision that the depot has at the location is known besides, as the bundle's current one. Its id is one more than the number of
+-- those brought before
+pub record Brings (now : Moment) (bundle : BundleId) (location : List ℕ) (before after : World) : Type 0 where
+  pub revision : Revision
+  pub read : stored_revision now.setting.depot location ≡ Some revision
+  pub is : after ≡ with_revision before (record { 0 = revisions now.before + 1 }) bundle revision
+
+-- the world that an operation with this reply leaves. An accepted Install of a bundle that was not known brings its revision; an accepted
+-- Resolve brings wirings, where the bundle was not resolved; an accepted Update or Uninstall makes the bundle's revision no longer
+-- current, and an Update brings another; DropWirings takes the wirings of a refresh. Nothing else changes the world
 abbrev pub Leaves : Moment → Op → Reply → World → Type 0
-Leaves now (op.Install location) reply after =
-    MatchOption (installed_by now.setting.depot (op.Install location) reply)
-    (after ≡ now.world)
-    (λ b. after ≡ with_revision now.world (record { 0 = length (installed now.setting.depot now.before) + 1 }) b.bundle b.revision)
+Leaves now (op.Install location) (answer.Bundle bundle false) after = Brings now bundle location now.world after
 Leaves now (op.Resolve bundle) (answer.Resolved added) after = Resolves (is_resolved now.world bundle) now bundle added after
+Leaves now (op.Update bundle location) answer.Done after = Brings now bundle location (pended bundle now.world) after
+Leaves now (op.Uninstall bundle) answer.Done after = after ≡ pended bundle now.world
+Leaves now op.DropWirings (answer.Ids ids) after = IsSomeAnd (refresh now.before) (λ r. after ≡ dropped r.members now.world)
 Leaves now _ _ after = after ≡ now.world

@@ -78,7 +78,7 @@ pub enum Reply {
         bundle: BundleId,
     },
     /// The bundle is not started now: its start level is above the active one, or above the target of a change of the level
-    /// under way. The start was not transient, so the bundle is marked to be started with its level.
+    /// under way. The start was not transient: a wish to start the bundle marks it to be started with its level.
     Kept {
         bundle: BundleId,
     },

@@ -1,11 +1,9 @@
 -- How a run ends, by how its lines ran.
 use Rattle.std.proofs.Common.{◌≡◌, ◌≤◌, ◌+◌, ℕ, inl, inr, List, [], ◌∷◌, ◌++◌, length, ap, sym, subst, ◌∙◌, refl, arith, append-nil}
-use Rattle.std.specs.Prelude.{true, false, cond, Option, None, Some, IfSome, ◌==◌}
-use Rattle.std.specs.List.{count_by, list_any}
+use Rattle.std.specs.Prelude.{true, false, Option, None, Some, IfSome}
+use Rattle.std.specs.List.{list_any}
 use Rattle.std.specs.Io.KnownBytes.{Consumes, IsAtEnd}
-use Rattle.std.proofs.lemmas.Bool.{cond-false, cond-true, eqb-true}
-use Rattle.std.proofs.lemmas.List.Folds.{sum_by-zero}
-use Rattle.std.proofs.lemmas.List.Sums.{list_all-from_AllPass}
+use Rattle.std.proofs.lemmas.Bool.{cond-false, cond-true}
 use Rattle.std.specs.Str.Lines.{lines}
 use Rattle.osgi_session.specs.laws.Parts.{tells_full}
 use Rattle.osgi_session.specs.laws.Sessions.{AreNumberedFrom, Makes-cut, Makes-weaker, none_full, some_full}
@@ -15,8 +13,9 @@ use Rattle.osgi_ops.specs.Settings.{Bounds}
 use Rattle.osgi_ops.specs.declared.entry.Entry.{Entry}
 use Rattle.osgi_session.specs.declared.line.Line.{Line}
 use Rattle.osgi_console.specs.Console.{AreReadFrom}
+use Rattle.osgi_program.proofs.Handing.{none_handed}
 use Rattle.osgi_program.specs.computed.Ended.{IsRun, status_by}
-use Rattle.osgi_program.specs.Outcome.{IsSession, is_handing, IsWrittenStatus, Shelved, status_of}
+use Rattle.osgi_program.specs.Outcome.{IsSession, IsWrittenStatus, Shelved, status_of}
 use Rattle.osgi_program.specs.declared.session.TheConstants.{MAX_INPUT}
 use Rattle.osgi_program.specs.computed.Running.{IsCutAt, never, RunsLines}
 use Rattle.osgi_program.specs.declared.runner.Ran.{Ran}
@@ -41,10 +40,6 @@ runs_whole ran.All limit status lines history starved (made, is, makes) =
 runs_whole ran.Full limit status lines history starved (made, is, full, was_cut) = cut_whole limit status lines history made is was_cut (inl full)
 runs_whole ran.Starved limit status lines history starved (made, is, was_cut) = cut_whole limit status lines history made is was_cut (inr (starved refl))
 
-none_handed : (history : List Entry) → 0 ≡ count_by (λ e. is_handing e.reply) history
-none_handed history =
-    sym (eqb-true _ 0 (sum_by-zero (λ (e : Entry). cond (is_handing e.reply) 1 0) history ∙ list_all-from_AllPass (λ (e : Entry). cond (is_handing e.reply) 1 0 == 0) history (λ k d below. refl)))
-
 numbered_from : (number : ℕ) (texts : List (List ℕ)) (all : List Line) → AreReadFrom number texts all → AreNumberedFrom number all
 numbered_from number [] [] read = tt
 numbered_from number [] (line ∷ rest) read = absurd read
@@ -63,7 +58,7 @@ session_from bounds input shelf how session status left run all within starved =
   sound = run.sound;
   whole = runs_whole how bounds.entries status session.lines session.entries starved run.runs;
   full = tells_full _ session.lines session.entries (runs_whole how bounds.entries status session.lines session.entries starved run.runs) (numbered_from 1 (lines input) session.lines run.lines);
-  handings = run.handings ∙ none_handed session.entries;
+  handings = run.handings ∙ none_handed (record { bounds = bounds; depot = session.depot.rows }) session.entries run.legal;
 }
 
 cut_full : (lines : List Line) (history made : List Entry) → AreNumberedFrom 1 lines → history ≡ made → IsCutAt lines made → list_any (is_full history) lines ≡ true

@@ -12,15 +12,17 @@ use Rattle.osgi_session.specs.declared.line.Content.{Content}
 use Rattle.osgi_session.specs.declared.line.Content.TheVariants.{Bad}
 use Rattle.osgi_session.specs.declared.line.Line.{Line}
 use Rattle.osgi_ops.specs.declared.reply.Reply.{Reply}
+use Rattle.osgi_ops.specs.declared.reply.Reply.TheVariants.{Handed}
 use Rattle.osgi_console.specs.Console.{AreLinesOf}
-use Rattle.osgi_core.specs.Sound.{Sound}
+use Rattle.osgi_core.specs.Sound.{IsSoundTelling}
 use Rattle.osgi_depot.specs.Depots.{IsDepotOf}
 use Rattle.osgi_outside.specs.Shelves.{ShelfRow}
 use Rattle.osgi_program.specs.declared.session.Session.{Session}
 use Rattle.osgi_program.specs.declared.session.TheConstants.{MAX_INPUT, DONE, TROUBLED, FAULTY_WORDS, READ_FAILED, INPUT_TOO_LONG, HISTORY_FULL}
 
--- the reply hands an event to a listener, which none does yet
+-- the reply hands an event to a listener
 abbrev pub is_handing : Reply → Bool
+is_handing (Handed listener kind owner row name event) = true
 is_handing _ = false
 
 -- what a shelf did while a session was made: the folders that it exposes, if it does, and its counts of faults before and after
@@ -31,8 +33,8 @@ pub record Shelved : Type 0 where
 
 -- `input` is what the source had left, if the source exposes it, and within the limit. The session's lines are all lines of the
 -- input; its depot is what these lines name, as the shelf told it; its history replays from the empty framework, and is what these
--- lines make under the limits; after every step of it the wirings in force are consistent, and each bundle that it refuses as
--- unresolvable is so
+-- lines make under the limits; after every step of it, as it replays, the wirings in force are consistent, and each bundle that it
+-- refuses as unresolvable is so
 pub record IsSession (bounds : Bounds) (status : ℕ) (left : Option (List ℕ)) (shelf : Shelved) (session : Session) : Type 0 where
   pub input : List ℕ
   pub all : IfSome left (λ bytes. input ≡ bytes)
@@ -40,7 +42,7 @@ pub record IsSession (bounds : Bounds) (status : ℕ) (left : Option (List ℕ))
   pub lines : AreLinesOf input session.lines
   pub depot : IsDepotOf session.lines shelf.told shelf.before shelf.after session.depot.rows
   pub legal : Legal (record { bounds = bounds; depot = session.depot.rows }) session.entries
-  pub sound : Sound (record { bounds = bounds; depot = session.depot.rows }) session.entries
+  pub sound : IsSoundTelling legal.1.told
   pub whole : IsWhole bounds.entries status session.lines session.entries
   pub full : All (IsFullWhereCut session.entries) session.lines
   pub handings : session.handings ≡ count_by (λ e. is_handing e.reply) session.entries

@@ -60,6 +60,8 @@ fn run_command(alloc: Global, core: &mut Core, number: u32, command: &Command) -
         caller: 0,
         command: number,
     };
+    // What holds of the machine at all times is said where it is asked for.
+    let _ = core.world();
     match core.apply(tag, op) {
         Ok(reply) => ran_by(reply),
         Err(_) => Ran::Starved,

@@ -1,13 +1,7 @@
-//! What operations do to the tables of the running state, and answer by them.
+//! What each operation does to the tables of the running state, and answers by them.
 #![tactic(auto)]
 
-mod askers;
-mod bundles;
-mod change;
+mod listing;
 mod replies;
-mod resolving;
-mod tables;
-mod wires;
 
 pub use replies::reply_to;
-pub use tables::Tables;

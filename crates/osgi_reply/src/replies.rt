@@ -4,24 +4,20 @@
 //! The change comes last, and is made whole or not at all.
 
 ghost use Rattle.std.specs.Prelude.{◌≡◌, false, None, IfOk, OnErr};
-ghost use Rattle.osgi_ops.specs.Operations.{asker_of};
-ghost use Rattle.osgi_reply.specs.computed.Asked.{asker_refusal};
-ghost use Rattle.osgi_reply.specs.computed.Changes.{IsReplyAndChange};
-ghost use Rattle.osgi_reply.specs.Replied.{HasRoom, is_known, IsReplied, StandsStill};
+ghost use Rattle.osgi_tables.specs.Asked.{asker_here, asker_refusal, is_decided};
+ghost use Rattle.osgi_tables.specs.Changes.{IsReplyAndChange};
+ghost use Rattle.osgi_tables.specs.Replied.{HasRoom, IsReplied, StandsStill};
 
-use crate::askers::asker_refusal;
-use crate::bundles::{install, list_bundles};
-use crate::change::Change;
-use crate::resolving::resolve;
-use crate::tables::Tables;
-use crate::wires::list_wires;
+use crate::listing::list_bundles;
 use osgi_ops::{Asked, Op, Refusal, Reply};
+use osgi_reply_resolving::{install, list_wires, resolve};
 use osgi_reply_services::{ServiceChange, services};
+use osgi_tables::{Change, Tables, asker_refusal};
 use std::alloc::{AllocError, Global};
 
-/// The refusal of an operation that the framework does not have yet.
+/// The refusal of an operation that the framework does not have yet, or of an end, of which nothing is the beginning yet.
 fn not_yet(tables: &Tables, asked: &Asked) -> (Reply, Change)
-    requires unknown { is_known asked.now.op ≡ false }
+    requires unknown { is_decided asked.now.op ≡ false }
     ensures decided { IsReplyAndChange asked.now tables.now result.0 result.1 }
 {
     let refusal = Refusal::InvalidOperation;
@@ -50,7 +46,7 @@ fn decide_by(
     asked: &Asked,
 ) -> Result<(Reply, Change), AllocError>
     requires room { HasRoom tables.old }
-    requires asker { asker_refusal tables.old.bundles (asker_of asked.now.op) ≡ None }
+    requires asker { asker_refusal tables.old.bundles (asker_here asked.now.op) ≡ None }
     ensures decided { IfOk result (λ r. IsReplyAndChange asked.now tables.old r.0 r.1) }
     ensures unchanged { tables.new ≡ tables.old }
 {

@@ -1,16 +1,25 @@
 -- What the registry answers is what is due at each moment that it stands for.
 use Rattle.std.proofs.Common.{◌≡◌, ◌≢◌, ◌+◌, ◌≤◌, ◌<◌, ℕ, inl, inr, List, [], ◌∷◌, ◌++◌, length, map, ap, sym, subst, ◌∙◌, refl, arith}
-use Rattle.std.specs.Prelude.{Bool, true, false, cond, ◌==◌, nat_le, nat_lt, Option, None, Some, Result, Ok, Err, IfOk, IsSomeAnd}
+use Rattle.std.specs.Prelude.{Bool, true, false, cond, Contains, ◌==◌, nat_le, nat_lt, Option, None, Some, Result, Ok, Err, IfOk, IsSomeAnd}
 use Rattle.std.specs.Option.{option_map_or, option_or}
+use Rattle.std.proofs.lemmas.List.Elements.{All-contains, All-contains_itself, All-map}
 use Rattle.std.proofs.lemmas.Bool.{eq-eqb, eqb-false, eqb-true, leb-false, leb-true}
 use Rattle.osgi_base.specs.declared.ids.BundleId.{BundleId}
 use Rattle.osgi_base.specs.declared.ids.ServiceId.{ServiceId}
 use Rattle.osgi_model.specs.declared.filter.Filter.{Filter}
 use Rattle.osgi_model.specs.declared.value.Attribute.{Attribute}
+use Rattle.osgi_legal.specs.Joining.{MayAsk}
+use Rattle.osgi_legal.proofs.Stage.{all-assignable, passes-system, system-owns}
+use Rattle.osgi_ops.specs.Assignable.{IsAssignable}
+use Rattle.osgi_ops.specs.Bundles.{system}
+use Rattle.osgi_ops.specs.Cleaning.{cleaned_by}
 use Rattle.osgi_ops.specs.Classes.{AreRanked, IsFound, IsOf, IsOpenTo}
-use Rattle.osgi_ops.specs.Operations.{Answers, service_row}
+use Rattle.osgi_ops.specs.Operations.{Answers}
+use Rattle.osgi_ops.specs.Legal.{IsTold}
+use Rattle.osgi_ops.specs.Moments.{Moment}
 use Rattle.osgi_ops.specs.Properties.{has_twins}
-use Rattle.osgi_ops.specs.Services.{live, live_at, Registered, registered, services, uses, uses_held}
+use Rattle.osgi_ops.specs.rows.Lists.{service_row}
+use Rattle.osgi_ops.specs.Services.{live, live_at, Registered, registered, service_now, services, uses, uses_held}
 use Rattle.osgi_ops.specs.declared.limits.TheConstants.{MAX_SERVICES}
 use Rattle.osgi_base.specs.Verdict.{answers, Gives, refuses, Verdict, Where}
 use Rattle.osgi_ops.specs.declared.entry.Entry.{Entry}
@@ -77,9 +86,8 @@ found_now : (history : List Entry) (registry : RegistryRows) (service : ServiceI
 found_now history registry service stands = rows_found service registry.rows (live history) stands.rows
 
 -- what refuses an operation changes nothing that the registry stands for
-refused_stands : (o : Op) (old new : RegistryRows) (refusal : Refusal) → new ≡ old → StandsAfter o (answer.Refused refusal) old new
-refused_stands o old new refusal same = λ history tag stands.
-    subst (λ r. StandsFor (history ++ record { tag = tag; op = o; reply = answer.Refused refusal } ∷ []) r) (sym same) (stands_quiet history old _ stands (quiet_refused tag o refusal))
+refused_stands : (o : Op) (old new : RegistryRows) (refusal : Refusal) → cleaned_by o (answer.Refused refusal) ≡ None → new ≡ old → StandsAfter o (answer.Refused refusal) old new
+refused_stands o old new refusal none same history tag stands = subst (StandsFor _) (sym same) (stands_quiet history old _ stands (quiet_refused tag o refusal none))
 
 -- Register
 room_is : (history : List Entry) (registry : RegistryRows) → StandsFor history registry → length registry.rows ≡ length (live history)
@@ -108,7 +116,7 @@ register_passed properties rows count due v false false t f is e issued =
 pub served_registered : (owner : BundleId) (classes : List (List ℕ)) (object : List ℕ) (scope : Scope) (properties : List Attribute) (old new : RegistryRows) (service : ServiceId) → scope ≡ Singleton → None ≡ register_refusal properties old.rows →
     service.0 ≡ old.issued + 1 → StandsAfter (op.Register owner classes object scope properties) (answer.Service service) old new → IsServedToAll (op.Register owner classes object scope properties) old new (answer.Service service)
 served_registered owner classes object scope properties old new service single none id stands who = record {
-  due = λ now asked stood.
+  due = λ now asked passes stood.
       let is : answer.Service service ≡ answer.Service (record { 0 = length (registered now.before) + 1 }) = λ i. answer.Service (record { 0 = (id ∙ ap (λ n. n + 1) stood.issued) i }) in
       inr (
         (λ g called. called.1 single),
@@ -120,20 +128,20 @@ served_registered owner classes object scope properties old new service single n
 pub served_unregistered : (owner : BundleId) (classes : List (List ℕ)) (object : List ℕ) (scope : Scope) (properties : List Attribute) (old new : RegistryRows) (refusal : Refusal) → scope ≡ Singleton → Some refusal ≡ register_refusal properties old.rows →
     new ≡ old → IsServedToAll (op.Register owner classes object scope properties) old new (answer.Refused refusal)
 served_unregistered owner classes object scope properties old new refusal single some same who = record {
-  due = λ now asked stood.
+  due = λ now asked passes stood.
       inr (
         (λ g called. called.1 single),
         register_refused properties old.rows (length (live now.before)) refusal (Answers now (op.Register owner classes object scope properties)) (has_twins properties) (nat_le MAX_SERVICES (length old.rows)) refl refl (room_is now.before old stood) some,
       );
-  stands = refused_stands _ old new refusal same;
+  stands = refused_stands _ old new refusal refl same;
 }
 
 -- no factory is registered yet
 pub served_no_singleton : (owner : BundleId) (classes : List (List ℕ)) (object : List ℕ) (scope : Scope) (properties : List Attribute) (old new : RegistryRows) → scope ≢ Singleton → new ≡ old →
     IsServedToAll (op.Register owner classes object scope properties) old new (answer.Refused InvalidOperation)
 served_no_singleton owner classes object scope properties old new other same who = record {
-  due = λ now asked stood. inl (InvalidOperation, (refl, other), refl);
-  stands = refused_stands _ old new InvalidOperation same;
+  due = λ now asked passes stood. inl (InvalidOperation, (refl, other), refl);
+  stands = refused_stands _ old new InvalidOperation refl same;
 }
 
 -- Modify
@@ -162,68 +170,78 @@ modify_passed owner at of properties due v (Some other) found is e issued = absu
 pub served_modified : (owner : BundleId) (service : ServiceId) (properties : List Attribute) (old new : RegistryRows) → None ≡ modify_refusal owner service properties old.rows →
     StandsAfter (op.Modify owner service properties) answer.Done old new → IsServedToAll (op.Modify owner service properties) old new answer.Done
 served_modified owner service properties old new none stands who = record {
-  due = λ now asked stood. modify_passed owner (row_at service old.rows) (live_at service now.before) properties (Answers now (op.Modify owner service properties)) (answers answer.Done) _ (found_now now.before old service stood) refl none refl;
+  due = λ now asked passes stood. modify_passed owner (row_at service old.rows) (live_at service now.before) properties (Answers now (op.Modify owner service properties)) (answers answer.Done) _ (found_now now.before old service stood) refl none refl;
   stands = stands;
 }
 
 pub served_unmodified : (owner : BundleId) (service : ServiceId) (properties : List Attribute) (old new : RegistryRows) (refusal : Refusal) → Some refusal ≡ modify_refusal owner service properties old.rows → new ≡ old →
     IsServedToAll (op.Modify owner service properties) old new (answer.Refused refusal)
 served_unmodified owner service properties old new refusal some same who = record {
-  due = λ now asked stood. modify_refused owner (row_at service old.rows) (live_at service now.before) properties refusal (Answers now (op.Modify owner service properties)) _ (found_now now.before old service stood) refl some;
-  stands = refused_stands _ old new refusal same;
+  due = λ now asked passes stood. modify_refused owner (row_at service old.rows) (live_at service now.before) properties refusal (Answers now (op.Modify owner service properties)) _ (found_now now.before old service stood) refl some;
+  stands = refused_stands _ old new refusal refl same;
 }
 
 -- Unregister
 pub served_taken : (owner : BundleId) (service : ServiceId) (old new : RegistryRows) → None ≡ refusal_at owner (row_at service old.rows) → StandsAfter (op.Unregister owner service) answer.Done old new →
     IsServedToAll (op.Unregister owner service) old new answer.Done
 served_taken owner service old new none stands who = record {
-  due = λ now asked stood. change_passed owner (row_at service old.rows) (live_at service now.before) [] (Answers now (op.Unregister owner service)) (answers answer.Done) (found_now now.before old service stood) none refl;
+  due = λ now asked passes stood. change_passed owner (row_at service old.rows) (live_at service now.before) [] (Answers now (op.Unregister owner service)) (answers answer.Done) (found_now now.before old service stood) none refl;
   stands = stands;
 }
 
 pub served_untaken : (owner : BundleId) (service : ServiceId) (old new : RegistryRows) (refusal : Refusal) → Some refusal ≡ refusal_at owner (row_at service old.rows) → new ≡ old →
     IsServedToAll (op.Unregister owner service) old new (answer.Refused refusal)
 served_untaken owner service old new refusal some same who = record {
-  due = λ now asked stood. change_refused owner (row_at service old.rows) (live_at service now.before) refusal [] (Answers now (op.Unregister owner service)) (found_now now.before old service stood) some;
-  stands = refused_stands _ old new refusal same;
+  due = λ now asked passes stood. change_refused owner (row_at service old.rows) (live_at service now.before) refusal [] (Answers now (op.Unregister owner service)) (found_now now.before old service stood) some;
+  stands = refused_stands _ old new refusal refl same;
 }
 
 -- Find
 services_now : (history : List Entry) (registry : RegistryRows) → StandsFor history registry → services_in registry.rows ≡ services history
 services_now history registry stands = rows_services registry.rows (live history) stands.rows
 
--- what is found of services, where others say the same of what is asked
-found_alike : (P Q : Service → Type 0) (list : List Service) (found : Option ServiceId) → ((s : Service) → P s → Q s) → ((s : Service) → Q s → P s) → IsFound P list found → IsFound Q list found
-found_alike P Q list None to back none = λ k d within asked. none k d within (back _ asked)
+-- what is found of services, where others say the same of what is asked of them
+found_alike : (P Q : Service → Type 0) (list : List Service) (found : Option ServiceId) → ((s : Service) → Contains list s → P s → Q s) → ((s : Service) → Contains list s → Q s → P s) → IsFound P list found → IsFound Q list found
+found_alike P Q list None to back none = λ k d within asked. none k d within (back _ (All-contains_itself list k d within) asked)
 found_alike P Q list (Some id) to back best = record {
   service = best.service;
   there = best.there;
   is = best.is;
-  asked = to best.service best.asked;
-  best = λ k d within asked. best.best k d within (back _ asked);
+  asked = to best.service best.there best.asked;
+  best = λ k d within asked. best.best k d within (back _ (All-contains_itself list k d within) asked);
 }
 
 own : BundleId → BundleId → List ℕ → Bool
 own asker registrant class = registrant.0 == asker.0
 
--- a bundle's own services are those that are assignable to it
-open_there : (asker : BundleId) (class : List ℕ) (filter : Option Filter) (s : Service) → IsOpenBy (own asker) class filter s → IsOpenTo asker class filter s
-unfolding own
-open_there asker class filter s is = (is.0, λ k d within. λ i. record { 0 = eqb-true s.owner.0 asker.0 (is.1 k d within) i })
+-- each service is the system bundle's, which alone is up
+of_system : (now : Moment) → IsTold now → (s : Service) → Contains (services now.before) s → s.owner ≡ system
+of_system now told s listed =
+    All-contains (λ (x : Service). x.owner ≡ system) (services now.before) s (All-map (λ (x : Service). x.owner ≡ system) service_now (live now.before) (system-owns now told)) listed
 
-open_back : (asker : BundleId) (class : List ℕ) (filter : Option Filter) (s : Service) → IsOpenTo asker class filter s → IsOpenBy (own asker) class filter s
+-- and is assignable to who asks
+assigned : (now : Moment) → IsTold now → (asker : BundleId) → MayAsk now (Some asker) → (s : Service) → Contains (services now.before) s → (class : List ℕ) → IsAssignable now.world s.owner asker class
+assigned now told asker passes s listed =
+    All-contains (λ (x : Service). (class : List ℕ) → IsAssignable now.world x.owner asker class) (services now.before) s
+    (All-map (λ (x : Service). (class : List ℕ) → IsAssignable now.world x.owner asker class) service_now (live now.before) (all-assignable now told asker passes)) listed
+
+-- so what is open to who asks are its own services
+open_there : (now : Moment) → IsTold now → (asker : BundleId) → MayAsk now (Some asker) → (class : List ℕ) (filter : Option Filter) (s : Service) → Contains (services now.before) s → IsOpenBy (own asker) class filter s → IsOpenTo now.world asker class filter s
+open_there now told asker passes class filter s listed is = (is.0, λ k d within. assigned now told asker passes s listed _)
+
+open_back : (now : Moment) → IsTold now → (asker : BundleId) → MayAsk now (Some asker) → (class : List ℕ) (filter : Option Filter) (s : Service) → Contains (services now.before) s → IsOpenTo now.world asker class filter s → IsOpenBy (own asker) class filter s
 unfolding own
-open_back asker class filter s is = (is.0, λ k d within. eq-eqb s.owner.0 asker.0 (ap (λ (b : BundleId). b.0) (is.1 k d within)))
+open_back now told asker passes class filter s listed is = (is.0, λ k d within. eq-eqb s.owner.0 asker.0 (ap (λ (b : BundleId). b.0) (of_system now told s listed ∙ sym (passes-system now told asker passes))))
 
 pub served_found : (asker : BundleId) (class : List ℕ) (filter : Option Filter) (registry : RegistryRows) (found : Option ServiceId) →
     IsFound (IsOpenBy (λ registrant class. registrant.0 == asker.0) class filter) (services_in registry.rows) found → IsServedToAll (op.Find asker class filter) registry registry (answer.Best found)
 unfolding own
 served_found asker class filter registry found is who = record {
-  due = λ now asked stood. (
+  due = λ now asked passes stood. (
     found,
     refl,
-    subst (λ list. IsFound (IsOpenTo asker class filter) list found) (services_now now.before registry stood)
-        (found_alike (IsOpenBy (own asker) class filter) (IsOpenTo asker class filter) (services_in registry.rows) found (open_there asker class filter) (open_back asker class filter) is),
+    found_alike (IsOpenBy (own asker) class filter) (IsOpenTo now.world asker class filter) (services now.before) found (open_there now asked.told asker passes class filter) (open_back now asked.told asker passes class filter)
+        (subst (λ list. IsFound (IsOpenBy (own asker) class filter) list found) (services_now now.before registry stood) is),
   );
   stands = λ history tag stood. stands_quiet history registry _ stood (quiet_find tag asker class filter found);
 }
@@ -232,7 +250,7 @@ served_found asker class filter registry found is who = record {
 pub served_found_all : (asker : BundleId) (class : List ℕ) (filter : Option Filter) (registry : RegistryRows) (found : List ServiceId) → AreRanked (IsOf class filter) (services_in registry.rows) found →
     IsServedToAll (op.FindAll asker class filter) registry registry (answer.Services found)
 served_found_all asker class filter registry found ranked who = record {
-  due = λ now asked stood.
+  due = λ now asked passes stood.
       (found, refl, subst (λ list. AreRanked (IsOf class filter) list found) (services_now now.before registry stood) ranked);
   stands = λ history tag stood. stands_quiet history registry _ stood (quiet_find_all tag asker class filter found);
 }
@@ -258,15 +276,15 @@ get_answers (Some row) (Some r) text (there is) e =
 pub served_got : (user : BundleId) (service : ServiceId) (old new : RegistryRows) (text : List ℕ) → Ok text ≡ object_at (row_at service old.rows) → StandsAfter (op.Get user service) (answer.Object text) old new →
     IsServedToAll (op.Get user service) old new (answer.Object text)
 served_got user service old new text got stands who = record {
-  due = λ now asked stood. get_answers (row_at service old.rows) (live_at service now.before) text (found_now now.before old service stood) got;
+  due = λ now asked passes stood. get_answers (row_at service old.rows) (live_at service now.before) text (found_now now.before old service stood) got;
   stands = stands;
 }
 
 pub served_ungotten : (user : BundleId) (service : ServiceId) (old new : RegistryRows) (refusal : Refusal) → Err refusal ≡ object_at (row_at service old.rows) → new ≡ old →
     IsServedToAll (op.Get user service) old new (answer.Refused refusal)
 served_ungotten user service old new refusal got same who = record {
-  due = λ now asked stood. get_refused (row_at service old.rows) (live_at service now.before) refusal (Answers now (op.Get user service)) (found_now now.before old service stood) got;
-  stands = refused_stands _ old new refusal same;
+  due = λ now asked passes stood. get_refused (row_at service old.rows) (live_at service now.before) refusal (Answers now (op.Get user service)) (found_now now.before old service stood) got;
+  stands = refused_stands _ old new refusal refl same;
 }
 
 -- Unget
@@ -283,13 +301,13 @@ uses_now history registry user service stands = count_found user (row_at service
 pub served_ungot : (user : BundleId) (service : ServiceId) (old new : RegistryRows) (value : Bool) → value ≡ nat_lt 0 (use_count user service old.rows) → StandsAfter (op.Unget user service) (answer.Flag value) old new →
     IsServedToAll (op.Unget user service) old new (answer.Flag value)
 served_ungot user service old new value is stands who = record {
-  due = λ now asked stood. ap answer.Flag (is ∙ ap (nat_lt 0) (uses_now now.before old user service stood));
+  due = λ now asked passes stood. ap answer.Flag (is ∙ ap (nat_lt 0) (uses_now now.before old user service stood));
   stands = stands;
 }
 
 -- ListServices
 pub served_listed : (registry : RegistryRows) (rows : List ServiceRow) → rows ≡ map service_row (services_in registry.rows) → IsServedToAll op.ListServices registry registry (answer.ServiceRows rows)
 served_listed registry rows are who = record {
-  due = λ now asked stood. ap answer.ServiceRows (are ∙ ap (map service_row) (services_now now.before registry stood));
+  due = λ now asked passes stood. ap answer.ServiceRows (are ∙ ap (map service_row) (services_now now.before registry stood));
   stands = λ history tag stood. stands_quiet history registry _ stood (quiet_list tag rows);
 }

@@ -4,6 +4,8 @@ use Rattle.osgi_base.specs.Verdict.{Gives}
 use Rattle.osgi_base.specs.declared.ids.BundleId.{BundleId}
 use Rattle.osgi_base.specs.declared.ids.ServiceId.{ServiceId}
 use Rattle.osgi_base.specs.declared.ids.Tag.{Tag}
+use Rattle.osgi_legal.specs.Joining.{MayAsk}
+use Rattle.osgi_ops.specs.Conditions.{asker_of}
 use Rattle.osgi_ops.specs.Legal.{IsAskedAt}
 use Rattle.osgi_ops.specs.Moments.{Moment}
 use Rattle.osgi_ops.specs.Operations.{Answers, own_conditions}
@@ -15,9 +17,10 @@ use Rattle.osgi_ops.specs.declared.reply.Reply.{Reply}
 use Rattle.osgi_registry.specs.Rows.{RegistryRows, use_count}
 use Rattle.osgi_registry.specs.Stands.{StandsAfter, StandsFor}
 
--- the reply is due at each moment at which it is asked for and that the registry stood for, and then it stands for the history with the entry
+-- at each moment at which it is asked for, by who may ask, and that the registry stood for, the reply is due, and then it stands for the
+-- history with the entry
 pub record IsServed (asked : Asked) (old new : RegistryRows) (reply : Reply) : Type 0 where
-  pub due : (now : Moment) → IsAskedAt asked now → StandsFor now.before old → Gives (own_conditions now asked.op) (Answers now asked.op) (verdict reply)
+  pub due : (now : Moment) → IsAskedAt asked now → MayAsk now (asker_of asked.op) → StandsFor now.before old → Gives (own_conditions now asked.op) (Answers now asked.op) (verdict reply)
   pub stands : StandsAfter asked.op reply old new
 
 -- it is the same whatever the tag

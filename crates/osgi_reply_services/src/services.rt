@@ -1,7 +1,7 @@
 //! What operations on services answer, and change in the registry.
 
 ghost use Rattle.std.specs.Prelude.{◌≡◌, ◌==◌, ◌<◌, IfOk, map};
-ghost use Rattle.osgi_ops.specs.Operations.{service_row};
+ghost use Rattle.osgi_ops.specs.rows.Lists.{service_row};
 ghost use Rattle.osgi_ops.specs.declared.op.Op.TheVariants as op;
 ghost use Rattle.osgi_registry.specs.Rows.{services_in, use_count};
 ghost use Rattle.osgi_reply_services.specs.Changes.{IsReplyAndChange};

@@ -1,97 +1,244 @@
 -- A table that stands for a history: after one more entry, and what it says of the history's bundles.
-use Rattle.std.proofs.Common.{◌≡◌, ◌+◌, ◌<◌, ◌≤◌, ℕ, suc, List, [], ◌∷◌, ◌++◌, length, length-append, map, ap, sym, subst, ◌∙◌, refl, arith}
-use Rattle.std.specs.Prelude.{◌==◌, Bool, true, false, cond, nat_le, Option, None, Some, All, Contains, find, slice_index_or}
+use Rattle.std.proofs.Common.{◌≡◌, ◌+◌, ◌<◌, ◌≤◌, ℕ, List, [], ◌∷◌, ◌++◌, length, length-append, map, ap, sym, subst, ◌∙◌, refl, arith}
+use Rattle.std.specs.Prelude.{◌==◌, ◌||◌, Bool, true, false, cond, nat_le, Option, None, Some, All, Contains, find, slice_index_or}
+use Rattle.std.specs.List.{cons_option, filter_map, list_any}
 use Rattle.std.specs.Option.{option_map}
-use Rattle.std.proofs.lemmas.Bool.{eqb-true, ne_eqb}
+use Rattle.std.proofs.lemmas.Bool.{eq-eqb, eqb-true, false_from_ne_true, ne_eqb, or_right}
 use Rattle.std.proofs.lemmas.List.{get_or-map, length-map, map-append}
 use Rattle.std.proofs.lemmas.List.Elements.{All-contains, All-contains_itself, All-map}
 use Rattle.osgi_base.specs.declared.ids.BundleId.{BundleId}
 use Rattle.osgi_base.specs.declared.ids.RevisionId.{RevisionId}
 use Rattle.osgi_base.specs.declared.ids.Tag.{Tag}
-use Rattle.osgi_bundle.specs.Rows.{bundle_from, has_location as has_location_row, bundle_number, has_bundle_id, IsTwin, new_row, row_at, row_of, state_at, state_by, TableRows}
+use Rattle.osgi_bundle.specs.Rows.{bundle_from, bundle_number, first_level_of, has_bundle_id, has_location as has_location_row, IsTwin, new_row, resolved_state, row_at, row_of, set_in, state_at, state_by, TableRows, with_state}
 use Rattle.osgi_bundle.specs.Stands.{IsNewBundle, IsOfDepot, kept_of, StandsFor}
 use Rattle.osgi_bundle.specs.laws.Worlds.{resolved_other, unresolved_new}
 use Rattle.osgi_bundle.specs.declared.kept.BundleKept.{BundleKept}
-use Rattle.osgi_ops.specs.Bundles.{Bundle, brought, bundle_at, bundle_from as bundle_of, bundle_row, bundles, installed, installed_by, has_bundle_id as is_bundle_of, state_of, the_system_bundle}
-use Rattle.osgi_ops.specs.Depots.{stored_revision}
+use Rattle.osgi_ops.specs.Bundles.{Active, Bundle, bundle_from as bundle_of, bundles, idle, installed, installed_by, is_live, is_uninstall, last_begin, number_of, phase, put_into, row_from, running, state, Uninstalled, updated_to, was_given}
+use Rattle.osgi_ops.specs.Conditions.{IsDuplicate}
+use Rattle.osgi_ops.specs.Depots.{row_number, stored_revision}
+use Rattle.osgi_ops.specs.Levels.{level_of}
 use Rattle.osgi_ops.specs.Moments.{Moment}
-use Rattle.osgi_ops.specs.Operations.{IsDuplicate}
+use Rattle.osgi_ops.specs.Resolved.{is_resolved}
+use Rattle.osgi_ops.specs.Worlds.{with_revision}
 use Rattle.osgi_ops.specs.declared.depot.DepotRow.{DepotRow}
 use Rattle.osgi_ops.specs.declared.entry.Entry.{Entry}
 use Rattle.osgi_ops.specs.declared.op.Op.TheVariants as op
 use Rattle.osgi_ops.specs.declared.refusal.Refusal.{Refusal}
 use Rattle.osgi_ops.specs.declared.refusal.Refusal.TheVariants.{DuplicateBundle}
 use Rattle.osgi_ops.specs.declared.reply.Reply.TheVariants as answer
-use Rattle.osgi_ops.specs.Resolved.{is_resolved}
-use Rattle.osgi_ops.specs.Worlds.{with_revision}
-use Rattle.osgi_ops.specs.declared.state.TheConstants.{ACTIVE, INSTALLED, RESOLVED, UNINSTALLED}
-use Rattle.osgi_ops.specs.laws.Bundles.{installed-push, installed-same}
+use Rattle.osgi_ops.specs.declared.state.TheConstants.{UNINSTALLED}
+use Rattle.osgi_ops.specs.laws.Bundles.{bundles-push, has_id, HaveRows, installed-push, is_live-kept, last_begin-kept, later, phase-kept, row-live, was_given-is}
+use Rattle.osgi_ops.specs.laws.Items.{contains-In, find-some, found-in, In-contains}
+use Rattle.osgi_ops.specs.laws.Members.{Contains-first, Contains-more}
+use Rattle.osgi_ops.specs.rows.Lists.{bundle_row}
 use Rattle.osgi_version.specs.declared.version.Version.{Version}
 use Rattle.osgi_world.specs.declared.revision.Revision.{Revision}
 use Rattle.osgi_world.specs.declared.world.World.{World}
 
--- ---- after one more entry
+-- ---- what is kept of a bundle
 
--- an entry that installs nothing, in the same world
-pub stands_quiet : (depot : List DepotRow) (history : List Entry) (world : World) (table : TableRows) (e : Entry) → StandsFor depot history world table → installed_by depot e.op e.reply ≡ None → StandsFor depot (history ++ e ∷ []) world table
-stands_quiet depot history world table e stands quiet =
-    let same = installed-same depot history e quiet in
-    record {
-      rows = stands.rows ∙ ap (λ l. map (kept_of world) (the_system_bundle ∷ l)) (sym same);
-      issued = stands.issued ∙ ap length (sym same);
-    }
+map_twice : {X Y Z : Type 0} (f : Y → Z) (g : X → Y) (xs : List X) → map f (map g xs) ≡ map (λ x. f (g x)) xs
+map_twice f g [] = refl
+map_twice f g (x ∷ xs) = ap (λ l. f (g x) ∷ l) (map_twice f g xs)
 
-installs_it : (depot : List DepotRow) (location : List ℕ) (id : BundleId) (revision : Revision) → stored_revision depot location ≡ Some revision →
-    installed_by depot (op.Install location) (answer.Bundle id false) ≡ Some (brought depot id location revision)
-installs_it depot location id revision is = ap (option_map (brought depot id location)) is
+map_alike : {X Y : Type 0} (f g : X → Y) (xs : List X) → ((x : X) → Contains xs x → f x ≡ g x) → map f xs ≡ map g xs
+map_alike f g [] same = refl
+map_alike f g (x ∷ xs) same = λ i. same x (Contains-first x xs) i ∷ map_alike f g xs (λ y there. same y (Contains-more x xs y there)) i
 
-new_state : (world : World) (r : RevisionId) (id : BundleId) (revision : Revision) (n : ℕ) → IsNewBundle world r id → id.0 ≡ n + 1 → state_of (with_revision world r id revision) id ≡ INSTALLED
-new_state world r id revision n new is = rw (ne_eqb id.0 0 (λ same. omega (arith, is, same)), unresolved_new world r id revision new) refl
+contains_map : {X Y : Type 0} (f : X → Y) (xs : List X) (x : X) → Contains xs x → Contains (map f xs) (f x)
+contains_map f xs x there =
+    (there.0, subst (λ n. there.0 < n) (sym (length-map xs f)) there.1, get_or-map f xs there.0 x (f x) there.1 ∙ ap f there.2)
 
--- what an install adds is what is kept of the bundle that it brings
-kept_brought : (depot : List DepotRow) (location name : List ℕ) (version : Version) (fragment : Bool) (row : ℕ) (id : BundleId) (n : ℕ) (world : World) (r : RevisionId) (of : IsOfDepot depot location name version fragment row) → IsNewBundle world r id →
-    id.0 ≡ n + 1 → new_row id location name version fragment row ≡ kept_of (with_revision world r id of.revision) (brought depot id location of.revision)
-kept_brought depot location name version fragment row id n world r of new is = λ i. record {
-  bundle = id;
-  location = location;
-  name = of.has_name i;
-  version = of.has_version i;
-  fragment = of.has_host i;
-  row = of.number i;
-  state = sym (new_state world r id of.revision n new is) i;
-  by = None;
+-- it depends on the state and on the last begin alone
+pub kept_alike : (V W : World) (g h : List Entry) (b : Bundle) → state V g b.bundle ≡ state W h b.bundle → last_begin b.bundle g ≡ last_begin b.bundle h → kept_of V g b ≡ kept_of W h b
+kept_alike V W g h b same begun = λ i. record (kept_of V g b) { state = number_of (same i); by = begun i }
+
+-- and the state on whether the bundle is live and resolved, and on its phase
+pub state_alike : (V W : World) (g h : List Entry) (b : BundleId) → is_live b g ≡ is_live b h → phase b g ≡ phase b h → is_resolved V b ≡ is_resolved W b → state V g b ≡ state W h b
+state_alike V W g h b live phased resolved = λ i. cond (b.0 == 0) Active (cond (live i) (running (phased i) (resolved i)) Uninstalled)
+
+-- ---- histories that are read alike
+
+-- the table reads this of a history, and no more
+pub record BundlesReadAlike (depot : List DepotRow) (g h : List Entry) : Type 0 where
+  pub rows : bundles depot g ≡ bundles depot h
+  pub issued : length (installed g) ≡ length (installed h)
+  pub live : (b : BundleId) → is_live b g ≡ is_live b h
+  pub phases : (b : BundleId) → phase b g ≡ phase b h
+  pub begun : (b : BundleId) → last_begin b g ≡ last_begin b h
+
+pub stands_alike : (depot : List DepotRow) (g h : List Entry) (world : World) (table : TableRows) → BundlesReadAlike depot g h → StandsFor depot g world table → StandsFor depot h world table
+stands_alike depot g h world table alike stands = record {
+  rows =
+      stands.rows
+      ∙ map_alike (kept_of world g) (kept_of world h) (bundles depot g)
+      (λ b there. kept_alike world world g h b (state_alike world world g h b.bundle (alike.live b.bundle) (alike.phases b.bundle) refl) (alike.begun b.bundle))
+      ∙ ap (map (kept_of world h)) alike.rows;
+  issued = stands.issued ∙ alike.issued;
 }
 
--- the others are kept as they were
-kept_others : (world : World) (r : RevisionId) (id : BundleId) (revision : Revision) (n : ℕ) (list : List Bundle) → All (λ row. bundle_number row ≤ n) (map (kept_of world) list) → id.0 ≡ n + 1 →
-    map (kept_of world) list ≡ map (kept_of (with_revision world r id revision)) list
-kept_others world r id revision n [] given is = refl
-kept_others world r id revision n (b ∷ rest) given is =
-    let le : b.bundle.0 ≤ n = given 0 (kept_of world b) (omega arith) in
-    let other : (id.0 == b.bundle.0) ≡ false = ne_eqb id.0 b.bundle.0 (λ same. omega (arith, le, is, same)) in
-    let same : is_resolved world b.bundle ≡ is_resolved (with_revision world r id revision) b.bundle = sym (resolved_other world r id revision b.bundle other) in
-    λ i. record (kept_of world b) { state = cond (b.bundle.0 == 0) ACTIVE (cond (same i) RESOLVED INSTALLED) }
-    ∷ kept_others world r id revision n rest (λ k d within. given (suc k) d (omega arith)) is i
+-- ---- after one more entry
 
--- an Install that was accepted
+-- an entry that says nothing of bundles and their phases
+pub record IsQuietOfBundles (e : Entry) : Type 0 where
+  pub installs : (n : ℕ) (since : List Entry) → installed_by n e.op e.reply since ≡ []
+  pub uninstalls : (b : BundleId) → is_uninstall b e.op e.reply ≡ false
+  pub updates : (b : BundleId) → updated_to b e.op e.reply ≡ None
+  pub puts : (b : BundleId) → put_into b e.op e.reply ≡ None
+
+length_later : (history : List Entry) (e : Entry) → length (installed (history ++ e ∷ [])) ≡ length (installed history) + length (installed_by (length (installed history)) e.op e.reply [])
+length_later history e =
+    let new = installed_by (length (installed history)) e.op e.reply [] in
+    ap length (installed-push history e) ∙ length-append (map (later e) (installed history)) new ∙ ap (λ n. n + length new) (length-map (installed history) (later e))
+
+append_none : {X : Type 0} (xs ys : List X) → ys ≡ [] → xs ++ ys ≡ xs
+append_none [] ys none = none
+append_none (x ∷ xs) ys none = ap (λ l. x ∷ l) (append_none xs ys none)
+
+or_none : (x y : Bool) → y ≡ false → (x || y) ≡ x
+or_none true y none = refl
+or_none false y none = none
+
+pub alike_quiet : (depot : List DepotRow) (history : List Entry) (e : Entry) → IsQuietOfBundles e → BundlesReadAlike depot history (history ++ e ∷ [])
+alike_quiet depot history e quiet =
+    let none : installed_by (length (installed history)) e.op e.reply [] ≡ [] = quiet.installs (length (installed history)) [] in
+    record {
+      rows = sym (bundles-push depot history e quiet.uninstalls quiet.updates ∙ append_none (bundles depot history) _ (ap (filter_map (row_from depot)) none));
+      issued = sym (length_later history e ∙ ap (λ l. length (installed history) + length l) none ∙ let same : length (installed history) + 0 ≡ length (installed history) = omega arith in same);
+      live = λ b. sym (is_live-kept b history e quiet.uninstalls ∙ or_none (is_live b history) _ (ap (list_any (has_id b)) none));
+      phases = λ b. sym (phase-kept b history e (quiet.puts b));
+      begun = λ b. sym (last_begin-kept b history e (quiet.puts b));
+    }
+
+-- such an entry, in the same world
+pub stands_quiet : (depot : List DepotRow) (history : List Entry) (world : World) (table : TableRows) (e : Entry) → StandsFor depot history world table → IsQuietOfBundles e → StandsFor depot (history ++ e ∷ []) world table
+stands_quiet depot history world table e stands quiet = stands_alike depot history (history ++ e ∷ []) world table (alike_quiet depot history e quiet) stands
+
+-- ---- in another world
+
+-- rows that are set one by one, each to what is kept of its bundle in that world
+pub stands_set : (depot : List DepotRow) (history : List Entry) (V W : World) (old new : TableRows) (set : BundleKept → BundleKept) → StandsFor depot history V old → new.rows ≡ map set old.rows → new.issued ≡ old.issued →
+    ((b : Bundle) → Contains (bundles depot history) b → set (kept_of V history b) ≡ kept_of W history b) → StandsFor depot history W new
+stands_set depot history V W old new set stands rows issued each = record {
+  rows =
+      rows
+      ∙ ap (map set) stands.rows
+      ∙ map_twice set (kept_of V history) (bundles depot history)
+      ∙ map_alike (λ b. set (kept_of V history b)) (kept_of W history) (bundles depot history) each;
+  issued = issued ∙ stands.issued;
+}
+
+-- so after an entry that says nothing of bundles and their phases, as a Resolve
+pub stands_resolved : (depot : List DepotRow) (history : List Entry) (V W : World) (old new : TableRows) (e : Entry) (set : BundleKept → BundleKept) → StandsFor depot history V old → IsQuietOfBundles e → new.rows ≡ map set old.rows → new.issued ≡ old.issued →
+    ((b : Bundle) → Contains (bundles depot history) b → set (kept_of V history b) ≡ kept_of W history b) → StandsFor depot (history ++ e ∷ []) W new
+stands_resolved depot history V W old new e set stands quiet rows issued each = stands_quiet depot history W new e (stands_set depot history V W old new set stands rows issued each) quiet
+
+-- a bundle that is resolved in both worlds or in neither
+pub kept_still : (V W : World) (history : List Entry) (b : Bundle) → is_resolved V b.bundle ≡ is_resolved W b.bundle → kept_of V history b ≡ kept_of W history b
+kept_still V W history b same = kept_alike V W history history b (state_alike V W history history b.bundle refl refl same) refl
+
+resting_number : (resolved : Bool) → number_of (running idle resolved) ≡ resolved_state resolved
+resting_number true = refl
+resting_number false = refl
+
+-- a live bundle but the system bundle, which nothing has begun to start: it is set as resolved, or as not
+pub kept_resolved : (V W : World) (depot : List DepotRow) (history : List Entry) (b : Bundle) → Contains (bundles depot history) b → ¬ (b.bundle.0 ≡ 0) → phase b.bundle history ≡ idle →
+    record (kept_of V history b) { state = resolved_state (is_resolved W b.bundle) } ≡ kept_of W history b
+kept_resolved V W depot history b there other at_rest =
+    let set : state W history b.bundle ≡ running idle (is_resolved W b.bundle) = λ i.
+    cond (ne_eqb b.bundle.0 0 other i) Active (cond (row-live depot history b there i) (running (at_rest i) (is_resolved W b.bundle)) Uninstalled) in
+    λ i. record (kept_of W history b) { state = sym (ap number_of set ∙ resting_number (is_resolved W b.bundle)) i }
+
+-- one bundle is set
+pub stands_set_resolved : (depot : List DepotRow) (history : List Entry) (V W : World) (old new : TableRows) (id : BundleId) → StandsFor depot history V old → new.rows ≡ with_state id (resolved_state (is_resolved W id)) old.rows → new.issued ≡ old.issued →
+    ¬ (id.0 ≡ 0) → phase id history ≡ idle → ((b : BundleId) → (b.0 == id.0) ≡ false → is_resolved V b ≡ is_resolved W b) → StandsFor depot history W new
+stands_set_resolved depot history V W old new id stands rows issued other at_rest same =
+    stands_set depot history V W old new (set_in id (resolved_state (is_resolved W id))) stands rows issued (λ b there. by b there (b.bundle.0 == id.0) refl)
+  where
+    by : (b : Bundle) → Contains (bundles depot history) b → (here : Bool) → (b.bundle.0 == id.0) ≡ here →
+        cond here (record (kept_of V history b) { state = resolved_state (is_resolved W id) }) (kept_of V history b) ≡ kept_of W history b
+    by b there false is = kept_still V W history b (same b.bundle is)
+    by b there true is =
+        let own : b.bundle ≡ id = λ i. record { 0 = eqb-true b.bundle.0 id.0 is i } in
+        ap (λ (c : BundleId). record (kept_of V history b) { state = resolved_state (is_resolved W c) }) (sym own)
+        ∙ kept_resolved V W depot history b there (λ zero. other (ap (λ (c : BundleId). c.0) (sym own) ∙ zero)) (ap (λ c. phase c history) own ∙ at_rest)
+
+-- ---- an Install that was accepted
+
+-- the row of the bundle that it brings
+abbrev brought : List DepotRow → BundleId → List ℕ → Revision → Bundle
+brought depot id location revision = record { bundle = id; location = location; row = row_number depot location; revision = revision }
+
+abbrev install : Tag → List ℕ → BundleId → Entry
+install tag location id = record { tag = tag; op = op.Install location; reply = answer.Bundle id false }
+
+module _ (depot : List DepotRow) (history : List Entry) (tag : Tag) (location : List ℕ) (id : BundleId) (numbered : id.0 ≡ length (installed history) + 1) where
+  same_number : (b : BundleId) → (length (installed history) + 1 == b.0) ≡ (id.0 == b.0)
+  same_number b = ap (λ n. n == b.0) (sym numbered)
+
+  rows_more : (revision : Revision) → stored_revision depot location ≡ Some revision → bundles depot (history ++ install tag location id ∷ []) ≡ bundles depot history ++ brought depot id location revision ∷ []
+  rows_more revision is =
+      bundles-push depot history (install tag location id) (λ b. refl) (λ b. refl)
+      ∙ (λ i. bundles depot history ++ cons_option (option_map (brought depot (record { 0 = sym numbered i }) location) (is i)) [])
+
+  live_more : (b : BundleId) → is_live b (history ++ install tag location id ∷ []) ≡ (is_live b history || (id.0 == b.0))
+  live_more b = is_live-kept b history (install tag location id) (λ c. refl) ∙ ap (λ k. is_live b history || k) (or_none (length (installed history) + 1 == b.0) false refl ∙ same_number b)
+
+-- what is added is what is kept of the bundle that is brought
+kept_brought : (depot : List DepotRow) (history : List Entry) (tag : Tag) (location name : List ℕ) (version : Version) (fragment : Bool) (row : ℕ) (id : BundleId) (world : World) (r : RevisionId)
+    (of : IsOfDepot depot location name version fragment row) → IsNewBundle world history r id → id.0 ≡ length (installed history) + 1 →
+    new_row id location name version fragment row ≡ kept_of (with_revision world r id of.revision) (history ++ install tag location id ∷ []) (brought depot id location of.revision)
+kept_brought depot history tag location name version fragment row id world r of new numbered =
+    let e : Entry = install tag location id in
+    let after : World = with_revision world r id of.revision in
+    let live : is_live id (history ++ e ∷ []) ≡ true = live_more depot history tag location id numbered id ∙ or_right (is_live id history) (id.0 == id.0) (eq-eqb id.0 id.0 refl) in
+    let at_rest : phase id (history ++ e ∷ []) ≡ idle = phase-kept id history e refl ∙ new.at_rest in
+    let other : (id.0 == 0) ≡ false = ne_eqb id.0 0 (λ same. omega (arith, numbered, same)) in
+    let is : state after (history ++ e ∷ []) id ≡ running idle false = λ i.
+    cond (other i) Active (cond (live i) (running (at_rest i) (unresolved_new world r id of.revision new.no_current new.unused i)) Uninstalled) in
+    λ i. record {
+      bundle = id;
+      location = location;
+      name = of.has_name i;
+      version = of.has_version i;
+      fragment = of.has_host i;
+      row = of.number i;
+      state = number_of (sym is i);
+      by = sym (last_begin-kept id history e refl ∙ new.never_begun) i;
+    }
+
+-- the others are kept as they were
+kept_others : (depot : List DepotRow) (history : List Entry) (tag : Tag) (location : List ℕ) (id : BundleId) (revision : Revision) (world : World) (r : RevisionId) (b : Bundle) → id.0 ≡ length (installed history) + 1 →
+    b.bundle.0 ≤ length (installed history) → kept_of world history b ≡ kept_of (with_revision world r id revision) (history ++ install tag location id ∷ []) b
+kept_others depot history tag location id revision world r b numbered below =
+    let e : Entry = install tag location id in
+    let other : (id.0 == b.bundle.0) ≡ false = ne_eqb id.0 b.bundle.0 (λ same. omega (arith, numbered, below, same)) in
+    kept_alike world (with_revision world r id revision) history (history ++ e ∷ []) b
+    (state_alike world (with_revision world r id revision) history (history ++ e ∷ []) b.bundle (sym (live_more depot history tag location id numbered b.bundle ∙ or_none (is_live b.bundle history) (id.0 == b.bundle.0) other))
+    (sym (phase-kept b.bundle history e refl)) (sym (resolved_other world r id revision b.bundle other)))
+    (sym (last_begin-kept b.bundle history e refl))
+
 pub stands_installed : (depot : List DepotRow) (history : List Entry) (world : World) (r : RevisionId) (old new : TableRows) (tag : Tag) (location name : List ℕ) (version : Version) (fragment : Bool) (row : ℕ) (id : BundleId)
-    (of : IsOfDepot depot location name version fragment row) → IsNewBundle world r id → All (λ row. bundle_number row ≤ old.issued) old.rows → StandsFor depot history world old → id.0 ≡ old.issued + 1 →
+    (of : IsOfDepot depot location name version fragment row) → IsNewBundle world history r id → All (λ row. bundle_number row ≤ old.issued) old.rows → StandsFor depot history world old → id.0 ≡ old.issued + 1 →
     new.rows ≡ old.rows ++ new_row id location name version fragment row ∷ [] → new.issued ≡ old.issued + 1 →
     StandsFor depot (history ++ record { tag = tag; op = op.Install location; reply = answer.Bundle id false } ∷ []) (with_revision world r id of.revision) new
 stands_installed depot history world r old new tag location name version fragment row id of fresh given stands is rows issued =
-    let e : Entry = record { tag = tag; op = op.Install location; reply = answer.Bundle id false } in
+    let e : Entry = install tag location id in
     let b : Bundle = brought depot id location of.revision in
     let after : World = with_revision world r id of.revision in
-    let more : installed depot (history ++ e ∷ []) ≡ installed depot history ++ b ∷ [] = installed-push depot history e b (installs_it depot location id of.revision of.is) in
-    let others : map (kept_of world) (bundles depot history) ≡ map (kept_of after) (bundles depot history) = kept_others world r id of.revision old.issued (bundles depot history) (subst (All (λ row. bundle_number row ≤ old.issued)) stands.rows given) is in
+    let numbered : id.0 ≡ length (installed history) + 1 = is ∙ ap (λ n. n + 1) stands.issued in
+    let below : (c : Bundle) → Contains (bundles depot history) c → c.bundle.0 ≤ length (installed history) = λ c there.
+    subst (λ n. c.bundle.0 ≤ n) stands.issued
+    (All-contains (λ row. bundle_number row ≤ old.issued) old.rows (kept_of world history c) given (subst (λ l. Contains l (kept_of world history c)) (sym stands.rows) (contains_map (kept_of world history) (bundles depot history) c there))) in
     record {
       rows =
           rows
-          ∙ (λ i. (stands.rows ∙ others) i ++ kept_brought depot location name version fragment row id old.issued world r of fresh is i ∷ [])
-          ∙ sym (map-append (kept_of after) (bundles depot history) (b ∷ []))
-          ∙ ap (λ l. map (kept_of after) (the_system_bundle ∷ l)) (sym more);
-      issued =
-          issued ∙ ap (λ n. n + 1) stands.issued ∙ sym (length-append (installed depot history) (b ∷ [])) ∙ ap length (sym more);
+          ∙ (λ i. (stands.rows
+          ∙ map_alike (kept_of world history) (kept_of after (history ++ e ∷ [])) (bundles depot history) (λ c there. kept_others depot history tag location id of.revision world r c numbered (below c there))) i
+          ++ kept_brought depot history tag location name version fragment row id world r of fresh numbered i ∷ [])
+          ∙ sym (map-append (kept_of after (history ++ e ∷ [])) (bundles depot history) (b ∷ []))
+          ∙ ap (map (kept_of after (history ++ e ∷ []))) (sym (rows_more depot history tag location id numbered of.revision of.is));
+      issued = issued ∙ ap (λ n. n + 1) stands.issued ∙ sym (length_later history e);
     }
 
 -- ---- what the rows say of the bundles
@@ -105,39 +252,39 @@ found_map f p (x ∷ xs) = by (p (f x)) (found_map f p xs)
     by true more = refl
     by false more = more
 
--- the row of a bundle is what is kept of the bundle
-pub row_of_bundle : (depot : List DepotRow) (history : List Entry) (world : World) (table : TableRows) (id : BundleId) → StandsFor depot history world table → row_at id table.rows ≡ option_map (kept_of world) (bundle_at depot history id)
-row_of_bundle depot history world table id stands = ap (row_at id) stands.rows ∙ found_map (kept_of world) (has_bundle_id id) (bundles depot history)
+abbrev pub is_bundle_of : BundleId → Bundle → Bool
+is_bundle_of id b = b.bundle.0 == id.0
 
-bundle_by : (world : World) (o : Option Bundle) → option_map (λ (row : BundleKept). row.bundle) (option_map (kept_of world) o) ≡ option_map (λ (b : Bundle). b.bundle) o
-bundle_by world None = refl
-bundle_by world (Some b) = refl
+-- the row of a bundle is what is kept of the bundle
+pub row_of_bundle : (depot : List DepotRow) (history : List Entry) (world : World) (table : TableRows) (id : BundleId) → StandsFor depot history world table →
+    row_at id table.rows ≡ option_map (kept_of world history) (find (is_bundle_of id) (bundles depot history))
+row_of_bundle depot history world table id stands = ap (row_at id) stands.rows ∙ found_map (kept_of world history) (has_bundle_id id) (bundles depot history)
+
+bundle_by : (world : World) (history : List Entry) (o : Option Bundle) → option_map (λ (row : BundleKept). row.bundle) (option_map (kept_of world history) o) ≡ option_map (λ (b : Bundle). b.bundle) o
+bundle_by world history None = refl
+bundle_by world history (Some b) = refl
 
 -- the bundle from a location is the history's
 pub from_location : (depot : List DepotRow) (history : List Entry) (world : World) (table : TableRows) (location : List ℕ) → StandsFor depot history world table →
     bundle_from location table.rows ≡ option_map (λ (b : Bundle). b.bundle) (bundle_of depot history location)
 from_location depot history world table location stands =
     ap (bundle_from location) stands.rows
-    ∙ ap (option_map (λ (row : BundleKept). row.bundle)) (found_map (kept_of world) (has_location_row location) (bundles depot history))
-    ∙ bundle_by world (bundle_of depot history location)
+    ∙ ap (option_map (λ (row : BundleKept). row.bundle)) (found_map (kept_of world history) (has_location_row location) (bundles depot history))
+    ∙ bundle_by world history (bundle_of depot history location)
 
-shown : (world : World) (list : List Bundle) → map row_of (map (kept_of world) list) ≡ map (bundle_row world) list
-shown world [] = refl
-shown world (b ∷ rest) = ap (λ l. bundle_row world b ∷ l) (shown world rest)
-
--- a list of the rows shows the bundles
-pub rows_shown : (depot : List DepotRow) (history : List Entry) (world : World) (table : TableRows) → StandsFor depot history world table → map row_of table.rows ≡ map (bundle_row world) (bundles depot history)
-rows_shown depot history world table stands = ap (map row_of) stands.rows ∙ shown world (bundles depot history)
+-- a list of the rows shows the bundles, where each has the level that it began with
+pub rows_shown : (now : Moment) (table : TableRows) → StandsFor now.setting.depot now.before now.world table → ((b : BundleId) → level_of b now.before ≡ first_level_of b) →
+    map row_of table.rows ≡ map (bundle_row now) (bundles now.setting.depot now.before)
+rows_shown now table stands levels =
+    ap (map row_of) stands.rows
+    ∙ map_twice row_of (kept_of now.world now.before) (bundles now.setting.depot now.before)
+    ∙ (λ i. map (λ b. record (bundle_row now b) { level = sym (levels b.bundle) i }) (bundles now.setting.depot now.before))
 
 -- as many rows as bundles
 pub rows_count : (depot : List DepotRow) (history : List Entry) (world : World) (table : TableRows) → StandsFor depot history world table → length table.rows ≡ length (bundles depot history)
-rows_count depot history world table stands = ap length stands.rows ∙ length-map (bundles depot history) (kept_of world)
+rows_count depot history world table stands = ap length stands.rows ∙ length-map (bundles depot history) (kept_of world history)
 
 -- ---- bundles of one name and version
-
-contains_map : {X Y : Type 0} (f : X → Y) (xs : List X) (x : X) → Contains xs x → Contains (map f xs) (f x)
-contains_map f xs x there =
-    (there.0, subst (λ n. there.0 < n) (sym (length-map xs f)) there.1, get_or-map f xs there.0 x (f x) there.1 ∙ ap f there.2)
 
 contains_of : {X Y : Type 0} (f : X → Y) (xs : List X) (y : Y) → Contains (map f xs) y → (x : X) × Contains xs x × (y ≡ f x)
 contains_of {X} f xs y there =
@@ -146,14 +293,15 @@ contains_of {X} f xs y there =
 
 -- a row of the name and version is that of a bundle with them
 pub twin_is_duplicate : (now : Moment) (table : TableRows) (location : List ℕ) (revision : Revision) (refusal : Refusal) → StandsFor now.setting.depot now.before now.world table → stored_revision now.setting.depot location ≡ Some revision →
-    IsTwin revision.name revision.version table.rows refusal → IsDuplicate now location refusal
+    IsTwin revision.name revision.version table.rows refusal → IsDuplicate now None location refusal
 twin_is_duplicate now table location revision refusal stands is twin =
-    let found = contains_of (kept_of now.world) (bundles now.setting.depot now.before) twin.other (subst (λ l. Contains l twin.other) stands.rows twin.live) in
+    let found = contains_of (kept_of now.world now.before) (bundles now.setting.depot now.before) twin.other (subst (λ l. Contains l twin.other) stands.rows twin.live) in
     record {
       revision = revision;
       is = is;
       other = found.0;
       live = found.1;
+      apart = λ same. absurd (cc same);
       name = ap (λ (r : BundleKept). r.name) (sym found.2) ∙ twin.same_name;
       version = ap (λ (r : BundleKept). r.version) (sym found.2) ∙ twin.same_version;
       says = twin.says ∙ ap (λ (r : BundleKept). DuplicateBundle r.bundle) found.2;
@@ -161,12 +309,13 @@ twin_is_duplicate now table location revision refusal stands is twin =
 
 -- and the other way round
 pub duplicate_is_twin : (now : Moment) (table : TableRows) (location : List ℕ) (revision : Revision) (refusal : Refusal) → StandsFor now.setting.depot now.before now.world table → stored_revision now.setting.depot location ≡ Some revision →
-    IsDuplicate now location refusal → IsTwin revision.name revision.version table.rows refusal
+    IsDuplicate now None location refusal → IsTwin revision.name revision.version table.rows refusal
 duplicate_is_twin now table location revision refusal stands is duplicate =
     let same : duplicate.revision ≡ revision = cc (duplicate.is, is) in
+    let kept = kept_of now.world now.before in
     record {
-      other = kept_of now.world duplicate.other;
-      live = subst (λ l. Contains l (kept_of now.world duplicate.other)) (sym stands.rows) (contains_map (kept_of now.world) (bundles now.setting.depot now.before) duplicate.other duplicate.live);
+      other = kept duplicate.other;
+      live = subst (λ l. Contains l (kept duplicate.other)) (sym stands.rows) (contains_map kept (bundles now.setting.depot now.before) duplicate.other duplicate.live);
       same_name = duplicate.name ∙ ap (λ (r : Revision). r.name) same;
       same_version = duplicate.version ∙ ap (λ (r : Revision). r.version) same;
       says = duplicate.says;
@@ -174,27 +323,36 @@ duplicate_is_twin now table location revision refusal stands is duplicate =
 
 -- ---- states
 
-find_passes : {X : Type 0} (p : X → Bool) (xs : List X) (x : X) → find p xs ≡ Some x → p x ≡ true
-find_passes p [] x found = absurd (cc found)
-find_passes p (y ∷ ys) x found = by (p y) refl found (find_passes p ys x)
+-- what the state of a bundle says of it: none where its id was never given, that of one that is uninstalled where it is live no more, and
+-- else the history's
+pub data SaysState (world : World) (history : List Entry) (id : BundleId) : Option ℕ → Type 0 where
+  never : is_live id history ≡ false → was_given id history ≡ false → SaysState world history id None
+  gone : is_live id history ≡ false → was_given id history ≡ true → SaysState world history id (Some UNINSTALLED)
+  live : is_live id history ≡ true → SaysState world history id (Some (number_of (state world history id)))
+
+says_by : (world : World) (history : List Entry) (id : BundleId) (given : Bool) (at : Option Bundle) → was_given id history ≡ given → (at ≡ None → is_live id history ≡ false) →
+    ((b : Bundle) → at ≡ Some b → (is_live b.bundle history ≡ true) × (b.bundle.0 ≡ id.0)) → SaysState world history id (state_by (option_map (kept_of world history) at) given)
+says_by world history id true None is none some = gone (none refl) is
+says_by world history id false None is none some = never (none refl) is
+says_by world history id given (Some b) is none some =
+    let there = some b refl in
+    let same : b.bundle ≡ id = λ i. record { 0 = there.1 i } in
+    subst (λ (c : BundleId). SaysState world history id (Some (number_of (state world history c)))) (sym same) (live (subst (λ (c : BundleId). is_live c history ≡ true) same there.0))
+
+-- at a history where each live bundle has its row
+pub says_state : (depot : List DepotRow) (history : List Entry) (world : World) (table : TableRows) (id : BundleId) → StandsFor depot history world table → HaveRows depot history → SaysState world history id (state_at id table)
+says_state depot history world table id stands rows =
+    subst (λ o. SaysState world history id (state_by o (nat_le id.0 table.issued))) (sym (row_of_bundle depot history world table id stands))
+    (says_by world history id (nat_le id.0 table.issued) (find (is_bundle_of id) (bundles depot history)) (was_given-is id history ∙ ap (nat_le id.0) (sym stands.issued)) no_row some_row)
   where
-    by : (here : Bool) → p y ≡ here → cond here (Some y) (find p ys) ≡ Some x → (find p ys ≡ Some x → p x ≡ true) → p x ≡ true
-    by true is found more = let same : y ≡ x = cc found in subst (λ z. p z ≡ true) same is
-    by false is found more = more found
+    no_row : find (is_bundle_of id) (bundles depot history) ≡ None → is_live id history ≡ false
+    no_row none = false_from_ne_true (is_live id history) (λ there.
+        let row = rows id there in
+        let found = find-some (is_bundle_of id) (bundles depot history) row.0 (contains-In (bundles depot history) row.0 row.1) (eq-eqb row.0.bundle.0 id.0 (ap (λ (x : BundleId). x.0) row.2)) in
+        let bad : Some found.0 ≡ None = sym found.1 ∙ none in
+        cc bad)
 
--- what the state of a bundle says of it: none, or that of one that is uninstalled, where it is not live, and else the history's
-pub data SaysState (world : World) (at : Option Bundle) (id : BundleId) : Option ℕ → Type 0 where
-  never : at ≡ None → SaysState world at id None
-  gone : at ≡ None → SaysState world at id (Some UNINSTALLED)
-  live : (b : Bundle) → at ≡ Some b → SaysState world at id (Some (state_of world id))
-
-says_by : (world : World) (id : BundleId) (given : Bool) (at : Option Bundle) → ((b : Bundle) → at ≡ Some b → b.bundle.0 ≡ id.0) → SaysState world at id (state_by (option_map (kept_of world) at) given)
-says_by world id true None same = gone refl
-says_by world id false None same = never refl
-says_by world id given (Some b) same = subst (λ n. SaysState world (Some b) id (Some (state_of world (record { 0 = n })))) (sym (same b refl)) (live b refl)
-
-pub says_state : (depot : List DepotRow) (history : List Entry) (world : World) (table : TableRows) (id : BundleId) → StandsFor depot history world table → SaysState world (bundle_at depot history id) id (state_at id table)
-says_state depot history world table id stands =
-    let at = bundle_at depot history id in
-    subst (λ o. SaysState world at id (state_by o (nat_le id.0 table.issued))) (sym (row_of_bundle depot history world table id stands))
-    (says_by world id (nat_le id.0 table.issued) at (λ b is. eqb-true b.bundle.0 id.0 (find_passes (is_bundle_of id) (bundles depot history) b is)))
+    some_row : (b : Bundle) → find (is_bundle_of id) (bundles depot history) ≡ Some b → (is_live b.bundle history ≡ true) × (b.bundle.0 ≡ id.0)
+    some_row b some =
+        let there = found-in (is_bundle_of id) (bundles depot history) b some in
+        (row-live depot history b (In-contains (bundles depot history) b there.0), eqb-true b.bundle.0 id.0 there.1)

@@ -1,12 +1,11 @@
 -- Which bundles are resolved, in a world with one more known revision.
-use Rattle.std.proofs.Common.{◌≡◌, ℕ, List, [], ◌∷◌, ◌++◌, ap, sym, ◌∙◌, refl}
-use Rattle.std.specs.Prelude.{Bool, true, false, cond, ◌==◌, Option, None, Some}
+use Rattle.std.proofs.Common.{◌≡◌, [], ◌∷◌, ap, ◌∙◌, refl}
+use Rattle.std.specs.Prelude.{true, false, cond, ◌==◌, Option, None, Some}
 use Rattle.std.specs.Option.{option_map_or, option_or}
 use Rattle.std.proofs.lemmas.Bool.{eq-eqb}
 use Rattle.std.proofs.lemmas.List.Folds.{find-append}
 use Rattle.osgi_base.specs.declared.ids.BundleId.{BundleId}
 use Rattle.osgi_base.specs.declared.ids.RevisionId.{RevisionId}
-use Rattle.osgi_bundle.specs.Stands.{IsNewBundle}
 use Rattle.osgi_ops.specs.Resolved.{current_revision, is_current_of, is_in_use, is_resolved}
 use Rattle.osgi_ops.specs.Worlds.{with_revision}
 use Rattle.osgi_world.specs.declared.revision.Revision.{Revision}
@@ -42,6 +41,6 @@ current_new world r id revision none =
     ∙ (λ i. option_or (none i) (cond (eq-eqb id.0 id.0 refl i) (Some (brings r id revision)) None))
 
 -- and is not resolved
-pub unresolved_new : (world : World) (r : RevisionId) (id : BundleId) (revision : Revision) → IsNewBundle world r id → is_resolved (with_revision world r id revision) id ≡ false
-unresolved_new world r id revision new =
-    ap (λ o. option_map_or (λ (k : Known). is_in_use world.wirings k.id) o false) (current_new world r id revision new.no_current) ∙ new.unused
+pub unresolved_new : (world : World) (r : RevisionId) (id : BundleId) (revision : Revision) → current_revision world id ≡ None → is_in_use world.wirings r ≡ false → is_resolved (with_revision world r id revision) id ≡ false
+unresolved_new world r id revision none unused =
+    ap (λ o. option_map_or (λ (k : Known). is_in_use world.wirings k.id) o false) (current_new world r id revision none) ∙ unused

@@ -1,6 +1,6 @@
 -- The services of a history with one more entry at its end.
-use Rattle.std.proofs.Common.{◌≡◌, ◌+◌, ◌≤◌, ℕ, List, [], ◌∷◌, ◌++◌, length, length-append, map, append-nil, append_assoc, ap, sym, ◌∙◌, refl, arith}
-use Rattle.std.specs.Prelude.{Bool, true, false, cond, not, Option, None, Some, filter, unwrap_or, find, All}
+use Rattle.std.proofs.Common.{◌≡◌, ◌+◌, ◌≤◌, ℕ, suc, List, [], ◌∷◌, ◌++◌, length, length-append, map, append-nil, append_assoc, ap, sym, ◌∙◌, refl, arith}
+use Rattle.std.specs.Prelude.{Bool, true, false, cond, not, Option, None, Some, filter, unwrap_or, find, All, count_by}
 use Rattle.std.specs.List.{filter_map, last_or, list_any}
 use Rattle.std.specs.Option.{option_map_or}
 use Rattle.std.proofs.lemmas.List.{length-map, map-append}
@@ -10,14 +10,17 @@ use Rattle.std.proofs.lemmas.List.Sums.{count_by-le-length, sum_by-append}
 use Rattle.osgi_base.specs.declared.ids.BundleId.{BundleId}
 use Rattle.osgi_base.specs.declared.ids.ServiceId.{ServiceId}
 use Rattle.osgi_model.specs.declared.value.Attribute.{Attribute}
+use Rattle.osgi_ops.specs.Along.{carry}
+use Rattle.osgi_ops.specs.Cleaning.{cleans}
 use Rattle.osgi_ops.specs.Properties.{with_framework}
 use Rattle.osgi_ops.specs.Replies.{is_accepted}
-use Rattle.osgi_ops.specs.Services.{gets, given_by, given_last, is_get, is_live, is_service, is_unget, live, Registered, registered, registered_after, registered_by, service_now, takes_out, ungets, uses, uses_held}
+use Rattle.osgi_ops.specs.Services.{since_cleaning, gets, given_by, given_last, is_get, is_live, is_service, is_unget, live, Registered, registered, registered_after, registered_by, service_now, takes_out, ungets, uses, uses_held}
 use Rattle.osgi_ops.specs.declared.op.Op.{Op}
+use Rattle.osgi_ops.specs.declared.scope.Scope.{Scope}
 use Rattle.osgi_ops.specs.declared.op.Op.TheVariants.{Register}
 use Rattle.osgi_ops.specs.declared.reply.Reply.{Reply}
 use Rattle.osgi_ops.specs.declared.entry.Entry.{Entry}
-use Rattle.osgi_ops.specs.declared.scope.Scope.{Scope}
+use Rattle.osgi_ops.specs.laws.Along.{carry-last}
 
 -- a registered service with one more entry since
 abbrev pub later : Entry → Registered → Registered
@@ -78,18 +81,18 @@ length-registered history = length-registered_after 0 history
 
 -- the services that an entry leaves live
 abbrev pub left_by : Entry → List Registered → List Registered
-left_by e list = filter (λ r. not (takes_out r.service e.op e.reply)) list
+left_by e list = filter (λ r. not (takes_out r.service r.owner e.op e.reply)) list
 
-live_by : (e : Entry) (r : Registered) (rest more : List Registered) (gone taken : Bool) → list_any (λ x. takes_out r.service x.op x.reply) r.since ≡ gone → takes_out r.service e.op e.reply ≡ taken →
+live_by : (e : Entry) (r : Registered) (rest more : List Registered) (gone taken : Bool) → list_any (λ x. takes_out r.service r.owner x.op x.reply) r.since ≡ gone → takes_out r.service r.owner e.op e.reply ≡ taken →
     filter is_live (map (later e) rest) ≡ map (later e) (left_by e more) → filter is_live rest ≡ more →
-    cond (not (list_any (λ x. takes_out r.service x.op x.reply) (r.since ++ e ∷ []))) (later e r ∷ filter is_live (map (later e) rest)) (filter is_live (map (later e) rest))
-    ≡ map (later e) (left_by e (cond (not (list_any (λ x. takes_out r.service x.op x.reply) r.since)) (r ∷ filter is_live rest) (filter is_live rest)))
+    cond (not (list_any (λ x. takes_out r.service r.owner x.op x.reply) (r.since ++ e ∷ []))) (later e r ∷ filter is_live (map (later e) rest)) (filter is_live (map (later e) rest))
+    ≡ map (later e) (left_by e (cond (not (list_any (λ x. takes_out r.service r.owner x.op x.reply) r.since)) (r ∷ filter is_live rest) (filter is_live rest)))
 live_by e r rest more true taken first second same is =
-    rw (list_any-append (λ x. takes_out r.service x.op x.reply) r.since (e ∷ []), first, is) same
+    rw (list_any-append (λ x. takes_out r.service r.owner x.op x.reply) r.since (e ∷ []), first, is) same
 live_by e r rest more false true first second same is =
-    rw (list_any-append (λ x. takes_out r.service x.op x.reply) r.since (e ∷ []), first, second, is) same
+    rw (list_any-append (λ x. takes_out r.service r.owner x.op x.reply) r.since (e ∷ []), first, second, is) same
 live_by e r rest more false false first second same is =
-    rw (list_any-append (λ x. takes_out r.service x.op x.reply) r.since (e ∷ []), first, second, is) (ap (λ l. later e r ∷ l) same)
+    rw (list_any-append (λ x. takes_out r.service r.owner x.op x.reply) r.since (e ∷ []), first, second, is) (ap (λ l. later e r ∷ l) same)
 
 live-later : (e : Entry) (list : List Registered) → filter is_live (map (later e) list) ≡ map (later e) (left_by e (filter is_live list))
 live-later e [] = refl
@@ -136,11 +139,29 @@ service-push r e = ap (λ p. record (service_now r) { properties = with_framewor
 abbrev pub one_where : Bool → ℕ
 one_where holds = cond holds 1 0
 
-pub gets-push : (user : BundleId) (r : Registered) (e : Entry) → gets user (later e r) ≡ gets user r + one_where (is_get user r.service e.op e.reply)
-gets-push user r e = grind (arith, sum_by-append (λ (x : Entry). one_where (is_get user r.service x.op x.reply)) r.since (e ∷ []))
+-- the entries since the bundle's last cleaning, after one more entry
+pub since-push : (user : BundleId) (since : List Entry) (e : Entry) → since_cleaning user (since ++ e ∷ []) ≡ cond (cleans user e.op e.reply) [] (since_cleaning user since ++ e ∷ [])
+since-push user since e = carry-last (λ kept (x : Entry). cond (cleans user x.op x.reply) [] (kept ++ x ∷ [])) [] since e
 
-pub ungets-push : (user : BundleId) (r : Registered) (e : Entry) → ungets user (later e r) ≡ ungets user r + one_where (is_unget user r.service e.op e.reply)
-ungets-push user r e = grind (arith, sum_by-append (λ (x : Entry). one_where (is_unget user r.service x.op x.reply)) r.since (e ∷ []))
+-- a cleaning of the user lets go of everything, and any other entry counts
+counted-push : (test : Entry → Bool) (kept since : List Entry) (e : Entry) (cleaned : Bool) → since ≡ cond cleaned [] (kept ++ e ∷ []) → count_by test since ≡ cond cleaned 0 (count_by test kept + one_where (test e))
+counted-push test kept since e true is = ap (count_by test) is
+counted-push test kept since e false is = ap (count_by test) is ∙ grind (arith, sum_by-append (λ (x : Entry). one_where (test x)) kept (e ∷ []))
+
+pub gets-push : (user : BundleId) (r : Registered) (e : Entry) → gets user (later e r) ≡ cond (cleans user e.op e.reply) 0 (gets user r + one_where (is_get user r.service e.op e.reply))
+gets-push user r e = counted-push (λ x. is_get user r.service x.op x.reply) (since_cleaning user r.since) _ e (cleans user e.op e.reply) (since-push user r.since e)
+
+pub ungets-push : (user : BundleId) (r : Registered) (e : Entry) → ungets user (later e r) ≡ cond (cleans user e.op e.reply) 0 (ungets user r + one_where (is_unget user r.service e.op e.reply))
+ungets-push user r e = counted-push (λ x. is_unget user r.service x.op x.reply) (since_cleaning user r.since) _ e (cleans user e.op e.reply) (since-push user r.since e)
+
+kept-short : (user : BundleId) (kept since : List Entry) → length (carry (λ kept (x : Entry). cond (cleans user x.op x.reply) [] (kept ++ x ∷ [])) kept since) ≤ length kept + length since
+kept-short user kept [] = omega arith
+kept-short user kept (e ∷ rest) = go (cleans user e.op e.reply) (λ k. kept-short user k rest)
+  where
+    go : (b : Bool) → ((k : List Entry) → length (carry (λ kept (x : Entry). cond (cleans user x.op x.reply) [] (kept ++ x ∷ [])) k rest) ≤ length k + length rest) →
+        length (carry (λ kept (x : Entry). cond (cleans user x.op x.reply) [] (kept ++ x ∷ [])) (cond b [] (kept ++ e ∷ [])) rest) ≤ length kept + suc (length rest)
+    go true ih = omega (arith, ih [])
+    go false ih = omega (arith, ih (kept ++ e ∷ []), length-append kept (e ∷ []))
 
 -- ---- bounds
 
@@ -173,7 +194,7 @@ found-le f most p (r ∷ rest) all =
     found_by f most (p r) r (find p rest) (All-head (λ x. f x ≤ most) r rest all) (found-le f most p rest (All-tail (λ x. f x ≤ most) r rest all))
 
 uses-short : (user : BundleId) (most : ℕ) (r : Registered) → IsShort most r → uses_held user r ≤ most
-uses-short user most r short = omega (arith, short, count_by-le-length (λ (e : Entry). is_get user r.service e.op e.reply) r.since)
+uses-short user most r short = omega (arith, short, kept-short user [] r.since, count_by-le-length (λ (e : Entry). is_get user r.service e.op e.reply) (since_cleaning user r.since))
 
 -- nobody uses a service more often than there are entries
 pub uses-le-length : (user : BundleId) (service : ServiceId) (history : List Entry) → uses user service history ≤ length history

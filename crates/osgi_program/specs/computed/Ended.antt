@@ -3,7 +3,7 @@ use Rattle.std.specs.Prelude.{ℕ, ◌≡◌, if◌then◌else◌, List, []}
 use Rattle.osgi_ops.specs.Legal.{Legal}
 use Rattle.osgi_ops.specs.Settings.{Bounds}
 use Rattle.osgi_console.specs.Console.{AreLinesOf}
-use Rattle.osgi_core.specs.Sound.{Sound}
+use Rattle.osgi_core.specs.Sound.{IsSoundTelling}
 use Rattle.osgi_depot.specs.Depots.{IsDepotOf}
 use Rattle.osgi_program.specs.Outcome.{is_troubled, Shelved}
 use Rattle.osgi_program.specs.computed.Running.{RunsLines}
@@ -17,7 +17,7 @@ pub record IsRun (bounds : Bounds) (input : List ℕ) (shelf : Shelved) (ran : R
   pub lines : AreLinesOf input session.lines
   pub depot : IsDepotOf session.lines shelf.told shelf.before shelf.after session.depot.rows
   pub legal : Legal (record { bounds = bounds; depot = session.depot.rows }) session.entries
-  pub sound : Sound (record { bounds = bounds; depot = session.depot.rows }) session.entries
+  pub sound : IsSoundTelling legal.1.told
   pub runs : RunsLines ran bounds.entries session.lines [] session.entries
   pub handings : session.handings ≡ 0
 

@@ -1,10 +1,10 @@
 -- A registry that stands for a history, after one more entry.
 use Rattle.std.proofs.Common.{◌≡◌, ◌+◌, ◌-◌, ◌≤◌, ◌<◌, ℕ, List, [], ◌∷◌, ◌++◌, length, length-append, map, suc, append-nil, ap, sym, subst, ◌∙◌, refl, arith}
-use Rattle.std.specs.Prelude.{Bool, true, false, cond, nat_lt, not, Ok, ◌==◌, ◌&&◌, Option, None, Some, filter, find, unwrap_or, All}
+use Rattle.std.specs.Prelude.{Bool, true, false, cond, nat_lt, not, ◌==◌, ◌&&◌, Option, None, Some, filter, find, unwrap_or, All}
 use Rattle.std.specs.Bool.{OnTrue, OnFalse}
 use Rattle.std.specs.Map.{lookup}
-use Rattle.std.specs.Option.{option_map, option_map_or}
-use Rattle.std.proofs.lemmas.Bool.{eq-eqb, eqb-true, lt-ltb, ltb-true}
+use Rattle.std.specs.Option.{option_map_or}
+use Rattle.std.proofs.lemmas.Bool.{eq-eqb, eqb-true, ltb-true}
 use Rattle.std.proofs.lemmas.List.{length-map}
 use Rattle.std.proofs.lemmas.List.Elements.{All-head, All-tail}
 use Rattle.osgi_base.specs.declared.ids.BundleId.{BundleId}
@@ -12,6 +12,7 @@ use Rattle.osgi_base.specs.declared.ids.ServiceId.{ServiceId}
 use Rattle.osgi_base.specs.declared.ids.Tag.{Tag}
 use Rattle.osgi_model.specs.declared.filter.Filter.{Filter}
 use Rattle.osgi_model.specs.declared.value.Attribute.{Attribute}
+use Rattle.osgi_ops.specs.Cleaning.{cleaned_by, cleans}
 use Rattle.osgi_ops.specs.laws.Services.{gets-push, later, left_by, live-push, one_where, registered-push, service-push, ungets-push}
 use Rattle.osgi_ops.specs.Properties.{with_framework}
 use Rattle.osgi_ops.specs.Services.{gets, given_by, given_last, is_get, is_service, is_unget, live, Registered, registered, registered_by, service_now, takes_out, ungets, uses_held}
@@ -23,7 +24,7 @@ use Rattle.osgi_ops.specs.declared.refusal.Refusal.{Refusal}
 use Rattle.osgi_ops.specs.declared.scope.Scope.{Scope}
 use Rattle.osgi_ops.specs.declared.service.Service.{Service}
 use Rattle.osgi_ops.specs.declared.service.ServiceRow.{ServiceRow}
-use Rattle.osgi_registry.specs.Rows.{change, count_of, is_service as is_row_of, new_row, object_at, RegistryRows, LiveService, row_at, services_in, use_count, used_less, used_more, with_count, with_properties, without}
+use Rattle.osgi_registry.specs.Rows.{change, count_of, is_service as is_row_of, new_row, RegistryRows, LiveService, row_at, services_in, used_less, used_more, with_count, with_properties, without}
 use Rattle.osgi_registry.specs.Stands.{AreRowsOf, IsRowOf, StandsFor}
 
 -- ---- rows one by one
@@ -89,35 +90,55 @@ rows_found service (row ∷ rows) (r ∷ list) are =
 
 -- ---- one row after one more entry
 
--- what an entry does to one service and its users, seen by the views
+-- an entry that says nothing of services and their uses
 pub record IsQuiet (e : Entry) : Type 0 where
-  pub registers : (earlier : ℕ) → registered_by earlier e.op e.reply [] ≡ []
-  pub takes : (service : ServiceId) → takes_out service e.op e.reply ≡ false
+  pub registers : (earlier : ℕ) (since : List Entry) → registered_by earlier e.op e.reply since ≡ []
+  pub takes : (service : ServiceId) (owner : BundleId) → takes_out service owner e.op e.reply ≡ false
   pub gives : (service : ServiceId) → given_by service e.op e.reply ≡ None
   pub gets : (user : BundleId) (service : ServiceId) → is_get user service e.op e.reply ≡ false
   pub ungets : (user : BundleId) (service : ServiceId) → is_unget user service e.op e.reply ≡ false
+  pub cleans : cleaned_by e.op e.reply ≡ None
+
+-- no bundle is cleaned where none is
+none_cleaned : (e : Entry) → cleaned_by e.op e.reply ≡ None → (bundle : BundleId) → cleans bundle e.op e.reply ≡ false
+none_cleaned e none bundle = ap (λ (cleaned : Option BundleId). option_map_or (λ (b : BundleId). b.0 == bundle.0) cleaned false) none
 
 service_kept : (row : LiveService) (r : Registered) (e : Entry) → row.service ≡ service_now r → given_by r.service e.op e.reply ≡ None → row.service ≡ service_now (later e r)
 service_kept row r e is none = is ∙ sym (service-push r e ∙ ap (λ o. record (service_now r) { properties = with_framework (unwrap_or o (given_last r)) r.classes r.scope r.service r.owner }) none)
 
-gets_kept : (user : BundleId) (r : Registered) (e : Entry) → is_get user r.service e.op e.reply ≡ false → gets user (later e r) ≡ gets user r
-gets_kept user r e none = gets-push user r e ∙ (rw none (let same : gets user r + 0 ≡ gets user r = omega arith in same))
+-- of a user that is not cleaned
+gets_more : (user : BundleId) (r : Registered) (e : Entry) → cleans user e.op e.reply ≡ false → gets user (later e r) ≡ gets user r + one_where (is_get user r.service e.op e.reply)
+gets_more user r e kept = gets-push user r e ∙ ap (λ cleaned. cond cleaned 0 (gets user r + one_where (is_get user r.service e.op e.reply))) kept
 
-ungets_kept : (user : BundleId) (r : Registered) (e : Entry) → is_unget user r.service e.op e.reply ≡ false → ungets user (later e r) ≡ ungets user r
-ungets_kept user r e none = ungets-push user r e ∙ (rw none (let same : ungets user r + 0 ≡ ungets user r = omega arith in same))
+ungets_more : (user : BundleId) (r : Registered) (e : Entry) → cleans user e.op e.reply ≡ false → ungets user (later e r) ≡ ungets user r + one_where (is_unget user r.service e.op e.reply)
+ungets_more user r e kept = ungets-push user r e ∙ ap (λ cleaned. cond cleaned 0 (ungets user r + one_where (is_unget user r.service e.op e.reply))) kept
 
-quiet_row : (e : Entry) (row : LiveService) (r : Registered) → ((user : BundleId) → is_get user r.service e.op e.reply ≡ false) → ((user : BundleId) → is_unget user r.service e.op e.reply ≡ false) → given_by r.service e.op e.reply ≡ None →
-    IsRowOf row r → IsRowOf row (later e r)
-quiet_row e row r no_get no_unget no_given is = record {
+gets_kept : (user : BundleId) (r : Registered) (e : Entry) → cleans user e.op e.reply ≡ false → is_get user r.service e.op e.reply ≡ false → gets user (later e r) ≡ gets user r
+gets_kept user r e kept none = gets_more user r e kept ∙ (rw none (let same : gets user r + 0 ≡ gets user r = omega arith in same))
+
+ungets_kept : (user : BundleId) (r : Registered) (e : Entry) → cleans user e.op e.reply ≡ false → is_unget user r.service e.op e.reply ≡ false → ungets user (later e r) ≡ ungets user r
+ungets_kept user r e kept none = ungets_more user r e kept ∙ (rw none (let same : ungets user r + 0 ≡ ungets user r = omega arith in same))
+
+-- an entry that cleans no user, and is no use of the service, leaves what each user holds
+uses_kept : (e : Entry) (row : LiveService) (r : Registered) (user : BundleId) → cleans user e.op e.reply ≡ false → is_get user r.service e.op e.reply ≡ false → is_unget user r.service e.op e.reply ≡ false → IsRowOf row r → count_of user row.uses ≡ uses_held user (later e r)
+uses_kept e row r user kept no_get no_unget is = is.uses user ∙ (λ i. sym (gets_kept user r e kept no_get) i - sym (ungets_kept user r e kept no_unget) i)
+
+paid_kept : (e : Entry) (row : LiveService) (r : Registered) (user : BundleId) → cleans user e.op e.reply ≡ false → is_get user r.service e.op e.reply ≡ false → is_unget user r.service e.op e.reply ≡ false → IsRowOf row r → ungets user (later e r) ≤ gets user (later e r)
+paid_kept e row r user kept no_get no_unget is = let p = is.paid user in omega (arith, p, gets_kept user r e kept no_get, ungets_kept user r e kept no_unget)
+
+-- an entry that cleans nobody, and is no use of the service and no change of it
+quiet_row : (e : Entry) (row : LiveService) (r : Registered) → ((user : BundleId) → cleans user e.op e.reply ≡ false) → ((user : BundleId) → is_get user r.service e.op e.reply ≡ false) →
+    ((user : BundleId) → is_unget user r.service e.op e.reply ≡ false) → given_by r.service e.op e.reply ≡ None → IsRowOf row r → IsRowOf row (later e r)
+quiet_row e row r kept no_get no_unget no_given is = record {
   service = service_kept row r e is.service no_given;
   scope = is.scope;
-  uses = λ user. is.uses user ∙ (λ i. sym (gets_kept user r e (no_get user)) i - sym (ungets_kept user r e (no_unget user)) i);
-  paid = λ user. let p = is.paid user in omega (arith, p, gets_kept user r e (no_get user), ungets_kept user r e (no_unget user));
+  uses = λ user. uses_kept e row r user (kept user) (no_get user) (no_unget user) is;
+  paid = λ user. paid_kept e row r user (kept user) (no_get user) (no_unget user) is;
 }
 
-all_left : (e : Entry) (list : List Registered) → ((service : ServiceId) → takes_out service e.op e.reply ≡ false) → left_by e list ≡ list
+all_left : (e : Entry) (list : List Registered) → ((service : ServiceId) (owner : BundleId) → takes_out service owner e.op e.reply ≡ false) → left_by e list ≡ list
 all_left e [] none = refl
-all_left e (r ∷ rest) none = rw (none r.service) (ap (λ l. r ∷ l) (all_left e rest none))
+all_left e (r ∷ rest) none = rw (none r.service r.owner) (ap (λ l. r ∷ l) (all_left e rest none))
 
 map_same : {A : Type 0} (list : List A) → map (λ a. a) list ≡ list
 map_same [] = refl
@@ -138,8 +159,8 @@ stands_by history old new e stands rows issued = record {
 }
 
 -- where no service is registered or taken out
-changed : (history : List Entry) (old new : RegistryRows) (e : Entry) → StandsFor history old → registered_by (length (registered history)) e.op e.reply [] ≡ [] → ((service : ServiceId) → takes_out service e.op e.reply ≡ false) →
-    AreRowsOf new.rows (map (later e) (live history)) → new.issued ≡ old.issued → StandsFor (history ++ e ∷ []) new
+changed : (history : List Entry) (old new : RegistryRows) (e : Entry) → StandsFor history old → registered_by (length (registered history)) e.op e.reply [] ≡ [] →
+    ((service : ServiceId) (owner : BundleId) → takes_out service owner e.op e.reply ≡ false) → AreRowsOf new.rows (map (later e) (live history)) → new.issued ≡ old.issued → StandsFor (history ++ e ∷ []) new
 changed history old new e stands registers takes rows issued =
     stands_by history old new e stands
     (subst (λ l. AreRowsOf new.rows (map (later e) (left_by e (live history)) ++ l)) (sym registers)
@@ -147,12 +168,12 @@ changed history old new e stands registers takes rows issued =
     (subst (λ l. AreRowsOf new.rows (map (later e) l)) (sym (all_left e (live history) takes)) rows)))
     (issued ∙ let same : old.issued ≡ old.issued + 0 = omega arith in same ∙ ap (λ l. old.issued + length l) (sym registers))
 
--- an entry that does nothing of this
+-- an entry that says nothing of services leaves what the rows stand for
 pub stands_quiet : (history : List Entry) (registry : RegistryRows) (e : Entry) → StandsFor history registry → IsQuiet e → StandsFor (history ++ e ∷ []) registry
 stands_quiet history registry e stands quiet =
-    changed history registry registry e stands (quiet.registers (length (registered history))) quiet.takes
+    changed history registry registry e stands (quiet.registers (length (registered history)) []) quiet.takes
     (subst (λ rows. AreRowsOf rows (map (later e) (live history))) (map_same registry.rows)
-    (rows_map (λ row. row) (later e) (λ row r is. quiet_row e row r (λ user. quiet.gets user r.service) (λ user. quiet.ungets user r.service) (quiet.gives r.service) is) registry.rows (live history) stands.rows)) refl
+    (rows_map (λ row. row) (later e) (λ row r is. quiet_row e row r (none_cleaned e quiet.cleans) (λ user. quiet.gets user r.service) (λ user. quiet.ungets user r.service) (quiet.gives r.service) is) registry.rows (live history) stands.rows)) refl
 
 -- ---- a registration
 
@@ -169,36 +190,37 @@ stands_registered history old new tag owner classes object scope properties serv
     (subst (λ l. AreRowsOf l (map (later e) (left_by e (live history)) ++ registered_by (length (registered history)) e.op e.reply [])) (sym rows)
     (subst (λ l. AreRowsOf (old.rows ++ new_row service owner classes object scope properties ∷ []) (map (later e) (left_by e (live history)) ++ l)) one
     (rows_append old.rows (new_row service owner classes object scope properties ∷ []) (map (later e) (left_by e (live history))) (r service ∷ [])
-    (subst (λ l. AreRowsOf old.rows (map (later e) l)) (sym (all_left e (live history) (λ s. refl)))
+    (subst (λ l. AreRowsOf old.rows (map (later e) l)) (sym (all_left e (live history) (λ s o. refl)))
     (subst (λ l. AreRowsOf l (map (later e) (live history))) (map_same old.rows)
-    (rows_map (λ row. row) (later e) (λ row x is. quiet_row e row x (λ user. refl) (λ user. refl) refl is) old.rows (live history) stands.rows)))
+    (rows_map (λ row. row) (later e) (λ row x is. quiet_row e row x (λ user. refl) (λ user. refl) (λ user. refl) refl is) old.rows (live history) stands.rows)))
     (first, tt))))
     issued
 
 -- ---- a change of properties
 
 modified_by : (e : Entry) (service : ServiceId) (properties : List Attribute) (row : LiveService) (r : Registered) (here : Bool) → is_service service r ≡ here → given_by r.service e.op e.reply ≡ cond here (Some properties) None →
-    ((user : BundleId) → is_get user r.service e.op e.reply ≡ false) → ((user : BundleId) → is_unget user r.service e.op e.reply ≡ false) → IsRowOf row r → IsRowOf (cond here (with_properties properties row) row) (later e r)
-modified_by e service properties row r true here gives no_get no_unget is = record {
+    ((user : BundleId) → cleans user e.op e.reply ≡ false) → ((user : BundleId) → is_get user r.service e.op e.reply ≡ false) → ((user : BundleId) → is_unget user r.service e.op e.reply ≡ false) → IsRowOf row r →
+    IsRowOf (cond here (with_properties properties row) row) (later e r)
+modified_by e service properties row r true here gives kept no_get no_unget is = record {
   service =
       (λ i. record (is.service i) { properties = with_framework properties (is.service i).classes (is.scope i) (is.service i).service (is.service i).owner })
       ∙ sym (service-push r e ∙ ap (λ o. record (service_now r) { properties = with_framework (unwrap_or o (given_last r)) r.classes r.scope r.service r.owner }) gives);
   scope = is.scope;
-  uses = λ user. is.uses user ∙ (λ i. sym (gets_kept user r e (no_get user)) i - sym (ungets_kept user r e (no_unget user)) i);
-  paid = λ user. let p = is.paid user in omega (arith, p, gets_kept user r e (no_get user), ungets_kept user r e (no_unget user));
+  uses = λ user. uses_kept e row r user (kept user) (no_get user) (no_unget user) is;
+  paid = λ user. paid_kept e row r user (kept user) (no_get user) (no_unget user) is;
 }
-modified_by e service properties row r false here gives no_get no_unget is = quiet_row e row r no_get no_unget gives is
+modified_by e service properties row r false here gives kept no_get no_unget is = quiet_row e row r kept no_get no_unget gives is
 
 pub stands_modified : (history : List Entry) (old new : RegistryRows) (tag : Tag) (owner : BundleId) (service : ServiceId) (properties : List Attribute) → StandsFor history old →
     new.rows ≡ change service (with_properties properties) old.rows → new.issued ≡ old.issued → StandsFor (history ++ record { tag = tag; op = op.Modify owner service properties; reply = answer.Done } ∷ []) new
 stands_modified history old new tag owner service properties stands rows issued =
     let e : Entry = record { tag = tag; op = op.Modify owner service properties; reply = answer.Done } in
-    changed history old new e stands refl (λ s. refl)
+    changed history old new e stands refl (λ s o. refl)
     (subst (λ l. AreRowsOf l (map (later e) (live history))) (sym rows)
     (rows_map (λ row. cond (is_row_of service row) (with_properties properties row) row) (later e)
     (λ row r is.
     subst (λ b. IsRowOf (cond b (with_properties properties row) row) (later e r)) (sym (same_service service row r is))
-    (modified_by e service properties row r (is_service service r) refl refl (λ user. refl) (λ user. refl) is)) old.rows (live history) stands.rows)) issued
+    (modified_by e service properties row r (is_service service r) refl refl (λ user. refl) (λ user. refl) (λ user. refl) is)) old.rows (live history) stands.rows)) issued
 
 -- ---- a service taken out
 
@@ -209,8 +231,8 @@ stands_taken history old new tag owner service stands rows issued =
     stands_by history old new e stands
     (subst (λ l. AreRowsOf new.rows l) (sym (append-nil (map (later e) (left_by e (live history)))))
     (subst (λ l. AreRowsOf l (map (later e) (left_by e (live history)))) (map_same (without service old.rows) ∙ sym rows)
-    (rows_map (λ row. row) (later e) (λ row r is. quiet_row e row r (λ user. refl) (λ user. refl) refl is) (without service old.rows) (left_by e (live history))
-    (rows_filter (λ row. not (is_row_of service row)) (λ r. not (takes_out r.service e.op e.reply)) (λ row r is. ap not (same_service service row r is)) old.rows (live history) stands.rows))))
+    (rows_map (λ row. row) (later e) (λ row r is. quiet_row e row r (λ user. refl) (λ user. refl) (λ user. refl) refl is) (without service old.rows) (left_by e (live history))
+    (rows_filter (λ row. not (is_row_of service row)) (λ r. not (takes_out r.service r.owner e.op e.reply)) (λ row r is. ap not (same_service service row r is)) old.rows (live history) stands.rows))))
     (issued ∙ (let same : old.issued ≡ old.issued + 0 = omega arith in same))
 
 -- ---- uses
@@ -263,16 +285,16 @@ and_true false = refl
 
 -- ---- one use more
 
-more_by : (user other : BundleId) (row : LiveService) (r : Registered) (e : Entry) (own : Bool) → (user.0 == other.0) ≡ own → is_get other r.service e.op e.reply ≡ own → is_unget other r.service e.op e.reply ≡ false → IsRowOf row r →
+more_by : (user other : BundleId) (row : LiveService) (r : Registered) (e : Entry) (own : Bool) → (user.0 == other.0) ≡ own → cleans other e.op e.reply ≡ false → is_get other r.service e.op e.reply ≡ own → is_unget other r.service e.op e.reply ≡ false → IsRowOf row r →
     cond own (count_of user row.uses + 1) (count_of other row.uses) ≡ uses_held other (later e r)
-more_by user other row r e true own get no_unget is =
+more_by user other row r e true own kept get no_unget is =
     let held : count_of other row.uses ≡ uses_held other r = is.uses other in
     let same : count_of user row.uses ≡ count_of other row.uses = same_count user other row.uses (eqb-true user.0 other.0 own) in
     let paid = is.paid other in
-    let more : gets other (later e r) ≡ gets other r + 1 = gets-push other r e ∙ ap (λ b. gets other r + one_where b) get in
-    let less : ungets other (later e r) ≡ ungets other r = ungets_kept other r e no_unget in
+    let more : gets other (later e r) ≡ gets other r + 1 = gets_more other r e kept ∙ ap (λ b. gets other r + one_where b) get in
+    let less : ungets other (later e r) ≡ ungets other r = ungets_kept other r e kept no_unget in
     rw (more, less, same, held) (omega (arith, paid))
-more_by user other row r e false own get no_unget is = is.uses other ∙ (λ i. sym (gets_kept other r e get) i - sym (ungets_kept other r e no_unget) i)
+more_by user other row r e false own kept get no_unget is = uses_kept e row r other kept get no_unget is
 
 used_by : (tag : Tag) (user : BundleId) (service : ServiceId) (text : List ℕ) (row : LiveService) (r : Registered) (here : Bool) → is_service service r ≡ here → IsRowOf row r →
     IsRowOf (cond here (used_more user row) row) (later (record { tag = tag; op = op.Get user service; reply = answer.Object text }) r)
@@ -282,18 +304,18 @@ used_by tag user service text row r true here is =
     record {
       service = service_kept row r e is.service refl;
       scope = is.scope;
-      uses = λ other. count-with user other (count_of user row.uses + 1) row.uses ∙ more_by user other row r e (user.0 == other.0) refl (get other) refl is;
-      paid = λ other. let p = is.paid other in omega (arith, p, gets-push other r e, ungets_kept other r e refl);
+      uses = λ other. count-with user other (count_of user row.uses + 1) row.uses ∙ more_by user other row r e (user.0 == other.0) refl refl (get other) refl is;
+      paid = λ other. let p = is.paid other in omega (arith, p, gets_more other r e refl, ungets_kept other r e refl refl);
     }
 used_by tag user service text row r false here is =
     let e : Entry = record { tag = tag; op = op.Get user service; reply = answer.Object text } in
-    quiet_row e row r (λ other. ap (λ b. (user.0 == other.0) && b) here ∙ and_false (user.0 == other.0)) (λ other. refl) refl is
+    quiet_row e row r (λ other. refl) (λ other. ap (λ b. (user.0 == other.0) && b) here ∙ and_false (user.0 == other.0)) (λ other. refl) refl is
 
 pub stands_used : (history : List Entry) (old new : RegistryRows) (tag : Tag) (user : BundleId) (service : ServiceId) (text : List ℕ) → StandsFor history old → new.rows ≡ change service (used_more user) old.rows → new.issued ≡ old.issued →
     StandsFor (history ++ record { tag = tag; op = op.Get user service; reply = answer.Object text } ∷ []) new
 stands_used history old new tag user service text stands rows issued =
     let e : Entry = record { tag = tag; op = op.Get user service; reply = answer.Object text } in
-    changed history old new e stands refl (λ s. refl)
+    changed history old new e stands refl (λ s o. refl)
     (subst (λ l. AreRowsOf l (map (later e) (live history))) (sym rows)
     (rows_map (λ row. cond (is_row_of service row) (used_more user row) row) (later e)
     (λ row r is. subst (λ b. IsRowOf (cond b (used_more user row) row) (later e r)) (sym (same_service service row r is)) (used_by tag user service text row r (is_service service r) refl is)) old.rows (live history) stands.rows))
@@ -301,24 +323,24 @@ stands_used history old new tag user service text stands rows issued =
 
 -- ---- one use less
 
-less_by : (user other : BundleId) (row : LiveService) (r : Registered) (e : Entry) (own : Bool) → (user.0 == other.0) ≡ own → is_unget other r.service e.op e.reply ≡ own → is_get other r.service e.op e.reply ≡ false → IsRowOf row r →
+less_by : (user other : BundleId) (row : LiveService) (r : Registered) (e : Entry) (own : Bool) → (user.0 == other.0) ≡ own → cleans other e.op e.reply ≡ false → is_unget other r.service e.op e.reply ≡ own → is_get other r.service e.op e.reply ≡ false → IsRowOf row r →
     cond own (count_of user row.uses - 1) (count_of other row.uses) ≡ uses_held other (later e r)
-less_by user other row r e true own unget no_get is =
+less_by user other row r e true own kept unget no_get is =
     let held : count_of other row.uses ≡ uses_held other r = is.uses other in
     let same : count_of user row.uses ≡ count_of other row.uses = same_count user other row.uses (eqb-true user.0 other.0 own) in
-    let more : ungets other (later e r) ≡ ungets other r + 1 = ungets-push other r e ∙ ap (λ b. ungets other r + one_where b) unget in
-    let less : gets other (later e r) ≡ gets other r = gets_kept other r e no_get in
+    let more : ungets other (later e r) ≡ ungets other r + 1 = ungets_more other r e kept ∙ ap (λ b. ungets other r + one_where b) unget in
+    let less : gets other (later e r) ≡ gets other r = gets_kept other r e kept no_get in
     rw (more, less, same, held) (omega arith)
-less_by user other row r e false own unget no_get is = is.uses other ∙ (λ i. sym (gets_kept other r e no_get) i - sym (ungets_kept other r e unget) i)
+less_by user other row r e false own kept unget no_get is = uses_kept e row r other kept no_get unget is
 
-paid_by : (user other : BundleId) (row : LiveService) (r : Registered) (e : Entry) (own : Bool) → (user.0 == other.0) ≡ own → is_unget other r.service e.op e.reply ≡ own → is_get other r.service e.op e.reply ≡ false → IsRowOf row r →
+paid_by : (user other : BundleId) (row : LiveService) (r : Registered) (e : Entry) (own : Bool) → (user.0 == other.0) ≡ own → cleans other e.op e.reply ≡ false → is_unget other r.service e.op e.reply ≡ own → is_get other r.service e.op e.reply ≡ false → IsRowOf row r →
     0 < count_of user row.uses → ungets other (later e r) ≤ gets other (later e r)
-paid_by user other row r e true own unget no_get is held =
+paid_by user other row r e true own kept unget no_get is held =
     let uses : count_of other row.uses ≡ uses_held other r = is.uses other in
     let same : count_of user row.uses ≡ count_of other row.uses = same_count user other row.uses (eqb-true user.0 other.0 own) in
-    let more : ungets other (later e r) ≡ ungets other r + 1 = ungets-push other r e ∙ ap (λ b. ungets other r + one_where b) unget in
-    omega (arith, held, uses, same, more, gets_kept other r e no_get)
-paid_by user other row r e false own unget no_get is held = let p = is.paid other in omega (arith, p, gets_kept other r e no_get, ungets_kept other r e unget)
+    let more : ungets other (later e r) ≡ ungets other r + 1 = ungets_more other r e kept ∙ ap (λ b. ungets other r + one_where b) unget in
+    omega (arith, held, uses, same, more, gets_kept other r e kept no_get)
+paid_by user other row r e false own kept unget no_get is held = paid_kept e row r other kept no_get unget is
 
 -- the user holds each service of this id
 abbrev pub Holds : BundleId → ServiceId → LiveService → Type 0
@@ -332,12 +354,12 @@ returned_by tag user service row r true here held is =
     record {
       service = service_kept row r e is.service refl;
       scope = is.scope;
-      uses = λ other. count-with user other (count_of user row.uses - 1) row.uses ∙ less_by user other row r e (user.0 == other.0) refl (unget other) refl is;
-      paid = λ other. paid_by user other row r e (user.0 == other.0) refl (unget other) refl is (held refl);
+      uses = λ other. count-with user other (count_of user row.uses - 1) row.uses ∙ less_by user other row r e (user.0 == other.0) refl refl (unget other) refl is;
+      paid = λ other. paid_by user other row r e (user.0 == other.0) refl refl (unget other) refl is (held refl);
     }
 returned_by tag user service row r false here held is =
     let e : Entry = record { tag = tag; op = op.Unget user service; reply = answer.Flag true } in
-    quiet_row e row r (λ other. refl) (λ other. ap (λ b. (user.0 == other.0) && b) here ∙ and_false (user.0 == other.0)) refl is
+    quiet_row e row r (λ other. refl) (λ other. refl) (λ other. ap (λ b. (user.0 == other.0) && b) here ∙ and_false (user.0 == other.0)) refl is
 
 rows_returned : (tag : Tag) (user : BundleId) (service : ServiceId) (rows : List LiveService) (list : List Registered) → All (Holds user service) rows → AreRowsOf rows list →
     AreRowsOf (change service (used_less user) rows) (map (later (record { tag = tag; op = op.Unget user service; reply = answer.Flag true })) list)
@@ -356,37 +378,56 @@ pub stands_returned : (history : List Entry) (old new : RegistryRows) (tag : Tag
     new.issued ≡ old.issued → StandsFor (history ++ record { tag = tag; op = op.Unget user service; reply = answer.Flag true } ∷ []) new
 stands_returned history old new tag user service stands held rows issued =
     let e : Entry = record { tag = tag; op = op.Unget user service; reply = answer.Flag true } in
-    changed history old new e stands refl (λ s. refl)
+    changed history old new e stands refl (λ s o. refl)
     (subst (λ l. AreRowsOf l (map (later e) (live history))) (sym rows) (rows_returned tag user service old.rows (live history) held stands.rows)) issued
 
 -- an Unget that answers false
 pub stands_unreturned : (history : List Entry) (registry : RegistryRows) (tag : Tag) (user : BundleId) (service : ServiceId) → StandsFor history registry →
     StandsFor (history ++ record { tag = tag; op = op.Unget user service; reply = answer.Flag false } ∷ []) registry
 stands_unreturned history registry tag user service stands =
-    stands_quiet history registry _ stands (record { registers = λ n. refl; takes = λ s. refl; gives = λ s. refl; gets = λ u s. refl; ungets = λ u s. refl })
+    stands_quiet history registry _ stands (record { registers = λ n since. refl; takes = λ s o. refl; gives = λ s. refl; gets = λ u s. refl; ungets = λ u s. refl; cleans = refl })
 
 -- ---- nothing of this
 
--- a refused operation does none of it
-pub quiet_refused : (tag : Tag) (o : Op) (refusal : Refusal) → IsQuiet (record { tag = tag; op = o; reply = answer.Refused refusal })
-quiet_refused tag (op.Register owner classes object scope properties) refusal = record { registers = λ n. refl; takes = λ s. refl; gives = λ s. refl; gets = λ u s. refl; ungets = λ u s. refl }
-quiet_refused tag (op.Modify owner service properties) refusal = record { registers = λ n. refl; takes = λ s. refl; gives = λ s. refl; gets = λ u s. refl; ungets = λ u s. refl }
-quiet_refused tag (op.Unregister owner service) refusal = record { registers = λ n. refl; takes = λ s. refl; gives = λ s. refl; gets = λ u s. refl; ungets = λ u s. refl }
-quiet_refused tag (op.Find asker class filter) refusal = record { registers = λ n. refl; takes = λ s. refl; gives = λ s. refl; gets = λ u s. refl; ungets = λ u s. refl }
-quiet_refused tag (op.FindAll asker class filter) refusal = record { registers = λ n. refl; takes = λ s. refl; gives = λ s. refl; gets = λ u s. refl; ungets = λ u s. refl }
-quiet_refused tag (op.Get user service) refusal = record { registers = λ n. refl; takes = λ s. refl; gives = λ s. refl; gets = λ u s. refl; ungets = λ u s. refl }
-quiet_refused tag (op.Unget user service) refusal = record { registers = λ n. refl; takes = λ s. refl; gives = λ s. refl; gets = λ u s. refl; ungets = λ u s. refl }
-quiet_refused tag op.ListServices refusal = record { registers = λ n. refl; takes = λ s. refl; gives = λ s. refl; gets = λ u s. refl; ungets = λ u s. refl }
-quiet_refused tag _ refusal = record { registers = λ n. refl; takes = λ s. refl; gives = λ s. refl; gets = λ u s. refl; ungets = λ u s. refl }
+-- a refused operation that cleans nobody
+pub quiet_refused : (tag : Tag) (o : Op) (refusal : Refusal) → cleaned_by o (answer.Refused refusal) ≡ None → IsQuiet (record { tag = tag; op = o; reply = answer.Refused refusal })
+quiet_refused tag o refusal none = record {
+  registers = no_service o refusal;
+  takes = λ service owner. none_taken o refusal service owner (none_cleaned (record { tag = tag; op = o; reply = answer.Refused refusal }) none owner);
+  gives = none_given o refusal;
+  gets = none_got o refusal;
+  ungets = none_ungot o refusal;
+  cleans = none;
+}
+  where
+    no_service : (o : Op) (refusal : Refusal) (earlier : ℕ) (since : List Entry) → registered_by earlier o (answer.Refused refusal) since ≡ []
+    no_service (op.Register owner classes object scope properties) refusal earlier since = refl
+    no_service o refusal earlier since = refl
+
+    none_taken : (o : Op) (refusal : Refusal) (service : ServiceId) (owner : BundleId) → cleans owner o (answer.Refused refusal) ≡ false → takes_out service owner o (answer.Refused refusal) ≡ false
+    none_taken (op.Unregister by taken) refusal service owner kept = refl
+    none_taken o refusal service owner kept = kept
+
+    none_given : (o : Op) (refusal : Refusal) (service : ServiceId) → given_by service o (answer.Refused refusal) ≡ None
+    none_given (op.Modify owner modified properties) refusal service = refl
+    none_given o refusal service = refl
+
+    none_got : (o : Op) (refusal : Refusal) (user : BundleId) (service : ServiceId) → is_get user service o (answer.Refused refusal) ≡ false
+    none_got (op.Get by got) refusal user service = refl
+    none_got o refusal user service = refl
+
+    none_ungot : (o : Op) (refusal : Refusal) (user : BundleId) (service : ServiceId) → is_unget user service o (answer.Refused refusal) ≡ false
+    none_ungot (op.Unget by let_go) refusal user service = refl
+    none_ungot o refusal user service = refl
 
 pub quiet_find : (tag : Tag) (asker : BundleId) (class : List ℕ) (filter : Option Filter) (found : Option ServiceId) → IsQuiet (record { tag = tag; op = op.Find asker class filter; reply = answer.Best found })
-quiet_find tag asker class filter found = record { registers = λ n. refl; takes = λ s. refl; gives = λ s. refl; gets = λ u s. refl; ungets = λ u s. refl }
+quiet_find tag asker class filter found = record { registers = λ n since. refl; takes = λ s o. refl; gives = λ s. refl; gets = λ u s. refl; ungets = λ u s. refl; cleans = refl }
 
 pub quiet_find_all : (tag : Tag) (asker : BundleId) (class : List ℕ) (filter : Option Filter) (found : List ServiceId) → IsQuiet (record { tag = tag; op = op.FindAll asker class filter; reply = answer.Services found })
-quiet_find_all tag asker class filter found = record { registers = λ n. refl; takes = λ s. refl; gives = λ s. refl; gets = λ u s. refl; ungets = λ u s. refl }
+quiet_find_all tag asker class filter found = record { registers = λ n since. refl; takes = λ s o. refl; gives = λ s. refl; gets = λ u s. refl; ungets = λ u s. refl; cleans = refl }
 
 pub quiet_list : (tag : Tag) (rows : List ServiceRow) → IsQuiet (record { tag = tag; op = op.ListServices; reply = answer.ServiceRows rows })
-quiet_list tag rows = record { registers = λ n. refl; takes = λ s. refl; gives = λ s. refl; gets = λ u s. refl; ungets = λ u s. refl }
+quiet_list tag rows = record { registers = λ n since. refl; takes = λ s o. refl; gives = λ s. refl; gets = λ u s. refl; ungets = λ u s. refl; cleans = refl }
 
 -- an Unget by what it answers
 pub stands_ungot : (history : List Entry) (old new : RegistryRows) (tag : Tag) (user : BundleId) (service : ServiceId) (value : Bool) → StandsFor history old → OnTrue value (new.rows ≡ change service (used_less user) old.rows) →

@@ -3,7 +3,7 @@ use Rattle.std.proofs.Common.{◌≡◌, ℕ, List, [], ◌∷◌, ◌++◌, map
 use Rattle.std.specs.Prelude.{false, cond}
 use Rattle.std.specs.List.{concat, list_any}
 use Rattle.std.proofs.lemmas.Bool.{or_parts}
-use Rattle.osgi_ops.specs.laws.Histories.{along-push}
+use Rattle.osgi_ops.specs.laws.Along.{along-last}
 use Rattle.osgi_ops.specs.Along.{along}
 use Rattle.osgi_session.specs.Lines.{is_of}
 use Rattle.osgi_session.specs.Rendering.{entries_text, entry_lines, entry_text, with_line_end}
@@ -36,7 +36,7 @@ text_alone before e = ap (λ (l : List (List ℕ)). concat (map with_line_end l)
 pub entries_text-push : (number : ℕ) (history : List Entry) (e : Entry) →
     entries_text number (history ++ e ∷ []) ≡ entries_text number history ++ (cond (is_of number e) (entry_text [] e) [])
 entries_text-push number history e =
-    along-push (λ before (x : Entry). cond (is_of number x) (entry_text before x) []) [] history e
+    along-last (λ before (x : Entry). cond (is_of number x) (entry_text before x) []) history e
     ∙ ap (λ t. entries_text number history ++ cond (is_of number e) t []) (text_alone history e)
 
 none_by : (number : ℕ) (before : List Entry) (e : Entry) (rest : List Entry) → is_of number e ≡ false →

@@ -11,7 +11,7 @@ use Rattle.osgi_ops.specs.declared.reply.Reply.{Reply}
 use Rattle.osgi_ops.specs.declared.reply.Reply.TheVariants.{Refused}
 use Rattle.osgi_ops.specs.laws.Refusals.{full_step}
 use Rattle.osgi_ops.specs.Legal.{IsStep, Legal}
-use Rattle.osgi_ops.specs.Moments.{Moment}
+use Rattle.osgi_ops.specs.Moments.{Moment, sights_in}
 use Rattle.osgi_ops.specs.Settings.{Setting}
 use Rattle.osgi_program.specs.computed.Running.{IsAsked, ran_by, says_full, tag_of}
 use Rattle.osgi_program.specs.declared.runner.Ran.{Ran}
@@ -25,7 +25,7 @@ is_full _ e = absurd (cc e)
 
 asked_where : (now : Moment) (after : List Entry) (world : World) (op : Op) (reply : Reply) → IsStep now after world op reply → says_full reply ≡ false →
     (length now.before < now.setting.bounds.entries) ⊎ (now.setting.bounds.entries ≤ length now.before) → IsAsked (ran_by false) now.setting.bounds.entries now.tag op now.before after
-asked_where now after world op reply step other (inl room) = (reply, (step.room room).1)
+asked_where now after world op reply step other (inl room) = (reply, (step.room room).2)
 asked_where now after world op reply step other (inr full) =
     let both : true ≡ false = sym (ap says_full (step.full full).0) ∙ other in
     absurd (cc both)
@@ -45,5 +45,7 @@ asked_for now after world op asks reply ran step legal same is =
 
 pub returns-in-Ok-apply-clause-asked : goal.returns-in-Ok-apply-clause-asked
 returns-in-Ok-apply-clause-asked c =
-    asked_for (moment_of c.args.core.now (tag_of c.args.number)) c.apply.new.self.entries c.apply.new.self.world c.in-Ok.op (op_of system c.args.command.now) c.in-Ok-apply.reply c.ran_by.result c.in-Ok-apply.ensures.step
+    let told = c.world.ensures.replayed in
+    asked_for (moment_of c.args.core.now (tag_of c.args.number) (sights_in told.told)) c.apply.new.self.entries c.apply.new.self.world c.in-Ok.op (op_of system c.args.command.now) c.in-Ok-apply.reply c.ran_by.result
+    (c.in-Ok-apply.ensures.step (sights_in told.told) (told, refl))
     (subst (λ (s : Setting). Legal s c.apply.new.self.entries) c.apply.ensures.setting c.apply.ensures.legal) c.in-Ok.ensures.operation c.ran_by.ensures.ran

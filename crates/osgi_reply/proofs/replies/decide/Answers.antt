@@ -1,6 +1,7 @@
 -- Who asks may not.
 use Rattle.std.proofs.Common.{sym}
-use Rattle.osgi_reply.proofs.Replying.{decided_same, replied_unasked}
+use Rattle.osgi_reply.proofs.Matching.{replied_unasked}
+use Rattle.osgi_tables.proofs.Replying.{decided_same}
 use Rattle.osgi_ops.specs.declared.reply.Reply.TheVariants as answer
 use Rattle.osgi_reply.proofs.replies.decide.Goals as goal
 

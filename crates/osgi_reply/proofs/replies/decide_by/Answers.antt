@@ -1,44 +1,46 @@
 -- What is decided of each operation is decided for who asks.
 use Rattle.std.proofs.Common.{refl, subst, sym}
-use Rattle.osgi_reply.proofs.Replying.{asked_ok, in_registry, replied_bundles, served_all, unchanging}
+use Rattle.osgi_reply.proofs.BundlesListed.{replied_bundles}
+use Rattle.osgi_reply.proofs.Matching.{in_registry, served_all}
+use Rattle.osgi_tables.proofs.Replying.{asked_ok, of_services, unchanging}
 use Rattle.osgi_ops.specs.declared.op.Op.TheVariants as op
-use Rattle.osgi_reply.specs.Replied.{IsRepliedToAll}
+use Rattle.osgi_tables.specs.Replied.{IsRepliedToAll}
 use Rattle.osgi_reply.proofs.replies.decide_by.Goals as goal
 
 pub returns-in_ok-register-in-Register-clause-decided : goal.returns-in_ok-register-in-Register-clause-decided
 returns-in_ok-register-in-Register-clause-decided c =
-    in_registry c.args.asked.now (op.Register c.in-Register.owner c.in-Register.classes c.in-Register.object c.in-Register.scope c.in-Register.properties) c.args.tables.now c.in_registry.result c.in_ok-register-in-Register.field-0 c.in_registry.ensures.same c.in-Register.is (λ reply. record { installs_none = λ depot. refl; leaves = λ now world same. same }) c.requires.asker c.in_ok-register-in-Register.ensures.decided
+    in_registry c.args.asked.now (op.Register c.in-Register.owner c.in-Register.classes c.in-Register.object c.in-Register.scope c.in-Register.properties) c.args.tables.now c.in_registry.result c.in_ok-register-in-Register.field-0 c.in_registry.ensures.same c.in-Register.is refl (λ reply. of_services _ reply (λ n since. refl) (λ b. refl) (λ b. refl) refl (λ b. refl) (λ now world same. same)) c.requires.asker c.in_ok-register-in-Register.ensures.decided
 
 pub returns-in_ok-modify-in-Modify-clause-decided : goal.returns-in_ok-modify-in-Modify-clause-decided
 returns-in_ok-modify-in-Modify-clause-decided c =
-    in_registry c.args.asked.now (op.Modify c.in-Modify.owner c.in-Modify.service c.in-Modify.properties) c.args.tables.now c.in_registry-in-Modify.result c.in_ok-modify-in-Modify.field-0 c.in_registry-in-Modify.ensures.same c.in-Modify.is (λ reply. record { installs_none = λ depot. refl; leaves = λ now world same. same }) c.requires.asker c.in_ok-modify-in-Modify.ensures.decided
+    in_registry c.args.asked.now (op.Modify c.in-Modify.owner c.in-Modify.service c.in-Modify.properties) c.args.tables.now c.in_registry-in-Modify.result c.in_ok-modify-in-Modify.field-0 c.in_registry-in-Modify.ensures.same c.in-Modify.is refl (λ reply. of_services _ reply (λ n since. refl) (λ b. refl) (λ b. refl) refl (λ b. refl) (λ now world same. same)) c.requires.asker c.in_ok-modify-in-Modify.ensures.decided
 
 pub returns-in-Unregister-clause-decided : goal.returns-in-Unregister-clause-decided
 returns-in-Unregister-clause-decided c =
-    in_registry c.args.asked.now (op.Unregister c.in-Unregister.owner c.in-Unregister.service) c.args.tables.now c.in_registry-in-Unregister.result c.unregister.result c.in_registry-in-Unregister.ensures.same c.in-Unregister.is (λ reply. record { installs_none = λ depot. refl; leaves = λ now world same. same }) c.requires.asker c.unregister.ensures.decided
+    in_registry c.args.asked.now (op.Unregister c.in-Unregister.owner c.in-Unregister.service) c.args.tables.now c.in_registry-in-Unregister.result c.unregister.result c.in_registry-in-Unregister.ensures.same c.in-Unregister.is refl (λ reply. of_services _ reply (λ n since. refl) (λ b. refl) (λ b. refl) refl (λ b. refl) (λ now world same. same)) c.requires.asker c.unregister.ensures.decided
 
 pub returns-in_ok-get-in-Get-clause-decided : goal.returns-in_ok-get-in-Get-clause-decided
 returns-in_ok-get-in-Get-clause-decided c =
-    in_registry c.args.asked.now (op.Get c.in-Get.user c.in-Get.service) c.args.tables.now c.in_registry-in-Get.result c.in_ok-get-in-Get.field-0 c.in_registry-in-Get.ensures.same c.in-Get.is (λ reply. record { installs_none = λ depot. refl; leaves = λ now world same. same }) c.requires.asker c.in_ok-get-in-Get.ensures.decided
+    in_registry c.args.asked.now (op.Get c.in-Get.user c.in-Get.service) c.args.tables.now c.in_registry-in-Get.result c.in_ok-get-in-Get.field-0 c.in_registry-in-Get.ensures.same c.in-Get.is refl (λ reply. of_services _ reply (λ n since. refl) (λ b. refl) (λ b. refl) refl (λ b. refl) (λ now world same. same)) c.requires.asker c.in_ok-get-in-Get.ensures.decided
 
 pub returns-in-Unget-clause-decided : goal.returns-in-Unget-clause-decided
 returns-in-Unget-clause-decided c =
-    in_registry c.args.asked.now (op.Unget c.in-Unget.user c.in-Unget.service) c.args.tables.now c.in_registry-in-Unget.result c.unget.result c.in_registry-in-Unget.ensures.same c.in-Unget.is (λ reply. record { installs_none = λ depot. refl; leaves = λ now world same. same }) c.requires.asker c.unget.ensures.decided
+    in_registry c.args.asked.now (op.Unget c.in-Unget.user c.in-Unget.service) c.args.tables.now c.in_registry-in-Unget.result c.unget.result c.in_registry-in-Unget.ensures.same c.in-Unget.is refl (λ reply. of_services _ reply (λ n since. refl) (λ b. refl) (λ b. refl) refl (λ b. refl) (λ now world same. same)) c.requires.asker c.unget.ensures.decided
 
 pub returns-in-Find-clause-decided : goal.returns-in-Find-clause-decided
 returns-in-Find-clause-decided c =
     unchanging c.args.asked.now (op.Find c.in-Find.asker c.in-Find.class c.in-Find.filter) c.args.tables.now c.unchanging.result c.find.result c.unchanging.ensures.same c.in-Find.is
-    (served_all (op.Find c.in-Find.asker c.in-Find.class c.in-Find.filter) c.args.tables.now c.find.result (record { installs_none = λ depot. refl; leaves = λ now world same. same }) (rw c.in-Find.is at c.requires.asker) c.find.ensures.served)
+    (served_all (op.Find c.in-Find.asker c.in-Find.class c.in-Find.filter) c.args.tables.now c.find.result refl (of_services _ c.find.result (λ n since. refl) (λ b. refl) (λ b. refl) refl (λ b. refl) (λ now world same. same)) (rw c.in-Find.is at c.requires.asker) c.find.ensures.served)
 
 pub returns-in_ok-find_all-in-FindAll-clause-decided : goal.returns-in_ok-find_all-in-FindAll-clause-decided
 returns-in_ok-find_all-in-FindAll-clause-decided c =
     unchanging c.args.asked.now (op.FindAll c.in-FindAll.asker c.in-FindAll.class c.in-FindAll.filter) c.args.tables.now c.unchanging-in-FindAll.result c.in_ok-find_all-in-FindAll.field-0 c.unchanging-in-FindAll.ensures.same c.in-FindAll.is
-    (served_all (op.FindAll c.in-FindAll.asker c.in-FindAll.class c.in-FindAll.filter) c.args.tables.now c.in_ok-find_all-in-FindAll.field-0 (record { installs_none = λ depot. refl; leaves = λ now world same. same }) (rw c.in-FindAll.is at c.requires.asker) c.in_ok-find_all-in-FindAll.ensures.served)
+    (served_all (op.FindAll c.in-FindAll.asker c.in-FindAll.class c.in-FindAll.filter) c.args.tables.now c.in_ok-find_all-in-FindAll.field-0 refl (of_services _ c.in_ok-find_all-in-FindAll.field-0 (λ n since. refl) (λ b. refl) (λ b. refl) refl (λ b. refl) (λ now world same. same)) (rw c.in-FindAll.is at c.requires.asker) c.in_ok-find_all-in-FindAll.ensures.served)
 
 pub returns-in_ok-list_services-in-ListServices-clause-decided : goal.returns-in_ok-list_services-in-ListServices-clause-decided
 returns-in_ok-list_services-in-ListServices-clause-decided c =
     unchanging c.args.asked.now op.ListServices c.args.tables.now c.unchanging-in-ListServices.result c.in_ok-list_services-in-ListServices.field-0 c.unchanging-in-ListServices.ensures.same c.in-ListServices.is
-    (served_all op.ListServices c.args.tables.now c.in_ok-list_services-in-ListServices.field-0 (record { installs_none = λ depot. refl; leaves = λ now world same. same }) (rw c.in-ListServices.is at c.requires.asker) c.in_ok-list_services-in-ListServices.ensures.served)
+    (served_all op.ListServices c.args.tables.now c.in_ok-list_services-in-ListServices.field-0 refl (of_services _ c.in_ok-list_services-in-ListServices.field-0 (λ n since. refl) (λ b. refl) (λ b. refl) refl (λ b. refl) (λ now world same. same)) (rw c.in-ListServices.is at c.requires.asker) c.in_ok-list_services-in-ListServices.ensures.served)
 
 pub returns-in-Install-clause-decided : goal.returns-in-Install-clause-decided
 returns-in-Install-clause-decided c = asked_ok c.install.result c.args.asked.now (op.Install c.in-Install.location) c.args.tables.now c.in-Install.is c.install.ensures.decided

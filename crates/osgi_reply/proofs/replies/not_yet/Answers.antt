@@ -1,5 +1,6 @@
 -- An operation that the framework does not have yet.
-use Rattle.osgi_reply.proofs.Replying.{decided_same, replied_not_yet}
+use Rattle.osgi_reply.proofs.Matching.{replied_not_yet}
+use Rattle.osgi_tables.proofs.Replying.{decided_same}
 use Rattle.osgi_ops.specs.declared.refusal.Refusal.TheVariants.{InvalidOperation}
 use Rattle.osgi_ops.specs.declared.reply.Reply.TheVariants as answer
 use Rattle.osgi_reply.proofs.replies.not_yet.Goals as goal

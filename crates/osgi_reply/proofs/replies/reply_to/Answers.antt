@@ -1,9 +1,9 @@
 -- What was decided, once the change is made.
 use Rattle.std.proofs.Common.{subst, sym}
-use Rattle.osgi_reply.proofs.Replying.{on_err, still_same}
-use Rattle.osgi_reply.specs.Replied.{StandsStill}
-use Rattle.osgi_reply.specs.computed.Changes.{Changes, CanBeMade}
-use Rattle.osgi_reply.specs.declared.tables.Tables.{Tables}
+use Rattle.osgi_tables.proofs.Replying.{on_err, still_same}
+use Rattle.osgi_tables.specs.Replied.{StandsStill}
+use Rattle.osgi_tables.specs.Changes.{Changes, CanBeMade}
+use Rattle.osgi_tables.specs.declared.tables.Tables.{Tables}
 use Rattle.osgi_reply.proofs.replies.reply_to.Goals as goal
 
 pub returns-in_err-reply-clause-unchanged : goal.returns-in_err-reply-clause-unchanged

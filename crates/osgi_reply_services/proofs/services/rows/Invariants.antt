@@ -1,6 +1,6 @@
 -- The rows so far, and then those of the services that are left, are all.
 use Rattle.std.proofs.Common.{◌≡◌, ◌++◌, map}
-use Rattle.osgi_ops.specs.Operations.{service_row}
+use Rattle.osgi_ops.specs.rows.Lists.{service_row}
 use Rattle.osgi_registry.specs.Rows.{services_in}
 use Rattle.osgi_reply_services.proofs.services.rows.Given as goal
 

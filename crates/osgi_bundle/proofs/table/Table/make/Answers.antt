@@ -1,5 +1,5 @@
 -- What is found of the name, and how many bundles there are.
-use Rattle.std.proofs.Common.{◌≡◌, ◌+◌, ◌<◌, ◌≤◌, ap, sym, subst, ◌∙◌, inl, inr, refl, rules, length, arith}
+use Rattle.std.proofs.Common.{◌≡◌, ◌<◌, ◌≤◌, ap, sym, ◌∙◌, inl, inr, refl, rules, length, arith}
 use Rattle.std.specs.Prelude.{None, Some}
 use Rattle.osgi_bundle.specs.computed.Kept.{bundle_under, name_cmp, bundle_name, named}
 use Rattle.osgi_ops.specs.declared.refusal.Many.TheVariants.{Bundles}

@@ -1,9 +1,8 @@
 -- The row at the place of the bundle, or none.
-use Rattle.std.proofs.Common.{◌≡◌, ap, sym, ◌∙◌}
-use Rattle.std.specs.Prelude.{None, Some, slice_get}
+use Rattle.std.proofs.Common.{◌≡◌, ap, ◌∙◌}
+use Rattle.std.specs.Prelude.{slice_get}
 use Rattle.std.specs.Option.{option_copied}
-use Rattle.osgi_bundle.specs.Rows.{row_at, TableRows}
-use Rattle.osgi_bundle.specs.computed.Kept.{row_in}
+use Rattle.osgi_bundle.specs.Rows.{TableRows}
 use Rattle.osgi_bundle.proofs.Finding.{lent}
 use Rattle.osgi_bundle.proofs.table.Table.row.Goals as goal
 

@@ -1,0 +1,53 @@
+-- The room that the tables of a history within its limit have.
+use Rattle.std.proofs.Common.{◌<◌, ◌≤◌, ◌+◌, ℕ, List, [], ◌∷◌, length, length-append, ap, arith, ◌∙◌}
+use Rattle.std.specs.Prelude.{false}
+use Rattle.std.proofs.lemmas.List.Sums.{count_by-le-length, length-filter}
+use Rattle.osgi_legal.proofs.Current.{fresh-at}
+use Rattle.osgi_ops.specs.Bundles.{brings_revision, installed, installed_after, installed_by, revisions}
+use Rattle.osgi_ops.specs.Legal.{IsTold}
+use Rattle.osgi_ops.specs.Moments.{Moment}
+use Rattle.osgi_ops.specs.Resolved.{current_revision}
+use Rattle.osgi_ops.specs.declared.entry.Entry.{Entry}
+use Rattle.osgi_ops.specs.declared.limits.TheConstants.{MAX_BUDGET, MAX_ENTRIES}
+use Rattle.osgi_ops.specs.declared.op.Op.{Op}
+use Rattle.osgi_ops.specs.declared.op.Op.TheVariants as op
+use Rattle.osgi_ops.specs.declared.reply.Reply.{Reply}
+use Rattle.osgi_ops.specs.declared.reply.Reply.TheVariants as answer
+use Rattle.osgi_ops.specs.laws.Services.{length-registered, uses-le-length}
+use Rattle.osgi_world.specs.declared.world.World.{World}
+use Rattle.osgi_reply_services.proofs.Serving.{uses_now}
+use Rattle.osgi_tables.specs.Replied.{HasRoom, StandsFor}
+use Rattle.osgi_tables.specs.declared.tables.Tables.{Tables}
+
+-- ---- no more bundles were installed, nor revisions brought, than there are entries
+
+installed_by-few : (earlier : ℕ) (o : Op) (reply : Reply) (since : List Entry) → length (installed_by earlier o reply since) ≤ 1
+installed_by-few earlier (op.Install location) (answer.Bundle bundle false) since = omega arith
+installed_by-few earlier o reply since = omega arith
+
+length-installed_after : (earlier : ℕ) (history : List Entry) → length (installed_after earlier history) ≤ length history
+length-installed_after earlier [] = omega arith
+length-installed_after earlier (x ∷ since) =
+    let here = installed_by earlier x.op x.reply since in
+    omega (arith, length-append here (installed_after (earlier + length here) since), installed_by-few earlier x.op x.reply since, length-installed_after (earlier + length here) since)
+
+length-installed : (history : List Entry) → length (installed history) ≤ length history
+length-installed history = length-installed_after 0 history
+
+revisions-le-length : (history : List Entry) → revisions history ≤ length history
+revisions-le-length history =
+    omega (arith, length-filter (λ (e : Entry). brings_revision e.op e.reply) history, count_by-le-length (λ (e : Entry). brings_revision e.op e.reply) history)
+
+-- ---- the room
+
+pub has_room : (now : Moment) (tables : Tables) → IsTold now → StandsFor now tables → length now.before < MAX_ENTRIES → now.setting.bounds.budget ≤ MAX_BUDGET → HasRoom tables
+has_room now tables told stands short least = record {
+  services = record {
+    ids = omega (arith, short, stands.services.issued, length-registered now.before);
+    uses = λ user service. omega (arith, short, uses_now now.before tables.registry user service stands.services, uses-le-length user service now.before);
+  };
+  bundles = omega (arith, short, stands.bundles.issued, length-installed now.before);
+  revisions = omega (arith, short, stands.issued, revisions-le-length now.before);
+  fresh = λ b next. ap (λ (w : World). current_revision w b) stands.world ∙ fresh-at now told b (omega (arith, next, stands.bundles.issued));
+  budget = omega (arith, least, stands.budget);
+}

@@ -1,0 +1,277 @@
+-- What holds while these operations have not come: no bracket, walk or refresh is open, no listener is live, no job is queued, and
+-- bundles only rest: the system bundle alone is up. Each fact holds at each moment of a legal history.
+use Rattle.std.proofs.Common.{◌≡◌, inl, Bool, true, false, List, [], ◌∷◌, ◌++◌, length, refl, sym, ap, ◌∙◌, subst, arith}
+use Rattle.std.specs.Prelude.{◌==◌, not, cond, ℕ, All, Contains, filter, find, IsSomeAnd, MatchBool, Option, None, Some, unwrap_or}
+use Rattle.std.proofs.lemmas.Bool.{eqb-true}
+use Rattle.std.proofs.lemmas.List.Elements.{All-contains, All-head, All-nil, All-tail, All-weaker}
+use Rattle.std.proofs.lemmas.List.Folds.{list_any_none}
+use Rattle.osgi_base.specs.declared.ids.BundleId.{BundleId}
+use Rattle.osgi_base.specs.declared.ids.ListenerId.{ListenerId}
+use Rattle.osgi_legal.specs.Joining.{MayAsk}
+use Rattle.osgi_ops.specs.Assignable.{IsAssignable}
+use Rattle.osgi_ops.specs.Brackets.{brackets, closes, is_end, is_own_end}
+use Rattle.osgi_ops.specs.Bundles as bundles
+use Rattle.osgi_ops.specs.Bundles.{Active, begun_by, idle, Installed, installed, is_there, is_uninstall, is_up, last_begin, phase, Phase, put_into, resting, running, source, State, system, Uninstalled, updated_to}
+use Rattle.osgi_ops.specs.Cleaning.{cleaned_by}
+use Rattle.osgi_ops.specs.Conditions.{refreshing_where, state_change, state_of}
+use Rattle.osgi_ops.specs.Jobs.{jobs, Queued, queued_by, with_jobs}
+use Rattle.osgi_ops.specs.Legal.{AreAllowed, entry_of, IsAllowed, IsTold}
+use Rattle.osgi_ops.specs.Levels.{active_level, autostart, level_of, leveled, moved_to, Refresh, refresh, refresh_by, walk, walk_by, wishes}
+use Rattle.osgi_ops.specs.Listening.{AreSights, heard_by, Hearing, hearing, is_listener, IsSight, listeners, with_heard}
+use Rattle.osgi_ops.specs.Moments.{Moment, moment, seen_after, Sight, sights_in, Told}
+use Rattle.osgi_ops.specs.Operations.{IsReply, IsRow}
+use Rattle.osgi_ops.specs.Resolved.{is_resolved}
+use Rattle.osgi_ops.specs.Services.{live, Registered}
+use Rattle.osgi_ops.specs.Settings.{Setting}
+use Rattle.osgi_ops.specs.Stages.{is_here}
+use Rattle.osgi_ops.specs.declared.entry.Entry.{Entry}
+use Rattle.osgi_ops.specs.declared.event.Event.{Event}
+use Rattle.osgi_ops.specs.declared.kind.Kind.{Kind}
+use Rattle.osgi_ops.specs.declared.op.Op.{Op}
+use Rattle.osgi_ops.specs.declared.op.Op.TheVariants as op
+use Rattle.osgi_ops.specs.declared.refusal.Refusal.{Refusal}
+use Rattle.osgi_ops.specs.declared.refusal.Refusal.TheVariants as no
+use Rattle.osgi_ops.specs.declared.refusal.Refusal.TheVariants.{InvalidOperation}
+use Rattle.osgi_ops.specs.declared.reply.Reply.{Reply}
+use Rattle.osgi_ops.specs.declared.reply.Reply.TheVariants as answer
+use Rattle.osgi_world.specs.declared.world.World.{World}
+use Rattle.osgi_ops.specs.laws.Along.{holds}
+use Rattle.osgi_ops.specs.laws.Stages.{row-here}
+use Rattle.osgi_legal.proofs.Early.{all-early, carry-still, early-calm, IsCalm, IsEarly, latest-none, none-open, since-all}
+use Rattle.osgi_legal.proofs.Facts.{services-up-at, system-assignable-at}
+use Rattle.osgi_legal.proofs.Legal.{at-told, sights-last, Told-of}
+use Rattle.osgi_legal.proofs.Quiet.{begin_of}
+use Rattle.osgi_legal.proofs.Sights.{sights-once}
+use Rattle.osgi_legal.proofs.Unhanded.{all-unhanded, is_handing}
+
+-- ---- entries
+
+-- Each entry is of an operation that has come and is no end of a bracket, or is refused as an invalid operation.
+pub early-at : (now : Moment) → IsTold now → All IsEarly now.before
+early-at now t = at-told (λ m. All IsEarly m.before) (λ setting told tag legal. all-early setting told legal) now t
+
+-- No entry says anything of brackets, phases, levels, walks, refreshes, listeners, hands or jobs, and none uninstalls, updates or cleans
+-- a bundle.
+pub calm-at : (now : Moment) → IsTold now → All (λ (e : Entry). IsCalm e.op e.reply) now.before
+calm-at now t = All-weaker IsEarly (λ (e : Entry). IsCalm e.op e.reply) early-calm now.before (early-at now t)
+
+each : (P : Entry → Type 0) → ((e : Entry) → IsCalm e.op e.reply → P e) → (now : Moment) → IsTold now → All P now.before
+each P says now t = All-weaker (λ (e : Entry). IsCalm e.op e.reply) P says now.before (calm-at now t)
+
+-- No entry cleans a bundle.
+pub none-cleaned : (now : Moment) → IsTold now → All (λ (e : Entry). cleaned_by e.op e.reply ≡ None) now.before
+none-cleaned now t = each (λ e. cleaned_by e.op e.reply ≡ None) (λ e c. c.cleaned) now t
+
+-- ---- brackets
+
+-- No bracket is open.
+pub no-bracket : (now : Moment) → IsTold now → brackets now.before ≡ []
+no-bracket now t = at-told (λ m. brackets m.before ≡ []) (λ setting told tag legal. none-open setting told legal) now t
+
+-- No operation is the end of its caller's innermost bracket.
+pub no-own-end : (now : Moment) → IsTold now → (o : Op) → is_own_end now.tag o now.before ≡ false
+no-own-end now t o = ap (closes now.tag o) (no-bracket now t)
+
+-- ---- what is refused
+
+-- An operation that has not come is refused as an invalid operation, at every moment.
+pub late-due : (now : Moment) (o : Op) → is_here o ≡ false → IsReply now o (answer.Refused InvalidOperation)
+late-due now o late = subst (λ k. MatchBool k (IsRow now o (answer.Refused InvalidOperation)) (answer.Refused InvalidOperation ≡ answer.Refused InvalidOperation)) (sym late) refl
+
+-- So is every end of a bracket.
+pub end-due : (now : Moment) → IsTold now → (o : Op) → is_end o ≡ true → IsReply now o (answer.Refused InvalidOperation)
+end-due now t (op.EndHand listener) e =
+    row-here now (op.EndHand listener) (answer.Refused InvalidOperation) refl (inl (InvalidOperation, (refl, no-own-end now t (op.EndHand listener)), refl))
+end-due now t op.EndJob e = row-here now op.EndJob (answer.Refused InvalidOperation) refl (inl (InvalidOperation, (refl, no-own-end now t op.EndJob), refl))
+end-due now t (op.EndStart bundle failed) e =
+    row-here now (op.EndStart bundle failed) (answer.Refused InvalidOperation) refl (inl (InvalidOperation, (refl, no-own-end now t (op.EndStart bundle failed)), refl))
+end-due now t (op.EndStop bundle failed) e =
+    row-here now (op.EndStop bundle failed) (answer.Refused InvalidOperation) refl (inl (InvalidOperation, (refl, no-own-end now t (op.EndStop bundle failed)), refl))
+end-due now t o e = absurd (cc e)
+
+-- ---- what bundles do
+
+-- No bundle is starting, active or stopping.
+pub always-idle : (now : Moment) → IsTold now → (b : BundleId) → phase b now.before ≡ idle
+always-idle now t b = ap (λ (o : Option Phase). unwrap_or o idle) (latest-none (λ (e : Entry). put_into b e.op e.reply) now.before (each (λ e. put_into b e.op e.reply ≡ None) (λ e c. c.phases b) now t))
+
+-- No start and no stop of a bundle ever began.
+pub never-begun : (now : Moment) → IsTold now → (b : BundleId) → last_begin b now.before ≡ None
+never-begun now t b = latest-none (begun_by b) now.before (each (λ e. begun_by b e ≡ None) (λ e c. ap (begin_of e.tag) (c.phases b)) now t)
+
+-- No refresh is open.
+pub no-refresh : (now : Moment) → IsTold now → refresh now.before ≡ None
+no-refresh now t = carry-still (λ before (e : Entry). refresh_by before e e.op e.reply) None now.before (each (λ e. refresh_by None e e.op e.reply ≡ None) (λ e c. c.refresh None e) now t)
+
+-- So nothing is refused for a refresh.
+pub never-refreshing : (now : Moment) → IsTold now → (Holds : Refresh → Type 0) (f : Refusal) → refreshing_where now Holds f → ⊥
+never-refreshing now t Holds f is = subst (λ o. IsSomeAnd o (λ r. Holds r × (f ≡ no.Refreshing r.tag))) (no-refresh now t) is
+
+-- Nor for a change of a bundle's state.
+pub never-changing : (now : Moment) → IsTold now → (is_such : State → Bool) (b : BundleId) (f : Refusal) → state_change is_such now b f → ⊥
+never-changing now t is_such b f is = subst (λ o. IsSomeAnd o (λ by. f ≡ no.StateChange by)) (never-begun now t b) is.1
+
+-- ---- levels
+
+-- No walk over levels is open.
+pub no-walk : (now : Moment) → IsTold now → walk now.before ≡ None
+no-walk now t = carry-still (λ before (e : Entry). walk_by before e e.op e.reply) None now.before (each (λ e. walk_by None e e.op e.reply ≡ None) (λ e c. c.levels.walk None e) now t)
+
+-- The system bundle has level 0, and every other bundle level 1.
+pub first-levels : (now : Moment) → IsTold now → (b : BundleId) → level_of b now.before ≡ cond (b.0 == 0) 0 1
+first-levels now t b =
+    ap (λ (o : Option ℕ). cond (b.0 == 0) 0 (unwrap_or o 1)) (latest-none (λ (e : Entry). leveled b e.op e.reply) now.before (each (λ e. leveled b e.op e.reply ≡ None) (λ e c. c.levels.level b) now t))
+
+-- The active level is 1.
+pub first-level : (now : Moment) → IsTold now → active_level now.before ≡ 1
+first-level now t = ap (λ (o : Option ℕ). unwrap_or o 1) (latest-none (λ (e : Entry). moved_to e.op e.reply) now.before (each (λ e. moved_to e.op e.reply ≡ None) (λ e c. c.levels.moved) now t))
+
+-- No bundle is marked to be started with its level.
+pub no-wish : (now : Moment) → IsTold now → (b : BundleId) → autostart b now.before ≡ false
+no-wish now t b = ap (λ (o : Option Bool). unwrap_or o false) (latest-none (λ (e : Entry). wishes b e.op e.reply) now.before (each (λ e. wishes b e.op e.reply ≡ None) (λ e c. c.levels.wish b) now t))
+
+-- ---- listeners and jobs
+
+-- No listener was added.
+pub no-hearing : (now : Moment) → IsTold now → hearing now.before ≡ record { count = 0; live = [] }
+no-hearing now t =
+    let first : Hearing = record { count = 0; live = [] } in
+    carry-still (λ (s : Hearing) (e : Entry). with_heard (heard_by e.op e.reply) s) first now.before (each (λ e. with_heard (heard_by e.op e.reply) first ≡ first) (λ e c. ap (λ u. with_heard u first) c.heard) now t)
+
+-- No listener is live.
+pub no-listeners : (now : Moment) → IsTold now → listeners now.before ≡ []
+no-listeners now t = ap (λ (s : Hearing). s.live) (no-hearing now t)
+
+-- No job is queued.
+pub no-jobs : (now : Moment) → IsTold now → jobs now.before ≡ []
+no-jobs now t =
+    carry-still (λ (s : List Queued) (e : Entry). with_jobs (queued_by e.op e.reply) s) [] now.before (each (λ e. with_jobs (queued_by e.op e.reply) [] ≡ []) (λ e c. ap (λ u. with_jobs u []) c.jobs) now t)
+
+-- ---- which bundles there are
+
+since-each : (P : Entry → Type 0) → ((e : Entry) → IsCalm e.op e.reply → P e) → (now : Moment) → IsTold now → All (λ (i : Installed). All P i.since) (installed now.before)
+since-each P says now t = since-all P now.before 0 (each P says now t)
+
+filter-passed : {X : Type 0} (p : X → Bool) (xs : List X) → All (λ x. p x ≡ true) xs → filter p xs ≡ xs
+filter-passed p [] all = refl
+filter-passed p (x ∷ xs) all =
+    ap (λ k. cond k (x ∷ filter p xs) (filter p xs)) (All-head (λ y. p y ≡ true) x xs all) ∙ ap (λ l. x ∷ l) (filter-passed p xs (All-tail (λ y. p y ≡ true) x xs all))
+
+-- Each bundle that was installed is live.
+pub all-stay : (now : Moment) → IsTold now → bundles.live now.before ≡ installed now.before
+all-stay now t =
+    filter-passed is_there (installed now.before)
+    (All-weaker (λ (i : Installed). All Stays i.since) (λ i. is_there i ≡ true) there (installed now.before) (since-each Stays (λ e c. c.gone) now t))
+  where
+    Stays : Entry → Type 0
+    Stays e = (b : BundleId) → is_uninstall b e.op e.reply ≡ false
+
+    there : (i : Installed) → All Stays i.since → is_there i ≡ true
+    there i stays =
+        ap not (list_any_none (λ (e : Entry). is_uninstall i.bundle e.op e.reply) i.since (All-weaker Stays (λ e. is_uninstall i.bundle e.op e.reply ≡ false) (λ e s. s i.bundle) i.since stays))
+
+-- Each has its revision from the location that it was installed from: of all that were installed, and so of the live ones.
+pub own-source : (now : Moment) → IsTold now → All (λ (i : Installed). source i ≡ i.location) (installed now.before)
+own-source now t = All-weaker (λ (i : Installed). All Stays i.since) (λ i. source i ≡ i.location) from (installed now.before) (since-each Stays (λ e c. c.updated) now t)
+  where
+    Stays : Entry → Type 0
+    Stays e = (b : BundleId) → updated_to b e.op e.reply ≡ None
+
+    from : (i : Installed) → All Stays i.since → source i ≡ i.location
+    from i stays =
+        ap (λ (o : Option (List ℕ)). unwrap_or o i.location)
+        (latest-none (λ (e : Entry). updated_to i.bundle e.op e.reply) i.since (All-weaker Stays (λ e. updated_to i.bundle e.op e.reply ≡ None) (λ e s. s i.bundle) i.since stays))
+
+pub live-source : (now : Moment) → IsTold now → All (λ (i : Installed). source i ≡ i.location) (bundles.live now.before)
+live-source now t = subst (All (λ (i : Installed). source i ≡ i.location)) (sym (all-stay now t)) (own-source now t)
+
+-- ---- states
+
+-- The system bundle is active, at every moment.
+pub system-active : (now : Moment) → state_of now system ≡ Active
+system-active now = refl
+
+-- Every other live bundle rests: it is resolved or not.
+pub rests : (now : Moment) → IsTold now → (b : BundleId) → (b.0 == 0) ≡ false → bundles.is_live b now.before ≡ true → state_of now b ≡ resting (is_resolved now.world b)
+rests now t b apart there =
+    let resolved : Bool = is_resolved now.world b in
+    ap (λ c. cond c Active (cond (bundles.is_live b now.before) (running (phase b now.before) resolved) Uninstalled)) apart
+    ∙ ap (λ c. cond c (running (phase b now.before) resolved) Uninstalled) there
+    ∙ ap (λ p. running p resolved) (always-idle now t b)
+
+-- What is up is bundle 0.
+pub up-zero : (now : Moment) → IsTold now → (b : BundleId) → is_up (state_of now b) ≡ true → (b.0 == 0) ≡ true
+up-zero now t b up = go (b.0 == 0) (bundles.is_live b now.before) (phase b now.before) (is_resolved now.world b) (always-idle now t b) up
+  where
+    go : (zero there : Bool) (p : Phase) (resolved : Bool) → p ≡ idle → is_up (cond zero Active (cond there (running p resolved) Uninstalled)) ≡ true → zero ≡ true
+    go true there p resolved q e = refl
+    go false true p true q e = absurd (let bad : false ≡ true = sym (ap (λ x. is_up (running x true)) q) ∙ e in cc bad)
+    go false true p false q e = absurd (let bad : false ≡ true = sym (ap (λ x. is_up (running x false)) q) ∙ e in cc bad)
+    go false false p resolved q e = absurd (cc e)
+
+-- The system bundle alone is up.
+pub up-system : (now : Moment) → IsTold now → (b : BundleId) → is_up (state_of now b) ≡ true → b ≡ system
+up-system now t b up = let same : b.0 ≡ 0 = eqb-true b.0 0 (up-zero now t b up) in λ i. record { 0 = same i }
+
+-- ---- who asks, and who owns
+
+-- The system bundle may ask, at every moment.
+pub system-passes : (now : Moment) → MayAsk now (Some system)
+system-passes now = (refl, refl)
+
+-- Whoever may ask is the system bundle.
+pub passes-system : (now : Moment) → IsTold now → (asker : BundleId) → MayAsk now (Some asker) → asker ≡ system
+passes-system now t asker p = up-system now t asker p.1
+
+-- The owner of every live service is the system bundle.
+pub system-owns : (now : Moment) → IsTold now → All (λ (r : Registered). r.owner ≡ system) (live now.before)
+system-owns now t =
+    All-weaker (λ (r : Registered). is_up (state_of now r.owner) ≡ true) (λ r. r.owner ≡ system) (λ r up. up-system now t r.owner up) (live now.before) (services-up-at now t)
+
+-- Every live service is assignable to whoever may ask, for every class.
+pub all-assignable : (now : Moment) → IsTold now → (asker : BundleId) → MayAsk now (Some asker) → All (λ (r : Registered). (class : List ℕ) → IsAssignable now.world r.owner asker class) (live now.before)
+all-assignable now t asker p =
+    All-weaker (λ (r : Registered). r.owner ≡ system) (λ r. (class : List ℕ) → IsAssignable now.world r.owner asker class)
+    (λ r mine class. subst (λ b. IsAssignable now.world b asker class) (sym mine) (subst (λ b. IsAssignable now.world system b class) (sym (passes-system now t asker p)) (system-assignable-at now t class)))
+    (live now.before) (system-owns now t)
+
+-- ---- what is seen
+
+not-seen : (past : List Entry) (before after : World) (e : Entry) (s : Sight) → listeners past ≡ [] → IsSight past before after e s → ⊥
+not-seen past before after e s none i = (let found : None ≡ Some i.listener = sym (ap (find (is_listener s.listener)) none) ∙ i.is in cc found)
+
+-- Nothing is seen of any entry.
+pub none-seen-now : (now : Moment) → IsTold now → (o : Op) (y : Reply) (world : World) → AreSights now.before now.world world (entry_of now o y) []
+none-seen-now now t o y world = record {
+  only = All-nil (IsSight now.before now.world world (entry_of now o y));
+  every = λ s i. absurd (not-seen now.before now.world world (entry_of now o y) s (no-listeners now t) i);
+  in_order = λ i j d less below. absurd (omega arith);
+}
+
+-- What is seen of an entry is nothing.
+pub seen-none : (now : Moment) → IsTold now → (o : Op) (y : Reply) (world : World) (sights : List Sight) → AreSights now.before now.world world (entry_of now o y) sights → sights ≡ []
+seen-none now t o y world sights a = sights-once now.before now.world world (entry_of now o y) sights [] a (none-seen-now now t o y world)
+
+-- Nothing was seen in a legal history.
+pub none-seen-in : (setting : Setting) (told : List Told) → AreAllowed setting told → sights_in told ≡ []
+none-seen-in setting told legal =
+    holds (IsAllowed setting) (λ l. sights_in l ≡ []) refl
+    (λ front x before none a.
+    let empty : x.sights ≡ [] = seen-none (moment setting front x.entry.tag) (Told-of setting front x.entry.tag before) x.entry.op x.entry.reply x.world x.sights a.seen in
+    sights-last front x ∙ (λ i. none i ++ seen_after (length front) (empty i)))
+    told legal
+
+-- Nothing was seen.
+pub no-sights : (now : Moment) → IsTold now → now.sights ≡ []
+no-sights now t = at-told (λ m. m.sights ≡ []) (λ setting told tag legal. none-seen-in setting told legal) now t
+
+-- No reply hands an event.
+pub none-handed : (now : Moment) → IsTold now → All (λ (e : Entry). is_handing e.reply ≡ false) now.before
+none-handed now t = at-told (λ m. All (λ (e : Entry). is_handing e.reply ≡ false) m.before) (λ setting told tag legal. all-unhanded setting told legal) now t
+
+-- So none is `Handed`, whatever it would hand to whom.
+pub never-handed : (now : Moment) → IsTold now → (e : Entry) → Contains now.before e → (listener : ListenerId) (kind : Kind) (owner : BundleId) (row : ℕ) (name : List ℕ) (event : Event) →
+    e.reply ≡ answer.Handed listener kind owner row name event → ⊥
+never-handed now t e i listener kind owner row name event is =
+    let none : is_handing e.reply ≡ false = All-contains (λ (x : Entry). is_handing x.reply ≡ false) now.before e (none-handed now t) i in
+    (let bad : true ≡ false = sym (ap is_handing is) ∙ none in cc bad)

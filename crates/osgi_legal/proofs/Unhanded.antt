@@ -1,0 +1,91 @@
+-- No reply of a legal history hands an event while Hand has not come.
+use Rattle.std.proofs.Common.{◌≡◌, inl, inr, Bool, true, false, List, refl, sym, ap, ◌∙◌, subst}
+use Rattle.std.specs.Prelude.{All, ℕ, Option, None, Some, IsSomeAnd}
+use Rattle.std.proofs.lemmas.List.Elements.{All-nil, All-push}
+use Rattle.osgi_base.specs.declared.ids.BundleId.{BundleId}
+use Rattle.osgi_ops.specs.Brackets.{is_end}
+use Rattle.osgi_ops.specs.Bundles.{Bundle, bundle_from}
+use Rattle.osgi_ops.specs.Legal.{AreAllowed, IsAllowed}
+use Rattle.osgi_ops.specs.Moments.{entries_in, Moment, moment, Told}
+use Rattle.osgi_ops.specs.Operations.{Answers, IsReply}
+use Rattle.osgi_ops.specs.Replies.{is_accepted}
+use Rattle.osgi_ops.specs.Resolved.{is_resolved}
+use Rattle.osgi_ops.specs.Resolving.{AnswersResolve}
+use Rattle.osgi_ops.specs.Services.{live_at, Registered}
+use Rattle.osgi_ops.specs.Settings.{Setting}
+use Rattle.osgi_ops.specs.Stages.{is_here}
+use Rattle.osgi_ops.specs.declared.entry.Entry.{Entry}
+use Rattle.osgi_ops.specs.declared.op.Op.{Op}
+use Rattle.osgi_ops.specs.declared.op.Op.TheVariants as op
+use Rattle.osgi_ops.specs.declared.reply.Reply.{Reply}
+use Rattle.osgi_ops.specs.declared.reply.Reply.TheVariants as answer
+use Rattle.osgi_ops.specs.laws.Along.{holds}
+use Rattle.osgi_ops.specs.rows.Bundles.{installs}
+use Rattle.osgi_legal.proofs.Accepted.{accepted}
+use Rattle.osgi_legal.proofs.Early.{due-early, none-open}
+use Rattle.osgi_legal.proofs.Owned.{entries-last}
+use Rattle.osgi_legal.proofs.Windows.{refused-is}
+
+-- the reply hands an event to a listener
+abbrev pub is_handing : Reply → Bool
+is_handing (answer.Handed listener kind owner row name event) = true
+is_handing _ = false
+
+got : (at : Option Registered) (y : Reply) → IsSomeAnd at (λ r. y ≡ answer.Object r.object) → is_handing y ≡ false
+got None y a = absurd a
+got (Some r) y a = ap is_handing a
+
+installed-so : (known : Option Bundle) (earlier : ℕ) → is_handing (installs known earlier) ≡ false
+installed-so None earlier = refl
+installed-so (Some b) earlier = refl
+
+resolved-so : (resolved : Bool) (now : Moment) (b : BundleId) (y : Reply) → AnswersResolve resolved now b y → is_handing y ≡ false
+resolved-so true now b y a = ap is_handing a
+resolved-so false now b y a = ap is_handing a.2
+
+-- no answer of an operation that has come and is no end hands one
+answers-none : (now : Moment) (o : Op) (y : Reply) → is_here o ≡ true → is_end o ≡ false → Answers now o y → is_handing y ≡ false
+answers-none now (op.Register owner classes object scope properties) y h n a = ap is_handing a
+answers-none now (op.Modify owner service properties) y h n a = ap is_handing a
+answers-none now (op.Unregister owner service) y h n a = ap is_handing a
+answers-none now (op.Find asker class filter) y h n a = ap is_handing a.1
+answers-none now (op.FindAll asker class filter) y h n a = ap is_handing a.1
+answers-none now (op.Get user service) y h n a = got (live_at service now.before) y a
+answers-none now (op.Unget user service) y h n a = ap is_handing a
+answers-none now (op.Install location) y h n a = ap is_handing a ∙ installed-so (bundle_from now.setting.depot now.before location) _
+answers-none now (op.Resolve bundle) y h n a = resolved-so (is_resolved now.world bundle) now bundle y a
+answers-none now op.ListBundles y h n a = ap is_handing a
+answers-none now op.ListServices y h n a = ap is_handing a
+answers-none now (op.ListWires bundle) y h n a = ap is_handing a.2
+answers-none now (op.EndHand listener) y h n a = absurd (cc n)
+answers-none now op.EndJob y h n a = absurd (cc n)
+answers-none now (op.EndStart bundle failed) y h n a = absurd (cc n)
+answers-none now (op.EndStop bundle failed) y h n a = absurd (cc n)
+answers-none now o y h n a = absurd (cc h)
+
+-- so no reply that is due hands one
+pub due-unhanded : (now : Moment) (o : Op) (y : Reply) → is_here o ≡ true → is_end o ≡ false → IsReply now o y → is_handing y ≡ false
+due-unhanded now o y h n r = go (is_accepted y) refl
+  where
+    go : (k : Bool) → is_accepted y ≡ k → is_handing y ≡ false
+    go true e = answers-none now o y h n (accepted now o y r e).1
+    go false e = ap is_handing (refused-is y e).1
+
+-- of every legal history
+pub all-unhanded : (setting : Setting) (told : List Told) → AreAllowed setting told → All (λ (e : Entry). is_handing e.reply ≡ false) (entries_in told)
+all-unhanded setting told legal =
+    holds (IsAllowed setting) (λ l. All Unhanded (entries_in l)) (All-nil Unhanded)
+    (λ front x before none a.
+    subst (All Unhanded) (sym (entries-last front x)) (All-push Unhanded (entries_in front) x.entry none (due setting front x before a)))
+    told legal
+  where
+    Unhanded : Entry → Type 0
+    Unhanded e = is_handing e.reply ≡ false
+
+    due : (setting : Setting) (front : List Told) (x : Told) → AreAllowed setting front → IsAllowed setting front x → is_handing x.entry.reply ≡ false
+    due setting front x before a =
+        let now : Moment = moment setting front x.entry.tag in
+        elim (due-early now x.entry.op x.entry.reply (none-open setting front before) a.replied) [
+          | inl h ↦ due-unhanded now x.entry.op x.entry.reply h.0 h.1 a.replied
+          | inr is ↦ ap is_handing is
+        ]

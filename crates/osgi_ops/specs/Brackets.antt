@@ -1,0 +1,107 @@
+-- The brackets of a history: the hands, starts, stops and jobs that are open.
+use Rattle.std.specs.Prelude.{◌≡◌, ℕ, ◌==◌, ◌&&◌, Bool, true, false, if◌then◌else◌, List, [], ◌∷◌, Option, None, Some, filter}
+use Rattle.osgi_base.specs.declared.ids.BundleId.{BundleId}
+use Rattle.osgi_base.specs.declared.ids.ListenerId.{ListenerId}
+use Rattle.osgi_base.specs.declared.ids.Tag.{Tag}
+use Rattle.osgi_ops.specs.Along.{carry}
+use Rattle.osgi_ops.specs.declared.op.Op.{Op}
+use Rattle.osgi_ops.specs.declared.op.Op.TheVariants.{Hand, EndHand, TakeJob, EndJob, BeginStart, EndStart, BeginStop, EndStop}
+use Rattle.osgi_ops.specs.declared.reply.Reply.{Reply}
+use Rattle.osgi_ops.specs.declared.reply.Reply.TheVariants.{Handed, Job, Begun}
+use Rattle.osgi_ops.specs.declared.entry.Entry.{Entry}
+
+-- what a bracket is open for
+pub data Cause : Type 0 where
+  handing : ListenerId → Cause
+  starting : BundleId → Cause
+  stopping : BundleId → Cause
+  job : Cause
+
+-- an open bracket, with the tag of the entry that opened it
+pub record Bracket : Type 0 where
+  pub tag : Tag
+  pub cause : Cause
+
+abbrev pub bracket : Tag → Cause → Bracket
+bracket tag cause = record { tag = tag; cause = cause }
+
+-- what an operation with its reply opens a bracket for
+abbrev pub opens : Op → Reply → Option Cause
+opens Hand (Handed listener kind owner row name event) = Some (handing listener)
+opens TakeJob (Job owner row name) = Some job
+opens (BeginStart bundle transient) (Begun begun row) = Some (starting bundle)
+opens (BeginStop target transient) (Begun begun row) = Some (stopping begun)
+opens _ _ = None
+
+-- the operation is an end
+abbrev pub is_end : Op → Bool
+is_end (EndHand listener) = true
+is_end EndJob = true
+is_end (EndStart bundle failed) = true
+is_end (EndStop bundle failed) = true
+is_end _ = false
+
+-- the operation is the end of what a bracket is open for
+abbrev pub ends : Op → Cause → Bool
+ends (EndHand listener) (handing held) = listener.0 == held.0
+ends EndJob job = true
+ends (EndStart bundle failed) (starting begun) = bundle.0 == begun.0
+ends (EndStop bundle failed) (stopping begun) = bundle.0 == begun.0
+ends _ _ = false
+
+-- the bracket is of the tag's own command, and the operation is its end
+abbrev pub is_ended : Tag → Op → Bracket → Bool
+is_ended tag op b = (b.tag.command == tag.command) && ends op b.cause
+
+-- the operation is the end of the innermost bracket of the tag's caller, and the tag's own command opened that. The reply does not count: of
+-- the replies that a legal history has, each closes
+abbrev pub closes : Tag → Op → List Bracket → Bool
+closes tag op [] = false
+closes tag op (b ∷ outer) = if b.tag.caller == tag.caller then is_ended tag op b else closes tag op outer
+
+-- without the innermost bracket of a caller
+abbrev pub without_innermost : ℕ → List Bracket → List Bracket
+without_innermost caller [] = []
+without_innermost caller (b ∷ outer) = if b.tag.caller == caller then outer else b ∷ without_innermost caller outer
+
+-- with what an entry with this tag opens, or without what it closes
+abbrev pub turned : Tag → Option Cause → Bool → List Bracket → List Bracket
+turned tag (Some cause) closed opened = bracket tag cause ∷ opened
+turned tag None true opened = without_innermost tag.caller opened
+turned tag None false opened = opened
+
+abbrev pub with_entry : List Bracket → Entry → List Bracket
+with_entry opened e = turned e.tag (opens e.op e.reply) (closes e.tag e.op opened) opened
+
+-- the open brackets of all callers, the innermost of each first
+abbrev pub brackets : List Entry → List Bracket
+brackets history = carry with_entry [] history
+
+-- those of one caller
+abbrev pub brackets_of : ℕ → List Entry → List Bracket
+brackets_of caller history = filter (λ b. b.tag.caller == caller) (brackets history)
+
+-- ---- the brackets of one caller
+
+abbrev pub without_first : List Bracket → List Bracket
+without_first [] = []
+without_first (b ∷ outer) = outer
+
+-- the operation is the end of the innermost of a caller's own brackets
+abbrev pub own_closes : Tag → Op → List Bracket → Bool
+own_closes tag op [] = false
+own_closes tag op (b ∷ outer) = is_ended tag op b
+
+-- a caller's own brackets with what one of its calls opens, or without what it closes
+abbrev pub own_turned : Tag → Option Cause → Bool → List Bracket → List Bracket
+own_turned tag (Some cause) closed own = bracket tag cause ∷ own
+own_turned tag None true own = without_first own
+own_turned tag None false own = own
+
+-- the operation is the end of the innermost bracket of the tag's caller, which the tag's own command opened
+abbrev pub is_own_end : Tag → Op → List Entry → Bool
+is_own_end tag op history = closes tag op (brackets history)
+
+-- how many brackets a caller may have open
+abbrev pub most_brackets : ℕ
+most_brackets = 64

@@ -1,0 +1,29 @@
+-- Which operations the framework has come to have. While one has not come it is refused as an invalid operation, whoever asks.
+use Rattle.std.specs.Prelude.{Bool, true, false}
+use Rattle.osgi_ops.specs.declared.op.Op.{Op}
+use Rattle.osgi_ops.specs.declared.op.Op.TheVariants as op
+
+-- The ends of brackets are here before what opens one: while no bracket is open, their own conditions refuse them
+abbrev pub is_here : Op → Bool
+is_here (op.AddListener owner name kind filter) = false
+is_here (op.RemoveListener owner name) = false
+is_here op.Hand = false
+is_here (op.QueueJob owner name) = false
+is_here op.TakeJob = false
+is_here (op.Print owner text) = false
+is_here (op.Fail owner text) = false
+is_here (op.WishStart target transient) = false
+is_here (op.BeginStart bundle transient) = false
+is_here (op.BeginStop target transient) = false
+is_here (op.Update bundle location) = false
+is_here (op.Uninstall bundle) = false
+is_here (op.BeginRefresh bundles) = false
+is_here op.DropWirings = false
+is_here op.EndRefresh = false
+is_here (op.BeginLevel target) = false
+is_here (op.ListLevel level) = false
+is_here (op.MoveLevel to) = false
+is_here op.EndLevel = false
+is_here (op.SetBundleLevel bundle level) = false
+is_here (op.Load bundle class) = false
+is_here _ = true

@@ -1,0 +1,23 @@
+-- The session's history is the machine's, which replays under the limits and the depot that were read, sound at every step.
+use Rattle.std.proofs.Common.{◌≡◌, ap, sym, subst, ◌∙◌, refl, rules}
+use Rattle.osgi_core.specs.Sound.{IsSoundlyTold}
+use Rattle.osgi_ops.specs.Settings.{bounds_of, Setting, setting_of}
+use Rattle.osgi_program.proofs.framework.run_input.Goals as goal
+
+pub returns-clause-run : goal.returns-clause-run
+returns-clause-run g c =
+    let machine = c.run_lines-ran.new.core in
+    let depot = c.into_parts-depot.result.0 in
+    let entries = c.into_parts-depot.result.1 in
+    let kept : machine.setting ≡ setting_of c.args.limits c.in_ok-depot.depot = c.run_lines-ran.ensures.setting ∙ c.in_ok-core.ensures.setting in
+    let rows : c.in_ok-depot.depot.rows ≡ depot.rows = sym (c.into_parts-depot.ensures.depot ∙ ap (λ (s : Setting). s.depot) kept) in
+    let setting : machine.setting ≡ record { bounds = bounds_of c.args.limits; depot = depot.rows } = kept ∙ (λ i. record { bounds = bounds_of c.args.limits; depot = rows i }) in
+    let told = subst (λ (s : Setting). IsSoundlyTold s entries machine.world) setting c.into_parts-depot.ensures.sound in
+    record {
+      lines = search rules;
+      depot = search rules;
+      legal = (machine.world, told.replayed);
+      sound = told.sound;
+      runs = search rules;
+      handings = refl;
+    }

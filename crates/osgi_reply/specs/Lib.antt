@@ -1,3 +1,0 @@
--- What operations do to the tables, and answer by them.
-pub mod Replied
-pub mod computed

@@ -1,4 +1,0 @@
--- What private functions and proofs cite. No public promise cites these.
-pub mod Asked
-pub mod Changes
-pub mod Searched

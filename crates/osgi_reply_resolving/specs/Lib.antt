@@ -1,0 +1,2 @@
+-- What operations on bundles and their wirings find.
+pub mod computed

@@ -1,0 +1,171 @@
+-- What the tables answer is what is due at each moment that they stand for.
+use Rattle.std.proofs.Common.{◌≡◌, ℕ, List, [], ◌∷◌, ◌++◌, refl, sym, subst, ◌∙◌}
+use Rattle.std.specs.Prelude.{false, None, Result, Ok, Err, IfOk, OnErr}
+use Rattle.osgi_base.specs.declared.ids.BundleId.{BundleId}
+use Rattle.osgi_bundle.specs.Rows.{TableRows}
+use Rattle.osgi_bundle.specs.Stands as bundle
+use Rattle.osgi_bundle.specs.laws.Standing as table
+use Rattle.osgi_legal.specs.Quiet.{QuietBundles, QuietPhases, QuietServices}
+use Rattle.osgi_legal.proofs.Quiet.{bundles-quiet, refused-quiet}
+use Rattle.osgi_legal.proofs.Stage.{none-seen-now}
+use Rattle.osgi_ops.specs.Bundles.{brings_revision, installed_by, is_uninstall, put_into, updated_to}
+use Rattle.osgi_ops.specs.Legal.{entry_of, IsAskedAt, IsTold}
+use Rattle.osgi_ops.specs.Moments.{later, Moment}
+use Rattle.osgi_ops.specs.Operations.{IsReply}
+use Rattle.osgi_ops.specs.Replies.{is_effective}
+use Rattle.osgi_ops.specs.Soundness.{IsSound}
+use Rattle.osgi_ops.specs.Worlds.{Leaves}
+use Rattle.osgi_ops.specs.declared.asked.Asked.{Asked}
+use Rattle.osgi_ops.specs.declared.entry.Entry.{Entry}
+use Rattle.osgi_ops.specs.declared.op.Op.{Op}
+use Rattle.osgi_ops.specs.declared.op.Op.TheVariants as op
+use Rattle.osgi_ops.specs.declared.refusal.Refusal.{Refusal}
+use Rattle.osgi_ops.specs.declared.reply.Reply.{Reply}
+use Rattle.osgi_ops.specs.declared.reply.Reply.TheVariants as answer
+use Rattle.osgi_registry.specs.Rows.{RegistryRows}
+use Rattle.osgi_registry.specs.Stands as registries
+use Rattle.osgi_registry.specs.laws.Standing as registry
+use Rattle.osgi_wiring.specs.States.{WiringState}
+use Rattle.osgi_world.specs.declared.world.World.{World}
+use Rattle.osgi_tables.specs.Replied.{IsReplied, IsRepliedToAll, IsSame, StandsFor, StandsStill}
+use Rattle.osgi_tables.specs.Changes.{IsReplyAndChange, IsReplyAndChangeToAll}
+use Rattle.osgi_tables.specs.declared.change.Change.{Change}
+use Rattle.osgi_tables.specs.declared.change.Change.TheVariants as change
+use Rattle.osgi_tables.specs.declared.tables.Tables.{Tables}
+
+-- what the operation with this reply says is of services at most, and it leaves the world
+pub record IsOfServices (o : Op) (reply : Reply) : Type 0 where
+  pub bundles : QuietBundles o reply
+  pub phases : QuietPhases o reply
+  pub leaves : (now : Moment) (world : World) → world ≡ now.world → Leaves now o reply world
+
+-- where no view of bundles and phases mentions the operation
+pub of_services : (o : Op) (reply : Reply) → ((n : ℕ) (since : List Entry) → installed_by n o reply since ≡ []) → ((b : BundleId) → is_uninstall b o reply ≡ false) → ((b : BundleId) → updated_to b o reply ≡ None) → brings_revision o reply ≡ false →
+    ((b : BundleId) → put_into b o reply ≡ None) → ((now : Moment) (world : World) → world ≡ now.world → Leaves now o reply world) → IsOfServices o reply
+of_services o reply installs gone updated brings phases leaves = record { bundles = record { installed = installs; gone = gone; updated = updated; brings = brings }; phases = phases; leaves = leaves }
+
+-- the moment with the world that the tables have
+abbrev pub at : Moment → Tables → Moment
+at now tables = record now { world = tables.wirings.world }
+
+-- what holds at each moment of that world that the tables stand for, holds at each that they stand for
+pub from_own : {asked : Asked} (old : Tables) (P : Moment → Type 0) → ((now : Moment) → IsTold (at now old) → StandsFor (at now old) old → P (at now old)) → (now : Moment) → IsAskedAt asked now → StandsFor now old → P now
+from_own old P prove now asked stood =
+    subst (λ (w : World). P (record now { world = w })) stood.world
+    (prove now (subst (λ (w : World). IsTold (record now { world = w })) (sym stood.world) asked.told) (subst (λ (w : World). StandsFor (record now { world = w }) old) (sym stood.world) stood))
+
+-- ---- what is seen: nothing, while no listener is there
+
+pub unseen : (asked : Asked) (old new : Tables) (reply : Reply) → ((now : Moment) → IsAskedAt asked now → StandsFor now old → IsReply now asked.op reply) → ((now : Moment) → IsAskedAt asked now → StandsFor now old → Leaves now asked.op reply new.wirings.world) →
+    ((now : Moment) → IsAskedAt asked now → StandsFor now old → StandsFor (later now asked.op reply new.wirings.world []) new) → IsReplied asked old new reply
+unseen asked old new reply due left stands = record {
+  sights = [];
+  due = due;
+  left = left;
+  seen = λ now told stood. none-seen-now now told.told asked.op reply new.wirings.world;
+  stands = stands;
+}
+
+-- ---- operations that say nothing of bundles: one law for all tables
+
+abbrev pub with_services : RegistryRows → Tables → Tables
+with_services services tables = record tables { registry = services }
+
+-- an entry that says nothing of bundles and phases, as the table of bundles takes it
+pub bundles_unsaid : (e : Entry) → QuietBundles e.op e.reply → QuietPhases e.op e.reply → table.IsQuietOfBundles e
+bundles_unsaid e quiet phases = record { installs = quiet.installed; uninstalls = quiet.gone; updates = quiet.updated; puts = phases }
+
+-- the tables after an entry that changes no more than the registry
+pub still_world : (now : Moment) (tables : Tables) (o : Op) (reply : Reply) (services : RegistryRows) → StandsFor now tables → IsOfServices o reply → registries.StandsFor (now.before ++ entry_of now o reply ∷ []) services →
+    StandsFor (later now o reply tables.wirings.world []) (with_services services tables)
+still_world now tables o reply services stood quiet stands =
+    let e : Entry = entry_of now o reply in
+    let depot = now.setting.depot in
+    record {
+      depot = stood.depot;
+      budget = stood.budget;
+      services = stands;
+      bundles =
+          subst (λ (w : World). bundle.StandsFor depot (now.before ++ e ∷ []) w tables.bundles) (sym stood.world)
+          (table.stands_quiet depot now.before now.world tables.bundles e stood.bundles (bundles_unsaid e quiet.bundles quiet.phases));
+      world = refl;
+      issued = stood.issued ∙ sym (bundles-quiet depot now.before e quiet.bundles).revisions;
+      sound = subst IsSound (sym stood.world) stood.sound;
+    }
+
+pub unsaid : (e : Entry) → QuietServices e.op e.reply → registry.IsQuiet e
+unsaid e quiet = record { registers = quiet.registered; takes = quiet.taken; gives = quiet.given; gets = quiet.got; ungets = quiet.let_go; cleans = quiet.cleaned }
+
+-- an entry that says nothing of services either leaves all tables
+pub still_tables : (now : Moment) (tables : Tables) (o : Op) (reply : Reply) → StandsFor now tables → IsOfServices o reply → QuietServices o reply → StandsFor (later now o reply tables.wirings.world []) tables
+still_tables now tables o reply stood quiet silent = still_world now tables o reply tables.registry stood quiet (registry.stands_quiet now.before tables.registry (entry_of now o reply) stood.services (unsaid (entry_of now o reply) silent))
+
+-- ---- refusals
+
+-- a refusal leaves the world
+pub refused-leaves : (now : Moment) (o : Op) (f : Refusal) (world : World) → world ≡ now.world → Leaves now o (answer.Refused f) world
+refused-leaves now (op.Install location) f world same = same
+refused-leaves now (op.Resolve bundle) f world same = same
+refused-leaves now (op.Update bundle location) f world same = same
+refused-leaves now (op.Uninstall bundle) f world same = same
+refused-leaves now op.DropWirings f world same = same
+refused-leaves now o f world same = same
+
+-- what is refused, but for a section that failed, changes nothing
+pub refused_of : (o : Op) (refusal : Refusal) → is_effective (answer.Refused refusal) ≡ false → IsOfServices o (answer.Refused refusal)
+refused_of o refusal none =
+    let quiet = refused-quiet o refusal none in
+    record { bundles = quiet.bundles; phases = quiet.phases; leaves = λ now world same. refused-leaves now o refusal world same }
+
+pub replied_refused : (asked : Asked) (tables : Tables) (refusal : Refusal) → is_effective (answer.Refused refusal) ≡ false → ((now : Moment) → IsAskedAt asked now → StandsFor now tables → IsReply now asked.op (answer.Refused refusal)) →
+    IsReplied asked tables tables (answer.Refused refusal)
+replied_refused asked tables refusal none due =
+    unseen asked tables tables (answer.Refused refusal) due
+    (λ now told stood. refused-leaves now asked.op refusal tables.wirings.world stood.world)
+    (λ now told stood. still_tables now tables asked.op (answer.Refused refusal) stood (refused_of asked.op refusal none) (refused-quiet asked.op refusal none).services)
+
+-- ---- what is decided
+
+-- the reply changes nothing
+pub decided_same : (asked : Asked) (tables : Tables) (reply : Reply) → IsReplied asked tables tables reply → IsReplyAndChange asked tables reply change.Nothing
+decided_same asked tables reply replied = record { possible = tt; replied = λ new same. subst (λ t. IsReplied asked tables t reply) (sym same) replied }
+
+-- it is the same whatever the tag
+pub decided_all : (o : Op) (tables : Tables) (reply : Reply) → IsRepliedToAll o tables tables reply → IsReplyAndChangeToAll o tables reply change.Nothing
+decided_all o tables reply replied who = decided_same (record { tag = who; op = o }) tables reply (replied who)
+
+-- what is decided whoever asks is decided for who asks
+pub decided_asked : (asked : Asked) (o : Op) (tables : Tables) (reply : Reply) (c : Change) → asked.op ≡ o → IsReplyAndChangeToAll o tables reply c → IsReplyAndChange asked tables reply c
+decided_asked asked o tables reply c is decided = subst (λ p. IsReplyAndChange (record { tag = asked.tag; op = p }) tables reply c) (sym is) (decided asked.tag)
+
+-- ---- what functions answer
+
+pub unchanging : (asked : Asked) (o : Op) (tables : Tables) (x : Reply × Change) (reply : Reply) → (x.0 ≡ reply) × (x.1 ≡ change.Nothing) → asked.op ≡ o → IsRepliedToAll o tables tables reply → IsReplyAndChange asked tables x.0 x.1
+unchanging asked o tables x reply same is replied =
+    subst (λ y. IsReplyAndChange asked tables y x.1) (sym same.0) (subst (IsReplyAndChange asked tables reply) (sym same.1) (decided_asked asked o tables reply change.Nothing is (decided_all o tables reply replied)))
+
+pub asked_ok : {E : Type 0} (r : Result (Reply × Change) E) (asked : Asked) (o : Op) (tables : Tables) → asked.op ≡ o → IfOk r (λ x. IsReplyAndChangeToAll o tables x.0 x.1) → IfOk r (λ x. IsReplyAndChange asked tables x.0 x.1)
+asked_ok (Ok x) asked o tables is decided = decided_asked asked o tables x.0 x.1 is decided
+asked_ok (Err e) asked o tables is decided = tt
+
+-- tables that are the same stand for what they did
+pub still_same : (old new : Tables) → new ≡ old → StandsStill old new
+still_same old new same = λ now stood. subst (StandsFor now) (sym same) stood
+
+-- what holds, holds where a call fails
+pub on_err : {T E : Type 0} (r : Result T E) {P : Type 0} → P → OnErr r P
+on_err (Ok x) p = tt
+on_err (Err e) p = p
+
+-- ---- tables that are left as they were
+
+pub stays_same : (tables : Tables) (rows : TableRows) (after : WiringState) → rows ≡ tables.bundles → IsSame tables.wirings after → StandsStill tables (record tables { bundles = rows; wirings = after })
+stays_same tables rows after same is = λ now stood. record {
+  depot = stood.depot;
+  budget = stood.budget;
+  services = stood.services;
+  bundles = subst (bundle.StandsFor now.setting.depot now.before now.world) (sym same) stood.bundles;
+  world = is.world ∙ stood.world;
+  issued = is.issued ∙ stood.issued;
+  sound = stood.sound;
+}

@@ -1,0 +1,72 @@
+-- What an operation does to the tables, and answers by them.
+use Rattle.std.specs.Prelude.{◌≡◌, ◌<◌, ◌+◌, ◌-◌, ◌^◌, true, List, None}
+use Rattle.osgi_base.specs.declared.ids.BundleId.{BundleId}
+use Rattle.osgi_base.specs.declared.ids.Tag.{Tag}
+use Rattle.osgi_bundle.specs.Stands as table
+use Rattle.osgi_ops.specs.Bundles.{revisions}
+use Rattle.osgi_ops.specs.Legal.{entry_of, IsAskedAt}
+use Rattle.osgi_ops.specs.Listening.{AreSights}
+use Rattle.osgi_ops.specs.Moments.{later, Moment, Sight}
+use Rattle.osgi_ops.specs.Operations.{IsReply}
+use Rattle.osgi_ops.specs.Resolved.{current_revision}
+use Rattle.osgi_ops.specs.Soundness.{IsSound}
+use Rattle.osgi_ops.specs.Worlds.{Leaves, with_revision}
+use Rattle.osgi_ops.specs.declared.asked.Asked.{Asked}
+use Rattle.osgi_ops.specs.declared.op.Op.{Op}
+use Rattle.osgi_ops.specs.declared.reply.Reply.{Reply}
+use Rattle.osgi_registry.specs.Stands as registry
+use Rattle.osgi_wiring.specs.States.{BecomesKnown, IsKeptWorld, WiringState}
+use Rattle.osgi_world.specs.declared.revision.Revision.{Revision}
+use Rattle.osgi_reply_services.specs.Served as served
+use Rattle.osgi_tables.specs.declared.tables.Tables.{Tables}
+
+-- table by table the tables are those of the moment's history
+pub record StandsFor (now : Moment) (tables : Tables) : Type 0 where
+  pub depot : tables.depot.rows ≡ now.setting.depot
+  pub budget : tables.budget ≡ now.setting.bounds.budget
+  pub services : registry.StandsFor now.before tables.registry
+  pub bundles : table.StandsFor now.setting.depot now.before now.world tables.bundles
+  pub world : tables.wirings.world ≡ now.world
+  -- as many ids of revisions were given as revisions were brought, and the wirings in force keep all rules
+  pub issued : tables.wirings.issued ≡ revisions now.before
+  pub sound : IsSound now.world
+
+-- at each moment at which it is asked for and that the tables stood for the reply is due, the world is left as it may be and these are what
+-- listeners see, and then the tables stand for the next
+pub record IsReplied (asked : Asked) (old new : Tables) (reply : Reply) : Type 0 where
+  pub sights : List Sight
+  pub due : (now : Moment) → IsAskedAt asked now → StandsFor now old → IsReply now asked.op reply
+  pub left : (now : Moment) → IsAskedAt asked now → StandsFor now old → Leaves now asked.op reply new.wirings.world
+  pub seen : (now : Moment) → IsAskedAt asked now → StandsFor now old → AreSights now.before now.world new.wirings.world (entry_of now asked.op reply) sights
+  pub stands : (now : Moment) → IsAskedAt asked now → StandsFor now old → StandsFor (later now asked.op reply new.wirings.world sights) new
+
+-- it is the same whatever the tag
+abbrev pub IsRepliedToAll : Op → Tables → Tables → Reply → Type 0
+IsRepliedToAll op old new reply = (tag : Tag) → IsReplied (record { tag = tag; op = op }) old new reply
+
+-- the registry has room, ids of bundles and of revisions are left to be given, and the next bundle has no current revision. One
+-- more than the budget can be counted
+pub record HasRoom (tables : Tables) : Type 0 where
+  pub services : served.HasRoom tables.registry
+  pub bundles : tables.bundles.issued < 2 ^ 32 - 1
+  pub revisions : tables.wirings.issued < 2 ^ 32 - 1
+  pub fresh : (b : BundleId) → b.0 ≡ tables.bundles.issued + 1 → current_revision tables.wirings.world b ≡ None
+  pub budget : tables.budget < 2 ^ 64 - 1
+
+-- what the tables stood for they stand for
+abbrev pub StandsStill : Tables → Tables → Type 0
+StandsStill old new = (now : Moment) → StandsFor now old → StandsFor now new
+
+-- ---- the wirings when a bundle is installed
+
+-- the bundle's revision becomes known under the next id
+pub record IsBrought (b : BundleId) (revision : Revision) (old new : WiringState) : Type 0 where
+  pub world : new.world ≡ with_revision old.world (record { 0 = old.issued + 1 }) b revision
+  pub known : BecomesKnown old.world new.world (record { id = record { 0 = old.issued + 1 }; bundle = b; current = true; revision = revision })
+  pub holds : IsKeptWorld new.world new.issued
+  pub issued : new.issued ≡ old.issued + 1
+
+-- the world and the ids given are the same
+pub record IsSame (old new : WiringState) : Type 0 where
+  pub world : new.world ≡ old.world
+  pub issued : new.issued ≡ old.issued

@@ -1,0 +1,10 @@
+//! The tables of the running state, and the changes that operations make of them.
+#![tactic(auto)]
+
+mod askers;
+mod change;
+mod tables;
+
+pub use askers::asker_refusal;
+pub use change::Change;
+pub use tables::Tables;
