@@ -1,5 +1,6 @@
 -- Facts of legal histories.
 pub mod Accepted
+pub mod Askers
 pub mod Current
 pub mod Drops
 pub mod Early
@@ -7,7 +8,6 @@ pub mod Ends
 pub mod Facts
 pub mod Handing
 pub mod Hands
-pub mod Joining
 pub mod Legal
 pub mod Levels
 pub mod Listening

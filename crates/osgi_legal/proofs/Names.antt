@@ -26,18 +26,11 @@ use Rattle.osgi_world.specs.declared.revision.Revision.{Revision}
 use Rattle.osgi_ops.specs.laws.Along.{holds, latest-quiet, latest-set}
 use Rattle.osgi_ops.specs.laws.Members.{Contains-cases, Contains-filter, Contains-filter_map, Contains-first, Contains-map, Contains-mapped, Contains-more, Contains-none}
 use Rattle.osgi_legal.proofs.Accepted.{accepted, NoneHolds}
-use Rattle.osgi_ops.specs.laws.Bundles.{later, left_by, live-push}
+use Rattle.osgi_ops.specs.laws.Bundles.{later, left_by, live-push, source-by}
 use Rattle.osgi_legal.proofs.Owned.{entries-last}
 use Rattle.osgi_legal.proofs.Phases.{same-id}
 
--- ---- where a bundle comes from, after one more entry
-
-pub source-by : (i : Installed) (e : Entry) (u : Option (List ℕ)) → updated_to i.bundle e.op e.reply ≡ u → source (later e i) ≡ unwrap_or u (source i)
-source-by i e None q = ap (λ o. unwrap_or o i.location) (latest-quiet (λ (x : Entry). updated_to i.bundle x.op x.reply) i.since e q)
-source-by i e (Some location) q = ap (λ o. unwrap_or o i.location) (latest-set (λ (x : Entry). updated_to i.bundle x.op x.reply) i.since e location q)
-
-pub source-push : (i : Installed) (e : Entry) → source (later e i) ≡ unwrap_or (updated_to i.bundle e.op e.reply) (source i)
-source-push i e = source-by i e (updated_to i.bundle e.op e.reply) refl
+-- ---- rows
 
 -- a row is that of a bundle whose source has a revision
 pub row-made : (depot : List DepotRow) (i : Installed) (c : Bundle) → row_from depot i ≡ Some c → (c.bundle ≡ i.bundle) × (stored_revision depot (source i) ≡ Some c.revision)

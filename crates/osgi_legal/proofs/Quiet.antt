@@ -39,7 +39,6 @@ use Rattle.osgi_world.specs.declared.revision.Revision.{Revision}
 use Rattle.osgi_world.specs.declared.world.World.{World}
 use Rattle.osgi_ops.specs.laws.Along.{along-last, carry-last, latest-quiet}
 use Rattle.osgi_ops.specs.laws.Bundles as installs
-use Rattle.osgi_legal.proofs.Names.{source-push}
 use Rattle.osgi_legal.proofs.Owned.{brackets-last, closes-not, ended-by}
 use Rattle.osgi_ops.specs.laws.Services as kept
 
@@ -135,19 +134,16 @@ bundles-quiet depot h e q = record {
 }
   where
     from : (i : Installed) → source (installs.later e i) ≡ source i
-    from i = source-push i e ∙ ap (λ u. unwrap_or u (source i)) (q.updated i.bundle)
+    from i = installs.source-push i e ∙ ap (λ u. unwrap_or u (source i)) (q.updated i.bundle)
 
     row : (i : Installed) → row_from depot (installs.later e i) ≡ row_from depot i
-    row i = ap (λ s. option_map (λ (revision : Revision). record { bundle = i.bundle; location = i.location; row = row_number depot s; revision = revision }) (stored_revision depot s)) (from i)
+    row i = installs.row-kept depot i e (q.updated i.bundle)
 
 abbrev pub begin_of : Tag → Option bundles.Phase → Option Tag
 begin_of tag u = elim u [ Some bundles.starting ↦ Some tag | Some bundles.stopping ↦ Some tag | _ ↦ None ]
 
 pub phases-quiet : (h : List Entry) (e : Entry) → QuietPhases e.op e.reply → SamePhases (h ++ e ∷ []) h
-phases-quiet h e q = record {
-  phase = λ b. ap (λ o. unwrap_or o bundles.idle) (latest-quiet (λ (x : Entry). put_into b x.op x.reply) h e (q b));
-  last_begin = λ b. latest-quiet (begun_by b) h e (ap (begin_of e.tag) (q b));
-}
+phases-quiet h e q = record { phase = λ b. installs.phase-kept b h e (q b); last_begin = λ b. installs.last_begin-kept b h e (q b) }
 
 pub levels-quiet : (h : List Entry) (e : Entry) → QuietLevels e.op e.reply → SameLevels (h ++ e ∷ []) h
 levels-quiet h e q = record {

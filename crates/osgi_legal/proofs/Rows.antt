@@ -33,9 +33,9 @@ use Rattle.osgi_ops.specs.laws.Along.{holds}
 use Rattle.osgi_ops.specs.laws.Items.{contains-In, find-kept, find-push, In-filter}
 use Rattle.osgi_ops.specs.laws.Members.{Contains-cases, Contains-filter_map, Contains-map, Contains-none}
 use Rattle.osgi_legal.proofs.Accepted.{accepted}
-use Rattle.osgi_ops.specs.laws.Bundles.{later, left_by, live-push}
+use Rattle.osgi_ops.specs.laws.Bundles.{later, left_by, live-push, source-by}
 use Rattle.osgi_legal.proofs.Legal.{at-told, world-last}
-use Rattle.osgi_legal.proofs.Names.{IsBrought, row-cases, row-made, source-by}
+use Rattle.osgi_legal.proofs.Names.{IsBrought, row-cases, row-made}
 use Rattle.osgi_legal.proofs.Owned.{entries-last}
 use Rattle.osgi_legal.proofs.Phases.{same-id}
 use Rattle.osgi_legal.proofs.Quiet.{bundles-quiet, bundles-refused}

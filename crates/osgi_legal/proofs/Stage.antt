@@ -7,7 +7,7 @@ use Rattle.std.proofs.lemmas.List.Elements.{All-contains, All-head, All-nil, All
 use Rattle.std.proofs.lemmas.List.Folds.{list_any_none}
 use Rattle.osgi_base.specs.declared.ids.BundleId.{BundleId}
 use Rattle.osgi_base.specs.declared.ids.ListenerId.{ListenerId}
-use Rattle.osgi_legal.specs.Joining.{MayAsk}
+use Rattle.osgi_legal.specs.Askers.{MayAsk}
 use Rattle.osgi_ops.specs.Assignable.{IsAssignable}
 use Rattle.osgi_ops.specs.Brackets.{brackets, closes, is_end, is_own_end}
 use Rattle.osgi_ops.specs.Bundles as bundles

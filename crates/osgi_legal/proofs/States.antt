@@ -47,9 +47,9 @@ use Rattle.osgi_ops.specs.laws.Along.{holds, latest-quiet, latest-set}
 use Rattle.osgi_ops.specs.laws.Items.{contains-In, find-kept, found-in, In-contains, In-filter, In-kept, In-map, In-mapped, In-push}
 use Rattle.osgi_ops.specs.laws.Members.{Contains-cases, Contains-filter, Contains-filter_map, Contains-first, Contains-kept, Contains-map, Contains-mapped, Contains-more}
 use Rattle.osgi_legal.proofs.Accepted.{accepted}
-use Rattle.osgi_ops.specs.laws.Bundles.{any-map, has_id, installed-push, later, left_by, live-any, live-push}
+use Rattle.osgi_ops.specs.laws.Bundles.{any-map, has_id, installed-push, later, left_by, live-any, live-push, row-live, source-by}
 use Rattle.osgi_legal.proofs.Legal.{world-last}
-use Rattle.osgi_legal.proofs.Names.{row-made, source-by, update-is}
+use Rattle.osgi_legal.proofs.Names.{row-made, update-is}
 use Rattle.osgi_legal.proofs.Owned.{entries-last}
 use Rattle.osgi_legal.proofs.Phases.{same-id}
 use Rattle.osgi_legal.proofs.Quiet.{bundles-quiet, bundles-refused, count-same, live-same}
@@ -58,17 +58,6 @@ use Rattle.osgi_legal.proofs.Tidy.{any-in, contains-member, extends-of, in-any, 
 use Rattle.osgi_legal.proofs.Windows.{always-kept, IsKept, IsWindow, leaves-refused, refused-is, window-closed, window-outside}
 
 -- ---- rows and live bundles
-
--- a row's bundle is live
-pub row-live : (depot : List DepotRow) (h : List Entry) (c : Bundle) → Contains (bundles depot h) c → is_live c.bundle h ≡ true
-row-live depot h c i = go (Contains-cases the_system_bundle _ c i)
-  where
-    go : (the_system_bundle ≡ c) ⊎ Contains (filter_map (row_from depot) (live h)) c → is_live c.bundle h ≡ true
-    go (inl s) = or_left _ _ (ap (λ (x : Bundle). x.bundle.0 == 0) (sym s))
-    go (inr j) =
-        let l = Contains-filter_map (row_from depot) (live h) c j in
-        let m = row-made depot l.0 c l.2 in
-        live-any c.bundle h ∙ or_right _ _ (in-any (has_id c.bundle) (live h) l.0 (contains-In (live h) l.0 l.1) (eq-eqb l.0.bundle.0 c.bundle.0 (ap (λ (x : BundleId). x.0) (sym m.0))))
 
 -- a row stays, where its bundle is not uninstalled and what it is updated to can be read
 row-on : (depot : List DepotRow) (h : List Entry) (e : Entry) (c : Bundle) → Contains (bundles depot h) c → is_uninstall c.bundle e.op e.reply ≡ false →

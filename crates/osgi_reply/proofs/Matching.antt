@@ -1,11 +1,14 @@
 -- What is decided of each operation is decided for who asks.
-use Rattle.std.proofs.Common.{◌≡◌, inl, ap, sym, subst, ◌∙◌, refl}
-use Rattle.std.specs.Prelude.{true, false, None, Some}
-use Rattle.osgi_legal.specs.Joining.{MayAsk}
-use Rattle.osgi_legal.proofs.Joining.{asker-passes}
-use Rattle.osgi_legal.proofs.Stage.{no-own-end}
+use Rattle.std.proofs.Common.{◌≡◌, ap, sym, subst, ◌∙◌, refl}
+use Rattle.std.specs.Prelude.{◌&&◌, Bool, true, false, not, None, Some}
+use Rattle.osgi_base.specs.Verdict.{Gives}
+use Rattle.osgi_base.specs.declared.ids.BundleId.{BundleId}
+use Rattle.osgi_legal.specs.Askers.{MayAsk}
+use Rattle.osgi_legal.proofs.Askers.{asker-passes}
+use Rattle.osgi_legal.proofs.Stage.{end-due, late-due}
+use Rattle.osgi_ops.specs.Brackets.{is_end}
 use Rattle.osgi_ops.specs.Conditions.{asker_of}
-use Rattle.osgi_ops.specs.Legal.{IsTold}
+use Rattle.osgi_ops.specs.Legal.{IsAskedAt, IsTold}
 use Rattle.osgi_ops.specs.Moments.{Moment}
 use Rattle.osgi_ops.specs.Operations.{Answers, IsReply, own_conditions}
 use Rattle.osgi_ops.specs.Replies.{verdict}
@@ -13,14 +16,15 @@ use Rattle.osgi_ops.specs.Stages.{is_here}
 use Rattle.osgi_ops.specs.laws.Stages.{row-here}
 use Rattle.osgi_ops.specs.declared.asked.Asked.{Asked}
 use Rattle.osgi_ops.specs.declared.op.Op.{Op}
-use Rattle.osgi_ops.specs.declared.op.Op.TheVariants as op
 use Rattle.osgi_ops.specs.declared.refusal.Refusal.{Refusal}
 use Rattle.osgi_ops.specs.declared.refusal.Refusal.TheVariants.{InvalidOperation}
 use Rattle.osgi_ops.specs.declared.reply.Reply.{Reply}
 use Rattle.osgi_ops.specs.declared.reply.Reply.TheVariants as answer
 use Rattle.osgi_registry.specs.Rows.{RegistryRows}
+use Rattle.osgi_registry.specs.Stands as registries
+use Rattle.osgi_registry.specs.Stands.{StandsAfter}
 use Rattle.osgi_reply_services.specs.Changes as serving
-use Rattle.osgi_reply_services.specs.Served.{IsServed, IsServedToAll}
+use Rattle.osgi_reply_services.specs.Served.{IsFoundToAll, IsServed, IsServedToAll}
 use Rattle.osgi_reply_services.specs.declared.change.ServiceChange.{ServiceChange}
 use Rattle.osgi_tables.proofs.Asking.{here_asks, passed_by, plain_refusal, unasked}
 use Rattle.osgi_tables.proofs.Replying.{IsOfServices, replied_refused, still_world, unseen, with_services}
@@ -33,17 +37,23 @@ use Rattle.osgi_tables.specs.declared.tables.Tables.{Tables}
 
 -- ---- operations on services
 
-pub replied_served : (asked : Asked) (old : Tables) (new : RegistryRows) (reply : Reply) → is_here asked.op ≡ true → IsOfServices asked.op reply → asker_refusal old.bundles (asker_here asked.op) ≡ None → IsServed asked old.registry new reply →
-    IsReplied asked old (with_services new old) reply
-replied_served asked old new reply here quiet none served =
-    let passes : (now : Moment) → IsTold now → StandsFor now old → MayAsk now (asker_of asked.op) =
+-- what is due of the registry to who may ask is replied
+replied_by : (asked : Asked) (old : Tables) (new : RegistryRows) (reply : Reply) → is_here asked.op ≡ true → IsOfServices asked.op reply → asker_refusal old.bundles (asker_here asked.op) ≡ None →
+    ((now : Moment) → IsAskedAt asked now → MayAsk now (asker_of asked.op) → registries.StandsFor now.before old.registry → Gives (own_conditions now asked.op) (Answers now asked.op) (verdict reply)) →
+    StandsAfter asked.op reply old.registry new → IsReplied asked old (with_services new old) reply
+replied_by asked old new reply here quiet none due stands =
+    let may : (now : Moment) → IsTold now → StandsFor now old → MayAsk now (asker_of asked.op) =
     λ now told stood. subst (MayAsk now) (here_asks asked.op here) (passed_by now old.bundles (asker_here asked.op) told stood.bundles none) in
     unseen asked old (with_services new old) reply
     (λ now told stood.
     row-here now asked.op reply here
-    (asker-passes now (asker_of asked.op) (own_conditions now asked.op) (Answers now asked.op) (verdict reply) (passes now told.told stood) (served.due now told (passes now told.told stood) stood.services)))
+    (asker-passes now (asker_of asked.op) (own_conditions now asked.op) (Answers now asked.op) (verdict reply) (may now told.told stood) (due now told (may now told.told stood) stood.services)))
     (λ now told stood. quiet.leaves now old.wirings.world stood.world)
-    (λ now told stood. still_world now old asked.op reply new stood quiet (served.stands now.before now.tag stood.services))
+    (λ now told stood. still_world now old asked.op reply new stood quiet (stands now.before now.tag stood.services))
+
+pub replied_served : (asked : Asked) (old : Tables) (new : RegistryRows) (reply : Reply) → is_here asked.op ≡ true → IsOfServices asked.op reply → asker_refusal old.bundles (asker_here asked.op) ≡ None → IsServed asked old.registry new reply →
+    IsReplied asked old (with_services new old) reply
+replied_served asked old new reply here quiet none served = replied_by asked old new reply here quiet none (λ now told may stood. served.due now told stood) served.stands
 
 -- what is served to all is replied to who asks
 replied_asked : (asked : Asked) (o : Op) (old : Tables) (new : RegistryRows) (reply : Reply) → asked.op ≡ o → is_here o ≡ true → IsOfServices o reply → asker_refusal old.bundles (asker_here asked.op) ≡ None → IsServedToAll o old.registry new reply →
@@ -70,6 +80,12 @@ in_registry asked o tables x d same is here quiet passes decided =
 pub served_all : (o : Op) (tables : Tables) (reply : Reply) → is_here o ≡ true → IsOfServices o reply → asker_refusal tables.bundles (asker_here o) ≡ None → IsServedToAll o tables.registry tables.registry reply → IsRepliedToAll o tables tables reply
 served_all o tables reply here quiet passes served who = replied_served (record { tag = who; op = o }) tables tables.registry reply here quiet passes (served who)
 
+-- what is found for who asks
+pub found_all : (o : Op) (asker : BundleId) (tables : Tables) (reply : Reply) → asker_of o ≡ Some asker → is_here o ≡ true → IsOfServices o reply → asker_refusal tables.bundles (asker_here o) ≡ None →
+    IsFoundToAll o asker tables.registry reply → IsRepliedToAll o tables tables reply
+found_all o asker tables reply asks here quiet none found who =
+    replied_by (record { tag = who; op = o }) tables tables.registry reply here quiet none (λ now told may stood. found.due now who told (subst (MayAsk now) asks may) stood) found.stands
+
 -- ---- refusals
 
 -- who asks may not
@@ -77,25 +93,14 @@ pub replied_unasked : (asked : Asked) (tables : Tables) (refusal : Refusal) → 
 replied_unasked asked tables refusal is =
     replied_refused asked tables refusal (plain_refusal tables.bundles (asker_here asked.op) refusal is) (λ now told stood. unasked now tables.bundles asked.op refusal told.told stood.bundles is)
 
--- an operation that is not decided: it has not come, or it is an end, of which nothing is the beginning
+-- an operation that is not decided has not come, or is an end, of which nothing is the beginning
 undecided_due : (now : Moment) → IsTold now → (o : Op) → is_decided o ≡ false → IsReply now o (answer.Refused InvalidOperation)
-undecided_due now told (op.Register owner classes object scope properties) e = absurd (cc e)
-undecided_due now told (op.Modify owner service properties) e = absurd (cc e)
-undecided_due now told (op.Unregister owner service) e = absurd (cc e)
-undecided_due now told (op.Find asker class filter) e = absurd (cc e)
-undecided_due now told (op.FindAll asker class filter) e = absurd (cc e)
-undecided_due now told (op.Get user service) e = absurd (cc e)
-undecided_due now told (op.Unget user service) e = absurd (cc e)
-undecided_due now told (op.Install location) e = absurd (cc e)
-undecided_due now told (op.Resolve bundle) e = absurd (cc e)
-undecided_due now told (op.ListWires bundle) e = absurd (cc e)
-undecided_due now told op.ListBundles e = absurd (cc e)
-undecided_due now told op.ListServices e = absurd (cc e)
-undecided_due now told (op.EndHand listener) e = inl (InvalidOperation, (refl, no-own-end now told (op.EndHand listener)), refl)
-undecided_due now told op.EndJob e = inl (InvalidOperation, (refl, no-own-end now told op.EndJob), refl)
-undecided_due now told (op.EndStart bundle failed) e = inl (InvalidOperation, (refl, no-own-end now told (op.EndStart bundle failed)), refl)
-undecided_due now told (op.EndStop bundle failed) e = inl (InvalidOperation, (refl, no-own-end now told (op.EndStop bundle failed)), refl)
-undecided_due now told _ e = refl
+undecided_due now told o undecided = by (is_here o) (is_end o) refl refl undecided
+  where
+    by : (here ends : Bool) → is_here o ≡ here → is_end o ≡ ends → (here && not ends) ≡ false → IsReply now o (answer.Refused InvalidOperation)
+    by false ends late is e = late-due now o late
+    by true true here is e = end-due now told o is
+    by true false here is e = absurd (cc e)
 
 pub replied_not_yet : (asked : Asked) (tables : Tables) → is_decided asked.op ≡ false → IsReplied asked tables tables (answer.Refused InvalidOperation)
 replied_not_yet asked tables undecided = replied_refused asked tables InvalidOperation refl (λ now told stood. undecided_due now told.told asked.op undecided)

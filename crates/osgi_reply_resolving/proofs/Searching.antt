@@ -1,6 +1,6 @@
 -- A resolve answers, and changes the tables, as the history says.
 use Rattle.std.proofs.Common.{◌≡◌, ◌+◌, ◌<◌, ℕ, inl, inr, IsTrue, List, [], ◌∷◌, ◌++◌, length, map, ap, sym, subst, ◌∙◌, refl}
-use Rattle.std.specs.Prelude.{◌==◌, Bool, true, false, All, Err, IfOk, is_some, Ok, OnOk, Option, None, Result, Some, IsSomeAnd}
+use Rattle.std.specs.Prelude.{◌==◌, Bool, true, false, All, Err, IfOk, is_some, Ok, OnOk, Option, None, Result, Some}
 use Rattle.std.specs.Option.{option_map, option_map_or}
 use Rattle.std.specs.List.Sorted.{IsNonDecreasing}
 use Rattle.std.proofs.lemmas.Bool.{eq-eqb, eqb-true}
@@ -14,14 +14,12 @@ use Rattle.osgi_bundle.specs.laws.Standing as table
 use Rattle.osgi_legal.specs.Quiet.{QuietBundles, QuietServices}
 use Rattle.osgi_legal.proofs.Current.{dead-at, live-at, up-resolved}
 use Rattle.osgi_legal.proofs.Quiet.{bundles-quiet}
-use Rattle.osgi_legal.proofs.Stage.{no-refresh}
-use Rattle.osgi_legal.proofs.States.{row-live}
+use Rattle.osgi_legal.proofs.Stage.{never-refreshing}
 use Rattle.osgi_resolver_theory.proofs.Once.{effort_within-once, first-extends_world, none-extends_world}
 use Rattle.osgi_resolver_theory.proofs.Ordered.{partial-ordered}
 use Rattle.osgi_resolver_theory.proofs.Search.{within-not_above}
 use Rattle.osgi_ops.specs.Bundles.{Bundle, bundles, is_live}
 use Rattle.osgi_ops.specs.Legal.{entry_of, IsTold}
-use Rattle.osgi_ops.specs.Levels.{Refresh, refresh}
 use Rattle.osgi_ops.specs.Moments.{later, Moment}
 use Rattle.osgi_ops.specs.Operations.{Answers, conditions, IsReply}
 use Rattle.osgi_ops.specs.Replies.{verdict}
@@ -32,10 +30,11 @@ use Rattle.osgi_ops.specs.Worlds.{Leaves}
 use Rattle.osgi_ops.specs.declared.entry.Entry.{Entry}
 use Rattle.osgi_ops.specs.declared.op.Op.TheVariants as op
 use Rattle.osgi_ops.specs.declared.refusal.Refusal.{Refusal}
-use Rattle.osgi_ops.specs.declared.refusal.Refusal.TheVariants.{BudgetSpent, InvalidOperation, NoSuchBundle, Refreshing, Unresolvable}
+use Rattle.osgi_ops.specs.declared.refusal.Refusal.TheVariants.{BudgetSpent, InvalidOperation, NoSuchBundle, Unresolvable}
 use Rattle.osgi_ops.specs.declared.refusal.Unmet.{Unmet}
 use Rattle.osgi_ops.specs.declared.reply.Reply.{Reply}
 use Rattle.osgi_ops.specs.declared.reply.Reply.TheVariants as answer
+use Rattle.osgi_ops.specs.laws.Bundles.{row-live}
 use Rattle.osgi_ops.specs.laws.Items.{In-contains}
 use Rattle.osgi_ops.specs.rows.Bundles.{unresolved_refusals}
 use Rattle.osgi_ops.specs.laws.Resolved.{current-is, in_use-from, unresolved-is, in_use-true}
@@ -199,13 +198,9 @@ searched now told b k v is whole unresolved given =
       (λ other called. live now told b k is called.1),
       inr (
         (λ other called. cc (called.1, whole)),
-        subst (λ t. Gives (unresolved_refusals t now b) (AnswersResolve t now b) v) (sym unresolved) (inr ((λ other called. not_refreshing _ other (refresh now.before) (no-refresh now told) called), given)),
+        subst (λ t. Gives (unresolved_refusals t now b) (AnswersResolve t now b) v) (sym unresolved) (inr ((λ other called. never-refreshing now told _ other called), given)),
       ),
     )
-  where
-    not_refreshing : (holds : Refresh → Type 0) (other : Refusal) (r : Option Refresh) → r ≡ None → IsSomeAnd r (λ r. holds r × (other ≡ Refreshing r.tag)) → ⊥
-    not_refreshing holds other None none is = is
-    not_refreshing holds other (Some r) none is = cc none
 
 pub replied_missing : (tables : Tables) (b : BundleId) → current_revision tables.wirings.world b ≡ None → IsRepliedToAll (op.Resolve b) tables tables (answer.Refused NoSuchBundle)
 replied_missing tables b none who =

@@ -8,7 +8,7 @@ use Rattle.osgi_base.specs.declared.ids.BundleId.{BundleId}
 use Rattle.osgi_base.specs.declared.ids.ServiceId.{ServiceId}
 use Rattle.osgi_model.specs.declared.filter.Filter.{Filter}
 use Rattle.osgi_model.specs.declared.value.Attribute.{Attribute}
-use Rattle.osgi_legal.specs.Joining.{MayAsk}
+use Rattle.osgi_legal.specs.Askers.{MayAsk}
 use Rattle.osgi_legal.proofs.Stage.{all-assignable, passes-system, system-owns}
 use Rattle.osgi_ops.specs.Assignable.{IsAssignable}
 use Rattle.osgi_ops.specs.Bundles.{system}
@@ -37,7 +37,7 @@ use Rattle.osgi_ops.specs.declared.service.ServiceRow.{ServiceRow}
 use Rattle.osgi_registry.specs.laws.Standing.{Found, nowhere, quiet_find, quiet_find_all, quiet_list, quiet_refused, rows_found, rows_length, rows_services, stands_quiet, there}
 use Rattle.osgi_registry.specs.Rows.{count_of, IsOpenBy, modify_refusal, object_at, refusal_at, register_refusal, RegistryRows, LiveService, row_at, services_in, twins_refusal, use_count}
 use Rattle.osgi_registry.specs.Stands.{IsRowOf, StandsAfter, StandsFor}
-use Rattle.osgi_reply_services.specs.Served.{IsServedToAll}
+use Rattle.osgi_reply_services.specs.Served.{IsFoundToAll, IsServedToAll}
 
 -- ---- services
 
@@ -116,7 +116,7 @@ register_passed properties rows count due v false false t f is e issued =
 pub served_registered : (owner : BundleId) (classes : List (List ℕ)) (object : List ℕ) (scope : Scope) (properties : List Attribute) (old new : RegistryRows) (service : ServiceId) → scope ≡ Singleton → None ≡ register_refusal properties old.rows →
     service.0 ≡ old.issued + 1 → StandsAfter (op.Register owner classes object scope properties) (answer.Service service) old new → IsServedToAll (op.Register owner classes object scope properties) old new (answer.Service service)
 served_registered owner classes object scope properties old new service single none id stands who = record {
-  due = λ now asked passes stood.
+  due = λ now asked stood.
       let is : answer.Service service ≡ answer.Service (record { 0 = length (registered now.before) + 1 }) = λ i. answer.Service (record { 0 = (id ∙ ap (λ n. n + 1) stood.issued) i }) in
       inr (
         (λ g called. called.1 single),
@@ -128,7 +128,7 @@ served_registered owner classes object scope properties old new service single n
 pub served_unregistered : (owner : BundleId) (classes : List (List ℕ)) (object : List ℕ) (scope : Scope) (properties : List Attribute) (old new : RegistryRows) (refusal : Refusal) → scope ≡ Singleton → Some refusal ≡ register_refusal properties old.rows →
     new ≡ old → IsServedToAll (op.Register owner classes object scope properties) old new (answer.Refused refusal)
 served_unregistered owner classes object scope properties old new refusal single some same who = record {
-  due = λ now asked passes stood.
+  due = λ now asked stood.
       inr (
         (λ g called. called.1 single),
         register_refused properties old.rows (length (live now.before)) refusal (Answers now (op.Register owner classes object scope properties)) (has_twins properties) (nat_le MAX_SERVICES (length old.rows)) refl refl (room_is now.before old stood) some,
@@ -140,7 +140,7 @@ served_unregistered owner classes object scope properties old new refusal single
 pub served_no_singleton : (owner : BundleId) (classes : List (List ℕ)) (object : List ℕ) (scope : Scope) (properties : List Attribute) (old new : RegistryRows) → scope ≢ Singleton → new ≡ old →
     IsServedToAll (op.Register owner classes object scope properties) old new (answer.Refused InvalidOperation)
 served_no_singleton owner classes object scope properties old new other same who = record {
-  due = λ now asked passes stood. inl (InvalidOperation, (refl, other), refl);
+  due = λ now asked stood. inl (InvalidOperation, (refl, other), refl);
   stands = refused_stands _ old new InvalidOperation refl same;
 }
 
@@ -170,14 +170,14 @@ modify_passed owner at of properties due v (Some other) found is e issued = absu
 pub served_modified : (owner : BundleId) (service : ServiceId) (properties : List Attribute) (old new : RegistryRows) → None ≡ modify_refusal owner service properties old.rows →
     StandsAfter (op.Modify owner service properties) answer.Done old new → IsServedToAll (op.Modify owner service properties) old new answer.Done
 served_modified owner service properties old new none stands who = record {
-  due = λ now asked passes stood. modify_passed owner (row_at service old.rows) (live_at service now.before) properties (Answers now (op.Modify owner service properties)) (answers answer.Done) _ (found_now now.before old service stood) refl none refl;
+  due = λ now asked stood. modify_passed owner (row_at service old.rows) (live_at service now.before) properties (Answers now (op.Modify owner service properties)) (answers answer.Done) _ (found_now now.before old service stood) refl none refl;
   stands = stands;
 }
 
 pub served_unmodified : (owner : BundleId) (service : ServiceId) (properties : List Attribute) (old new : RegistryRows) (refusal : Refusal) → Some refusal ≡ modify_refusal owner service properties old.rows → new ≡ old →
     IsServedToAll (op.Modify owner service properties) old new (answer.Refused refusal)
 served_unmodified owner service properties old new refusal some same who = record {
-  due = λ now asked passes stood. modify_refused owner (row_at service old.rows) (live_at service now.before) properties refusal (Answers now (op.Modify owner service properties)) _ (found_now now.before old service stood) refl some;
+  due = λ now asked stood. modify_refused owner (row_at service old.rows) (live_at service now.before) properties refusal (Answers now (op.Modify owner service properties)) _ (found_now now.before old service stood) refl some;
   stands = refused_stands _ old new refusal refl same;
 }
 
@@ -185,14 +185,14 @@ served_unmodified owner service properties old new refusal some same who = recor
 pub served_taken : (owner : BundleId) (service : ServiceId) (old new : RegistryRows) → None ≡ refusal_at owner (row_at service old.rows) → StandsAfter (op.Unregister owner service) answer.Done old new →
     IsServedToAll (op.Unregister owner service) old new answer.Done
 served_taken owner service old new none stands who = record {
-  due = λ now asked passes stood. change_passed owner (row_at service old.rows) (live_at service now.before) [] (Answers now (op.Unregister owner service)) (answers answer.Done) (found_now now.before old service stood) none refl;
+  due = λ now asked stood. change_passed owner (row_at service old.rows) (live_at service now.before) [] (Answers now (op.Unregister owner service)) (answers answer.Done) (found_now now.before old service stood) none refl;
   stands = stands;
 }
 
 pub served_untaken : (owner : BundleId) (service : ServiceId) (old new : RegistryRows) (refusal : Refusal) → Some refusal ≡ refusal_at owner (row_at service old.rows) → new ≡ old →
     IsServedToAll (op.Unregister owner service) old new (answer.Refused refusal)
 served_untaken owner service old new refusal some same who = record {
-  due = λ now asked passes stood. change_refused owner (row_at service old.rows) (live_at service now.before) refusal [] (Answers now (op.Unregister owner service)) (found_now now.before old service stood) some;
+  due = λ now asked stood. change_refused owner (row_at service old.rows) (live_at service now.before) refusal [] (Answers now (op.Unregister owner service)) (found_now now.before old service stood) some;
   stands = refused_stands _ old new refusal refl same;
 }
 
@@ -234,13 +234,13 @@ unfolding own
 open_back now told asker passes class filter s listed is = (is.0, λ k d within. eq-eqb s.owner.0 asker.0 (ap (λ (b : BundleId). b.0) (of_system now told s listed ∙ sym (passes-system now told asker passes))))
 
 pub served_found : (asker : BundleId) (class : List ℕ) (filter : Option Filter) (registry : RegistryRows) (found : Option ServiceId) →
-    IsFound (IsOpenBy (λ registrant class. registrant.0 == asker.0) class filter) (services_in registry.rows) found → IsServedToAll (op.Find asker class filter) registry registry (answer.Best found)
+    IsFound (IsOpenBy (λ registrant class. registrant.0 == asker.0) class filter) (services_in registry.rows) found → IsFoundToAll (op.Find asker class filter) asker registry (answer.Best found)
 unfolding own
-served_found asker class filter registry found is who = record {
-  due = λ now asked passes stood. (
+served_found asker class filter registry found is = record {
+  due = λ now who asked may stood. (
     found,
     refl,
-    found_alike (IsOpenBy (own asker) class filter) (IsOpenTo now.world asker class filter) (services now.before) found (open_there now asked.told asker passes class filter) (open_back now asked.told asker passes class filter)
+    found_alike (IsOpenBy (own asker) class filter) (IsOpenTo now.world asker class filter) (services now.before) found (open_there now asked.told asker may class filter) (open_back now asked.told asker may class filter)
         (subst (λ list. IsFound (IsOpenBy (own asker) class filter) list found) (services_now now.before registry stood) is),
   );
   stands = λ history tag stood. stands_quiet history registry _ stood (quiet_find tag asker class filter found);
@@ -250,7 +250,7 @@ served_found asker class filter registry found is who = record {
 pub served_found_all : (asker : BundleId) (class : List ℕ) (filter : Option Filter) (registry : RegistryRows) (found : List ServiceId) → AreRanked (IsOf class filter) (services_in registry.rows) found →
     IsServedToAll (op.FindAll asker class filter) registry registry (answer.Services found)
 served_found_all asker class filter registry found ranked who = record {
-  due = λ now asked passes stood.
+  due = λ now asked stood.
       (found, refl, subst (λ list. AreRanked (IsOf class filter) list found) (services_now now.before registry stood) ranked);
   stands = λ history tag stood. stands_quiet history registry _ stood (quiet_find_all tag asker class filter found);
 }
@@ -276,14 +276,14 @@ get_answers (Some row) (Some r) text (there is) e =
 pub served_got : (user : BundleId) (service : ServiceId) (old new : RegistryRows) (text : List ℕ) → Ok text ≡ object_at (row_at service old.rows) → StandsAfter (op.Get user service) (answer.Object text) old new →
     IsServedToAll (op.Get user service) old new (answer.Object text)
 served_got user service old new text got stands who = record {
-  due = λ now asked passes stood. get_answers (row_at service old.rows) (live_at service now.before) text (found_now now.before old service stood) got;
+  due = λ now asked stood. get_answers (row_at service old.rows) (live_at service now.before) text (found_now now.before old service stood) got;
   stands = stands;
 }
 
 pub served_ungotten : (user : BundleId) (service : ServiceId) (old new : RegistryRows) (refusal : Refusal) → Err refusal ≡ object_at (row_at service old.rows) → new ≡ old →
     IsServedToAll (op.Get user service) old new (answer.Refused refusal)
 served_ungotten user service old new refusal got same who = record {
-  due = λ now asked passes stood. get_refused (row_at service old.rows) (live_at service now.before) refusal (Answers now (op.Get user service)) (found_now now.before old service stood) got;
+  due = λ now asked stood. get_refused (row_at service old.rows) (live_at service now.before) refusal (Answers now (op.Get user service)) (found_now now.before old service stood) got;
   stands = refused_stands _ old new refusal refl same;
 }
 
@@ -301,13 +301,13 @@ uses_now history registry user service stands = count_found user (row_at service
 pub served_ungot : (user : BundleId) (service : ServiceId) (old new : RegistryRows) (value : Bool) → value ≡ nat_lt 0 (use_count user service old.rows) → StandsAfter (op.Unget user service) (answer.Flag value) old new →
     IsServedToAll (op.Unget user service) old new (answer.Flag value)
 served_ungot user service old new value is stands who = record {
-  due = λ now asked passes stood. ap answer.Flag (is ∙ ap (nat_lt 0) (uses_now now.before old user service stood));
+  due = λ now asked stood. ap answer.Flag (is ∙ ap (nat_lt 0) (uses_now now.before old user service stood));
   stands = stands;
 }
 
 -- ListServices
 pub served_listed : (registry : RegistryRows) (rows : List ServiceRow) → rows ≡ map service_row (services_in registry.rows) → IsServedToAll op.ListServices registry registry (answer.ServiceRows rows)
 served_listed registry rows are who = record {
-  due = λ now asked passes stood. ap answer.ServiceRows (are ∙ ap (map service_row) (services_now now.before registry stood));
+  due = λ now asked stood. ap answer.ServiceRows (are ∙ ap (map service_row) (services_now now.before registry stood));
   stands = λ history tag stood. stands_quiet history registry _ stood (quiet_list tag rows);
 }

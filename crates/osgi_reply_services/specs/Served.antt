@@ -1,11 +1,10 @@
 -- What an operation on services does to the registry, and answers by it, where who asks may ask.
-use Rattle.std.specs.Prelude.{◌-◌, ◌^◌, ◌<◌, List}
+use Rattle.std.specs.Prelude.{◌-◌, ◌^◌, ◌<◌, List, Some}
 use Rattle.osgi_base.specs.Verdict.{Gives}
 use Rattle.osgi_base.specs.declared.ids.BundleId.{BundleId}
 use Rattle.osgi_base.specs.declared.ids.ServiceId.{ServiceId}
 use Rattle.osgi_base.specs.declared.ids.Tag.{Tag}
-use Rattle.osgi_legal.specs.Joining.{MayAsk}
-use Rattle.osgi_ops.specs.Conditions.{asker_of}
+use Rattle.osgi_legal.specs.Askers.{MayAsk}
 use Rattle.osgi_ops.specs.Legal.{IsAskedAt}
 use Rattle.osgi_ops.specs.Moments.{Moment}
 use Rattle.osgi_ops.specs.Operations.{Answers, own_conditions}
@@ -17,15 +16,20 @@ use Rattle.osgi_ops.specs.declared.reply.Reply.{Reply}
 use Rattle.osgi_registry.specs.Rows.{RegistryRows, use_count}
 use Rattle.osgi_registry.specs.Stands.{StandsAfter, StandsFor}
 
--- at each moment at which it is asked for, by who may ask, and that the registry stood for, the reply is due, and then it stands for the
--- history with the entry
+-- the reply is due at each moment at which it is asked for and that the registry stood for, and then it stands for the history with the entry
 pub record IsServed (asked : Asked) (old new : RegistryRows) (reply : Reply) : Type 0 where
-  pub due : (now : Moment) → IsAskedAt asked now → MayAsk now (asker_of asked.op) → StandsFor now.before old → Gives (own_conditions now asked.op) (Answers now asked.op) (verdict reply)
+  pub due : (now : Moment) → IsAskedAt asked now → StandsFor now.before old → Gives (own_conditions now asked.op) (Answers now asked.op) (verdict reply)
   pub stands : StandsAfter asked.op reply old new
 
 -- it is the same whatever the tag
 abbrev pub IsServedToAll : Op → RegistryRows → RegistryRows → Reply → Type 0
 IsServedToAll op old new reply = (tag : Tag) → IsServed (record { tag = tag; op = op }) old new reply
+
+-- what is found for an asker, in a registry that stays as it is: the reply is due at each such moment at which the asker may ask, and then the
+-- registry stands for the history with the entry
+pub record IsFoundToAll (op : Op) (asker : BundleId) (registry : RegistryRows) (reply : Reply) : Type 0 where
+  pub due : (now : Moment) (tag : Tag) → IsAskedAt (record { tag = tag; op = op }) now → MayAsk now (Some asker) → StandsFor now.before registry → Gives (own_conditions now op) (Answers now op) (verdict reply)
+  pub stands : StandsAfter op reply registry registry
 
 -- ids are left to be given, and one more use of each user can be counted
 pub record HasRoom (registry : RegistryRows) : Type 0 where

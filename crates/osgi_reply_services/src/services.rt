@@ -5,7 +5,7 @@ ghost use Rattle.osgi_ops.specs.rows.Lists.{service_row};
 ghost use Rattle.osgi_ops.specs.declared.op.Op.TheVariants as op;
 ghost use Rattle.osgi_registry.specs.Rows.{services_in, use_count};
 ghost use Rattle.osgi_reply_services.specs.Changes.{IsReplyAndChange};
-ghost use Rattle.osgi_reply_services.specs.Served.{IsServedToAll};
+ghost use Rattle.osgi_reply_services.specs.Served.{IsFoundToAll, IsServedToAll};
 
 use crate::change::ServiceChange;
 use osgi_base::{BundleId, List, ServiceId, Text};
@@ -88,7 +88,7 @@ pub fn unregister(
 }
 
 pub fn find(registry: &Registry, asker: BundleId, class: &Text, filter: &Option<Filter>) -> Reply
-    ensures served { IsServedToAll (op.Find asker class.now filter.now) registry.now registry.now result }
+    ensures found { IsFoundToAll (op.Find asker class.now filter.now) asker registry.now result }
 {
     // So far the system bundle alone is ever up, and its own services are assignable to it.
     let service = registry.find(

@@ -169,18 +169,18 @@ is_live-kept b history e stays =
 
 -- ---- where a bundle comes from
 
-source_by : (i : Installed) (e : Entry) (u : Option (List ℕ)) → updated_to i.bundle e.op e.reply ≡ u → source (later e i) ≡ unwrap_or u (source i)
-source_by i e None is = ap (λ o. unwrap_or o i.location) (latest-quiet (λ (x : Entry). updated_to i.bundle x.op x.reply) i.since e is)
-source_by i e (Some location) is = ap (λ o. unwrap_or o i.location) (latest-set (λ (x : Entry). updated_to i.bundle x.op x.reply) i.since e location is)
+pub source-by : (i : Installed) (e : Entry) (u : Option (List ℕ)) → updated_to i.bundle e.op e.reply ≡ u → source (later e i) ≡ unwrap_or u (source i)
+source-by i e None is = ap (λ o. unwrap_or o i.location) (latest-quiet (λ (x : Entry). updated_to i.bundle x.op x.reply) i.since e is)
+source-by i e (Some location) is = ap (λ o. unwrap_or o i.location) (latest-set (λ (x : Entry). updated_to i.bundle x.op x.reply) i.since e location is)
 
 pub source-push : (i : Installed) (e : Entry) → source (later e i) ≡ unwrap_or (updated_to i.bundle e.op e.reply) (source i)
-source-push i e = source_by i e (updated_to i.bundle e.op e.reply) refl
+source-push i e = source-by i e (updated_to i.bundle e.op e.reply) refl
 
 -- ---- rows of live bundles
 
 pub row-kept : (depot : List DepotRow) (i : Installed) (e : Entry) → updated_to i.bundle e.op e.reply ≡ None → row_from depot (later e i) ≡ row_from depot i
 row-kept depot i e none =
-    ap (λ s. option_map (λ (revision : Revision). record { bundle = i.bundle; location = i.location; row = row_number depot s; revision = revision }) (stored_revision depot s)) (source_by i e None none)
+    ap (λ s. option_map (λ (revision : Revision). record { bundle = i.bundle; location = i.location; row = row_number depot s; revision = revision }) (stored_revision depot s)) (source-by i e None none)
 
 filter_map-map : {X Y : Type 0} (f : X → Option Y) (g : X → X) (xs : List X) → ((x : X) → f (g x) ≡ f x) → filter_map f (map g xs) ≡ filter_map f xs
 filter_map-map f g [] same = refl
@@ -208,13 +208,6 @@ row-bundle depot i c is = row_bundle i (row_number depot (source i)) (stored_rev
 
 list_any-from : {X : Type 0} (p : X → Bool) (xs : List X) (x : X) → Contains xs x → p x ≡ true → list_any p xs ≡ true
 list_any-from p xs x there passes = sym (some-any p xs) ∙ ap is_some (find-some p xs x (contains-In xs x there) passes).1
-
-any-there : {X : Type 0} (p : X → Bool) (xs : List X) → list_any p xs ≡ true → (x : X) × Contains xs x × (p x ≡ true)
-any-there {X} p xs any = by (find p xs) refl (some-any p xs ∙ any)
-  where
-    by : (o : Option X) → find p xs ≡ o → is_some o ≡ true → (x : X) × Contains xs x × (p x ≡ true)
-    by None is some = absurd (cc some)
-    by (Some x) is some = let there = found-in p xs x is in (x, In-contains xs x there.0, there.1)
 
 -- a bundle of a row is live
 pub row-live : (depot : List DepotRow) (history : List Entry) (c : Bundle) → Contains (bundles depot history) c → is_live c.bundle history ≡ true

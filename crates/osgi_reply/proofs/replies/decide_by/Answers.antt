@@ -1,7 +1,7 @@
 -- What is decided of each operation is decided for who asks.
 use Rattle.std.proofs.Common.{refl, subst, sym}
 use Rattle.osgi_reply.proofs.BundlesListed.{replied_bundles}
-use Rattle.osgi_reply.proofs.Matching.{in_registry, served_all}
+use Rattle.osgi_reply.proofs.Matching.{found_all, in_registry, served_all}
 use Rattle.osgi_tables.proofs.Replying.{asked_ok, of_services, unchanging}
 use Rattle.osgi_ops.specs.declared.op.Op.TheVariants as op
 use Rattle.osgi_tables.specs.Replied.{IsRepliedToAll}
@@ -30,7 +30,7 @@ returns-in-Unget-clause-decided c =
 pub returns-in-Find-clause-decided : goal.returns-in-Find-clause-decided
 returns-in-Find-clause-decided c =
     unchanging c.args.asked.now (op.Find c.in-Find.asker c.in-Find.class c.in-Find.filter) c.args.tables.now c.unchanging.result c.find.result c.unchanging.ensures.same c.in-Find.is
-    (served_all (op.Find c.in-Find.asker c.in-Find.class c.in-Find.filter) c.args.tables.now c.find.result refl (of_services _ c.find.result (λ n since. refl) (λ b. refl) (λ b. refl) refl (λ b. refl) (λ now world same. same)) (rw c.in-Find.is at c.requires.asker) c.find.ensures.served)
+    (found_all (op.Find c.in-Find.asker c.in-Find.class c.in-Find.filter) c.in-Find.asker c.args.tables.now c.find.result refl refl (of_services _ c.find.result (λ n since. refl) (λ b. refl) (λ b. refl) refl (λ b. refl) (λ now world same. same)) (rw c.in-Find.is at c.requires.asker) c.find.ensures.found)
 
 pub returns-in_ok-find_all-in-FindAll-clause-decided : goal.returns-in_ok-find_all-in-FindAll-clause-decided
 returns-in_ok-find_all-in-FindAll-clause-decided c =

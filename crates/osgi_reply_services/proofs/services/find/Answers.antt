@@ -11,7 +11,7 @@ pub returns : goal.returns
 returns c =
     let issued : option_copied c.as_ref.result ≡ c.args.filter.now = c.as_ref.ensures.value in
     record {
-      served =
+      found =
           served_found c.args.asker c.args.class.now c.args.filter.now c.args.registry.now c.find-service.result
           (subst (λ f. IsFound (IsOpenBy (λ registrant class. registrant.0 == c.args.asker.0) c.args.class.now f) (services_in c.args.registry.now.rows) c.find-service.result) issued
           (c.find-service.ensures.found (λ registrant class. registrant.0 == c.args.asker.0) (λ registrant class answer is. is.1)));
