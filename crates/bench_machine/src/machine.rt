@@ -26,7 +26,9 @@ fn run_line(alloc: Global, core: &mut Core, line: &Line) -> Result<bool, AllocEr
         caller: 0,
         command: line.number,
     };
-    let reply = core.apply(tag, command.op_of(alloc, SYSTEM)?)?;
+    // No plan of a measured command has a second operation.
+    let (op, _) = command.copy(alloc)?.into_op(SYSTEM);
+    let reply = core.apply(tag, op)?;
     Ok(!reply.is_refusal())
 }
 

@@ -28,6 +28,13 @@ fn folder(alloc: Global, manifests: &[&[u8]]) -> Result<Folder, AllocError> {
     Ok(folder)
 }
 
+/// A folder of this manifest, and this script as the file of the class `b.C`.
+fn scripted(alloc: Global, manifest: &[u8], script: &[u8]) -> Result<Folder, AllocError> {
+    let mut folder = folder(alloc, &[manifest])?;
+    add_file(alloc, &mut folder, b"b/C.osc", script)?;
+    Ok(folder)
+}
+
 /// A folder of one file more than a folder may have.
 fn crowd(alloc: Global) -> Result<Folder, AllocError> {
     let files = List::new(alloc)?;
@@ -36,6 +43,31 @@ fn crowd(alloc: Global) -> Result<Folder, AllocError> {
         add_file(alloc, &mut folder, b"a", b"")?;
     }
     Ok(folder)
+}
+
+/// Adds the folders with scripts.
+fn add_scripted(alloc: Global, rows: &mut Vec<(Text, Folder)>) -> Result<(), AllocError> {
+    let host: &[u8] = b"Bundle-ManifestVersion: 2\nBundle-SymbolicName: s\nBundle-Activator: b.C\n";
+    let fragment: &[u8] =
+        b"Bundle-ManifestVersion: 2\nBundle-SymbolicName: f\nFragment-Host: s\nBundle-Activator: b.C\n";
+    let script: &[u8] = b"start:\nregister v a.A \"x\"\nprint \"y\"\non l:\nstop:\nunregister v\n";
+    rows.push((
+        Text::of(alloc, b"scripted")?,
+        scripted(alloc, host, script)?,
+    ))?;
+    rows.push((
+        Text::of(alloc, b"silent")?,
+        scripted(alloc, host, b"# nothing\n")?,
+    ))?;
+    rows.push((
+        Text::of(alloc, b"part")?,
+        scripted(alloc, fragment, script)?,
+    ))?;
+    rows.push((
+        Text::of(alloc, b"broken")?,
+        scripted(alloc, host, b"start:\njump\n")?,
+    ))?;
+    Ok(())
 }
 
 /// The folders with their locations.
@@ -50,5 +82,6 @@ pub fn folders(alloc: Global) -> Result<Vec<(Text, Folder)>, AllocError> {
     rows.push((Text::of(alloc, b"old")?, folder(alloc, &[old])?))?;
     rows.push((Text::of(alloc, b"bare")?, folder(alloc, &[])?))?;
     rows.push((Text::of(alloc, b"crowd")?, crowd(alloc)?))?;
+    add_scripted(alloc, &mut rows)?;
     Ok(rows)
 }

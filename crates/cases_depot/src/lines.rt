@@ -39,9 +39,8 @@ fn content(alloc: Global, line: &str) -> Result<Content, AllocError> {
     }
 }
 
-/// Lines with `;` between.
-pub fn lines_of(alloc: Global, text: &str) -> Result<Vec<Line>, AllocError> {
-    let mut lines = Vec::new(alloc);
+/// Adds lines with `;` between.
+pub fn add_lines(alloc: Global, lines: &mut Vec<Line>, text: &str) -> Result<(), AllocError> {
     for line in text.split(';') {
         lines.push(Line {
             number: 1,
@@ -49,6 +48,13 @@ pub fn lines_of(alloc: Global, text: &str) -> Result<Vec<Line>, AllocError> {
             content: content(alloc, line.trim())?,
         })?;
     }
+    Ok(())
+}
+
+/// Lines with `;` between.
+pub fn lines_of(alloc: Global, text: &str) -> Result<Vec<Line>, AllocError> {
+    let mut lines = Vec::new(alloc);
+    add_lines(alloc, &mut lines, text)?;
     Ok(lines)
 }
 

@@ -1,22 +1,63 @@
 //! The depots that machines of rows begin with.
 
-use cases_text::text_of;
+use cases_text::{split_word, text_of};
 use osgi_base::{List, Shared, Text};
 use osgi_ops::{Depot, DepotRow, Stored};
-use osgi_world::{Revision, system_revision};
+use osgi_world::{Requirement, Revision, SharedRange, system_revision};
 use std::alloc::{AllocError, Global};
 
-/// A revision of this name, in version 1.0.0.
-fn revision_named(alloc: Global, name: &str) -> Result<Revision, AllocError> {
+/// The system bundle as the host of a fragment.
+fn host(alloc: Global) -> Result<Requirement, AllocError> {
+    let namespace = text_of(alloc, "osgi.wiring.bundle")?;
+    let name = text_of(alloc, "system.bundle")?;
+    let equal = Shared::new(alloc, List::new(alloc)?)?;
+    Ok(Requirement {
+        namespace,
+        name,
+        range: SharedRange::at_least_zero(),
+        from_name: None,
+        from_range: SharedRange::at_least_zero(),
+        equal,
+        filter: None,
+        optional: false,
+        multiple: false,
+        reexport: false,
+        effective: true,
+    })
+}
+
+/// The host of a bundle that is `fragment`, and none of any other.
+fn host_of(alloc: Global, kind: &str) -> Result<Option<Requirement>, AllocError> {
+    if kind == "fragment" {
+        return Ok(Some(host(alloc)?));
+    }
+    Ok(None)
+}
+
+/// The file of a bundle that has the path `kind`; a fragment has none.
+fn files_of(alloc: Global, kind: &str) -> Result<List<Text>, AllocError> {
+    let mut files = List::new(alloc)?;
+    if !kind.is_empty() && kind != "fragment" {
+        files.push(text_of(alloc, kind)?)?;
+    }
+    Ok(files)
+}
+
+/// A revision of this name, in version 1.0.0: a fragment, or one with a file, or neither.
+fn revision_named(alloc: Global, name: &str, kind: &str) -> Result<Revision, AllocError> {
     let name = text_of(alloc, name)?;
+    let host = host_of(alloc, kind)?;
+    let files = files_of(alloc, kind)?;
     let mut revision = system_revision(alloc)?;
     revision.name = name;
+    revision.host = host;
+    revision.files = files;
     Ok(revision)
 }
 
 /// The row of a location at which a bundle of the location's name was read.
-fn row_at(alloc: Global, location: &str) -> Result<DepotRow, AllocError> {
-    let revision = Shared::new(alloc, revision_named(alloc, location)?)?;
+fn row_at(alloc: Global, location: &str, kind: &str) -> Result<DepotRow, AllocError> {
+    let revision = Shared::new(alloc, revision_named(alloc, location, kind)?)?;
     let stored = Stored::Read {
         revision,
         manifest: Text::empty(),
@@ -25,11 +66,13 @@ fn row_at(alloc: Global, location: &str) -> Result<DepotRow, AllocError> {
     Ok(DepotRow { location, stored })
 }
 
-/// A depot with a bundle at this location, or for no location an empty one.
-pub fn depot_of(alloc: Global, location: &str) -> Result<Depot, AllocError> {
+/// A depot with a bundle at a location, which has a file or is a fragment where that stands after it; for no location an empty
+/// one.
+pub fn depot_of(alloc: Global, text: &str) -> Result<Depot, AllocError> {
+    let (location, kind) = split_word(text);
     let mut rows = List::new(alloc)?;
     if !location.is_empty() {
-        rows.push(row_at(alloc, location)?)?;
+        rows.push(row_at(alloc, location, kind)?)?;
     }
     Ok(Depot { rows })
 }

@@ -10,7 +10,6 @@ use std::alloc::{AllocError, Global};
 enum Plain {
     Hand,
     EndHand,
-    TakeJob,
     EndJob,
     BeginStart,
     EndStart,
@@ -35,14 +34,12 @@ enum Wordy {
     Print,
     Fail,
     Update,
-    Load,
     WishStart,
 }
 
-const PLAIN: [(&str, Plain); 16] = [
+const PLAIN: [(&str, Plain); 15] = [
     ("Hand", Plain::Hand),
     ("EndHand", Plain::EndHand),
-    ("TakeJob", Plain::TakeJob),
     ("EndJob", Plain::EndJob),
     ("BeginStart", Plain::BeginStart),
     ("EndStart", Plain::EndStart),
@@ -58,14 +55,13 @@ const PLAIN: [(&str, Plain); 16] = [
     ("SetBundleLevel", Plain::SetBundleLevel),
 ];
 
-const WORDY: [(&str, Wordy); 8] = [
+const WORDY: [(&str, Wordy); 7] = [
     ("AddListener", Wordy::AddListener),
     ("RemoveListener", Wordy::RemoveListener),
     ("QueueJob", Wordy::QueueJob),
     ("Print", Wordy::Print),
     ("Fail", Wordy::Fail),
     ("Update", Wordy::Update),
-    ("Load", Wordy::Load),
     ("WishStart", Wordy::WishStart),
 ];
 
@@ -93,7 +89,6 @@ fn plain_op(plain: Plain, bundle: BundleId) -> Op {
         Plain::EndHand => Op::EndHand {
             listener: ListenerId(1),
         },
-        Plain::TakeJob => Op::TakeJob,
         Plain::EndJob => Op::EndJob,
         Plain::BeginStart => Op::BeginStart {
             bundle,
@@ -137,10 +132,6 @@ fn wordy_op(wordy: Wordy, owner: BundleId, text: Text) -> Op {
         Wordy::Update => Op::Update {
             bundle: owner,
             location: text,
-        },
-        Wordy::Load => Op::Load {
-            bundle: owner,
-            class: text,
         },
         Wordy::WishStart => Op::WishStart {
             target: Target::Name(text),

@@ -26,6 +26,29 @@ fn is_last(alloc: Global, entries: &[Entry], entry: &Entry) -> Result<bool, Allo
     }
 }
 
+/// Adds an answer that the console writes nothing of.
+fn add_unwritten(out: &mut String, reply: &Reply) -> Result<(), AllocError> {
+    match reply {
+        Reply::NoJob => put(out, "no job"),
+        Reply::Loaded { by: None } => put(out, "loaded none"),
+        Reply::Loaded { by: Some(revision) } => {
+            put(out, "loaded r")?;
+            put_shown(out, &revision.0)
+        }
+        _ => Ok(()),
+    }
+}
+
+/// Adds what the console writes of an entry, or else its answer.
+fn add_answered(alloc: Global, out: &mut String, entry: &Entry) -> Result<(), AllocError> {
+    let start = out.len();
+    add_checked(alloc, out, entry)?;
+    if out.len() > start {
+        return Ok(());
+    }
+    add_unwritten(out, &entry.reply)
+}
+
 /// Adds an entry, and whether it is the last of the history.
 fn add_compared(
     alloc: Global,
@@ -33,7 +56,7 @@ fn add_compared(
     core: &Core,
     entry: &Entry,
 ) -> Result<(), AllocError> {
-    add_checked(alloc, out, entry)?;
+    add_answered(alloc, out, entry)?;
     let is_recorded = is_last(alloc, core.entries(), entry)?;
     complain(out, is_recorded, ", not recorded")
 }
@@ -62,6 +85,8 @@ fn kind(op: &Op) -> (&'static str, u32) {
         Op::Unget { user, .. } => ("unget", user.0),
         Op::Install { .. } => ("install", 0),
         Op::Resolve { .. } => ("resolve", 0),
+        Op::TakeJob => ("takejob", 0),
+        Op::Load { .. } => ("load", 0),
         Op::ListBundles => ("bundles", 0),
         Op::ListServices => ("services", 0),
         Op::ListWires { .. } => ("wires", 0),

@@ -1,6 +1,7 @@
 //! What rows ask of the machine.
 
 use crate::depot::depot_of;
+use crate::direct::direct;
 use crate::later::{later, later_with_text};
 use crate::machine::{add_history, add_recorded};
 use crate::names::{add_join, add_limits, add_many};
@@ -55,7 +56,9 @@ fn op_of(
     text: &str,
 ) -> Result<Result<Op, &'static str>, AllocError> {
     let (word, name) = split_word(text);
-    if word == "later" {
+    if word == "direct" {
+        Ok(direct(alloc, name, bundle)?.ok_or(NO_OPERATION))
+    } else if word == "later" {
         Ok(later(name, bundle).ok_or(NO_OPERATION))
     } else if word == "later_with_text" {
         Ok(later_with_text(alloc, name, bundle)?.ok_or(NO_OPERATION))

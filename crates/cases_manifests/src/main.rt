@@ -8,6 +8,7 @@
 //! | `imports VALUE` | the requirements that the value of Import-Package makes: package, versions, exporter's name or `-`, exporter's versions, attributes, and `optional` or `mandatory` |
 //! | `manifest TEXT`, with any number of `|file PATH TEXT` after it | what the folder means whose first file is the manifest with this text, and that has these files besides |
 //! | `folder`, with any number of `|file PATH TEXT` after it | the same of the folder that has these files |
+//! | `script TEXT`, with any number of `|file PATH TEXT` after it | of the same folder as `manifest`: the bundle's name, its activator, and how many statements each section of its script has |
 //! | `long N TEXT|TEXT` | the same of a manifest that has N times the byte `x` between the two texts |
 //! | `exports VALUE` | the capabilities that the value of Export-Package makes: package, attributes, packages that are used, and mandatory attributes |
 #![tactic(auto)]
@@ -16,11 +17,13 @@ mod folders;
 mod manifests;
 mod members;
 mod packages;
+mod scripts;
 mod shown;
 
 use crate::folders::{with_long_line, with_manifest, without_manifest};
 use crate::manifests::meaning;
 use crate::packages::{exported, imported};
+use crate::scripts::script;
 use cases_text::{Cases, answer_lines};
 use std::alloc::{AllocError, Global};
 use std::io;
@@ -43,6 +46,8 @@ impl Cases for ManifestCases {
             exported(alloc, out, value.as_bytes())
         } else if word == "manifest" {
             meaning(alloc, out, &with_manifest(alloc, value)?)
+        } else if word == "script" {
+            script(alloc, out, &with_manifest(alloc, value)?)
         } else if word == "folder" {
             meaning(alloc, out, &without_manifest(alloc, value)?)
         } else if word == "long" {

@@ -9,7 +9,8 @@ use osgi_world::{ManifestFault, Requirement, Revision};
 use std::alloc::{AllocError, Global};
 use std::fmt::Write;
 
-fn push_fault(out: &mut String, fault: &ManifestFault) -> Result<(), AllocError> {
+/// Adds a fault of a manifest.
+pub fn push_fault(out: &mut String, fault: &ManifestFault) -> Result<(), AllocError> {
     out.push_str("fault ")?;
     if fault.header.bytes().is_empty() {
         out.push('-')?;
@@ -47,7 +48,8 @@ fn push_host(
     }
 }
 
-fn push_activator(out: &mut String, activator: &Option<Text>) -> Result<(), AllocError> {
+/// Adds the class of an activator.
+pub fn push_activator(out: &mut String, activator: &Option<Text>) -> Result<(), AllocError> {
     out.push_str(" activator: ")?;
     match activator {
         Some(class) => {

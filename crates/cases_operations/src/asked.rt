@@ -3,7 +3,7 @@
 use osgi_base::{BundleId, List};
 use osgi_console::parse;
 use osgi_ops::Op;
-use osgi_session::{Content, Line};
+use osgi_session::{Command, Content, Line};
 use std::alloc::{AllocError, Global};
 
 /// No row has as many bytes.
@@ -18,6 +18,12 @@ fn lines_of(alloc: Global, text: &str) -> Result<List<Line>, AllocError> {
     parse(alloc, bytes)
 }
 
+/// The operation that the plan of a command begins with, where the bundle runs it.
+fn first_op(alloc: Global, bundle: BundleId, command: &Command) -> Result<Op, AllocError> {
+    let (op, _) = command.copy(alloc)?.into_op(bundle);
+    Ok(op)
+}
+
 /// The operation that a line asks for, or why it asks for none.
 fn op_by(
     alloc: Global,
@@ -25,7 +31,7 @@ fn op_by(
     content: &Content,
 ) -> Result<Result<Op, &'static str>, AllocError> {
     match content {
-        Content::Run(command) => Ok(Ok(command.op_of(alloc, bundle)?)),
+        Content::Run(command) => Ok(Ok(first_op(alloc, bundle, command)?)),
         Content::Empty => Ok(Err("nothing")),
         Content::Bad | Content::Join => Ok(Err("syntax")),
     }

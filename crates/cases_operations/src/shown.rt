@@ -17,9 +17,14 @@ fn line_of(entry: &Entry) -> Line {
     }
 }
 
-/// What the console writes of an entry, to a line.
+/// What the console writes of a line that has this entry alone.
 fn written(alloc: Global, line: &Line, entry: &Entry) -> Result<Text, AllocError> {
     render(alloc, slice::from_ref(line), slice::from_ref(entry))
+}
+
+/// What an entry writes. Where it is alone it does not end the run of its line, and so `full` follows.
+fn without_full(text: &str) -> &str {
+    text.strip_suffix("full\n").unwrap_or(text)
 }
 
 /// Adds lines in one.
@@ -34,7 +39,8 @@ fn add_joined(out: &mut String, lines: &str) -> Result<(), AllocError> {
 /// Adds what the console writes of an entry, in one line.
 pub fn add_shown(alloc: Global, out: &mut String, entry: &Entry) -> Result<(), AllocError> {
     let text = written(alloc, &line_of(entry), entry)?;
-    add_joined(out, str::from_utf8(text.bytes()).unwrap_or("(no UTF-8)"))
+    let shown = str::from_utf8(text.bytes()).unwrap_or("(no UTF-8)");
+    add_joined(out, without_full(shown))
 }
 
 /// Whether the console writes the same of two entries.

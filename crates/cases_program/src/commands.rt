@@ -72,6 +72,7 @@ pub fn put_op(alloc: Global, out: &mut String, op: &Op) -> Result<(), AllocError
         Op::ListWires { bundle } => put_bundle(out, "wires", *bundle),
         Op::ListBundles => out.push_str("bundles"),
         Op::ListServices => out.push_str("services"),
+        Op::TakeJob => out.push_str("takejob"),
         _ => out.push_str("another"),
     }
 }

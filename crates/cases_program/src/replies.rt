@@ -34,6 +34,7 @@ pub fn put_reply(alloc: Global, out: &mut String, reply: &Reply) -> Result<(), A
         ),
         Reply::Bundles { rows } => put_bundles(alloc, out, rows.items()),
         Reply::ServiceRows { rows } => put_rows(out, rows.items()),
+        Reply::NoJob => out.push_str("nojob"),
         Reply::Refused { refusal } => write!(
             out,
             "refused {} {}",

@@ -15,6 +15,8 @@
 //! | `anew ID`, `anew ID BUDGET` | the same by a call that keeps nothing of the world from one time to the next; what is found is not put in force |
 //! | `slowly ID`, `slowly ID BUDGET` | what a search over all words answers, also those that are hopeless: `found [NUMBER NUMBER]`, `none` for `no candidate` and `clash`, or `spent NUMBER`; what is found is not put in force |
 //! | `add REVISION` | nothing, or `cannot be known`: the revision becomes known |
+//! | `load ID CLASS` | the revision whose folder a class is loaded from for this one: its number, or `none` |
+//! | `assignable ID ID CLASS` | whether a service of the class that the first registered is assignable to the second: `yes` or `no`. The ids are those of bundles |
 //! | `wires` | the wirings that are in force, but that of the framework: `WIRING, WIRING`, or `none` |
 //!
 //! | Answer | What it says |
@@ -28,6 +30,7 @@
 
 mod asked;
 mod known;
+mod loaded;
 mod rows;
 mod shown;
 mod slowly;

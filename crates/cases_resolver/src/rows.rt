@@ -2,6 +2,7 @@
 
 use crate::asked::{push_resolved, push_resolved_anew, push_resolved_slowly};
 use crate::known::{add, add_all, first_wirings};
+use crate::loaded::{push_assignable, push_loaded};
 use crate::shown::push_wirings;
 use cases_text::Cases;
 use cases_worlds::{cut, known_revision, known_revisions, number, revision_id};
@@ -66,6 +67,10 @@ fn push_answer(
             revision_id(root),
             budget(allowed),
         )
+    } else if word == "load" {
+        push_loaded(alloc, out, wirings.wirings(), rest)
+    } else if word == "assignable" {
+        push_assignable(alloc, out, wirings.wirings(), rest)
     } else if word == "wires" {
         let wirings = wirings.wirings().world().wirings.items();
         push_wirings(out, wirings.get(1..).unwrap_or(&[]))

@@ -5,6 +5,7 @@ ghost use Rattle.osgi_world.specs.declared.revision.TheConstants.{MAX_MEMBERS};
 
 use crate::attributes::version;
 use crate::members::{capability, requirement};
+use crate::numbers::text_of;
 use osgi_base::{List, Text};
 use osgi_version::Version;
 use osgi_world::{Capability, MAX_MEMBERS, Requirement, Revision};
@@ -30,6 +31,7 @@ pub struct Draft {
     version: Version,
     host: Option<Requirement>,
     members: Members,
+    files: List<Text>,
 }
 
 impl Members {
@@ -71,6 +73,7 @@ impl Draft {
             version: Version::numbered(0, 0, 0),
             host: None,
             members: Members::new(alloc),
+            files: List::from(Vec::new(alloc)),
         }
     }
 
@@ -91,12 +94,18 @@ impl Draft {
         Ok(())
     }
 
+    fn add_file(&mut self, alloc: Global, path: &str) -> Result<(), AllocError> {
+        self.files.push(text_of(alloc, path)?)
+    }
+
     /// Takes a word with a value.
     fn take(&mut self, alloc: Global, word: &str, value: &str) -> Result<(), AllocError> {
         if word == "version" {
             self.set_version(alloc, value)
         } else if word == "host" {
             self.set_host(alloc, value)
+        } else if word == "file" {
+            self.add_file(alloc, value)
         } else {
             self.members.take(alloc, word, value)
         }
@@ -131,6 +140,6 @@ pub fn revision(alloc: Global, name: Text, draft: Draft) -> Result<Revision, All
         requirements: draft.members.requirements,
         dynamics: draft.members.dynamics,
         lazy: None,
-        files: List::from(Vec::new(alloc)),
+        files: draft.files,
     })
 }

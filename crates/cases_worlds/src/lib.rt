@@ -7,6 +7,7 @@
 //! |---|---|
 //! | `old`, `single`, `shut` | it is not current; is a singleton; permits no fragments |
 //! | `version=V`, `host=NAME`, `host=NAME:RANGE` | it is of this version; it is a fragment of this host |
+//! | `file=PATH` | its folder has this file |
 //! | `exports=PACKAGE`, `bundle=NAME`, `provides=NAME` | a capability: an export, a bundle, or of the namespace NAME |
 //! | `exports=PACKAGE(P,Q)` | an export that uses P and Q; the other capabilities too may have names in `(..)` |
 //! | `exports=PACKAGE:V`, `exports=PACKAGE{NAME=TEXT,!NAME=TEXT}` | one with the attribute `version`; with other attributes, of which imports have to give those after `!`. Before `(..)` comes first the version, then `{..}` |

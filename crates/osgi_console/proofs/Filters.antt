@@ -16,8 +16,8 @@ use Rattle.osgi_syntax.specs.laws.Spaces.{after_spaces-all, all_spaces, EndsWord
 use Rattle.std.proofs.lemmas.List.{nil_from_length}
 use Rattle.osgi_syntax.specs.laws.Splitting.{after_word-ends}
 use Rattle.osgi_syntax.specs.laws.Whole.{ends_all, first_separated}
-use Rattle.osgi_console.specs.declared.commands.Search.{Search}
-use Rattle.osgi_console.specs.computed.LineReader.{search_from, search_of}
+use Rattle.osgi_console.specs.declared.arguments.Search.{Search}
+use Rattle.osgi_console.specs.computed.ArgumentReader.{search_from, search_of}
 use Rattle.osgi_syntax.specs.Splitting.{after_spaces, after_word, first_word}
 use Rattle.osgi_syntax.specs.WordReader.{class_of}
 use Rattle.osgi_syntax.specs.Lines.{IsFilterEnd}

@@ -1,4 +1,5 @@
 -- Lemmas on the console's text.
+pub mod ArgumentReading
 pub mod Contents
 pub mod Filters
 pub mod Locations

@@ -8,7 +8,7 @@ use Rattle.std.proofs.lemmas.List.Elements.{All-cons, All-head}
 use Rattle.std.proofs.lemmas.Option.{cond_some}
 use Rattle.osgi_base.specs.laws.Places.{Fails, Found, found, nowhere, position-front, position-none, somewhere}
 use Rattle.osgi_console.specs.Console.{IsLocation}
-use Rattle.osgi_console.specs.computed.LineReader.{is_space, location_end, location_of, location_to}
+use Rattle.osgi_console.specs.computed.ArgumentReader.{is_space, location_end, location_of, location_to}
 use Rattle.osgi_syntax.specs.laws.Spaces.{after_spaces-all, after_spaces-prefix, all_spaces, EndsWord, spaced, with_nothing, with_space}
 use Rattle.osgi_syntax.specs.laws.Whole.{ends_all}
 use Rattle.osgi_syntax.specs.Splitting.{after_spaces}

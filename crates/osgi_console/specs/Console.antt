@@ -1,10 +1,12 @@
 -- The text of the console: which lines the input has, and what each of them says.
-use Rattle.std.specs.Prelude.{ℕ, ◌≡◌, ◌+◌, ◌==◌, not, List, [], ◌∷◌, codes, Option}
+use Rattle.std.specs.Prelude.{ℕ, ◌≡◌, ◌<◌, ◌≤◌, ◌^◌, ◌+◌, ◌==◌, true, false, not, List, [], ◌∷◌, length, codes, Option}
+use Rattle.std.specs.Str.Parse.{IsNumeral, digits_value}
 use Rattle.std.specs.Str.Lines.{lines}
 use Rattle.osgi_base.specs.declared.ids.BundleId.{BundleId}
 use Rattle.osgi_base.specs.declared.ids.ServiceId.{ServiceId}
 use Rattle.osgi_model.specs.declared.filter.Filter.{Filter}
 use Rattle.osgi_model.specs.declared.value.Attribute.{Attribute}
+use Rattle.osgi_ops.specs.declared.target.Target.TheVariants.{Id}
 use Rattle.osgi_session.specs.declared.command.Command.{Command}
 use Rattle.osgi_session.specs.declared.command.Command.TheVariants as command
 use Rattle.osgi_session.specs.declared.line.Content.{Content}
@@ -18,6 +20,19 @@ use Rattle.osgi_syntax.specs.Words.{AreClasses, AreSpaces, IsBundleId, IsClass, 
 -- a location: one or more bytes other than a space
 abbrev pub IsLocation : List ℕ → Type 0
 IsLocation word = IsSomeOf (λ b. not (b == 32)) word
+
+-- a start level: one to ten decimal digits of a number below 2^8
+pub record IsLevel (word : List ℕ) (level : ℕ) : Type 0 where
+  pub numeral : IsNumeral 10 word
+  pub short : length word ≤ 10
+  pub fits : digits_value 10 word < 2 ^ 8
+  pub number : level ≡ digits_value 10 word
+
+-- each of the words is the id of the bundle at its place
+abbrev pub AreBundleIds : List (List ℕ) → List BundleId → Type 0
+AreBundleIds [] [] = Unit {0}
+AreBundleIds (word ∷ words) (bundle ∷ bundles) = IsBundleId word bundle × AreBundleIds words bundles
+AreBundleIds _ _ = ⊥
 
 -- the words of a command that is words alone
 pub data AreWordsOf : List (List ℕ) → Command → Type 0 where
@@ -34,12 +49,32 @@ pub data AreWordsOf : List (List ℕ) → Command → Type 0 where
   get : {id : List ℕ} {service : ServiceId} → IsId id service → AreWordsOf (codes "get" ∷ id ∷ []) (command.Get service)
   -- `unget ID`
   unget : {id : List ℕ} {service : ServiceId} → IsId id service → AreWordsOf (codes "unget" ∷ id ∷ []) (command.Unget service)
+  -- `start ID`
+  start : {id : List ℕ} {bundle : BundleId} → IsBundleId id bundle → AreWordsOf (codes "start" ∷ id ∷ []) (command.Start (Id bundle) false)
+  -- `start -t ID`
+  start_transient : {id : List ℕ} {bundle : BundleId} → IsBundleId id bundle → AreWordsOf (codes "start" ∷ codes "-t" ∷ id ∷ []) (command.Start (Id bundle) true)
+  -- `stop ID`
+  stop : {id : List ℕ} {bundle : BundleId} → IsBundleId id bundle → AreWordsOf (codes "stop" ∷ id ∷ []) (command.Stop (Id bundle) false)
+  -- `stop -t ID`
+  stop_transient : {id : List ℕ} {bundle : BundleId} → IsBundleId id bundle → AreWordsOf (codes "stop" ∷ codes "-t" ∷ id ∷ []) (command.Stop (Id bundle) true)
+  -- `load ID CLASS`
+  load : {id class : List ℕ} {bundle : BundleId} → IsBundleId id bundle → IsClass class → AreWordsOf (codes "load" ∷ id ∷ class ∷ []) (command.Load bundle class)
   -- `install LOCATION`
   install : {location : List ℕ} → IsLocation location → AreWordsOf (codes "install" ∷ location ∷ []) (command.Install location)
+  -- `update ID LOCATION`
+  update : {id location : List ℕ} {bundle : BundleId} → IsBundleId id bundle → IsLocation location → AreWordsOf (codes "update" ∷ id ∷ location ∷ []) (command.Update bundle location)
+  -- `uninstall ID`
+  uninstall : {id : List ℕ} {bundle : BundleId} → IsBundleId id bundle → AreWordsOf (codes "uninstall" ∷ id ∷ []) (command.Uninstall bundle)
   -- `resolve ID`
   resolve : {id : List ℕ} {bundle : BundleId} → IsBundleId id bundle → AreWordsOf (codes "resolve" ∷ id ∷ []) (command.Resolve bundle)
+  -- `refresh [ID]..`
+  refresh : {ids : List (List ℕ)} {bundles : List BundleId} → AreBundleIds ids bundles → AreWordsOf (codes "refresh" ∷ ids) (command.Refresh bundles)
   -- `wires ID`
   wires : {id : List ℕ} {bundle : BundleId} → IsBundleId id bundle → AreWordsOf (codes "wires" ∷ id ∷ []) (command.Wires bundle)
+  -- `level N`
+  level : {word : List ℕ} {level : ℕ} → IsLevel word level → AreWordsOf (codes "level" ∷ word ∷ []) (command.Level level)
+  -- `blevel ID N`
+  blevel : {id word : List ℕ} {bundle : BundleId} {level : ℕ} → IsBundleId id bundle → IsLevel word level → AreWordsOf (codes "blevel" ∷ id ∷ word ∷ []) (command.BundleLevel bundle level)
   -- `bundles`
   bundles : AreWordsOf (codes "bundles" ∷ []) command.Bundles
   -- `services`

@@ -1,19 +1,20 @@
 //! The commands, read from lines: the first word says how the rest is read.
 
-ghost use Rattle.std.specs.Prelude.{◌≡◌, ◌==◌, length, None, Some, IfOk, MatchOption};
-ghost use Rattle.std.specs.List.{position};
+ghost use Rattle.std.specs.Prelude.{◌≡◌, IfOk};
 ghost use Rattle.std.specs.Option.{option_map};
-ghost use Rattle.osgi_filter.specs.computed.Reader.{read_filter};
-ghost use Rattle.osgi_console.specs.computed.LineReader.{command_by, command_of, is_space, location_of, modify_of, verb_name, only_bundle_of, only_id_of, register_of, verb_of, search_of};
+ghost use Rattle.osgi_console.specs.computed.ArgumentReader.{location_of};
+ghost use Rattle.osgi_console.specs.computed.LineReader.{bundle_level_of, command_by, command_of, load_of, modify_of, refresh_of, register_of, start_of, stop_of, update_of, verb_name, verb_of};
 ghost use Rattle.osgi_syntax.specs.Splitting.{words_of};
 
+use crate::arguments::{
+    aim_in, bundle_ids, class_and_filter, has_no_word, location, only_bundle, only_id, only_level,
+};
+use osgi_base::Text;
 use osgi_base::quoted::quoted;
-use osgi_base::{BundleId, ServiceId, Text};
-use osgi_filter::parse;
-use osgi_model::Filter;
+use osgi_ops::Target;
 use osgi_session::Command;
 use osgi_syntax::properties::properties;
-use osgi_syntax::{bundle_id, class, classes, id, only_word, skip_spaces, split_word, split_words};
+use osgi_syntax::{bundle_id, class, classes, id, only_word, split_word, split_words};
 use std::alloc::{AllocError, Global};
 
 /// The commands, by their first words.
@@ -26,14 +27,22 @@ enum Verb {
     FindAll,
     Get,
     Unget,
+    Start,
+    Stop,
+    Load,
     Install,
+    Update,
+    Uninstall,
     Resolve,
+    Refresh,
     Wires,
+    Level,
+    BundleLevel,
     Bundles,
     Services,
 }
 
-const VERBS: [Verb; 12] = [
+const VERBS: [Verb; 20] = [
     Verb::Register,
     Verb::Modify,
     Verb::Unregister,
@@ -41,9 +50,17 @@ const VERBS: [Verb; 12] = [
     Verb::FindAll,
     Verb::Get,
     Verb::Unget,
+    Verb::Start,
+    Verb::Stop,
+    Verb::Load,
     Verb::Install,
+    Verb::Update,
+    Verb::Uninstall,
     Verb::Resolve,
+    Verb::Refresh,
     Verb::Wires,
+    Verb::Level,
+    Verb::BundleLevel,
     Verb::Bundles,
     Verb::Services,
 ];
@@ -60,20 +77,21 @@ impl Verb {
             Verb::FindAll => b"findall",
             Verb::Get => b"get",
             Verb::Unget => b"unget",
+            Verb::Start => b"start",
+            Verb::Stop => b"stop",
+            Verb::Load => b"load",
             Verb::Install => b"install",
+            Verb::Update => b"update",
+            Verb::Uninstall => b"uninstall",
             Verb::Resolve => b"resolve",
+            Verb::Refresh => b"refresh",
             Verb::Wires => b"wires",
+            Verb::Level => b"level",
+            Verb::BundleLevel => b"blevel",
             Verb::Bundles => b"bundles",
             Verb::Services => b"services",
         }
     }
-}
-
-/// What a `find` or `findall` looks for.
-#[derive(Drop)]
-struct Search {
-    class: Text,
-    filter: Option<Filter>,
 }
 
 fn verb_named(word: &[u8]) -> Option<Verb>
@@ -127,47 +145,42 @@ fn modify(alloc: Global, text: &[u8]) -> Result<Option<Command>, AllocError>
     }))
 }
 
-/// The one argument, which is the id of a service.
-fn only_id(text: &[u8]) -> Option<ServiceId>
-    ensures id { result ≡ only_id_of (words_of text.now) }
+/// `start [-t] ID`, from what follows its first word.
+fn start(text: &[u8]) -> Option<Command>
+    ensures command { result ≡ start_of (words_of text.now) }
 {
-    let word = only_word(text)?;
-    id(word)
+    let aim = aim_in(text)?;
+    Some(Command::Start {
+        target: Target::Id(aim.bundle),
+        transient: aim.transient,
+    })
 }
 
-/// The one argument, which is the id of a bundle.
-fn only_bundle(text: &[u8]) -> Option<BundleId>
-    ensures bundle { result ≡ only_bundle_of (words_of text.now) }
+/// `stop [-t] ID`, from what follows its first word.
+fn stop(text: &[u8]) -> Option<Command>
+    ensures command { result ≡ stop_of (words_of text.now) }
 {
-    let word = only_word(text)?;
-    bundle_id(word)
+    let aim = aim_in(text)?;
+    Some(Command::Stop {
+        target: Target::Id(aim.bundle),
+        transient: aim.transient,
+    })
 }
 
-/// Whether no word is left.
-fn has_no_word(text: &[u8]) -> bool
-    ensures none { result ≡ (length (words_of text.now) == 0) }
+/// `load ID CLASS`, from what follows its first word.
+fn load(alloc: Global, text: &[u8]) -> Result<Option<Command>, AllocError>
+    ensures command { IfOk result (λ command. command ≡ load_of (words_of text.now)) }
 {
-    split_word(text).is_none()
-}
-
-fn first_space(text: &[u8]) -> Option<usize>
-    ensures place { result ≡ position is_space text.now }
-{
-    text.iter().position(|b| *b == b' ')
-}
-
-/// The one argument, which is a location; none where it is none. Quotes mean nothing in it.
-fn location(text: &[u8]) -> Option<&[u8]>
-    ensures location { MatchOption result (location_of text.now ≡ None) (λ word. location_of text.now ≡ Some word.now) }
-{
-    let text = skip_spaces(text);
-    let end = first_space(text).unwrap_or(text.len());
-    let (word, rest) = text.split_at(end);
-    if end != 0 && skip_spaces(rest).is_empty() {
-        Some(word)
-    } else {
-        None
-    }
+    let Some((bundle, rest)) = split_word(text) else {
+        return Ok(None);
+    };
+    let Some(bundle) = bundle_id(bundle) else {
+        return Ok(None);
+    };
+    let Some(name) = only_word(rest) else {
+        return Ok(None);
+    };
+    Ok(class(alloc, name)?.map(|class| Command::Load { bundle, class }))
 }
 
 /// `install LOCATION`, from what follows its first word.
@@ -182,34 +195,42 @@ fn install(alloc: Global, text: &[u8]) -> Result<Option<Command>, AllocError>
     }))
 }
 
-/// The filter that a text reads as; none where it is none.
-#[tactic(auto, using(crate::proofs::Filters::filter_is))]
-fn filter(alloc: Global, text: &[u8]) -> Result<Option<Filter>, AllocError>
-    ensures filter { IfOk result (λ filter. filter ≡ read_filter text.now) }
+/// `update ID LOCATION`, from what follows its first word.
+fn update(alloc: Global, text: &[u8]) -> Result<Option<Command>, AllocError>
+    ensures command { IfOk result (λ command. command ≡ update_of text.now) }
 {
-    Ok(parse(alloc, text)?.ok())
+    let Some((bundle, rest)) = split_word(text) else {
+        return Ok(None);
+    };
+    let Some(bundle) = bundle_id(bundle) else {
+        return Ok(None);
+    };
+    let Some(location) = location(rest) else {
+        return Ok(None);
+    };
+    Ok(Some(Command::Update {
+        bundle,
+        location: Text::of(alloc, location)?,
+    }))
 }
 
-/// `CLASS [FILTER]`. The filter is what is left after the class and is not split into words: quotes mean nothing in it.
-fn class_and_filter(alloc: Global, text: &[u8]) -> Result<Option<Search>, AllocError>
-    ensures wanted { IfOk result (λ wanted. wanted ≡ search_of text.now) }
+/// `refresh [ID]..`, from what follows its first word.
+fn refresh(alloc: Global, text: &[u8]) -> Result<Option<Command>, AllocError>
+    ensures command { IfOk result (λ command. command ≡ refresh_of (words_of text.now)) }
 {
-    let Some((name, remainder)) = split_word(text) else {
-        return Ok(None);
-    };
-    let Some(class) = class(alloc, name)? else {
-        return Ok(None);
-    };
-    if skip_spaces(remainder).is_empty() {
-        return Ok(Some(Search {
-            class,
-            filter: None,
-        }));
-    }
-    Ok(filter(alloc, remainder)?.map(|filter| Search {
-        class,
-        filter: Some(filter),
-    }))
+    let words = split_words(alloc, text)?;
+    let bundles = bundle_ids(alloc, words.as_slice())?;
+    Ok(bundles.map(|bundles| Command::Refresh { bundles }))
+}
+
+/// `blevel ID N`, from what follows its first word.
+fn bundle_level(text: &[u8]) -> Option<Command>
+    ensures command { result ≡ bundle_level_of (words_of text.now) }
+{
+    let (bundle, rest) = split_word(text)?;
+    let bundle = bundle_id(bundle)?;
+    let level = only_level(rest)?;
+    Some(Command::BundleLevel { bundle, level })
 }
 
 fn command_by(alloc: Global, verb: Verb, text: &[u8]) -> Result<Option<Command>, AllocError>
@@ -229,9 +250,17 @@ fn command_by(alloc: Global, verb: Verb, text: &[u8]) -> Result<Option<Command>,
         })),
         Verb::Get => Ok(only_id(text).map(|service| Command::Get { service })),
         Verb::Unget => Ok(only_id(text).map(|service| Command::Unget { service })),
+        Verb::Start => Ok(start(text)),
+        Verb::Stop => Ok(stop(text)),
+        Verb::Load => load(alloc, text),
         Verb::Install => install(alloc, text),
+        Verb::Update => update(alloc, text),
+        Verb::Uninstall => Ok(only_bundle(text).map(|bundle| Command::Uninstall { bundle })),
         Verb::Resolve => Ok(only_bundle(text).map(|bundle| Command::Resolve { bundle })),
+        Verb::Refresh => refresh(alloc, text),
         Verb::Wires => Ok(only_bundle(text).map(|bundle| Command::Wires { bundle })),
+        Verb::Level => Ok(only_level(text).map(|level| Command::Level { level })),
+        Verb::BundleLevel => Ok(bundle_level(text)),
         Verb::Bundles => Ok(has_no_word(text).then(|| Command::Bundles)),
         Verb::Services => Ok(has_no_word(text).then(|| Command::Services)),
     }

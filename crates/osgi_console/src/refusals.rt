@@ -2,9 +2,9 @@
 
 ghost use Rattle.std.specs.Prelude.{◌≡◌, ◌++◌, OnOk};
 ghost use Rattle.osgi_session.specs.RefusalTexts.{details, fault_text, header_text, manifest_kind_name, refusal_text, spaced, tag_text, unmet_text};
-ghost use Rattle.osgi_session.specs.Rendering.{with_line_end};
+ghost use Rattle.osgi_session.specs.Rendering.{line_at};
 
-use crate::writing::{add_spaced, add_spaced_number};
+use crate::writing::{add_indent, add_spaced, add_spaced_number};
 use osgi_base::Tag;
 use osgi_ops::{Refusal, Unmet};
 use osgi_world::{ManifestFault, ManifestKind};
@@ -102,9 +102,10 @@ fn add_details(out: &mut Vec<u8>, refusal: &Refusal) -> Result<(), AllocError>
 }
 
 /// Adds the line of a refusal.
-pub fn add_refusal(out: &mut Vec<u8>, refusal: &Refusal) -> Result<(), AllocError>
-    ensures added { OnOk result (out.new.items ≡ out.old.items ++ with_line_end (refusal_text refusal.now)) }
+pub fn add_refusal(out: &mut Vec<u8>, depth: usize, refusal: &Refusal) -> Result<(), AllocError>
+    ensures added { OnOk result (out.new.items ≡ out.old.items ++ line_at depth (refusal_text refusal.now)) }
 {
+    add_indent(out, depth)?;
     out.extend_from_slice(b"refused")?;
     add_spaced_number(out, u64::from(refusal.number()))?;
     add_spaced(out, refusal.name().as_bytes())?;

@@ -1,226 +1,133 @@
 //! The text of a session.
 
-ghost use Rattle.std.specs.Prelude.{◌≡◌, [], ◌++◌, codes, map, IfOk, OnOk};
-ghost use Rattle.std.specs.Fmt.{decimal};
-ghost use Rattle.std.specs.List.{concat, join_with_byte};
-ghost use Rattle.osgi_session.specs.Rendering.{bundle_row_text, bundles_text, quoted, service_lines, service_row_text, services_text, truth, with_line_end, entry_text, render};
-ghost use Rattle.osgi_console.specs.computed.Texts.{AreTextsOf, line_text_by, text_at};
+ghost use Rattle.std.specs.Prelude.{◌≡◌, ◌++◌, ◌∷◌, [], List, IfOk, OnOk, option_copied, unwrap_or};
+ghost use Rattle.osgi_brackets.specs.Open.{StandsFor};
+ghost use Rattle.osgi_ops.specs.Levels.{moved_to};
+ghost use Rattle.osgi_ops.specs.declared.entry.Entry.{Entry};
+ghost use Rattle.osgi_session.specs.Rendering.{depth, entry_lines, lines_at, render, takes_no_job};
+ghost use Rattle.osgi_console.specs.computed.Texts.{AreTextsOf, has_ended, line_text_by, run_text, text_at, written};
 
-use crate::refusals::add_refusal;
-use crate::wires::add_wires;
-use crate::writing::{add_quoted, add_ranking, add_spaced, add_spaced_number};
-use osgi_base::{BundleId, ServiceId, Text};
-use osgi_ops::{BundleRow, Entry, Op, Reply, ServiceRow};
+use crate::entries::add_entry;
+use osgi_base::Text;
+use osgi_brackets::Brackets;
+use osgi_ops::{Entry, Op, Reply};
 use osgi_session::{Content, Line};
 use std::alloc::{AllocError, Global};
 use std::collections::BTreeMap;
 
-/// Adds ids of services, each after a space.
-fn add_service_ids(out: &mut Vec<u8>, ids: &[ServiceId]) -> Result<(), AllocError>
-    ensures added { OnOk result (out.new.items ≡ out.old.items ++ services_text ids.now) }
-{
-    if ids.is_empty() {
-        return out.extend_from_slice(b" none");
-    }
-    for id in ids {
-        add_spaced_number(out, id.0)?;
-    }
-    Ok(())
+/// The active start level of a history without entries.
+const FIRST_LEVEL: u8 = 1;
+
+/// What the entries of a line write.
+#[derive(Drop)]
+struct LineText {
+    text: Vec<u8>,
+    /// Whether the last of them found no job to take, with which the line's run ends.
+    has_ended: bool,
 }
 
-/// Adds ids of bundles, each after a space.
-fn add_bundle_ids(out: &mut Vec<u8>, ids: &[BundleId]) -> Result<(), AllocError>
-    ensures added { OnOk result (out.new.items ≡ out.old.items ++ bundles_text ids.now) }
+/// How deep an entry stands: how many brackets of its caller are open before it, or after it where these are fewer.
+fn depth_of(brackets: &mut Brackets, entry: &Entry) -> Result<usize, AllocError>
+    ensures depth { (history : List Entry) → StandsFor history brackets.old → IfOk result (λ d. d ≡ depth history entry.now) }
+    ensures follows { (history : List Entry) → StandsFor history brackets.old → OnOk result (StandsFor (history ++ entry.now ∷ []) brackets.new) }
 {
-    if ids.is_empty() {
-        return out.extend_from_slice(b" none");
-    }
-    for id in ids {
-        add_spaced_number(out, u64::from(id.0))?;
-    }
-    Ok(())
+    let caller = entry.tag.caller;
+    let before = brackets.depth(caller);
+    brackets.follow(entry)?;
+    let after = brackets.depth(caller);
+    Ok(if before < after { before } else { after })
 }
 
-/// Adds class names with commas between them.
-fn add_classes(out: &mut Vec<u8>, classes: &[Text]) -> Result<(), AllocError>
-    ensures added { OnOk result (out.new.items ≡ out.old.items ++ join_with_byte 44 classes.now) }
+/// The active start level after an entry.
+fn level_after(level: u8, entry: &Entry) -> u8
+    ensures level { result ≡ unwrap_or (moved_to entry.now.op entry.now.reply) level }
 {
-    let Some((first, others)) = classes.split_first() else {
-        return Ok(());
+    match &entry.op {
+        Op::MoveLevel { to } => { if entry.reply.is_refusal() { level } else { *to } }
+        _ => level,
+    }
+}
+
+/// Whether an entry found no job to take.
+fn takes_no_job(entry: &Entry) -> bool
+    ensures takes { result ≡ takes_no_job entry.now.op entry.now.reply }
+{
+    matches!((&entry.op, &entry.reply), (Op::TakeJob, Reply::NoJob))
+}
+
+/// What a line's entries write with one more of them, from what those before it write.
+fn with_entry(
+    alloc: Global,
+    line: Option<LineText>,
+    depth: usize,
+    level: u8,
+    entry: &Entry,
+) -> Result<LineText, AllocError>
+    ensures text { IfOk result (λ more. more.text.items ≡ written line ++ lines_at depth (entry_lines level entry.now.op entry.now.reply)) }
+    ensures ended { IfOk result (λ more. more.has_ended ≡ takes_no_job entry.now.op entry.now.reply) }
+{
+    let mut text = match line {
+        Some(LineText { text, .. }) => text,
+        None => Vec::new(alloc),
     };
-    out.extend_from_slice(first.bytes())?;
-    for class in others {
-        out.push(b',')?;
-        out.extend_from_slice(class.bytes())?;
-    }
-    Ok(())
+    add_entry(alloc, &mut text, depth, level, entry)?;
+    Ok(LineText {
+        text,
+        has_ended: takes_no_job(entry),
+    })
 }
 
-/// Adds the line of a service in a list.
-fn add_service_row(out: &mut Vec<u8>, row: &ServiceRow) -> Result<(), AllocError>
-    ensures added { OnOk result (out.new.items ≡ out.old.items ++ with_line_end (service_row_text row.now)) }
-{
-    out.extend_from_slice(b"service")?;
-    add_spaced_number(out, row.service.0)?;
-    add_spaced_number(out, u64::from(row.owner.0))?;
-    out.push(b' ')?;
-    add_ranking(out, row.ranking)?;
-    out.push(b' ')?;
-    add_classes(out, row.classes.items())?;
-    out.push(b' ')?;
-    add_quoted(out, row.object.bytes())?;
-    out.push(b'\n')?;
-    Ok(())
-}
-
-/// Adds the lines of a list of services.
-fn add_services(out: &mut Vec<u8>, rows: &[ServiceRow]) -> Result<(), AllocError>
-    ensures added { OnOk result (out.new.items ≡ out.old.items ++ concat (map with_line_end (service_lines rows.now))) }
-{
-    if rows.is_empty() {
-        return out.extend_from_slice(b"none\n");
-    }
-    for row in rows {
-        add_service_row(out, row)?;
-    }
-    Ok(())
-}
-
-/// Adds the line of a bundle in a list.
-fn add_bundle_row(alloc: Global, out: &mut Vec<u8>, row: &BundleRow) -> Result<(), AllocError>
-    ensures added { OnOk result (out.new.items ≡ out.old.items ++ with_line_end (bundle_row_text row.now)) }
-{
-    out.extend_from_slice(b"bundle")?;
-    add_spaced_number(out, u64::from(row.bundle.0))?;
-    add_spaced_number(out, u64::from(row.state))?;
-    add_spaced_number(out, u64::from(row.level))?;
-    add_spaced(out, row.name.bytes())?;
-    add_spaced(out, row.version.print(alloc)?.as_slice())?;
-    out.push(b'\n')?;
-    Ok(())
-}
-
-/// Adds the lines of a list of bundles.
-fn add_bundles(alloc: Global, out: &mut Vec<u8>, rows: &[BundleRow]) -> Result<(), AllocError>
-    ensures added { OnOk result (out.new.items ≡ out.old.items ++ concat (map with_line_end (map bundle_row_text rows.now))) }
-{
-    for row in rows {
-        add_bundle_row(alloc, out, row)?;
-    }
-    Ok(())
-}
-
-/// Adds a line of a word and an id.
-fn add_id_line(out: &mut Vec<u8>, word: &[u8], id: u64) -> Result<(), AllocError>
-    ensures added { OnOk result (out.new.items ≡ out.old.items ++ with_line_end (word.now ++ codes " " ++ decimal id)) }
-{
-    out.extend_from_slice(word)?;
-    add_spaced_number(out, id)?;
-    out.push(b'\n')?;
-    Ok(())
-}
-
-/// Adds the line that says which services were found.
-fn add_found(out: &mut Vec<u8>, ids: &[ServiceId]) -> Result<(), AllocError>
-    ensures added { OnOk result (out.new.items ≡ out.old.items ++ with_line_end (codes "found" ++ services_text ids.now)) }
-{
-    out.extend_from_slice(b"found")?;
-    add_service_ids(out, ids)?;
-    out.push(b'\n')?;
-    Ok(())
-}
-
-/// Adds the line that says which bundles were resolved.
-fn add_resolved(out: &mut Vec<u8>, ids: &[BundleId]) -> Result<(), AllocError>
-    ensures added { OnOk result (out.new.items ≡ out.old.items ++ with_line_end (codes "resolved" ++ bundles_text ids.now)) }
-{
-    out.extend_from_slice(b"resolved")?;
-    add_bundle_ids(out, ids)?;
-    out.push(b'\n')?;
-    Ok(())
-}
-
-/// Adds the line that shows a service's object.
-fn add_object(out: &mut Vec<u8>, object: &[u8]) -> Result<(), AllocError>
-    ensures added { OnOk result (out.new.items ≡ out.old.items ++ with_line_end (codes "object " ++ quoted object.now)) }
-{
-    out.extend_from_slice(b"object ")?;
-    add_quoted(out, object)?;
-    out.push(b'\n')?;
-    Ok(())
-}
-
-/// Adds the line that says whether there was a use to take back.
-fn add_unget(out: &mut Vec<u8>, value: bool) -> Result<(), AllocError>
-    ensures added { OnOk result (out.new.items ≡ out.old.items ++ with_line_end (codes "unget " ++ truth value)) }
-{
-    if value {
-        out.extend_from_slice(b"unget true\n")
-    } else {
-        out.extend_from_slice(b"unget false\n")
-    }
-}
-
-/// Adds the lines of an entry.
-fn add_entry(alloc: Global, out: &mut Vec<u8>, entry: &Entry) -> Result<(), AllocError>
-    ensures added { OnOk result (out.new.items ≡ out.old.items ++ entry_text [] entry.now) }
-{
-    match (&entry.op, &entry.reply) {
-        (_, Reply::Service { service }) => add_id_line(out, b"service", service.0),
-        (_, Reply::Best { service }) => add_found(out, service.as_slice()),
-        (_, Reply::Services { services }) => add_found(out, services.items()),
-        (_, Reply::Object { text }) => add_object(out, text.bytes()),
-        (_, Reply::Bundle { bundle, .. }) => add_id_line(out, b"bundle", u64::from(bundle.0)),
-        (_, Reply::Resolved { added }) => add_resolved(out, added.items()),
-        (_, Reply::Bundles { rows }) => add_bundles(alloc, out, rows.items()),
-        (_, Reply::ServiceRows { rows }) => add_services(out, rows.items()),
-        (_, Reply::Wires { rows, fragments }) => {
-            add_wires(alloc, out, rows.items(), fragments.items())
-        }
-        (_, Reply::Refused { refusal }) => add_refusal(out, refusal),
-        (Op::Modify { service, .. }, Reply::Done) => add_id_line(out, b"modified", service.0),
-        (Op::Unregister { service, .. }, Reply::Done) => {
-            add_id_line(out, b"unregistered", service.0)
-        }
-        (Op::Unget { .. }, Reply::Flag { value }) => add_unget(out, *value),
-        _ => Ok(()),
-    }
-}
-
-/// The texts of the entries, each under the number of its line.
-fn texts(alloc: Global, entries: &[Entry]) -> Result<BTreeMap<u32, Vec<u8>>, AllocError>
+/// What the entries of each line write, under the number of the line.
+fn texts(alloc: Global, entries: &[Entry]) -> Result<BTreeMap<u32, LineText>, AllocError>
     ensures texts { IfOk result (AreTextsOf entries.now) }
 {
     let mut texts = BTreeMap::new(alloc);
+    let mut brackets = Brackets::new(alloc);
+    let mut level = FIRST_LEVEL;
     for entry in entries {
         let number = entry.tag.command;
+        let depth = depth_of(&mut brackets, entry)?;
         // Taken out and put back: what the map then holds has a contract, which a loan into it has not.
-        let mut text = texts.remove(&number).unwrap_or(Vec::new(alloc));
-        add_entry(alloc, &mut text, entry)?;
+        let text = with_entry(alloc, texts.remove(&number), depth, level, entry)?;
         texts.insert(number, text)?;
+        level = level_after(level, entry);
     }
     Ok(texts)
+}
+
+/// Adds what a line with a command writes.
+fn add_run(out: &mut Vec<u8>, text: Option<&LineText>) -> Result<(), AllocError>
+    ensures added { OnOk result (out.new.items ≡ out.old.items ++ run_text (written (option_copied text.entry)) (has_ended (option_copied text.entry))) }
+{
+    let Some(line) = text else {
+        return out.extend_from_slice(b"full\n");
+    };
+    out.extend_from_slice(line.text.as_slice())?;
+    if line.has_ended {
+        return Ok(());
+    }
+    out.extend_from_slice(b"full\n")
 }
 
 /// Adds what a line writes.
 fn add_line(
     out: &mut Vec<u8>,
     line: &Line,
-    texts: &BTreeMap<u32, Vec<u8>>,
+    texts: &BTreeMap<u32, LineText>,
 ) -> Result<(), AllocError>
     ensures added { OnOk result (out.new.items ≡ out.old.items ++ line_text_by line.now.content (text_at texts.now line.now.number)) }
 {
     match &line.content {
         Content::Empty | Content::Join => Ok(()),
         Content::Bad => out.extend_from_slice(b"syntax\n"),
-        Content::Run(_) => match texts.get(&line.number) {
-            Some(text) => out.extend_from_slice(text.as_slice()),
-            None => out.extend_from_slice(b"full\n"),
-        },
+        Content::Run(_) => add_run(out, texts.get(&line.number)),
     }
 }
 
 /// The text of a session: what its lines write, in input order.
+///
+/// An entry writes its lines after two spaces for each bracket of its caller that it stands in. A line with a command ends
+/// with `full` exactly where its entries do not end with one that found no job to take.
 ///
 /// The cost is near linear in the lines and entries together.
 pub fn render(alloc: Global, lines: &[Line], entries: &[Entry]) -> Result<Text, AllocError>

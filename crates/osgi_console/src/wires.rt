@@ -1,10 +1,9 @@
 //! The lines of a list of wires.
 
 ghost use Rattle.std.specs.Prelude.{◌≡◌, ◌++◌, map, OnOk};
-ghost use Rattle.std.specs.List.{concat};
-ghost use Rattle.osgi_session.specs.Rendering.{fragment_row_text, revision_text, wire_lines, wire_row_text, with_line_end};
+ghost use Rattle.osgi_session.specs.Rendering.{fragment_row_text, line_at, lines_at, revision_text, wire_lines, wire_row_text};
 
-use crate::writing::{add_number, add_spaced, add_spaced_number};
+use crate::writing::{add_indent, add_number, add_spaced, add_spaced_number};
 use osgi_ops::WireRow;
 use std::alloc::{AllocError, Global};
 
@@ -19,9 +18,15 @@ fn add_revision(alloc: Global, out: &mut Vec<u8>, row: &WireRow) -> Result<(), A
 }
 
 /// Adds the line of a wire.
-fn add_wire_row(alloc: Global, out: &mut Vec<u8>, row: &WireRow) -> Result<(), AllocError>
-    ensures added { OnOk result (out.new.items ≡ out.old.items ++ with_line_end (wire_row_text row.now)) }
+fn add_wire_row(
+    alloc: Global,
+    out: &mut Vec<u8>,
+    depth: usize,
+    row: &WireRow,
+) -> Result<(), AllocError>
+    ensures added { OnOk result (out.new.items ≡ out.old.items ++ line_at depth (wire_row_text row.now)) }
 {
+    add_indent(out, depth)?;
     out.extend_from_slice(b"wire")?;
     add_spaced(out, row.namespace.bytes())?;
     add_spaced(out, row.name.bytes())?;
@@ -31,9 +36,15 @@ fn add_wire_row(alloc: Global, out: &mut Vec<u8>, row: &WireRow) -> Result<(), A
 }
 
 /// Adds the line of a fragment.
-fn add_fragment_row(alloc: Global, out: &mut Vec<u8>, row: &WireRow) -> Result<(), AllocError>
-    ensures added { OnOk result (out.new.items ≡ out.old.items ++ with_line_end (fragment_row_text row.now)) }
+fn add_fragment_row(
+    alloc: Global,
+    out: &mut Vec<u8>,
+    depth: usize,
+    row: &WireRow,
+) -> Result<(), AllocError>
+    ensures added { OnOk result (out.new.items ≡ out.old.items ++ line_at depth (fragment_row_text row.now)) }
 {
+    add_indent(out, depth)?;
     out.extend_from_slice(b"fragment")?;
     add_revision(alloc, out, row)?;
     out.push(b'\n')?;
@@ -41,21 +52,31 @@ fn add_fragment_row(alloc: Global, out: &mut Vec<u8>, row: &WireRow) -> Result<(
 }
 
 /// Adds the lines of the wires.
-fn add_wire_rows(alloc: Global, out: &mut Vec<u8>, rows: &[WireRow]) -> Result<(), AllocError>
-    ensures added { OnOk result (out.new.items ≡ out.old.items ++ concat (map with_line_end (map wire_row_text rows.now))) }
+fn add_wire_rows(
+    alloc: Global,
+    out: &mut Vec<u8>,
+    depth: usize,
+    rows: &[WireRow],
+) -> Result<(), AllocError>
+    ensures added { OnOk result (out.new.items ≡ out.old.items ++ lines_at depth (map wire_row_text rows.now)) }
 {
     for row in rows {
-        add_wire_row(alloc, out, row)?;
+        add_wire_row(alloc, out, depth, row)?;
     }
     Ok(())
 }
 
 /// Adds the lines of the fragments.
-fn add_fragment_rows(alloc: Global, out: &mut Vec<u8>, rows: &[WireRow]) -> Result<(), AllocError>
-    ensures added { OnOk result (out.new.items ≡ out.old.items ++ concat (map with_line_end (map fragment_row_text rows.now))) }
+fn add_fragment_rows(
+    alloc: Global,
+    out: &mut Vec<u8>,
+    depth: usize,
+    rows: &[WireRow],
+) -> Result<(), AllocError>
+    ensures added { OnOk result (out.new.items ≡ out.old.items ++ lines_at depth (map fragment_row_text rows.now)) }
 {
     for row in rows {
-        add_fragment_row(alloc, out, row)?;
+        add_fragment_row(alloc, out, depth, row)?;
     }
     Ok(())
 }
@@ -64,14 +85,16 @@ fn add_fragment_rows(alloc: Global, out: &mut Vec<u8>, rows: &[WireRow]) -> Resu
 pub fn add_wires(
     alloc: Global,
     out: &mut Vec<u8>,
+    depth: usize,
     rows: &[WireRow],
     fragments: &[WireRow],
 ) -> Result<(), AllocError>
-    ensures added { OnOk result (out.new.items ≡ out.old.items ++ concat (map with_line_end (wire_lines rows.now fragments.now))) }
+    ensures added { OnOk result (out.new.items ≡ out.old.items ++ lines_at depth (wire_lines rows.now fragments.now)) }
 {
     if rows.is_empty() && fragments.is_empty() {
+        add_indent(out, depth)?;
         return out.extend_from_slice(b"none\n");
     }
-    add_wire_rows(alloc, out, rows)?;
-    add_fragment_rows(alloc, out, fragments)
+    add_wire_rows(alloc, out, depth, rows)?;
+    add_fragment_rows(alloc, out, depth, fragments)
 }

@@ -1,12 +1,22 @@
-//! What lines are made of: numbers and quoted texts.
+//! What lines are made of: their indentation, numbers and quoted texts.
 
-ghost use Rattle.std.specs.Prelude.{◌≡◌, ◌==◌, ◌||◌, if◌then◌else◌, ◌∷◌, [], ◌++◌, OnOk};
+ghost use Rattle.std.specs.Prelude.{◌≡◌, ◌+◌, ◌==◌, ◌||◌, if◌then◌else◌, ◌∷◌, [], ◌++◌, OnOk, replicate};
 ghost use Rattle.std.specs.Fmt.{decimal, signed_decimal};
 ghost use Rattle.osgi_session.specs.RefusalTexts.{spaced};
 ghost use Rattle.osgi_session.specs.Rendering.{quoted};
 
 use itoa::Buffer;
 use std::alloc::AllocError;
+
+/// Adds two spaces for each bracket that a line stands in.
+pub fn add_indent(out: &mut Vec<u8>, depth: usize) -> Result<(), AllocError>
+    ensures added { OnOk result (out.new.items ≡ out.old.items ++ replicate (depth + depth) 32) }
+{
+    for _level in 0..depth {
+        out.extend_from_slice(b"  ")?;
+    }
+    Ok(())
+}
 
 /// Adds a number in decimal.
 pub fn add_number(out: &mut Vec<u8>, number: u64) -> Result<(), AllocError>

@@ -1,16 +1,18 @@
 -- One more row.
 use Rattle.std.proofs.Common.{◌≡◌, ◌≤◌, ◌<◌, ◌+◌, ℕ, List, [], ◌∷◌, ◌++◌, length, take, drop, ap, sym, ◌∙◌, refl, subst, inl, inr, arith, length-append, get_or}
 use Rattle.std.specs.Prelude.{◌⊎◌, All, Option, None, Some}
+use Rattle.std.specs.List.{AllZip}
 use Rattle.std.specs.Option.{option_to_list}
 use Rattle.std.proofs.lemmas.Bool.{cases_lt}
 use Rattle.std.proofs.lemmas.List.{length-map, length-take-le, take_more, drop-append-le, drop_all, map-append, take-append-le, take_all}
 use Rattle.std.proofs.lemmas.List.Elements.{All-nil, All-push, All-same, filter_map-append}
-use Rattle.osgi_depot.specs.Depots.{AreWithin, failure_of, failures, IsStored}
+use Rattle.osgi_depot.specs.Depots.{AreScriptsOf, AreWithin, failure_of, failures, IsScriptAt, IsStored}
 use Rattle.osgi_depot.specs.computed.Rows.{AreRowsOf, IsStoredAt}
 use Rattle.osgi_ops.specs.declared.depot.DepotRow.{DepotRow}
 use Rattle.osgi_ops.specs.declared.depot.Stored.{Stored}
 use Rattle.osgi_ops.specs.declared.depot.Stored.TheVariants as stored
 use Rattle.osgi_outside.specs.Shelves.{ShelfRow}
+use Rattle.osgi_session.specs.declared.script.Script.{Script}
 
 -- ---- failures
 
@@ -93,3 +95,22 @@ rows_more limit told told_then locations i location copy from mid to rows more k
     subst (λ (l : List DepotRow). AreRowsOf limit told (take (i + 1) locations) from to l) (sym there)
     (subst (λ (l : List (List ℕ)). AreRowsOf limit told l from to (rows ++ record { location = location; stored = kept } ∷ [])) here
     (rows_push limit told (take i locations) location from mid to rows kept are now))
+
+-- ---- scripts
+
+zip_push : {A B : Type 0} (R : A → B → Type 0) (xs : List A) (ys : List B) (x : A) (y : B) → AllZip R xs ys → R x y → AllZip R (xs ++ x ∷ []) (ys ++ y ∷ [])
+zip_push R [] [] x y all one = (one, tt)
+zip_push R [] (b ∷ ys) x y all one = absurd all
+zip_push R (a ∷ xs) [] x y all one = absurd all
+zip_push R (a ∷ xs) (b ∷ ys) x y all one = (all.0, zip_push R xs ys x y all.1 one)
+
+-- the script of one more row
+pub scripts_more : (told told_then : Option (List ShelfRow)) (rows more : List DepotRow) (scripts others : List Script) (location copy : List ℕ) (kept : Stored) (script : Script) →
+    told_then ≡ told → copy ≡ location → AreScriptsOf told rows scripts → IsScriptAt told_then location kept script → more ≡ rows ++ record { location = copy; stored = kept } ∷ [] →
+    others ≡ scripts ++ script ∷ [] → AreScriptsOf told more others
+scripts_more told told_then rows more scripts others location copy kept script told_is same are at pushed added =
+    let here : IsScriptAt told copy kept script
+    = subst (λ l. IsScriptAt told l kept script) (sym same) (subst (λ (t : Option (List ShelfRow)). IsScriptAt t location kept script) told_is at) in
+    subst (λ (l : List DepotRow). AreScriptsOf told l others) (sym pushed)
+    (subst (λ (l : List Script). AreScriptsOf told (rows ++ record { location = copy; stored = kept } ∷ []) l) (sym added)
+    (zip_push (λ (row : DepotRow) (s : Script). IsScriptAt told row.location row.stored s) rows scripts (record { location = copy; stored = kept }) script are here))

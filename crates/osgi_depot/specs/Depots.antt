@@ -1,10 +1,10 @@
--- The depot of a session: which locations its lines name, and what comes of reading their folders.
+-- The depot of a session and its scripts: which locations its lines name, and what comes of reading their folders.
 use Rattle.std.specs.Prelude.{ℕ, ◌≡◌, ◌≤◌, Bool, if◌then◌else◌, List, [], ◌∷◌, Option, None, Some, All, IsSomeAnd, drop, map, take}
-use Rattle.std.specs.List.{filter_map, list_any}
+use Rattle.std.specs.List.{AllZip, filter_map, list_any}
 use Rattle.std.specs.Str.{bytes_eq}
 use Rattle.osgi_base.specs.declared.folder.File.{File}
 use Rattle.osgi_base.specs.declared.folder.Folder.{Folder}
-use Rattle.osgi_manifest.specs.Manifests.{file_at, IsManifestFault, manifest_path, Means}
+use Rattle.osgi_manifest.specs.Manifests.{file_at, IsManifestFault, IsScriptOf, manifest_path, Means}
 use Rattle.osgi_ops.specs.Along.{along}
 use Rattle.osgi_ops.specs.declared.depot.DepotRow.{DepotRow}
 use Rattle.osgi_ops.specs.declared.depot.Stored.{Stored}
@@ -17,6 +17,7 @@ use Rattle.osgi_session.specs.declared.command.Command.TheVariants as command
 use Rattle.osgi_session.specs.declared.line.Content.{Content}
 use Rattle.osgi_session.specs.declared.line.Content.TheVariants.{Run}
 use Rattle.osgi_session.specs.declared.line.Line.{Line}
+use Rattle.osgi_session.specs.declared.script.Script.{Script}
 
 -- ---- locations
 
@@ -83,3 +84,16 @@ pub record IsDepotOf (lines : List Line) (told : Option (List ShelfRow)) (from t
   pub read : All (λ (row : DepotRow). IsStored told row.location row.stored) (take MAX_LOCATIONS rows)
   pub skipped : All (λ (row : DepotRow). row.stored ≡ stored.Skipped) (drop MAX_LOCATIONS rows)
   pub failed : AreWithin from to (failures rows)
+
+-- ---- the scripts
+
+-- the script of a location whose revision was read is that of the activator in the folder that means the revision, or has no sections where the
+-- revision has no activator. That of any other location has no sections
+abbrev pub IsScriptAt : Option (List ShelfRow) → List ℕ → Stored → Script → Type 0
+IsScriptAt told location (stored.Read revision manifest) script =
+    (folder : Folder) × IsFoundAt told location folder × Means folder revision × IsScriptOf folder revision.activator script
+IsScriptAt told location _ script = script.sections ≡ []
+
+-- a script for each row, in the order of the rows: that of the row's location
+abbrev pub AreScriptsOf : Option (List ShelfRow) → List DepotRow → List Script → Type 0
+AreScriptsOf told rows scripts = AllZip (λ (row : DepotRow) (script : Script). IsScriptAt told row.location row.stored script) rows scripts

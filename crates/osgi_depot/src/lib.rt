@@ -1,8 +1,8 @@
-//! The depot of a session: the folders that its lines name, each read once before the first line runs.
+//! The depot of a session and its scripts: the folders that the lines name, each read once before the first line runs.
 #![tactic(auto)]
 
 mod folders;
 mod locations;
 mod storing;
 
-pub use folders::read_depot;
+pub use folders::{Folders, read_depot};

@@ -1,25 +1,25 @@
--- What an entry of a legal history says while these operations have not come: each is of an operation that has come and is no end of
--- a bracket, or is refused as an invalid operation. So none opens a bracket, starts, stops, updates, uninstalls or cleans a bundle, sets
--- a level, begins a refresh, or adds a listener or a job.
+-- What an entry of a legal history says while these operations have not come: each is of an operation that has come, is no end of a
+-- bracket and opens none, or is refused as an invalid operation. So none starts, stops, updates, uninstalls or cleans a bundle, sets a
+-- level, begins a refresh, or adds a listener or a job; and since no job is queued, none is taken.
 use Rattle.std.proofs.Common.{◌≡◌, ◌+◌, ◌⊎◌, inl, inr, ℕ, length, Bool, true, false, List, [], ◌∷◌, refl, sym, ap, ◌∙◌, subst}
 use Rattle.std.specs.Prelude.{All, Option, None}
 use Rattle.std.specs.List.{cons_option, filter_map, last_or}
-use Rattle.std.proofs.lemmas.List.Elements.{All-append, All-cons, All-head, All-nil, All-push, All-tail}
+use Rattle.std.proofs.lemmas.List.Elements.{All-append, All-cons, All-head, All-nil, All-push, All-tail, All-weaker}
 use Rattle.osgi_base.specs.Verdict.{Gives, Where}
 use Rattle.osgi_base.specs.declared.ids.BundleId.{BundleId}
 use Rattle.osgi_base.specs.declared.ids.ListenerId.{ListenerId}
 use Rattle.osgi_legal.specs.Quiet.{QuietJobs, QuietLevels, QuietPhases, QuietRefresh}
 use Rattle.osgi_ops.specs.Along.{carry, latest}
-use Rattle.osgi_ops.specs.Brackets.{Bracket, brackets, closes, is_end, opens, turned}
+use Rattle.osgi_ops.specs.Brackets.{brackets, closes, is_end, opens, turned, with_entry}
 use Rattle.osgi_ops.specs.Bundles.{Installed, installed_after, installed_by, is_uninstall, put_into, updated_to}
 use Rattle.osgi_ops.specs.Cleaning.{cleaned_by}
-use Rattle.osgi_ops.specs.Jobs.{queued_by}
+use Rattle.osgi_ops.specs.Jobs.{jobs, Queued, queued_by, with_jobs}
 use Rattle.osgi_ops.specs.Legal.{AreAllowed, IsAllowed}
 use Rattle.osgi_ops.specs.Levels.{leveled, moved_to, Refresh, refresh_by, Walk, walk_by, wishes}
 use Rattle.osgi_ops.specs.Listening.{handed_by, heard_by, is_handed}
 use Rattle.osgi_ops.specs.Moments.{entries_in, Moment, moment, Told}
 use Rattle.osgi_ops.specs.Operations.{IsReply}
-use Rattle.osgi_ops.specs.Replies.{verdict}
+use Rattle.osgi_ops.specs.Replies.{is_accepted, verdict}
 use Rattle.osgi_ops.specs.Settings.{Setting}
 use Rattle.osgi_ops.specs.Stages.{is_here}
 use Rattle.osgi_ops.specs.declared.entry.Entry.{Entry}
@@ -29,10 +29,13 @@ use Rattle.osgi_ops.specs.declared.refusal.Refusal.{Refusal}
 use Rattle.osgi_ops.specs.declared.refusal.Refusal.TheVariants.{ActivatorError, InvalidOperation}
 use Rattle.osgi_ops.specs.declared.reply.Reply.{Reply}
 use Rattle.osgi_ops.specs.declared.reply.Reply.TheVariants as answer
+use Rattle.osgi_ops.specs.rows.Jobs.{taken}
 use Rattle.osgi_ops.specs.laws.Along.{holds}
 use Rattle.osgi_ops.specs.laws.Stages.{here-row, late-refused}
-use Rattle.osgi_legal.proofs.Owned.{brackets-last, entries-last, refused-of}
+use Rattle.osgi_legal.proofs.Accepted.{accepted}
+use Rattle.osgi_legal.proofs.Owned.{entries-last, refused-of}
 use Rattle.osgi_legal.proofs.Quiet.{opens-refused, refused-quiet}
+use Rattle.osgi_legal.proofs.Windows.{refused-is}
 
 -- ---- lists of items that say nothing
 
@@ -81,24 +84,21 @@ pub record IsCalm (o : Op) (y : Reply) : Type 0 where
   pub updated : (b : BundleId) → updated_to b o y ≡ None
   pub cleaned : cleaned_by o y ≡ None
 
--- no operation that has come opens a bracket
-pub none-opens : (o : Op) (y : Reply) → is_here o ≡ true → opens o y ≡ None
-none-opens op.Hand y here = absurd (cc here)
-none-opens op.TakeJob y here = absurd (cc here)
-none-opens (op.BeginStart bundle transient) y here = absurd (cc here)
-none-opens (op.BeginStop target transient) y here = absurd (cc here)
-none-opens o y here = refl
+-- where a TakeJob opens nothing, it takes no job
+none-taken : (y : Reply) → opens op.TakeJob y ≡ None → queued_by op.TakeJob y ≡ None
+none-taken (answer.Job owner row name) e = absurd (cc e)
+none-taken y e = refl
 
-pub here-calm : (o : Op) (y : Reply) → is_here o ≡ true → is_end o ≡ false → IsCalm o y
-here-calm o y here no_end = record {
-  opened = none-opens o y here;
+pub here-calm : (o : Op) (y : Reply) → is_here o ≡ true → is_end o ≡ false → opens o y ≡ None → IsCalm o y
+here-calm o y here no_end none_opened = record {
+  opened = none_opened;
   phases = λ b. phases o b here no_end;
   levels = record { wish = λ b. wish o b here; level = λ b. level o b here; moved = moved o here; walk = λ before e. walks o before e here };
   refresh = λ before e. refreshes o before e here;
   heard = heard o here no_end;
   handed = λ l. handed o l here;
   counted = counted o here;
-  jobs = queued o here no_end;
+  jobs = queued o here no_end none_opened;
   gone = λ b. gone o b here;
   updated = λ b. updated o b here;
   cleaned = cleaned o no_end;
@@ -150,12 +150,12 @@ here-calm o y here no_end = record {
     counted op.Hand h = absurd (cc h)
     counted o h = refl
 
-    queued : (o : Op) → is_here o ≡ true → is_end o ≡ false → queued_by o y ≡ None
-    queued (op.QueueJob owner name) h n = absurd (cc h)
-    queued op.TakeJob h n = absurd (cc h)
-    queued (op.EndStart bundle failed) h n = absurd (cc n)
-    queued (op.EndStop bundle failed) h n = absurd (cc n)
-    queued o h n = refl
+    queued : (o : Op) → is_here o ≡ true → is_end o ≡ false → opens o y ≡ None → queued_by o y ≡ None
+    queued (op.QueueJob owner name) h n p = absurd (cc h)
+    queued op.TakeJob h n p = none-taken y p
+    queued (op.EndStart bundle failed) h n p = absurd (cc n)
+    queued (op.EndStop bundle failed) h n p = absurd (cc n)
+    queued o h n p = refl
 
     gone : (o : Op) (b : BundleId) → is_here o ≡ true → is_uninstall b o y ≡ false
     gone (op.Uninstall bundle) b h = absurd (cc h)
@@ -190,12 +190,16 @@ invalid-calm o =
 
 -- ---- entries
 
--- the entry is of an operation that has come and is no end of a bracket, or it is refused as an invalid operation
+-- the operation has come, is no end of a bracket, and opens none with this reply
+abbrev pub IsAlone : Op → Reply → Type 0
+IsAlone o y = (is_here o ≡ true) × (is_end o ≡ false) × (opens o y ≡ None)
+
+-- the entry is of such an operation, or it is refused as an invalid operation
 abbrev pub IsEarly : Entry → Type 0
-IsEarly e = ((is_here e.op ≡ true) × (is_end e.op ≡ false)) ⊎ (e.reply ≡ answer.Refused InvalidOperation)
+IsEarly e = IsAlone e.op e.reply ⊎ (e.reply ≡ answer.Refused InvalidOperation)
 
 pub early-calm : (e : Entry) → IsEarly e → IsCalm e.op e.reply
-early-calm e (inl h) = here-calm e.op e.reply h.0 h.1
+early-calm e (inl h) = here-calm e.op e.reply h.0 h.1 h.2
 early-calm e (inr is) = subst (IsCalm e.op) (sym is) (invalid-calm e.op)
 
 first-row : (reply : Reply) (closed : Bool) (rest : List (Refusal → Type 0)) (Answer : Reply → Type 0) → closed ≡ false →
@@ -211,40 +215,61 @@ end-refused now (op.EndStart bundle failed) y not_own e r = first-row y _ (Where
 end-refused now (op.EndStop bundle failed) y not_own e r = first-row y _ (Where ActivatorError (failed ≡ true) ∷ []) (λ a. a ≡ answer.Done) not_own (here-row now (op.EndStop bundle failed) y refl r)
 end-refused now o y not_own e r = absurd (cc e)
 
--- what is due opens no bracket
-due-opens : (now : Moment) (o : Op) (y : Reply) → IsReply now o y → opens o y ≡ None
-due-opens now o y r = go (is_here o) refl
-  where
-    go : (k : Bool) → is_here o ≡ k → opens o y ≡ None
-    go true e = none-opens o y e
-    go false e = ap (opens o) (late-refused now o y e r) ∙ opens-refused o InvalidOperation
+-- ---- what is due where no bracket is open and no job is queued
 
--- of every legal history: no bracket is open
-pub none-open : (setting : Setting) (told : List Told) → AreAllowed setting told → brackets (entries_in told) ≡ []
-none-open setting told legal =
-    holds (IsAllowed setting) (λ l. brackets (entries_in l) ≡ []) refl
-    (λ front x before empty a.
-    ap brackets (entries-last front x) ∙ brackets-last (entries_in front) x.entry
-    ∙ ap (turned x.entry.tag (opens x.entry.op x.entry.reply) (closes x.entry.tag x.entry.op (brackets (entries_in front)))) empty
-    ∙ ap (λ (l : List Bracket). turned x.entry.tag (opens x.entry.op x.entry.reply) (closes x.entry.tag x.entry.op l) []) empty
-    ∙ ap (λ o. turned x.entry.tag o false []) (due-opens (moment setting front x.entry.tag) x.entry.op x.entry.reply a.replied))
-    told legal
-
--- so what is due is due to an operation that has come and is no end, or it is this refusal
-pub due-early : (now : Moment) (o : Op) (y : Reply) → brackets now.before ≡ [] → IsReply now o y → ((is_here o ≡ true) × (is_end o ≡ false)) ⊎ (y ≡ answer.Refused InvalidOperation)
-due-early now o y empty r = go (is_here o) (is_end o) refl refl
+-- no job is taken
+due-taken : (now : Moment) (y : Reply) → jobs now.before ≡ [] → IsReply now op.TakeJob y → opens op.TakeJob y ≡ None
+due-taken now y none r = go (is_accepted y) refl
   where
-    go : (k l : Bool) → is_here o ≡ k → is_end o ≡ l → ((is_here o ≡ true) × (is_end o ≡ false)) ⊎ (y ≡ answer.Refused InvalidOperation)
+    go : (k : Bool) → is_accepted y ≡ k → opens op.TakeJob y ≡ None
+    go true e = ap (opens op.TakeJob) ((accepted now op.TakeJob y r e).1 ∙ ap (taken now) none)
+    go false e = let f = refused-is y e in ap (opens op.TakeJob) f.1 ∙ opens-refused op.TakeJob f.0
+
+-- and nothing else that has come opens a bracket
+due-opens : (now : Moment) (o : Op) (y : Reply) → jobs now.before ≡ [] → is_here o ≡ true → IsReply now o y → opens o y ≡ None
+due-opens now op.Hand y none here r = absurd (cc here)
+due-opens now op.TakeJob y none here r = due-taken now y none r
+due-opens now (op.BeginStart bundle transient) y none here r = absurd (cc here)
+due-opens now (op.BeginStop target transient) y none here r = absurd (cc here)
+due-opens now o y none here r = refl
+
+-- so it is due to an operation that has come, is no end and opens none, or it is this refusal
+pub due-early : (now : Moment) (o : Op) (y : Reply) → brackets now.before ≡ [] → jobs now.before ≡ [] → IsReply now o y → IsAlone o y ⊎ (y ≡ answer.Refused InvalidOperation)
+due-early now o y empty none r = go (is_here o) (is_end o) refl refl
+  where
+    go : (k l : Bool) → is_here o ≡ k → is_end o ≡ l → IsAlone o y ⊎ (y ≡ answer.Refused InvalidOperation)
     go false l h e = inr (late-refused now o y h r)
     go true true h e = inr (end-refused now o y (ap (closes now.tag o) empty) e r)
-    go true false h e = inl (h, e)
+    go true false h e = inl (h, e, due-opens now o y none h r)
 
--- each entry of a legal history is one of the two
+-- ---- histories
+
+-- where each entry is such, no bracket is open
+early-closed : (history : List Entry) → All IsEarly history → brackets history ≡ []
+early-closed history early =
+    carry-still with_entry [] history (All-weaker IsEarly (λ e. with_entry [] e ≡ []) (λ e is. ap (λ o. turned e.tag o false []) (early-calm e is).opened) history early)
+
+-- and no job is queued
+early-unqueued : (history : List Entry) → All IsEarly history → jobs history ≡ []
+early-unqueued history early =
+    carry-still (λ (s : List Queued) (e : Entry). with_jobs (queued_by e.op e.reply) s) [] history
+    (All-weaker IsEarly (λ e. with_jobs (queued_by e.op e.reply) [] ≡ []) (λ e is. ap (λ u. with_jobs u []) (early-calm e is).jobs) history early)
+
+-- each entry of a legal history is such
 pub all-early : (setting : Setting) (told : List Told) → AreAllowed setting told → All IsEarly (entries_in told)
 all-early setting told legal =
     holds (IsAllowed setting) (λ l. All IsEarly (entries_in l)) (All-nil IsEarly)
     (λ front x before early a.
+    let past = entries_in front in
     subst (All IsEarly) (sym (entries-last front x))
-    (All-push IsEarly (entries_in front) x.entry early
-    (due-early (moment setting front x.entry.tag) x.entry.op x.entry.reply (none-open setting front before) a.replied)))
+    (All-push IsEarly past x.entry early
+    (due-early (moment setting front x.entry.tag) x.entry.op x.entry.reply (early-closed past early) (early-unqueued past early) a.replied)))
     told legal
+
+-- so no bracket is open in one
+pub none-open : (setting : Setting) (told : List Told) → AreAllowed setting told → brackets (entries_in told) ≡ []
+none-open setting told legal = early-closed (entries_in told) (all-early setting told legal)
+
+-- and no job is queued
+pub none-queued : (setting : Setting) (told : List Told) → AreAllowed setting told → jobs (entries_in told) ≡ []
+none-queued setting told legal = early-unqueued (entries_in told) (all-early setting told legal)

@@ -14,7 +14,7 @@ use Rattle.osgi_ops.specs.Bundles as bundles
 use Rattle.osgi_ops.specs.Bundles.{Active, begun_by, idle, Installed, installed, is_there, is_uninstall, is_up, last_begin, phase, Phase, put_into, resting, running, source, State, system, Uninstalled, updated_to}
 use Rattle.osgi_ops.specs.Cleaning.{cleaned_by}
 use Rattle.osgi_ops.specs.Conditions.{refreshing_where, state_change, state_of}
-use Rattle.osgi_ops.specs.Jobs.{jobs, Queued, queued_by, with_jobs}
+use Rattle.osgi_ops.specs.Jobs.{jobs}
 use Rattle.osgi_ops.specs.Legal.{AreAllowed, entry_of, IsAllowed, IsTold}
 use Rattle.osgi_ops.specs.Levels.{active_level, autostart, level_of, leveled, moved_to, Refresh, refresh, refresh_by, walk, walk_by, wishes}
 use Rattle.osgi_ops.specs.Listening.{AreSights, heard_by, Hearing, hearing, is_listener, IsSight, listeners, with_heard}
@@ -37,7 +37,7 @@ use Rattle.osgi_ops.specs.declared.reply.Reply.TheVariants as answer
 use Rattle.osgi_world.specs.declared.world.World.{World}
 use Rattle.osgi_ops.specs.laws.Along.{holds}
 use Rattle.osgi_ops.specs.laws.Stages.{row-here}
-use Rattle.osgi_legal.proofs.Early.{all-early, carry-still, early-calm, IsCalm, IsEarly, latest-none, none-open, since-all}
+use Rattle.osgi_legal.proofs.Early.{all-early, carry-still, early-calm, IsCalm, IsEarly, latest-none, none-open, none-queued, since-all}
 use Rattle.osgi_legal.proofs.Facts.{services-up-at, system-assignable-at}
 use Rattle.osgi_legal.proofs.Legal.{at-told, sights-last, Told-of}
 use Rattle.osgi_legal.proofs.Quiet.{begin_of}
@@ -46,7 +46,7 @@ use Rattle.osgi_legal.proofs.Unhanded.{all-unhanded, is_handing}
 
 -- ---- entries
 
--- Each entry is of an operation that has come and is no end of a bracket, or is refused as an invalid operation.
+-- Each entry is of an operation that has come, is no end of a bracket and opens none, or is refused as an invalid operation.
 pub early-at : (now : Moment) → IsTold now → All IsEarly now.before
 early-at now t = at-told (λ m. All IsEarly m.before) (λ setting told tag legal. all-early setting told legal) now t
 
@@ -144,8 +144,7 @@ no-listeners now t = ap (λ (s : Hearing). s.live) (no-hearing now t)
 
 -- No job is queued.
 pub no-jobs : (now : Moment) → IsTold now → jobs now.before ≡ []
-no-jobs now t =
-    carry-still (λ (s : List Queued) (e : Entry). with_jobs (queued_by e.op e.reply) s) [] now.before (each (λ e. with_jobs (queued_by e.op e.reply) [] ≡ []) (λ e c. ap (λ u. with_jobs u []) c.jobs) now t)
+no-jobs now t = at-told (λ m. jobs m.before ≡ []) (λ setting told tag legal. none-queued setting told legal) now t
 
 -- ---- which bundles there are
 

@@ -1,10 +1,11 @@
 -- No reply of a legal history hands an event while Hand has not come.
-use Rattle.std.proofs.Common.{◌≡◌, inl, inr, Bool, true, false, List, refl, sym, ap, ◌∙◌, subst}
+use Rattle.std.proofs.Common.{◌≡◌, inl, inr, Bool, true, false, List, [], ◌∷◌, refl, sym, ap, ◌∙◌, subst}
 use Rattle.std.specs.Prelude.{All, ℕ, Option, None, Some, IsSomeAnd}
 use Rattle.std.proofs.lemmas.List.Elements.{All-nil, All-push}
 use Rattle.osgi_base.specs.declared.ids.BundleId.{BundleId}
 use Rattle.osgi_ops.specs.Brackets.{is_end}
 use Rattle.osgi_ops.specs.Bundles.{Bundle, bundle_from}
+use Rattle.osgi_ops.specs.Jobs.{jobs, Queued}
 use Rattle.osgi_ops.specs.Legal.{AreAllowed, IsAllowed}
 use Rattle.osgi_ops.specs.Moments.{entries_in, Moment, moment, Told}
 use Rattle.osgi_ops.specs.Operations.{Answers, IsReply}
@@ -21,8 +22,9 @@ use Rattle.osgi_ops.specs.declared.reply.Reply.{Reply}
 use Rattle.osgi_ops.specs.declared.reply.Reply.TheVariants as answer
 use Rattle.osgi_ops.specs.laws.Along.{holds}
 use Rattle.osgi_ops.specs.rows.Bundles.{installs}
+use Rattle.osgi_ops.specs.rows.Jobs.{taken}
 use Rattle.osgi_legal.proofs.Accepted.{accepted}
-use Rattle.osgi_legal.proofs.Early.{due-early, none-open}
+use Rattle.osgi_legal.proofs.Early.{due-early, none-open, none-queued}
 use Rattle.osgi_legal.proofs.Owned.{entries-last}
 use Rattle.osgi_legal.proofs.Windows.{refused-is}
 
@@ -43,6 +45,10 @@ resolved-so : (resolved : Bool) (now : Moment) (b : BundleId) (y : Reply) → An
 resolved-so true now b y a = ap is_handing a
 resolved-so false now b y a = ap is_handing a.2
 
+taken-so : (now : Moment) (queue : List Queued) → is_handing (taken now queue) ≡ false
+taken-so now [] = refl
+taken-so now (oldest ∷ rest) = refl
+
 -- no answer of an operation that has come and is no end hands one
 answers-none : (now : Moment) (o : Op) (y : Reply) → is_here o ≡ true → is_end o ≡ false → Answers now o y → is_handing y ≡ false
 answers-none now (op.Register owner classes object scope properties) y h n a = ap is_handing a
@@ -54,6 +60,8 @@ answers-none now (op.Get user service) y h n a = got (live_at service now.before
 answers-none now (op.Unget user service) y h n a = ap is_handing a
 answers-none now (op.Install location) y h n a = ap is_handing a ∙ installed-so (bundle_from now.setting.depot now.before location) _
 answers-none now (op.Resolve bundle) y h n a = resolved-so (is_resolved now.world bundle) now bundle y a
+answers-none now op.TakeJob y h n a = ap is_handing a ∙ taken-so now (jobs now.before)
+answers-none now (op.Load bundle class) y h n a = ap is_handing a.1
 answers-none now op.ListBundles y h n a = ap is_handing a
 answers-none now op.ListServices y h n a = ap is_handing a
 answers-none now (op.ListWires bundle) y h n a = ap is_handing a.2
@@ -85,7 +93,7 @@ all-unhanded setting told legal =
     due : (setting : Setting) (front : List Told) (x : Told) → AreAllowed setting front → IsAllowed setting front x → is_handing x.entry.reply ≡ false
     due setting front x before a =
         let now : Moment = moment setting front x.entry.tag in
-        elim (due-early now x.entry.op x.entry.reply (none-open setting front before) a.replied) [
+        elim (due-early now x.entry.op x.entry.reply (none-open setting front before) (none-queued setting front before) a.replied) [
           | inl h ↦ due-unhanded now x.entry.op x.entry.reply h.0 h.1 a.replied
           | inr is ↦ ap is_handing is
         ]

@@ -13,7 +13,8 @@ use Rattle.osgi_manifest.specs.computed.Answers.{Stops, in_header}
 use Rattle.osgi_manifest.specs.computed.Readings.{AnswersOnly, IsStopAt, SaysText, line, said}
 use Rattle.osgi_base.specs.declared.stop.Stop.{Stop}
 use Rattle.osgi_base.specs.declared.stop.Stop.TheVariants.{Fault, Memory}
-use Rattle.osgi_manifest.specs.Manifests.{IsRevisionOf, SaysManifest, file_at, headers, lines, manifest_faults, manifest_path, missing}
+use Rattle.osgi_manifest.specs.Manifests.{IsManifestFault, IsMeaning, IsRevisionOf, IsScriptOf, SaysManifest, file_at, headers, lines, manifest_faults, manifest_path, missing}
+use Rattle.osgi_manifest.specs.declared.meaning.Meaning.{Meaning}
 use Rattle.osgi_manifest.proofs.Stages.{refuses_only}
 use Rattle.osgi_world.specs.declared.manifest_fault.ManifestFault.{ManifestFault}
 use Rattle.osgi_world.specs.declared.manifest_fault.ManifestKind.{ManifestKind}
@@ -21,10 +22,10 @@ use Rattle.osgi_world.specs.declared.manifest_fault.ManifestKind.TheVariants as 
 use Rattle.osgi_world.specs.declared.revision.Revision.{Revision}
 
 -- a stop at a fault that is the only one
-pub stops : (Says : Verdict ManifestFault Revision → Type 0) (kind : ManifestKind) (at : ℕ) (stop : Stop ManifestFault) → IsStopAt kind at stop → IsOnly Says (refuses (in_header [] kind at)) →
-    AnswersOnly Says (Err stop)
-stops Says kind at (Fault found) is only = subst (λ f. IsOnly Says (refuses f)) (sym is) only
-stops Says kind at Memory is only = tt
+pub stops : (folder : Folder) (Says : Verdict ManifestFault Revision → Type 0) (kind : ManifestKind) (at : ℕ) (stop : Stop ManifestFault) → IsStopAt kind at stop → IsOnly Says (refuses (in_header [] kind at)) →
+    AnswersOnly folder Says (Err stop)
+stops folder Says kind at (Fault found) is only = subst (λ f. IsOnly Says (refuses f)) (sym is) only
+stops folder Says kind at Memory is only = tt
 
 -- ---- the manifest's text
 
@@ -101,16 +102,16 @@ text_decides folder file there v is = record { holds = by v is.holds; only = onl
         is.only w (said (subst (λ (f : File). AreHeadersOf f.bytes hs) (same_file other file (sym at ∙ there)) are) given)
 
 -- an answer of the one is an answer of the other
-pub text_answers : (folder : Folder) (file : File) → file_at manifest_path folder ≡ Some file → (r : Result Revision (Stop ManifestFault)) → AnswersOnly (SaysText folder file.bytes) r →
-    AnswersOnly (SaysManifest folder) r
-text_answers folder file there (Ok revision) is = text_decides folder file there (answers revision) is
+pub text_answers : (folder : Folder) (file : File) → file_at manifest_path folder ≡ Some file → (r : Result Meaning (Stop ManifestFault)) → AnswersOnly folder (SaysText folder file.bytes) r →
+    AnswersOnly folder (SaysManifest folder) r
+text_answers folder file there (Ok meaning) is = (text_decides folder file there (answers meaning.revision) is.0, is.1)
 text_answers folder file there (Err (Fault found)) is = text_decides folder file there (refuses found) is
 text_answers folder file there (Err Memory) is = tt
 
 pub said_answers : (folder : Folder) (text : List ℕ) (hs : List Header) → AreHeadersOf text hs → ((others : List Header) → AreHeadersOf text others → others ≡ hs) →
-    ((f : HeaderFault) → ¬ IsHeaderFault text f) → (r : Result Revision (Stop ManifestFault)) → AnswersOnly (Gives (manifest_faults folder hs) (IsRevisionOf folder hs)) r →
-    AnswersOnly (SaysText folder text) r
-said_answers folder text hs are one none (Ok revision) is = said_only folder text hs are one none (answers revision) is
+    ((f : HeaderFault) → ¬ IsHeaderFault text f) → (r : Result Meaning (Stop ManifestFault)) → AnswersOnly folder (Gives (manifest_faults folder hs) (IsRevisionOf folder hs)) r →
+    AnswersOnly folder (SaysText folder text) r
+said_answers folder text hs are one none (Ok meaning) is = (said_only folder text hs are one none (answers meaning.revision) is.0, is.1)
 said_answers folder text hs are one none (Err (Fault found)) is = said_only folder text hs are one none (refuses found) is
 said_answers folder text hs are one none (Err Memory) is = tt
 
@@ -118,11 +119,37 @@ said_answers folder text hs are one none (Err Memory) is = tt
 
 -- where a step stopped, no revision was made
 pub stop_answers : (folder : Folder) (hs : List Header) (stop : Stop ManifestFault) → Stops (manifest_faults folder hs) stop →
-    AnswersOnly (Gives (manifest_faults folder hs) (IsRevisionOf folder hs)) (Err stop)
+    AnswersOnly folder (Gives (manifest_faults folder hs) (IsRevisionOf folder hs)) (Err stop)
 stop_answers folder hs (Fault found) is = refuses_only (manifest_faults folder hs) (IsRevisionOf folder hs) found is
 stop_answers folder hs Memory is = tt
 
 -- what is handed on of a stop
-pub answers_on : (Says : Verdict ManifestFault Revision → Type 0) (r : Result Revision (Stop ManifestFault)) (given : Stop ManifestFault) → IsErrAnd r (λ stop. stop ≡ given) → AnswersOnly Says (Err given) → AnswersOnly Says r
-answers_on Says (Ok revision) given handed is = absurd handed
-answers_on Says (Err stop) given handed is = subst (λ s. AnswersOnly Says (Err s)) (sym handed) is
+pub answers_on : (folder : Folder) (Says : Verdict ManifestFault Revision → Type 0) (r : Result Meaning (Stop ManifestFault)) (given : Stop ManifestFault) → IsErrAnd r (λ stop. stop ≡ given) → AnswersOnly folder Says (Err given) → AnswersOnly folder Says r
+answers_on folder Says (Ok meaning) given handed is = absurd handed
+answers_on folder Says (Err stop) given handed is = subst (λ s. AnswersOnly folder Says (Err s)) (sym handed) is
+
+-- ---- the meaning
+
+same_answer : (a b : Revision) → ◌≡◌ {A = Verdict ManifestFault Revision} (answers a) (answers b) → a ≡ b
+same_answer a b e = cc e
+
+no_fault : (a : Revision) (found : ManifestFault) → ◌≡◌ {A = Verdict ManifestFault Revision} (refuses found) (answers a) → ⊥
+no_fault a found e = absurd (cc e)
+
+-- a revision that is the only verdict, with its only script, is what the folder means
+module _ (folder : Folder) (meaning : Meaning) (is : AnswersOnly folder (SaysManifest folder) (Ok meaning)) where
+  pub meaning_holds : IsMeaning folder meaning
+  meaning_holds = record { means = is.0.holds; script = is.1.holds }
+
+  pub meaning_one : (other : Meaning) → IsMeaning folder other → other ≡ meaning
+  meaning_one other has =
+      let revision : other.revision ≡ meaning.revision = same_answer other.revision meaning.revision (is.0.only (answers other.revision) has.means) in
+      let script : other.script ≡ meaning.script = is.1.only other.script (subst (λ (r : Revision). IsScriptOf folder r.activator other.script) revision has.script) in
+      λ i. record { revision = revision i; script = script i }
+
+  pub meaning_fine : (found : ManifestFault) → ¬ IsManifestFault folder found
+  meaning_fine found bad = no_fault meaning.revision found (is.0.only (refuses found) bad)
+
+-- and where a fault is, it means nothing
+pub no_meaning : (folder : Folder) (found : ManifestFault) → IsOnly (SaysManifest folder) (refuses found) → (other : Meaning) → ¬ IsMeaning folder other
+no_meaning folder found is other has = no_fault other.revision found (sym (is.only (answers other.revision) has.means))

@@ -2,7 +2,7 @@
 use Rattle.std.proofs.Common.{◌≡◌, ℕ, List, [], ◌∷◌, ◌++◌, length, ◌+◌, ap, sym, ◌∙◌, refl, subst}
 use Rattle.std.proofs.Math.Bridge.{le_prop}
 use Rattle.std.proofs.Math.Path.{to_path_p}
-use Rattle.std.specs.Prelude.{◌≤◌, false, codes, is_some, MatchOption, None, Option, Some}
+use Rattle.std.specs.Prelude.{◌≤◌, false, codes, is_some, MatchOption, None, Ok, Option, Some}
 use Rattle.osgi_base.specs.declared.folder.Folder.{Folder}
 use Rattle.osgi_base.specs.Verdict.{Gives, answers}
 use Rattle.osgi_header.specs.Clauses.{AreClausesOf}
@@ -18,12 +18,14 @@ use Rattle.osgi_package.specs.Only.{IsOnly}
 use Rattle.osgi_manifest.specs.computed.Answers.{CallNone}
 use Rattle.osgi_manifest.specs.computed.Lone.{IsHostIn}
 use Rattle.osgi_clause.specs.Lone.{IsLone, SaysHost}
+use Rattle.osgi_manifest.specs.computed.Readings.{AnswersOnly}
 use Rattle.osgi_manifest.specs.computed.Revisions.{IsMadeOf, itself_of, own_of}
 use Rattle.osgi_manifest.specs.computed.Steps.{AreMembers, IsSaid}
+use Rattle.osgi_manifest.specs.declared.meaning.Meaning.{Meaning}
 use Rattle.osgi_manifest.specs.declared.members.Members.{Members}
 use Rattle.osgi_manifest.specs.declared.said.Said.{Said}
 use Rattle.osgi_clause.specs.declared.naming.Naming.{Naming}
-use Rattle.osgi_manifest.specs.Manifests.{AreOwn, HasCapabilities, HasHost, HasRequirements, IsRevisionOf, manifest_faults, own_version, IsOwn}
+use Rattle.osgi_manifest.specs.Manifests.{AreOwn, HasCapabilities, HasHost, HasRequirements, IsRevisionOf, IsScriptOf, activator, manifest_faults, own_version, IsOwn}
 use Rattle.osgi_manifest.specs.Values.{header_value}
 use Rattle.osgi_manifest.proofs.Identities.{hosted_holds, named_holds, named_only}
 use Rattle.osgi_manifest.proofs.Stages.{answers_only}
@@ -145,13 +147,13 @@ module _ (headers : List Header) (members : Members) (are : AreMembers headers m
 
 -- ---- the revision
 
-module _ (folder : Folder) (headers : List Header) (said : Said) (is_said : IsSaid headers said) (revision : Revision) (made : IsMadeOf folder said revision) where
+module _ (folder : Folder) (headers : List Header) (said : Said) (is_said : IsSaid folder headers said) (revision : Revision) (made : IsMadeOf folder said revision) where
   revision_holds : IsRevisionOf folder headers revision
   revision_holds = record {
     named = named_holds headers said.naming revision is_said.naming.holds made.name made.singleton made.attach;
     version = subst (λ v. ReadsVersion (own_version headers) (parts v)) (sym made.version) is_said.version.holds;
     host = subst (HasHost (header_value (codes "Fragment-Host") headers)) (sym made.host) (host_holds headers said.host is_said.host);
-    activator_is = made.activator ∙ is_said.activator;
+    activator_is = made.activator ∙ is_said.activator.0;
     capabilities = offers headers said.members is_said.members revision said.host said.naming.name made.host made.name made.capabilities;
     requirements = asks headers said.members is_said.members revision made.requirements;
     no_dynamics = made.dynamics;
@@ -166,7 +168,7 @@ module _ (folder : Folder) (headers : List Header) (said : Said) (is_said : IsSa
       let name : other.name ≡ said.naming.name = ap (λ (n : Naming). n.name) naming in
       let host : other.host ≡ said.host = host_one headers said.host other.host is_said.host is.host in
       same_revision other revision (name ∙ sym made.name) (is_said.version.only other.version is.version ∙ sym made.version) (ap (λ (n : Naming). n.singleton) naming ∙ sym made.singleton)
-      (ap (λ (n : Naming). n.attach) naming ∙ sym made.attach) (host ∙ sym made.host) (is.activator_is ∙ sym is_said.activator ∙ sym made.activator)
+      (ap (λ (n : Naming). n.attach) naming ∙ sym made.attach) (host ∙ sym made.host) (is.activator_is ∙ sym is_said.activator.0 ∙ sym made.activator)
       (offers_only headers said.members is_said.members other said.host said.naming.name host name is.capabilities ∙ sym made.capabilities)
       (asks_only headers said.members is_said.members other is.requirements ∙ sym made.requirements) (is.no_dynamics ∙ sym made.dynamics) (is.not_lazy ∙ sym made.lazy)
       (is.files ∙ sym made.files)
@@ -178,3 +180,12 @@ module _ (folder : Folder) (headers : List Header) (said : Said) (is_said : IsSa
   -- that is what the folder and the headers say, where none of the conditions calls for a fault
   pub revision_answers : CallNone (manifest_faults folder headers) → IsOnly (Gives (manifest_faults folder headers) (IsRevisionOf folder headers)) (answers revision)
   revision_answers uncalled = answers_only (manifest_faults folder headers) (IsRevisionOf folder headers) revision uncalled revision_only
+
+-- and so with its script
+pub meaning_answers : (folder : Folder) (headers : List Header) (said : Said) → IsSaid folder headers said → (meaning : Meaning) → IsMadeOf folder said meaning.revision →
+    meaning.script ≡ said.script → CallNone (manifest_faults folder headers) → AnswersOnly folder (Gives (manifest_faults folder headers) (IsRevisionOf folder headers)) (Ok meaning)
+meaning_answers folder headers said is_said meaning made script uncalled = (
+  revision_answers folder headers said is_said meaning.revision made uncalled,
+  subst (λ class. IsOnly (IsScriptOf folder class) meaning.script) (sym (made.activator ∙ is_said.activator.0))
+      (subst (IsOnly (IsScriptOf folder (activator headers))) (sym script) is_said.activator.1),
+)

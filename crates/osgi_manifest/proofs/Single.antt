@@ -1,6 +1,6 @@
 -- What the headers of one clause say, or their first fault.
 use Rattle.std.proofs.Common.{◌≡◌, ◌≢◌, ℕ, List, [], ◌∷◌, ap, sym, ◌∙◌, refl, subst, inl, inr}
-use Rattle.std.specs.Prelude.{⊤, Bool, true, false, codes, is_some, IsSomeAnd, MatchBool, MatchOption, None, Some, Option, Result, Err}
+use Rattle.std.specs.Prelude.{⊤, Bool, true, false, codes, is_some, IsSomeAnd, MatchBool, MatchOption, MatchResult, None, Some, Option, Result, Ok, Err}
 use Rattle.std.specs.Borrow.{Bor}
 use Rattle.std.specs.Option.{option_copied}
 use Rattle.std.specs.Result.{IsOkAnd}
@@ -16,17 +16,20 @@ use Rattle.osgi_world.specs.declared.manifest_fault.ManifestFault.{ManifestFault
 use Rattle.osgi_world.specs.declared.manifest_fault.ManifestKind.{ManifestKind}
 use Rattle.osgi_world.specs.declared.manifest_fault.ManifestKind.TheVariants as fault
 use Rattle.osgi_world.specs.declared.requirement.Requirement.{Requirement}
-use Rattle.osgi_script.specs.Scripts.{IsScript}
+use Rattle.osgi_base.specs.declared.folder.File.{File}
+use Rattle.osgi_script.specs.Scripts.{IsScript, IsScriptFault, ReadsScript}
+use Rattle.osgi_script.specs.declared.script.ScriptFault.{ScriptFault}
+use Rattle.osgi_session.specs.declared.script.Script.{Script}
 use Rattle.osgi_package.specs.Only.{IsOnly}
 use Rattle.osgi_manifest.specs.computed.Answers.{CallNone, IsMadeIn, in_header}
 use Rattle.osgi_clause.specs.Walks.{IsTheFirst}
 use Rattle.osgi_manifest.specs.computed.Lone.{IsHostIn, IsNamedAs, host_conditions, name_conditions}
 use Rattle.osgi_clause.specs.Lone.{IsLone, SaysHost, SaysNaming}
 use Rattle.osgi_clause.specs.declared.naming.Naming.{Naming}
-use Rattle.osgi_manifest.specs.Manifests.{AtStart, InHeader, InValue, IsEmptyHeader, activator, class_file, file_at, has_host}
+use Rattle.osgi_manifest.specs.Manifests.{AtStart, InHeader, InValue, IsEmptyHeader, IsScriptOf, activator, class_file, file_at, has_host}
 use Rattle.osgi_clause.specs.Faults.{host_faults, name_faults}
 use Rattle.osgi_manifest.specs.Values.{AreClausesIn, header_value}
-use Rattle.osgi_manifest.specs.computed.Steps.{IsClassFault, activator_conditions}
+use Rattle.osgi_manifest.specs.computed.Steps.{IsActivator, IsClassScript, activator_conditions}
 use Rattle.osgi_clause.specs.laws.FirstFaults.{called_only, uncalled_only}
 
 -- ---- faults of headers as a whole
@@ -74,6 +77,41 @@ not_missing : {A : Type 0} (P : A → Type 0) (o : Option A) → IsSomeAnd o P �
 not_missing P None is e = is
 not_missing P (Some x) is e = cc e
 
+not_read : (o : Option File) (script : Script) → IsSomeAnd o (λ (f : File). ReadsScript f.bytes script) → ¬ IsSomeAnd o (λ (f : File). ¬ IsScript f.bytes)
+not_read None script is bad = is
+not_read (Some file) script is bad = bad (script, is)
+
+-- the script without sections is the only one of no class
+no_sections_only : (folder : Folder) (script : Script) → script.sections ≡ [] → IsOnly (IsScriptOf folder None) script
+no_sections_only folder script empty = record { holds = empty; only = only }
+  where
+    only : (other : Script) → IsScriptOf folder None other → other ≡ script
+    only other is = λ i. record { sections = (is ∙ sym empty) i }
+
+-- what the file of a class is by its reading
+module _ (folder : Folder) (class path text : List ℕ) (file : File) (r : Result Script ScriptFault) (path_is : path ≡ class_file class) (there : Some file ≡ file_at path folder) (text_is : text ≡ file.bytes)
+    (only : (other : Script) → ReadsScript text other → r ≡ Ok other) where
+  found_at : file_at (class_file class) folder ≡ Some file
+  found_at = ap (λ p. file_at p folder) (sym path_is) ∙ sym there
+
+  read_as : (other : Script) → ReadsScript file.bytes other → r ≡ Ok other
+  read_as other is = only other (subst (λ t. ReadsScript t other) (sym text_is) is)
+
+  same_script : (a b : Script) → ◌≡◌ {A = Result Script ScriptFault} (Ok a) (Ok b) → a ≡ b
+  same_script a b e = cc e
+
+  pub script_read : (script : Script) → r ≡ Ok script → MatchResult r (ReadsScript text) (IsScriptFault text) → IsClassScript folder class (Ok script)
+  script_read script e reads = record {
+    holds = subst (λ o. IsSomeAnd o (λ (f : File). ReadsScript f.bytes script)) (sym found_at)
+        (subst (λ t. ReadsScript t script) text_is (subst (λ q. MatchResult q (ReadsScript text) (IsScriptFault text)) e reads));
+    only = λ other is.
+        same_script other script (sym (read_as other (subst (λ o. IsSomeAnd o (λ (f : File). ReadsScript f.bytes other)) found_at is)) ∙ e);
+  }
+
+  pub no_script : (found : ScriptFault) → r ≡ Err found → IsClassScript folder class (Err fault.BadScript)
+  no_script found e =
+      inr (refl, subst (λ o. IsSomeAnd o (λ (f : File). ¬ IsScript f.bytes)) (sym found_at) (λ is. let same = sym e ∙ read_as is.0 is.1 in absurd (cc same)))
+
 module _ (folder : Folder) (headers : List Header) where
   abbrev IsMissing : Type 0
   IsMissing = IsSomeAnd (activator headers) (λ class. file_at (class_file class) folder ≡ None)
@@ -93,7 +131,7 @@ module _ (folder : Folder) (headers : List Header) where
   one_class P class e is = subst (λ o. IsSomeAnd o P) e is
 
   class_by : (kind : ManifestKind) (class : List ℕ) (found : ManifestFault) → activator headers ≡ Some class → found ≡ in_header (codes "Bundle-Activator") kind 0 →
-      IsClassFault folder class (Some kind) → IsTheFirst (activator_conditions folder headers) found
+      IsClassScript folder class (Err kind) → IsTheFirst (activator_conditions folder headers) found
   class_by kind class found e is (inl (named, missing)) =
       starts (codes "Bundle-Activator") fault.NoScript IsMissing bad_condition found (is ∙ ap (λ k. in_header (codes "Bundle-Activator") k 0) named)
       (subst (λ o. IsSomeAnd o (λ c. file_at (class_file c) folder ≡ None)) (sym e) missing)
@@ -105,12 +143,39 @@ module _ (folder : Folder) (headers : List Header) where
       (starts (codes "Bundle-Activator") fault.BadScript IsBad [] found same
       (subst (λ o. IsSomeAnd o (λ c. IsSomeAnd (file_at (class_file c) folder) (λ file. ¬ IsScript file.bytes))) (sym e) bad))
 
-  pub class_first : (result : Option (Bor (List ℕ))) (class : Bor (List ℕ)) (given : List ℕ) (kind : ManifestKind) (said : Option ManifestKind) (found : ManifestFault) → result ≡ Some class →
-      option_copied result ≡ activator headers → given ≡ class.now → said ≡ Some kind → IsClassFault folder given said → found ≡ in_header (codes "Bundle-Activator") kind 0 →
+  pub class_first : (result : Option (Bor (List ℕ))) (class : Bor (List ℕ)) (given : List ℕ) (kind : ManifestKind) (read : Result Script ManifestKind) (found : ManifestFault) → result ≡ Some class →
+      option_copied result ≡ activator headers → given ≡ class.now → read ≡ Err kind → IsClassScript folder given read → found ≡ in_header (codes "Bundle-Activator") kind 0 →
       IsTheFirst (activator_conditions folder headers) found
-  class_first result class given kind said found e is same says fault_is found_is =
+  class_first result class given kind read found e is same says fault_is found_is =
       class_by kind class.now found (sym is ∙ ap option_copied e) found_is
-      (subst (λ t. IsClassFault folder t (Some kind)) same (subst (IsClassFault folder given) says fault_is))
+      (subst (λ t. IsClassScript folder t (Err kind)) same (subst (IsClassScript folder given) says fault_is))
+
+  -- a class whose file is a script is not at fault
+  class_fine : (class : List ℕ) (script : Script) → activator headers ≡ Some class → IsScriptOf folder (Some class) script → CallNone (activator_conditions folder headers)
+  class_fine class script e is =
+      start_none (codes "Bundle-Activator") fault.NoScript IsMissing bad_condition
+      (λ missing. not_missing _ (file_at (class_file class) folder) is (one_class (λ c. file_at (class_file c) folder ≡ None) class e missing))
+      (start_none (codes "Bundle-Activator") fault.BadScript IsBad []
+      (λ bad. not_read (file_at (class_file class) folder) script is (one_class (λ c. IsSomeAnd (file_at (class_file c) folder) (λ file. ¬ IsScript file.bytes)) class e bad)) tt)
+
+  pub class_said : (result : Option (Bor (List ℕ))) (class : Bor (List ℕ)) (given copy : List ℕ) (read : Result Script ManifestKind) (script : Script) → result ≡ Some class →
+      option_copied result ≡ activator headers → given ≡ class.now → copy ≡ class.now → read ≡ Ok script → IsClassScript folder given read →
+      CallNone (activator_conditions folder headers) × IsActivator folder headers (Some copy, script)
+  class_said result class given copy read script e is same copied says read_is =
+      let named : activator headers ≡ Some class.now = sym is ∙ ap option_copied e in
+      let one : IsOnly (IsScriptOf folder (Some class.now)) script
+      = subst (λ t. IsOnly (IsScriptOf folder (Some t)) script) same (subst (IsClassScript folder given) says read_is) in (
+        class_fine class.now script named one.holds,
+        (ap Some copied ∙ sym named, subst (λ o. IsOnly (IsScriptOf folder o) script) (sym named) one),
+      )
+
+  -- without an activator there is no section
+  pub none_said : (class : Option (List ℕ)) (script : Script) → class ≡ None → class ≡ activator headers → script.sections ≡ [] →
+      CallNone (activator_conditions folder headers) × IsActivator folder headers (None, script)
+  none_said class script none is empty = (
+    no_activator class none is,
+    (sym none ∙ is, subst (λ o. IsOnly (IsScriptOf folder o) script) (sym none ∙ is) (no_sections_only folder script empty)),
+  )
 
 -- ---- options with and without a value
 

@@ -20,7 +20,9 @@ use Rattle.osgi_version.specs.VersionValues.{parts}
 use Rattle.osgi_package.specs.Exports.{AreExports}
 use Rattle.osgi_package.specs.Imports.{AreImports}
 use Rattle.osgi_package.specs.Parameters.{is_directed}
-use Rattle.osgi_script.specs.Scripts.{IsScript}
+use Rattle.osgi_script.specs.Scripts.{IsScript, ReadsScript}
+use Rattle.osgi_session.specs.declared.script.Script.{Script}
+use Rattle.osgi_manifest.specs.declared.meaning.Meaning.{Meaning}
 use Rattle.osgi_manifest.specs.ValueFaults.{IsValueFault}
 use Rattle.osgi_clause.specs.Members.{AreMade, bundle_namespace, IsHost, IsProvided, IsRequired, IsRequiredBundle}
 use Rattle.osgi_manifest.specs.Values.{AreClausesIn, header_value}
@@ -35,6 +37,11 @@ file_at path folder = find (λ (f : File). bytes_eq f.path path) folder.files
 -- the file of an activator's class `a.b.C`
 abbrev pub class_file : List ℕ → List ℕ
 class_file class = map (λ b. if b == 46 then 47 else b) class ++ codes ".osc"
+
+-- the script of a bundle whose activator is this class: the one that the file of the class reads as. Without an activator it has no sections
+abbrev pub IsScriptOf : Folder → Option (List ℕ) → Script → Type 0
+IsScriptOf folder None script = script.sections ≡ []
+IsScriptOf folder (Some class) script = IsSomeAnd (file_at (class_file class) folder) (λ file. ReadsScript file.bytes script)
 
 -- ---- the faults of a manifest, in the order of the headers
 
@@ -174,6 +181,11 @@ pub data SaysManifest (folder : Folder) : Verdict ManifestFault Revision → Typ
 -- the revision that a folder means
 abbrev pub Means : Folder → Revision → Type 0
 Means folder revision = SaysManifest folder (answers revision)
+
+-- the revision that a folder means, and its script
+pub record IsMeaning (folder : Folder) (meaning : Meaning) : Type 0 where
+  pub means : Means folder meaning.revision
+  pub script : IsScriptOf folder meaning.revision.activator meaning.script
 
 -- the fault of a folder that means nothing
 abbrev pub IsManifestFault : Folder → ManifestFault → Type 0

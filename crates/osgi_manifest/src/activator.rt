@@ -1,17 +1,17 @@
-//! The activator of a bundle, and its native code, of which there may be none.
+//! The activator of a bundle and its script, and its native code, of which there may be none.
 
 ghost use Rattle.std.specs.Prelude.{◌≡◌, if◌then◌else◌, IfOk, ◌==◌};
 ghost use Rattle.std.specs.Option.{option_copied};
 ghost use Rattle.osgi_manifest.specs.Manifests as spec;
 ghost use Rattle.osgi_manifest.specs.computed.Answers.{IsStep};
-ghost use Rattle.osgi_manifest.specs.computed.Steps.{Anything, IsActivator, IsClassFault, activator_conditions, native_conditions};
+ghost use Rattle.osgi_manifest.specs.computed.Steps.{Anything, IsActivator, IsClassScript, activator_conditions, native_conditions};
 
 use crate::files::file_at;
 use crate::headers::{header_fault, header_value};
 use crate::host::has_host;
-use crate::scripts::is_script;
-use osgi_base::{Folder, Stop, Text};
+use osgi_base::{Folder, List, Stop, Text};
 use osgi_header::Header;
+use osgi_script::{Script, parse};
 use osgi_world::{ManifestFault, ManifestKind};
 use std::alloc::{AllocError, Global};
 
@@ -37,40 +37,41 @@ fn activator(headers: &[Header]) -> Option<&Text>
     header_value(b"Bundle-Activator", headers)
 }
 
-/// The fault of a class whose file is missing or no script, if it has one.
-fn class_fault(
+/// The script that the file of a class is, or the fault of a class whose file is missing or no script.
+fn class_script(
     alloc: Global,
     folder: &Folder,
     class: &[u8],
-) -> Result<Option<ManifestKind>, AllocError>
-    ensures fault { IfOk result (IsClassFault folder.now class.now) }
+) -> Result<Result<Script, ManifestKind>, AllocError>
+    ensures script { IfOk result (IsClassScript folder.now class.now) }
 {
     let path = class_file(alloc, class)?;
     let Some(file) = file_at(path.as_slice(), folder) else {
-        return Ok(Some(ManifestKind::NoScript));
+        return Ok(Err(ManifestKind::NoScript));
     };
-    if is_script(alloc, file.bytes.bytes())? {
-        Ok(None)
-    } else {
-        Ok(Some(ManifestKind::BadScript))
+    match parse(alloc, file.bytes.bytes())? {
+        Ok(script) => Ok(Ok(script)),
+        Err(_) => Ok(Err(ManifestKind::BadScript)),
     }
 }
 
-/// The class that is the activator, or the fault of its header.
+/// The class that is the activator, and its script, which has no sections where there is no such class; or the fault of the
+/// activator's header.
 pub fn bundle_activator(
     alloc: Global,
     folder: &Folder,
     headers: &[Header],
-) -> Result<Option<Text>, Stop<ManifestFault>>
-    ensures step { IsStep (activator_conditions folder.now headers.now) (IsActivator headers.now) result }
+) -> Result<(Option<Text>, Script), Stop<ManifestFault>>
+    ensures step { IsStep (activator_conditions folder.now headers.now) (IsActivator folder.now headers.now) result }
 {
     let Some(class) = activator(headers) else {
-        return Ok(None);
+        let sections = List::new(alloc)?;
+        return Ok((None, Script { sections }));
     };
-    if let Some(kind) = class_fault(alloc, folder, class.bytes())? {
-        return Err(Stop::Fault(header_fault(alloc, b"Bundle-Activator", kind, 0)?));
+    match class_script(alloc, folder, class.bytes())? {
+        Ok(script) => Ok((Some(class.copy(alloc)?), script)),
+        Err(kind) => Err(Stop::Fault(header_fault(alloc, b"Bundle-Activator", kind, 0)?)),
     }
-    Ok(Some(class.copy(alloc)?))
 }
 
 /// The fault of a bundle that has native code.

@@ -2,13 +2,15 @@
 
 ghost use Rattle.std.specs.Prelude.{◌≡◌, IfOk, MatchResult, Ok, Err};
 ghost use Rattle.osgi_base.specs.Verdict.{Gives};
-ghost use Rattle.osgi_manifest.specs.Manifests.{IsManifestFault, IsRevisionOf, Means, SaysManifest, manifest_faults};
+ghost use Rattle.osgi_manifest.specs.Manifests.{IsManifestFault, IsMeaning, IsRevisionOf, Means, SaysManifest, manifest_faults};
 ghost use Rattle.osgi_manifest.specs.computed.Readings.{AnswersOnly, IsStopAt, SaysText};
+ghost use Rattle.osgi_manifest.specs.declared.meaning.Meaning.{Meaning};
 ghost use Rattle.osgi_world.specs.declared.manifest_fault.ManifestFault.{ManifestFault};
 ghost use Rattle.osgi_world.specs.declared.revision.Revision.{Revision};
 
 use crate::files::manifest_file;
 use crate::headers::header_fault;
+use crate::meaning::Meaning;
 use crate::said::Said;
 use osgi_base::{Folder, Stop};
 use osgi_header::{Header, unfold};
@@ -25,26 +27,18 @@ fn stop(alloc: Global, kind: ManifestKind, at: u64) -> Stop<ManifestFault>
     }
 }
 
-/// The revision that the headers mean, or the first of their faults.
-fn meant(
-    alloc: Global,
-    folder: &Folder,
-    headers: &[Header],
-) -> Result<Revision, Stop<ManifestFault>>
-    ensures only { AnswersOnly (Gives (manifest_faults folder.now headers.now) (IsRevisionOf folder.now headers.now)) result }
+/// The revision that the headers mean and its script, or the first of their faults.
+fn meant(alloc: Global, folder: &Folder, headers: &[Header]) -> Result<Meaning, Stop<ManifestFault>>
+    ensures only { AnswersOnly folder.now (Gives (manifest_faults folder.now headers.now) (IsRevisionOf folder.now headers.now)) result }
 {
     let said = Said::read(alloc, folder, headers)?;
-    let revision = said.revision(alloc, folder)?;
-    Ok(revision)
+    let meaning = said.meaning(alloc, folder)?;
+    Ok(meaning)
 }
 
-/// The revision that the manifest's text means, or its fault.
-fn meant_by(
-    alloc: Global,
-    folder: &Folder,
-    manifest: &[u8],
-) -> Result<Revision, Stop<ManifestFault>>
-    ensures only { AnswersOnly (SaysText folder.now manifest.now) result }
+/// The revision that the manifest's text means and its script, or the text's fault.
+fn meant_by(alloc: Global, folder: &Folder, manifest: &[u8]) -> Result<Meaning, Stop<ManifestFault>>
+    ensures only { AnswersOnly folder.now (SaysText folder.now manifest.now) result }
 {
     match unfold(alloc, manifest)? {
         Ok(headers) => meant(alloc, folder, headers.items()),
@@ -52,9 +46,9 @@ fn meant_by(
     }
 }
 
-/// The revision that the folder means, or its fault.
-fn read_folder(alloc: Global, folder: &Folder) -> Result<Revision, Stop<ManifestFault>>
-    ensures only { AnswersOnly (SaysManifest folder.now) result }
+/// The revision that the folder means and its script, or the folder's fault.
+fn read_folder(alloc: Global, folder: &Folder) -> Result<Meaning, Stop<ManifestFault>>
+    ensures only { AnswersOnly folder.now (SaysManifest folder.now) result }
 {
     match manifest_file(folder) {
         Some(file) => meant_by(alloc, folder, file.bytes.bytes()),
@@ -75,7 +69,24 @@ pub fn read(alloc: Global, folder: &Folder) -> Result<Result<Revision, ManifestF
     ensures fault { (fault : ManifestFault) → IsManifestFault folder.now fault → IfOk result (λ r. r ≡ Err fault) }
 {
     match read_folder(alloc, folder) {
-        Ok(revision) => Ok(Ok(revision)),
+        Ok(meaning) => Ok(Ok(meaning.into_parts().0)),
+        Err(Stop::Fault(fault)) => Ok(Err(fault)),
+        Err(Stop::Memory) => Err(AllocError),
+    }
+}
+
+/// The revision that a bundle's folder means, as `read` answers it, and the script of its activator; or the fault, as `read`
+/// answers it. The activator's file is parsed once. A bundle without an activator, as a fragment, has a script without sections.
+pub fn read_meaning(
+    alloc: Global,
+    folder: &Folder,
+) -> Result<Result<Meaning, ManifestFault>, AllocError>
+    ensures reads { IfOk result (λ r. MatchResult r (IsMeaning folder.now) (IsManifestFault folder.now)) }
+    ensures only { (meaning : Meaning) → IsMeaning folder.now meaning → IfOk result (λ r. r ≡ Ok meaning) }
+    ensures fault { (fault : ManifestFault) → IsManifestFault folder.now fault → IfOk result (λ r. r ≡ Err fault) }
+{
+    match read_folder(alloc, folder) {
+        Ok(meaning) => Ok(Ok(meaning)),
         Err(Stop::Fault(fault)) => Ok(Err(fault)),
         Err(Stop::Memory) => Err(AllocError),
     }

@@ -7,12 +7,13 @@ mod folder;
 mod headers;
 mod host;
 mod lists;
+mod meaning;
 mod members;
 mod naming;
 mod said;
-mod scripts;
 mod sections;
 mod versions;
 
 pub use files::manifest_file;
-pub use folder::read;
+pub use folder::{read, read_meaning};
+pub use meaning::Meaning;

@@ -1,6 +1,6 @@
-//! What a manifest says of its bundle, and the revision that this makes.
+//! What a manifest says of its bundle, and what its folder means by that.
 
-ghost use Rattle.std.specs.Prelude.{IfOk};
+ghost use Rattle.std.specs.Prelude.{◌≡◌, IfOk};
 ghost use Rattle.osgi_manifest.specs.Manifests.{manifest_faults};
 ghost use Rattle.osgi_manifest.specs.computed.Answers.{IsStep};
 ghost use Rattle.osgi_manifest.specs.computed.Revisions.{IsMadeOf};
@@ -9,12 +9,14 @@ ghost use Rattle.osgi_manifest.specs.computed.Steps.{IsSaid};
 use crate::activator::{bundle_activator, native_code};
 use crate::host::bundle_host;
 use crate::lists::{file_paths, offers_itself};
+use crate::meaning::Meaning;
 use crate::members::Members;
 use crate::naming::bundle_naming;
 use crate::versions::{bundle_version, manifest_version};
 use osgi_base::{Folder, List, Stop, Text};
 use osgi_clause::Naming;
 use osgi_header::Header;
+use osgi_session::Script;
 use osgi_version::Version;
 use osgi_world::{ManifestFault, Requirement, Revision};
 use std::alloc::{AllocError, Global};
@@ -28,6 +30,8 @@ pub struct Said {
     pub members: Members,
     /// The class that is the activator.
     pub activator: Option<Text>,
+    /// The activator's script.
+    pub script: Script,
 }
 
 /// Not derived, so that each exit at which one is dropped is a single call, which is cheap to prove.
@@ -39,6 +43,7 @@ impl Drop for Said {
             host: _,
             members: _,
             activator: _,
+            script: _,
         } = self;
     }
 }
@@ -50,14 +55,14 @@ impl Said {
         folder: &Folder,
         headers: &[Header],
     ) -> Result<Said, Stop<ManifestFault>>
-        ensures step { IsStep (manifest_faults folder.now headers.now) (IsSaid headers.now) result }
+        ensures step { IsStep (manifest_faults folder.now headers.now) (IsSaid folder.now headers.now) result }
     {
         manifest_version(alloc, headers)?;
         let naming = bundle_naming(alloc, headers)?;
         let version = bundle_version(alloc, headers)?;
         let host = bundle_host(alloc, headers)?;
         let members = Members::read(alloc, headers)?;
-        let activator = bundle_activator(alloc, folder, headers)?;
+        let (activator, script) = bundle_activator(alloc, folder, headers)?;
         native_code(alloc, headers)?;
         Ok(Said {
             naming,
@@ -65,12 +70,14 @@ impl Said {
             host,
             members,
             activator,
+            script,
         })
     }
 
-    /// The revision that the bundle with this folder has.
-    pub fn revision(self, alloc: Global, folder: &Folder) -> Result<Revision, AllocError>
-        ensures made { IfOk result (IsMadeOf folder.now self) }
+    /// The revision that the bundle with this folder has, and its script.
+    pub fn meaning(self, alloc: Global, folder: &Folder) -> Result<Meaning, AllocError>
+        ensures made { IfOk result (λ meaning. IsMadeOf folder.now self meaning.revision) }
+        ensures script { IfOk result (λ meaning. meaning.script ≡ self.script) }
     {
         let own = offers_itself(alloc, &self.naming.name, self.host.is_some())?;
         let dynamics = List::new(alloc)?;
@@ -81,20 +88,24 @@ impl Said {
             host,
             members,
             activator,
+            script,
         } = self;
         let (capabilities, requirements) = members.lists(own)?;
-        Ok(Revision {
-            name: naming.name,
-            version,
-            singleton: naming.singleton,
-            attach: naming.attach,
-            host,
-            activator,
-            capabilities,
-            requirements,
-            dynamics,
-            lazy: None,
-            files,
+        Ok(Meaning {
+            revision: Revision {
+                name: naming.name,
+                version,
+                singleton: naming.singleton,
+                attach: naming.attach,
+                host,
+                activator,
+                capabilities,
+                requirements,
+                dynamics,
+                lazy: None,
+                files,
+            },
+            script,
         })
     }
 }

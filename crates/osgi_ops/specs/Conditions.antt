@@ -172,7 +172,7 @@ highest now = option_map_or (λ (w : Walk). lesser w.target (active_level now.be
 abbrev pub is_above : Moment → BundleId → Bool
 is_above now bundle = nat_lt (highest now) (level_of bundle now.before)
 
--- it is to be started, and its level is too high
+-- it is not active, and its level is too high for it to be started now
 abbrev pub is_kept : Moment → BundleId → Bool
 is_kept now bundle = not (is_active (state_of now bundle)) && is_above now bundle
 

@@ -1,11 +1,11 @@
 -- The services of a history, read off its entries: what was registered, what of it is live, its properties, and who uses it.
 use Rattle.std.specs.Prelude.{ℕ, ◌==◌, ◌+◌, ◌-◌, ◌&&◌, length, not, Bool, false, if◌then◌else◌, List, [], ◌∷◌, ◌++◌, Option, None, Some, filter, find, map, unwrap_or, count_by}
-use Rattle.std.specs.List.{filter_map, last_or, list_any}
+use Rattle.std.specs.List.{list_any}
 use Rattle.std.specs.Option.{option_map_or}
 use Rattle.osgi_base.specs.declared.ids.BundleId.{BundleId}
 use Rattle.osgi_base.specs.declared.ids.ServiceId.{ServiceId}
 use Rattle.osgi_model.specs.declared.value.Attribute.{Attribute}
-use Rattle.osgi_ops.specs.Along.{carry}
+use Rattle.osgi_ops.specs.Along.{carry, latest}
 use Rattle.osgi_ops.specs.Cleaning.{cleans}
 use Rattle.osgi_ops.specs.Properties.{with_framework}
 use Rattle.osgi_ops.specs.Replies.{is_accepted}
@@ -74,7 +74,7 @@ given_by service _ reply = None
 
 -- the properties that were given last
 abbrev pub given_last : Registered → List Attribute
-given_last r = unwrap_or (last_or None (filter_map (λ e. given_by r.service e.op e.reply) r.since)) r.given
+given_last r = unwrap_or (latest (λ e. given_by r.service e.op e.reply) r.since) r.given
 
 -- the service as it stands: the properties that were given last, and the framework's
 abbrev pub service_now : Registered → declared.Service

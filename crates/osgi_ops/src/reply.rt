@@ -218,12 +218,42 @@ fn wires(
 
 impl Reply {
     ghost use Rattle.std.specs.Prelude.{◌≡◌, IfOk};
-    ghost use Rattle.osgi_ops.specs.Replies.{is_refusal};
+    ghost use Rattle.osgi_ops.specs.Replies.{active_in, ids_in, is_refusal, started_in};
 
     pub fn is_refusal(&self) -> bool
         ensures refused { result ≡ is_refusal self.now }
     {
         matches!(self, Reply::Refused { .. })
+    }
+
+    /// The bundles of a refresh that are active, in the order of stopping; None for other replies.
+    pub fn into_active(self) -> Option<List<BundleId>>
+        ensures active { result ≡ active_in self }
+    {
+        match self {
+            Reply::Closure { all: _, active } => Some(active),
+            _ => None,
+        }
+    }
+
+    /// The bundles that are to be started after a move of the active start level; None for other replies.
+    pub fn into_started(self) -> Option<List<BundleId>>
+        ensures started { result ≡ started_in self }
+    {
+        match self {
+            Reply::Moved { start } => Some(start),
+            _ => None,
+        }
+    }
+
+    /// The bundles that were listed, or whose wirings were dropped; None for other replies.
+    pub fn into_ids(self) -> Option<List<BundleId>>
+        ensures ids { result ≡ ids_in self }
+    {
+        match self {
+            Reply::Ids { ids } => Some(ids),
+            _ => None,
+        }
     }
 
     pub fn copy(&self, alloc: Global) -> Result<Reply, AllocError>

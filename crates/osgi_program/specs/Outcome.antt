@@ -5,6 +5,7 @@ use Rattle.std.specs.Io.KnownBytes.{Appends}
 use Rattle.osgi_ops.specs.Legal.{Legal}
 use Rattle.osgi_session.specs.Rendering.{is_full, render, IsFullWhereCut}
 use Rattle.osgi_ops.specs.Replies.{is_refusal}
+use Rattle.osgi_session.specs.Scripts.{sections_of}
 use Rattle.osgi_session.specs.Sessions.{IsWhole}
 use Rattle.osgi_ops.specs.Settings.{Bounds}
 use Rattle.osgi_ops.specs.declared.entry.Entry.{Entry}
@@ -15,7 +16,7 @@ use Rattle.osgi_ops.specs.declared.reply.Reply.{Reply}
 use Rattle.osgi_ops.specs.declared.reply.Reply.TheVariants.{Handed}
 use Rattle.osgi_console.specs.Console.{AreLinesOf}
 use Rattle.osgi_core.specs.Sound.{IsSoundTelling}
-use Rattle.osgi_depot.specs.Depots.{IsDepotOf}
+use Rattle.osgi_depot.specs.Depots.{AreScriptsOf, IsDepotOf}
 use Rattle.osgi_outside.specs.Shelves.{ShelfRow}
 use Rattle.osgi_program.specs.declared.session.Session.{Session}
 use Rattle.osgi_program.specs.declared.session.TheConstants.{MAX_INPUT, DONE, TROUBLED, FAULTY_WORDS, READ_FAILED, INPUT_TOO_LONG, HISTORY_FULL}
@@ -32,7 +33,7 @@ pub record Shelved : Type 0 where
   pub after : ℕ
 
 -- `input` is what the source had left, if the source exposes it, and within the limit. The session's lines are all lines of the
--- input; its depot is what these lines name, as the shelf told it; its history replays from the empty framework, and is what these
+-- input; its depot is what these lines name, as the shelf told it, and its scripts are those of the depot's rows; its history replays from the empty framework, and is what these
 -- lines make under the limits; after every step of it, as it replays, the wirings in force are consistent, and each bundle that it
 -- refuses as unresolvable is so
 pub record IsSession (bounds : Bounds) (status : ℕ) (left : Option (List ℕ)) (shelf : Shelved) (session : Session) : Type 0 where
@@ -41,10 +42,11 @@ pub record IsSession (bounds : Bounds) (status : ℕ) (left : Option (List ℕ))
   pub within : length input ≤ MAX_INPUT
   pub lines : AreLinesOf input session.lines
   pub depot : IsDepotOf session.lines shelf.told shelf.before shelf.after session.depot.rows
+  pub scripts : AreScriptsOf shelf.told session.depot.rows session.scripts.rows
   pub legal : Legal (record { bounds = bounds; depot = session.depot.rows }) session.entries
   pub sound : IsSoundTelling legal.1.told
-  pub whole : IsWhole bounds.entries status session.lines session.entries
-  pub full : All (IsFullWhereCut session.entries) session.lines
+  pub whole : IsWhole (sections_of session.scripts) bounds.entries status session.lines session.entries
+  pub full : All (IsFullWhereCut (sections_of session.scripts) 0 session.entries) session.lines
   pub handings : session.handings ≡ count_by (λ e. is_handing e.reply) session.entries
 
 abbrev pub is_bad : Content → Bool

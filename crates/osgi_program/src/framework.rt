@@ -23,6 +23,7 @@ use osgi_ops::{Entry, Limits};
 use osgi_outside::{Gate, Input, Shelf, Sink, Source, read_all, write_all};
 use osgi_session::{Content, Line};
 use std::alloc::{AllocError, Global};
+use std::marker::Brand;
 
 /// Reads the folders that the lines of an input name, and runs the lines on a new machine.
 fn run_input<F: Shelf>(
@@ -37,15 +38,17 @@ fn run_input<F: Shelf>(
     ensures run { IfOk result (λ r. IsRun (bounds_of limits) input.now (record { told = F.told shelf.old; before = F.faults shelf.old; after = F.faults shelf.new }) r.0 r.1) }
 {
     let lines = parse(alloc, input)?;
-    let depot = read_depot(alloc, lines.items(), shelf)?;
-    let mut core = Core::new(alloc, limits, depot)?;
-    let ran = run_lines(alloc, &mut core, lines.items());
+    let folders = read_depot(alloc, lines.items(), shelf)?;
+    let (stored, scripts) = folders.into_parts();
+    let core = Core::new(alloc, limits, stored)?;
+    let (ran, core) = run_lines::<Brand>(alloc, core, &scripts, lines.items());
     let (depot, entries) = core.into_parts();
     let session = Session {
         lines,
         entries,
         handings: 0,
         depot,
+        scripts,
     };
     Ok((ran, session))
 }

@@ -1,6 +1,7 @@
 //! The top call: a console script read, run and rendered.
 #![tactic(auto)]
 
+mod alone;
 mod framework;
 mod runner;
 mod session;

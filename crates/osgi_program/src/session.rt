@@ -2,7 +2,7 @@
 
 use osgi_base::List;
 use osgi_ops::{Depot, Entry};
-use osgi_session::Line;
+use osgi_session::{Line, Scripts};
 
 /// The lines of an input, the depot that they ran with, and the history that they made.
 pub struct Session {
@@ -14,6 +14,8 @@ pub struct Session {
     pub handings: u64,
     /// The folders that the lines name, as they were read before the first line ran.
     pub depot: Depot,
+    /// The scripts of the depot's rows, in their order.
+    pub scripts: Scripts,
 }
 
 /// Not derived, so that each exit at which one is dropped is a single call, which is cheap to prove.
@@ -24,6 +26,7 @@ impl Drop for Session {
             entries: _,
             handings: _,
             depot: _,
+            scripts: _,
         } = self;
     }
 }

@@ -1,36 +1,32 @@
 -- What is found among the services of a class.
-use Rattle.std.proofs.Common.{◌≡◌, ℕ, zero, suc, List, [], ◌∷◌, ◌++◌, append_assoc, ap, sym, ◌∙◌, refl, arith, get_or, map, subst}
-use Rattle.std.specs.Prelude.{Bool, true, false, All, AllPairs, Contains, IfOk, IfSome, OnOk, Result, Ok, Err, Option, None, Some, filter, find}
+use Rattle.std.proofs.Common.{◌≡◌, ◌<◌, ◌+◌, ℕ, zero, suc, List, [], ◌∷◌, ◌++◌, add-one, append_assoc, ap, drop, drop-cons, inl, inr, length, sym, ◌∙◌, refl, arith, get_or, map, subst}
+use Rattle.std.specs.Prelude.{Bool, true, false, All, AllPairs, Contains, IfOk, IfSome, OnOk, Result, Ok, Err, Option, None, Some, filter}
 use Rattle.std.specs.Bool.{Decides}
 use Rattle.std.specs.declared.cmp.Ordering.{Ordering}
 use Rattle.std.specs.declared.cmp.Ordering.TheVariants.{Less, Equal, Greater}
 use Rattle.std.specs.List.{list_all}
 use Rattle.std.specs.List.Sorted.{IsStrictlySortedBy}
 use Rattle.std.specs.Map.{keys_of, values_of}
-use Rattle.std.specs.Option.{option_map}
 use Rattle.std.specs.Ordering.{is_eq, is_gt}
 use Rattle.std.specs.Str.{str_eq_ignore_ascii_case}
 use Rattle.std.proofs.lemmas.Bool.{and_from, and_parts}
-use Rattle.std.proofs.lemmas.List.Elements.{All-contains, All-cons, All-filter, All-head, All-map, All-nil, All-tail, Contains-append_right, Contains-get_or, filter_passes}
+use Rattle.std.proofs.lemmas.List.Elements.{All-contains, All-cons, All-filter, All-head, All-map, All-nil, All-tail, All-weaker, Contains-append_cases, Contains-append_right, Contains-get_or, filter_passes}
 use Rattle.std.proofs.lemmas.List.Kept.{AllPairs-filter}
 use Rattle.std.proofs.lemmas.Map.Keys.{Less-from_sorted}
 use Rattle.osgi_base.specs.declared.ids.BundleId.{BundleId}
 use Rattle.osgi_base.specs.declared.ids.ServiceId.{ServiceId}
 use Rattle.osgi_model.specs.laws.Decided.{matches_decides}
 use Rattle.osgi_model.specs.declared.filter.Filter.{Filter}
-use Rattle.osgi_ops.specs.Classes.{AreRanked, Fits, has_class, ids_of, IsFound, IsOf, rank_cmp}
+use Rattle.osgi_ops.specs.Classes.{AreRanked, Fits, has_class, ids_of, IsFound, IsOf, IsOpenTo, rank_cmp}
 use Rattle.osgi_ops.specs.declared.service.Service.{Service}
+use Rattle.osgi_world.specs.declared.world.World.{World}
 use Rattle.osgi_registry.specs.declared.place.Place.{Place}
-use Rattle.osgi_registry.specs.computed.Finding.{does_fit, is_open}
+use Rattle.osgi_registry.specs.computed.Finding.{AnswersIn, AnswersTold, does_fit, IsFirst, IsFirstFound, is_open}
 use Rattle.osgi_registry.specs.computed.Places.{AreCurrent, Classes, entries_at, IsIndexOf, place_cmp, place_of, service_at}
 use Rattle.osgi_registry.specs.Rows.{IsAskedFor, IsOpenBy, LiveService, services_in}
-use Rattle.osgi_registry.proofs.Entries.{pairs_head}
+use Rattle.osgi_registry.proofs.Entries.{pairs_head, pairs_tail}
 use Rattle.osgi_registry.proofs.Exact.{place_itself}
 use Rattle.osgi_registry.proofs.Ranked.{all_listed, every_listed, ids_are, IsListed, ordered}
-
--- one that does not pass is passed over
-pub passed_over : {X : Type 0} (passes : X → Bool) (x : X) (left rest : List X) → left ≡ x ∷ rest → passes x ≡ false → find passes rest ≡ find passes left
-passed_over passes x left rest is not = rw (is, not) refl
 
 -- what a test answered of a service that was read
 pub answered : (passes : Service → Bool) (s read : Service) (answer told : Bool) → answer ≡ passes read → read ≡ s → answer ≡ told → passes s ≡ told
@@ -60,20 +56,6 @@ all_passed p (x ∷ xs) all = and_from (p x) (list_all p xs) (All-head (λ y. p 
 
 -- ---- the best
 
--- the first of a list
-abbrev pub front : {X : Type 0} → List X → Option X
-front [] = None
-front (x ∷ xs) = Some x
-
-front_found_by : {X Y : Type 0} (f : X → Y) (passes : X → Bool) (x : X) (xs : List X) (here : Bool) → passes x ≡ here → option_map f (find passes xs) ≡ front (map f (filter passes xs)) → option_map f (find passes (x ∷ xs)) ≡ front (map f (filter passes (x ∷ xs)))
-front_found_by f passes x xs true is more = rw is refl
-front_found_by f passes x xs false is more = rw is more
-
--- the first that passes is the first of those that pass
-pub front_found : {X Y : Type 0} (f : X → Y) (passes : X → Bool) (xs : List X) → option_map f (find passes xs) ≡ front (map f (filter passes xs))
-front_found f passes [] = refl
-front_found f passes (x ∷ xs) = front_found_by f passes x xs (passes x) refl (front_found f passes xs)
-
 not_worse : (a b : Service) → rank_cmp a b ≡ Less → is_gt (rank_cmp a b) ≡ false
 not_worse a b less = rw less refl
 
@@ -87,23 +69,9 @@ not_behind s other more in_order (zero, within, is) = subst (λ t. is_gt (rank_c
 not_behind s other more in_order (suc k, within, is) =
     not_worse s other (All-contains (λ b. rank_cmp s b ≡ Less) more other (pairs_head (λ a b. rank_cmp a b ≡ Less) s more in_order) (k, omega (arith, within), is))
 
-best_of : (IsAsked : Service → Type 0) (services ranked : List Service) → AllPairs (λ a b. rank_cmp a b ≡ Less) ranked → All (λ s. Contains services s × IsAsked s) ranked → All (λ s. IsAsked s → Contains ranked s) services →
-    IsFound IsAsked services (front (map (λ (s : Service). s.service) ranked))
-best_of IsAsked services [] in_order only every = λ k d within asked. let there = every k d within asked in absurd (omega (arith, there.1))
-best_of IsAsked services (s ∷ more) in_order only every =
-    let here = All-head (λ s. Contains services s × IsAsked s) s more only in
-    record {
-      service = s;
-      there = here.0;
-      is = refl;
-      asked = here.1;
-      best = λ k d within asked. not_behind s (get_or services k d) more in_order (every k d within asked);
-    }
-
--- the first of those that are asked for is the best of them
-pub found_of_ranked : (IsAsked : Service → Type 0) (services : List Service) (ids : List ServiceId) → AreRanked IsAsked services ids → IsFound IsAsked services (front ids)
-found_of_ranked IsAsked services ids ranked =
-    subst (λ list. IsFound IsAsked services (front list)) (sym ranked.are) (best_of IsAsked services ranked.ranked ranked.in_order ranked.only ranked.every)
+suffix_pairs : (before xs : List Service) → AllPairs (λ a b. rank_cmp a b ≡ Less) (before ++ xs) → AllPairs (λ a b. rank_cmp a b ≡ Less) xs
+suffix_pairs [] xs pairs = pairs
+suffix_pairs (s ∷ before) xs pairs = suffix_pairs before xs (pairs_tail (λ a b. rank_cmp a b ≡ Less) s (before ++ xs) pairs)
 
 -- what passes stays
 passes_kept_by : {X : Type 0} (p : X → Bool) (x y : X) (ys : List X) (here : Bool) → p y ≡ here → Contains (filter p ys) x → Contains (filter p (y ∷ ys)) x
@@ -142,14 +110,8 @@ module _ (classes : Classes) (c : List ℕ) (rows : List LiveService) (index : I
             passes_kept passes s (values_of entries) (subst (λ (list : List (Place × Service)). Contains (values_of list) s) are (every_listed classes c rows index current k d within has)) ((tells s has).1 asked));
       }
 
-  -- the first of them is the best
-  pub found_under : IsStrictlySortedBy place_cmp (keys_of entries) → IsFound IsAsked (services_in rows) (option_map (λ (s : Service). s.service) (find passes (values_of entries)))
-  found_under sorted =
-      subst (λ found. IsFound IsAsked (services_in rows) found) (sym (front_found (λ (s : Service). s.service) passes (values_of entries)))
-      (found_of_ranked IsAsked (services_in rows) (ids_of (filter passes (values_of entries))) (ranked_under sorted))
-
   -- one that passes is one of them
-  pub one_passes : IsStrictlySortedBy place_cmp (keys_of entries) → (id : ServiceId) → IsAskedFor (λ s. passes s ≡ true) (values_of entries) id → IsAskedFor IsAsked (services_in rows) id
+  one_passes : IsStrictlySortedBy place_cmp (keys_of entries) → (id : ServiceId) → IsAskedFor (λ s. passes s ≡ true) (values_of entries) id → IsAskedFor IsAsked (services_in rows) id
   one_passes sorted id one =
       let here = All-contains (λ s. Contains (services_in rows) s × (has_class c s ≡ true)) (values_of entries) one.service (values_listed c rows entries (all_listed classes c rows index current entries are sorted)) one.there in
       record { service = one.service; there = here.0; is = one.is; asked = (tells one.service here.1).0 one.asked }
@@ -161,9 +123,71 @@ module _ (classes : Classes) (c : List ℕ) (rows : List LiveService) (index : I
       (sym (ids_are c rows entries (all_listed classes c rows index current entries are sorted) ∙ ap ids_of (sym (filter_all passes (values_of entries) (λ k d within. all (get_or (values_of entries) k d))))))
       (ranked_under sorted)
 
+-- ---- the first service of a class that passes a test
+
+first_there : (answers : Service → Bool → Type 0) (services : List Service) (id : ServiceId) (f : IsFirst answers services id) → Contains services f.service
+first_there answers services id f =
+    subst (λ list. Contains list f.service) (sym f.are) (Contains-append_right f.before (f.service ∷ f.after) f.service (Contains-get_or (f.service ∷ f.after) 0 f.service (omega arith)))
+
+-- what passes is asked for
+first_asked : (answers : Service → Bool → Type 0) (IsAsked : Service → Type 0) (services : List Service) (found : Option ServiceId) → ((s : Service) → answers s true → IsAsked s) → IsFirstFound answers services found →
+    IfSome found (IsAskedFor IsAsked services)
+first_asked answers IsAsked services None so f = tt
+first_asked answers IsAsked services (Some id) so f = record { service = f.service; there = first_there answers services id f; is = f.is; asked = so f.service f.passes }
+
+-- a test that may answer more
+first_weaker : (answers more : Service → Bool → Type 0) (services : List Service) (found : Option ServiceId) → ((s : Service) (b : Bool) → answers s b → more s b) → IsFirstFound answers services found → IsFirstFound more services found
+first_weaker answers more services None so none = All-weaker (λ s. answers s false) (λ s. more s false) (λ s is. so s false is) services none
+first_weaker answers more services (Some id) so f = record {
+  before = f.before;
+  service = f.service;
+  after = f.after;
+  are = f.are;
+  others = All-weaker (λ s. answers s false) (λ s. more s false) (λ s is. so s false is) f.before f.others;
+  passes = so f.service true f.passes;
+  is = f.is;
+}
+
+module _ (classes : Classes) (c : List ℕ) (rows : List LiveService) (index : IsIndexOf classes rows) (current : AreCurrent classes rows) (answers : Service → Bool → Type 0)
+    (IsAsked : Service → Type 0) (tells : (s : Service) → has_class c s ≡ true → (answers s true → IsAsked s) × (answers s false → ¬ IsAsked s)) (asked_has : (s : Service) → IsAsked s → has_class c s ≡ true)
+    (entries : List (Place × Service)) (are : entries_at classes c ≡ entries) where
+  there : (k : ℕ) (d : LiveService) → k < length rows → IsAsked (get_or rows k d).service → Contains (values_of entries) (get_or rows k d).service
+  there k d within asked =
+      subst (λ (list : List (Place × Service)). Contains (values_of list) (get_or rows k d).service) are (every_listed classes c rows index current k d within (asked_has (get_or rows k d).service asked))
+
+  refused : (list : List Service) (s : Service) → All (λ t. answers t false) list → Contains list s → ¬ IsAsked s
+  refused list s all at asked = (tells s (asked_has s asked)).1 (All-contains (λ t. answers t false) list s all at) asked
+
+  -- it is the best of those that are asked for
+  pub found_first : (found : Option ServiceId) → IsStrictlySortedBy place_cmp (keys_of entries) → IsFirstFound answers (values_of entries) found → IsFound IsAsked (services_in rows) found
+  found_first None sorted none =
+      All-map (λ s. ¬ IsAsked s) (λ row. row.service) rows (λ k d within asked. refused (values_of entries) (get_or rows k d).service none (there k d within asked) asked)
+  found_first (Some id) sorted f =
+      let listed : All (IsListed c rows) entries = all_listed classes c rows index current entries are sorted in
+      let here =
+      All-contains (λ s. Contains (services_in rows) s × (has_class c s ≡ true)) (values_of entries) f.service (values_listed c rows entries listed) (first_there answers (values_of entries) id f) in
+      let pairs : AllPairs (λ a b. rank_cmp a b ≡ Less) (values_of entries)
+      = ordered c rows entries listed (λ i j d before within. Less-from_sorted place_cmp (keys_of entries) i j d sorted before within) in
+      record {
+        service = f.service;
+        there = here.0;
+        is = f.is;
+        asked = (tells f.service here.1).0 f.passes;
+        best =
+            All-map (λ other. IsAsked other → is_gt (rank_cmp f.service other) ≡ false) (λ row. row.service) rows
+            (λ k d within asked.
+            let other : Service = (get_or rows k d).service in
+            elim (Contains-append_cases f.before (f.service ∷ f.after) other (subst (λ list. Contains list other) f.are (there k d within asked))) [
+              | inl at ↦ absurd (refused f.before other f.others at asked)
+              | inr at ↦
+                  not_behind f.service other f.after
+                  (suffix_pairs f.before (f.service ∷ f.after) (subst (AllPairs (λ a b. rank_cmp a b ≡ Less)) f.are pairs)) at
+            ]);
+      }
+
 -- ---- what is computed of filters and classes
 
-fits_decides : (filter : Option Filter) (s : Service) → Decides (does_fit filter s) (Fits filter s)
+pub fits_decides : (filter : Option Filter) (s : Service) → Decides (does_fit filter s) (Fits filter s)
 fits_decides None s = ((λ b. tt), (λ b. refl))
 fits_decides (Some filter) s = matches_decides str_eq_ignore_ascii_case s.properties filter
 
@@ -171,21 +195,69 @@ fits_decides (Some filter) s = matches_decides str_eq_ignore_ascii_case s.proper
 pub of_decides : (class : List ℕ) (filter : Option Filter) (s : Service) → has_class class s ≡ true → Decides (does_fit filter s) (IsOf class filter s)
 of_decides class filter s has = ((λ b. (has, (fits_decides filter s).0 b)), (λ (is : IsOf class filter s). (fits_decides filter s).1 is.1))
 
-pub open_decides : (test : BundleId → List ℕ → Bool) (class : List ℕ) (filter : Option Filter) (s : Service) → has_class class s ≡ true → Decides (is_open test filter s) (IsOpenBy test class filter s)
+open_decides : (test : BundleId → List ℕ → Bool) (class : List ℕ) (filter : Option Filter) (s : Service) → has_class class s ≡ true → Decides (is_open test filter s) (IsOpenBy test class filter s)
 open_decides test class filter s has = (
   (λ b. let parts = and_parts (does_fit filter s) _ b in ((of_decides class filter s has).0 parts.0, all_pass (test s.owner) s.classes parts.1)),
   (λ (is : IsOpenBy test class filter s). and_from (does_fit filter s) _ ((of_decides class filter s has).1 is.0) (all_passed (test s.owner) s.classes is.1)),
 )
 
--- ---- the answer
-
-pub some_is : (found : Option ServiceId) (P Q : ServiceId → Type 0) → ((id : ServiceId) → P id → Q id) → IfSome found P → IfSome found Q
+some_is : (found : Option ServiceId) (P Q : ServiceId → Type 0) → ((id : ServiceId) → P id → Q id) → IfSome found P → IfSome found Q
 some_is None P Q so is = tt
 some_is (Some id) P Q so is = so id is
 
 pub none_sorted : IsStrictlySortedBy place_cmp []
 unfolding IsStrictlySortedBy
 none_sorted = tt
+
+-- of a test of which it is known what it computes
+computed_tells : (test : BundleId → List ℕ → Bool) (class : List ℕ) (filter : Option Filter) (s : Service) → has_class class s ≡ true →
+    (true ≡ is_open test filter s → IsOpenBy test class filter s) × (false ≡ is_open test filter s → ¬ IsOpenBy test class filter s)
+computed_tells test class filter s has =
+    let decides = open_decides test class filter s has in
+    ((λ e. decides.0 (sym e)), (λ e is. (let bad : false ≡ true = e ∙ decides.1 is in cc bad)))
+
+-- of one that decides by the wirings of a world
+world_tells : (world : World) (asker : BundleId) (class : List ℕ) (filter : Option Filter) (s : Service) → has_class class s ≡ true →
+    (AnswersIn world asker filter s true → IsOpenTo world asker class filter s) × (AnswersIn world asker filter s false → ¬ IsOpenTo world asker class filter s)
+world_tells world asker class filter s has = (
+  (λ d. let is = d.0 refl in ((has, is.0), is.1)),
+  (λ d (is : IsOpenTo world asker class filter s). (let bad : false ≡ true = d.1 (is.0.1, is.1) in cc bad)),
+)
+
+module _ (classes : Classes) (c : List ℕ) (rows : List LiveService) (index : IsIndexOf classes rows) (current : AreCurrent classes rows) where
+  -- where the class has no services, none is found
+  pub none_found : (IsAsked : Service → Type 0) → ((s : Service) → IsAsked s → has_class c s ≡ true) → entries_at classes c ≡ [] → IsFound IsAsked (services_in rows) None
+  none_found IsAsked asked_has are =
+      found_first classes c rows index current (λ s b. ⊥) IsAsked (λ s has. ((λ no. absurd no), (λ no. absurd no))) asked_has [] are None none_sorted (All-nil (λ (s : Service). ⊥))
+
+  -- what is found by what is told
+  pub told_found : (Agrees : (BundleId → List ℕ → Bool) → Type 0) (filter : Option Filter) (entries : List (Place × Service)) → entries_at classes c ≡ entries → (found : Option ServiceId) → IsStrictlySortedBy place_cmp (keys_of entries) →
+      IsFirstFound (AnswersTold Agrees filter) (values_of entries) found → (test : BundleId → List ℕ → Bool) → Agrees test → IsFound (IsOpenBy test c filter) (services_in rows) found
+  told_found Agrees filter entries are found sorted first test agrees =
+      found_first classes c rows index current (λ s b. b ≡ is_open test filter s) (IsOpenBy test c filter) (computed_tells test c filter) (λ s is. is.0.0) entries are found sorted
+      (first_weaker (AnswersTold Agrees filter) (λ s b. b ≡ is_open test filter s) (values_of entries) found (λ s b is. is.0 test agrees) first)
+
+  -- it is of the class and fits the filter, whatever is told
+  pub told_fits : (Agrees : (BundleId → List ℕ → Bool) → Type 0) (filter : Option Filter) (entries : List (Place × Service)) → entries_at classes c ≡ entries → (found : Option ServiceId) → IsStrictlySortedBy place_cmp (keys_of entries) →
+      IsFirstFound (AnswersTold Agrees filter) (values_of entries) found → IfSome found (IsAskedFor (IsOf c filter) (services_in rows))
+  told_fits Agrees filter entries are found sorted first =
+      some_is found (IsAskedFor (λ s. does_fit filter s ≡ true) (values_of entries)) (IsAskedFor (IsOf c filter) (services_in rows))
+      (one_passes classes c rows index current (does_fit filter) (IsOf c filter) (of_decides c filter) (λ s is. is.0) entries are sorted)
+      (first_asked (AnswersTold Agrees filter) (λ s. does_fit filter s ≡ true) (values_of entries) found (λ s is. is.1) first)
+
+  -- what is found by the wirings of a world
+  pub asked_found : {E : Type 0} (world : World) (asker : BundleId) (filter : Option Filter) (entries : List (Place × Service)) → entries_at classes c ≡ entries → (r : Result (Option ServiceId) E) → OnOk r (IsStrictlySortedBy place_cmp (keys_of entries)) →
+      IfOk r (IsFirstFound (AnswersIn world asker filter) (values_of entries)) → IfOk r (IsFound (IsOpenTo world asker c filter) (services_in rows))
+  asked_found world asker filter entries are (Ok found) sorted first =
+      found_first classes c rows index current (AnswersIn world asker filter) (IsOpenTo world asker c filter) (world_tells world asker c filter) (λ s is. is.0.0) entries are found sorted first
+  asked_found world asker filter entries are (Err e) sorted first = tt
+
+-- ---- the answer
+
+-- each of those that are left holds with one more
+pub all_more : {X : Type 0} (P : X → Type 0) (xs : List X) (i : ℕ) (x : X) → i < length xs → x ≡ get_or xs i x → P x → All P (drop (i + 1) xs) → All P (drop i xs)
+all_more P xs i x within is holds rest =
+    subst (All P) (sym (drop-cons xs i x within ∙ ap (λ y. y ∷ drop (suc i) xs) (sym is))) (All-cons P x (drop (suc i) xs) holds (subst (λ n. All P (drop n xs)) (add-one i) rest))
 
 pub result_is : {E : Type 0} (r : Result (List ServiceId) E) (IsAsked : Service → Type 0) (services : List Service) (ids : List ServiceId) → IfOk r (λ all. all ≡ ids) → AreRanked IsAsked services ids → IfOk r (AreRanked IsAsked services)
 result_is (Ok all) IsAsked services ids is ranked = subst (λ list. AreRanked IsAsked services list) (sym is) ranked

@@ -1,24 +1,27 @@
-//! What is asked of services that are looked for.
+//! What is asked of services that are looked for, and the services of a class.
 
-ghost use Rattle.std.specs.Prelude.{◌≡◌, ℕ, List, Bool, true, Some, IfOk, IfSome, OnOk, filter, find, map};
-ghost use Rattle.std.specs.Bool.{OnTrue};
+ghost use Rattle.std.specs.Prelude.{◌≡◌, ℕ, List, Bool, true, Some, All, IfOk, OnOk, filter, map};
+ghost use Rattle.std.specs.Bool.{Decides, OnTrue};
 ghost use Rattle.std.specs.BTreeMap.{keys, values};
 ghost use Rattle.std.specs.List.{list_all};
 ghost use Rattle.std.specs.List.Sorted.{IsStrictlySortedBy};
-ghost use Rattle.std.specs.Option.{option_copied, option_map};
+ghost use Rattle.std.specs.Option.{option_copied};
 ghost use Rattle.osgi_base.specs.declared.ids.BundleId.{BundleId};
+ghost use Rattle.osgi_ops.specs.Assignable.{IsAssignable};
 ghost use Rattle.osgi_ops.specs.Classes.{ids_of};
 ghost use Rattle.osgi_registry.specs.computed.Finding as spec;
 ghost use Rattle.osgi_registry.specs.computed.Places.{place_cmp, service_at};
-ghost use Rattle.osgi_registry.specs.Rows.{IsAskedFor};
 
+use crate::assignability::Assignability;
 use crate::place::Place;
+use crate::service_test::ServiceTest;
 use osgi_base::{BundleId, List, ServiceId, Shared, Text};
 use osgi_filter::{Case, matches};
 use osgi_model::Filter;
 use osgi_ops::Service;
 use std::alloc::{AllocError, Global};
 use std::collections::BTreeMap;
+use std::convert::Infallible;
 
 /// Whether the filter, if there is one, matches the service's properties.
 pub fn does_fit(filter: Option<&Filter>, service: &Service) -> bool
@@ -31,10 +34,7 @@ pub fn does_fit(filter: Option<&Filter>, service: &Service) -> bool
 }
 
 /// Whether the service is assignable for each of its classes.
-pub fn is_assignable<F: Fn(BundleId, &Text) -> bool + Drop>(
-    service: &Service,
-    assignable: &F,
-) -> bool
+fn is_assignable<F: Fn(BundleId, &Text) -> bool + Drop>(service: &Service, assignable: &F) -> bool
     requires callable { F.IsAlwaysCallable assignable.now }
     ensures assignable { (test : BundleId → List ℕ → Bool) → ((owner : BundleId) (class : _) (answer : Bool) → F.post assignable.now owner class answer → answer ≡ test owner class.now) →
         result ≡ list_all (test service.now.owner) service.now.classes }
@@ -61,25 +61,62 @@ fn is_open<F: Fn(BundleId, &Text) -> bool + Drop>(
     does_fit(filter, service) && is_assignable(service, assignable)
 }
 
-/// The first of the services that fits the filter and is assignable for each of its classes.
-pub fn first_open<F: Fn(BundleId, &Text) -> bool + Drop>(
-    services: &BTreeMap<Place, Shared<Service>>,
-    filter: Option<&Filter>,
-    assignable: &F,
-) -> Option<ServiceId>
-    requires callable { F.IsAlwaysCallable assignable.now }
-    ensures first { (test : BundleId → List ℕ → Bool) → ((owner : BundleId) (class : _) (answer : Bool) → F.post assignable.now owner class answer → answer ≡ test owner class.now) →
-        result ≡ option_map (λ service. service.service) (find (spec.is_open test (option_copied filter.entry)) (values services.now)) }
-    ensures fits { IfSome result (IsAskedFor (λ service. spec.does_fit (option_copied filter.entry) service ≡ true) (values services.now)) }
-    ensures ordered { IsStrictlySortedBy place_cmp (keys services.now) }
+/// The test of services that fit the filter, and that are assignable for each of their classes as a closure says.
+#[derive(Drop)]
+pub struct Told<'a, F> {
+    pub filter: Option<&'a Filter>,
+    pub assignable: F,
+}
+
+impl<'a, F: Fn(BundleId, &Text) -> bool + Drop> ServiceTest for Told<'a, F> {
+    type Error = Infallible;
+
+    ghost can_ask = { λ t. F.IsAlwaysCallable t.assignable };
+
+    ghost answers = { λ t. spec.AnswersTold (λ test. (owner : BundleId) (class : _) (answer : Bool) → F.post t.assignable owner class answer → answer ≡ test owner class.now) (option_copied t.filter) };
+
+    fn passes(&self, service: &Service) -> Result<bool, Infallible> {
+        Ok(is_open(service, self.filter, &self.assignable))
+    }
+}
+
+/// Whether the service is assignable to who asks for each of its classes.
+fn is_assignable_to<A: Assignability>(
+    service: &Service,
+    asker: BundleId,
+    assignability: &A,
+) -> Result<bool, AllocError>
+    ensures assignable { IfOk result (λ is. Decides is (All (λ c. IsAssignable (A.world assignability.now) service.now.owner asker c) service.now.classes)) }
 {
-    for shared in services.values() {
-        let service = shared.get();
-        if is_open(service, filter, assignable) {
-            return Some(service.service);
+    for class in service.classes.items() {
+        if !assignability.is_assignable(service.owner, asker, class)? {
+            return Ok(false);
         }
     }
-    None
+    Ok(true)
+}
+
+/// The test of services that fit the filter, and that are assignable to who asks for each of their classes.
+#[derive(Drop)]
+pub struct Asked<'a, A> {
+    pub filter: Option<&'a Filter>,
+    pub asker: BundleId,
+    pub assignability: &'a A,
+}
+
+impl<'a, A: Assignability> ServiceTest for Asked<'a, A> {
+    type Error = AllocError;
+
+    ghost can_ask = { λ t. Unit {0} };
+
+    ghost answers = { λ t. spec.AnswersIn (A.world t.assignability.now) t.asker (option_copied t.filter) };
+
+    fn passes(&self, service: &Service) -> Result<bool, AllocError> {
+        Ok(
+            does_fit(self.filter, service)
+                && is_assignable_to(service, self.asker, self.assignability)?,
+        )
+    }
 }
 
 /// All of the services, in their order.

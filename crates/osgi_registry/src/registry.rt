@@ -2,7 +2,7 @@
 
 ghost use Rattle.std.specs.Prelude.{◌≡◌, ◌≢◌, ℕ, Bool, List, AllPairs, filter, not, ◌+◌, ◌<◌, [], ◌∷◌, ◌++◌, nat_lt, length, slice_get, None, Some, false, All, IfNone, IfOk, IfSome, OnOk, OnErr};
 ghost use Rattle.osgi_base.specs.declared.ids.BundleId.{BundleId};
-ghost use Rattle.osgi_ops.specs.Classes.{AreRanked, IsFound, IsOf};
+ghost use Rattle.osgi_ops.specs.Classes.{AreRanked, IsFound, IsOf, IsOpenTo};
 ghost use Rattle.std.specs.Bool.{OnTrue, OnFalse};
 ghost use Rattle.std.specs.Option.{option_copied, option_map};
 ghost use Rattle.std.specs.Result.{result_err};
@@ -13,11 +13,13 @@ ghost use Rattle.osgi_registry.specs.computed.Places.{HoldsNoMore, IsIndexOf};
 ghost use Rattle.osgi_registry.specs.Rows.{AreInOrder, change, change_refusal, service_number, ids_of, is_owned, IsAskedFor, modify_refusal, IsOpenBy, new_row, object_at, others, register_refusal, released, row_at, services_in, use_count, used_less, used_more, with_properties, without, without_user};
 ghost use Rattle.osgi_registry.specs.Stands.{StandsAfter, StandsFor};
 
+use crate::assignability::Assignability;
 use crate::class_index::ClassIndex;
-use crate::finding::{all_fit, all_of, first_open};
+use crate::finding::{Asked, Told, all_fit, all_of};
 use crate::held::{Held, modified};
 use crate::place::Place;
 use crate::properties::{FrameworkTexts, has_twins};
+use crate::service_test::first_passing;
 use crate::services::Services;
 use osgi_base::{BundleId, List, ServiceId, Text};
 use osgi_model::{Attributes, Filter};
@@ -383,7 +385,33 @@ impl Registry {
         ensures fits { IfSome result (IsAskedFor (IsOf class.now (option_copied filter.entry)) (services_in self.now.rows)) }
     {
         let services = self.index.services(class)?;
-        first_open(services, filter, &assignable)
+        match first_passing(services, &Told { filter, assignable }) {
+            Ok(found) => found,
+            Err(never) => match never {},
+        }
+    }
+
+    /// The same, where who asks is named, and it is asked by the wirings of a world what is assignable to it.
+    pub fn find_by<A: Assignability>(
+        &self,
+        class: &Text,
+        filter: Option<&Filter>,
+        asker: BundleId,
+        assignability: &A,
+    ) -> Result<Option<ServiceId>, AllocError>
+        ensures found { IfOk result (IsFound (IsOpenTo (A.world assignability.now) asker class.now (option_copied filter.entry)) (services_in self.now.rows)) }
+    {
+        let Some(services) = self.index.services(class) else {
+            return Ok(None);
+        };
+        first_passing(
+            services,
+            &Asked {
+                filter,
+                asker,
+                assignability,
+            },
+        )
     }
 
     /// All live services of the class that the filter, if there is one, matches, the best first.

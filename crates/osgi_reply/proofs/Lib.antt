@@ -1,3 +1,4 @@
 -- Lemmas on the one match of all operations.
 pub mod BundlesListed
+pub mod JobsTaken
 pub mod Matching

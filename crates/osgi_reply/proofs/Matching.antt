@@ -1,19 +1,12 @@
 -- What is decided of each operation is decided for who asks.
 use Rattle.std.proofs.Common.{◌≡◌, ap, sym, subst, ◌∙◌, refl}
 use Rattle.std.specs.Prelude.{◌&&◌, Bool, true, false, not, None, Some}
-use Rattle.osgi_base.specs.Verdict.{Gives}
-use Rattle.osgi_base.specs.declared.ids.BundleId.{BundleId}
-use Rattle.osgi_legal.specs.Askers.{MayAsk}
-use Rattle.osgi_legal.proofs.Askers.{asker-passes}
 use Rattle.osgi_legal.proofs.Stage.{end-due, late-due}
 use Rattle.osgi_ops.specs.Brackets.{is_end}
-use Rattle.osgi_ops.specs.Conditions.{asker_of}
-use Rattle.osgi_ops.specs.Legal.{IsAskedAt, IsTold}
+use Rattle.osgi_ops.specs.Legal.{IsTold}
 use Rattle.osgi_ops.specs.Moments.{Moment}
-use Rattle.osgi_ops.specs.Operations.{Answers, IsReply, own_conditions}
-use Rattle.osgi_ops.specs.Replies.{verdict}
+use Rattle.osgi_ops.specs.Operations.{IsReply}
 use Rattle.osgi_ops.specs.Stages.{is_here}
-use Rattle.osgi_ops.specs.laws.Stages.{row-here}
 use Rattle.osgi_ops.specs.declared.asked.Asked.{Asked}
 use Rattle.osgi_ops.specs.declared.op.Op.{Op}
 use Rattle.osgi_ops.specs.declared.refusal.Refusal.{Refusal}
@@ -21,39 +14,23 @@ use Rattle.osgi_ops.specs.declared.refusal.Refusal.TheVariants.{InvalidOperation
 use Rattle.osgi_ops.specs.declared.reply.Reply.{Reply}
 use Rattle.osgi_ops.specs.declared.reply.Reply.TheVariants as answer
 use Rattle.osgi_registry.specs.Rows.{RegistryRows}
-use Rattle.osgi_registry.specs.Stands as registries
-use Rattle.osgi_registry.specs.Stands.{StandsAfter}
 use Rattle.osgi_reply_services.specs.Changes as serving
-use Rattle.osgi_reply_services.specs.Served.{IsFoundToAll, IsServed, IsServedToAll}
+use Rattle.osgi_reply_services.specs.Served.{IsServed, IsServedToAll}
 use Rattle.osgi_reply_services.specs.declared.change.ServiceChange.{ServiceChange}
-use Rattle.osgi_tables.proofs.Asking.{here_asks, passed_by, plain_refusal, unasked}
-use Rattle.osgi_tables.proofs.Replying.{IsOfServices, replied_refused, still_world, unseen, with_services}
+use Rattle.osgi_tables.proofs.Asking.{plain_refusal, unasked}
+use Rattle.osgi_tables.proofs.Replying.{IsOfServices, replied_by, replied_refused, with_services}
 use Rattle.osgi_tables.specs.Asked.{asker_here, asker_refusal, is_decided}
 use Rattle.osgi_tables.specs.Changes.{IsReplyAndChange}
-use Rattle.osgi_tables.specs.Replied.{IsReplied, IsRepliedToAll, StandsFor}
+use Rattle.osgi_tables.specs.Replied.{IsReplied, IsRepliedToAll}
 use Rattle.osgi_tables.specs.declared.change.Change.{Change}
 use Rattle.osgi_tables.specs.declared.change.Change.TheVariants as change
 use Rattle.osgi_tables.specs.declared.tables.Tables.{Tables}
 
 -- ---- operations on services
 
--- what is due of the registry to who may ask is replied
-replied_by : (asked : Asked) (old : Tables) (new : RegistryRows) (reply : Reply) → is_here asked.op ≡ true → IsOfServices asked.op reply → asker_refusal old.bundles (asker_here asked.op) ≡ None →
-    ((now : Moment) → IsAskedAt asked now → MayAsk now (asker_of asked.op) → registries.StandsFor now.before old.registry → Gives (own_conditions now asked.op) (Answers now asked.op) (verdict reply)) →
-    StandsAfter asked.op reply old.registry new → IsReplied asked old (with_services new old) reply
-replied_by asked old new reply here quiet none due stands =
-    let may : (now : Moment) → IsTold now → StandsFor now old → MayAsk now (asker_of asked.op) =
-    λ now told stood. subst (MayAsk now) (here_asks asked.op here) (passed_by now old.bundles (asker_here asked.op) told stood.bundles none) in
-    unseen asked old (with_services new old) reply
-    (λ now told stood.
-    row-here now asked.op reply here
-    (asker-passes now (asker_of asked.op) (own_conditions now asked.op) (Answers now asked.op) (verdict reply) (may now told.told stood) (due now told (may now told.told stood) stood.services)))
-    (λ now told stood. quiet.leaves now old.wirings.world stood.world)
-    (λ now told stood. still_world now old asked.op reply new stood quiet (stands now.before now.tag stood.services))
-
 pub replied_served : (asked : Asked) (old : Tables) (new : RegistryRows) (reply : Reply) → is_here asked.op ≡ true → IsOfServices asked.op reply → asker_refusal old.bundles (asker_here asked.op) ≡ None → IsServed asked old.registry new reply →
     IsReplied asked old (with_services new old) reply
-replied_served asked old new reply here quiet none served = replied_by asked old new reply here quiet none (λ now told may stood. served.due now told stood) served.stands
+replied_served asked old new reply here quiet none served = replied_by asked old new reply here quiet none (λ now told may stood. served.due now told stood.services) served.stands
 
 -- what is served to all is replied to who asks
 replied_asked : (asked : Asked) (o : Op) (old : Tables) (new : RegistryRows) (reply : Reply) → asked.op ≡ o → is_here o ≡ true → IsOfServices o reply → asker_refusal old.bundles (asker_here asked.op) ≡ None → IsServedToAll o old.registry new reply →
@@ -79,12 +56,6 @@ in_registry asked o tables x d same is here quiet passes decided =
 -- what reads the registry alone
 pub served_all : (o : Op) (tables : Tables) (reply : Reply) → is_here o ≡ true → IsOfServices o reply → asker_refusal tables.bundles (asker_here o) ≡ None → IsServedToAll o tables.registry tables.registry reply → IsRepliedToAll o tables tables reply
 served_all o tables reply here quiet passes served who = replied_served (record { tag = who; op = o }) tables tables.registry reply here quiet passes (served who)
-
--- what is found for who asks
-pub found_all : (o : Op) (asker : BundleId) (tables : Tables) (reply : Reply) → asker_of o ≡ Some asker → is_here o ≡ true → IsOfServices o reply → asker_refusal tables.bundles (asker_here o) ≡ None →
-    IsFoundToAll o asker tables.registry reply → IsRepliedToAll o tables tables reply
-found_all o asker tables reply asks here quiet none found who =
-    replied_by (record { tag = who; op = o }) tables tables.registry reply here quiet none (λ now told may stood. found.due now who told (subst (MayAsk now) asks may) stood) found.stands
 
 -- ---- refusals
 

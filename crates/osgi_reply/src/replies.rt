@@ -10,6 +10,7 @@ ghost use Rattle.osgi_tables.specs.Replied.{HasRoom, IsReplied, StandsStill};
 
 use crate::listing::list_bundles;
 use osgi_ops::{Asked, Op, Refusal, Reply};
+use osgi_reply_loading::{find, load};
 use osgi_reply_resolving::{install, list_wires, resolve};
 use osgi_reply_services::{ServiceChange, services};
 use osgi_tables::{Change, Tables, asker_refusal};
@@ -86,7 +87,7 @@ fn decide_by(
             asker,
             class,
             filter,
-        } => Ok(unchanging(services::find(&tables.registry, *asker, class, filter))),
+        } => Ok(unchanging(find(alloc, tables, *asker, class, filter)?)),
         Op::FindAll {
             asker,
             class,
@@ -103,8 +104,11 @@ fn decide_by(
             *user,
             *service,
         ))),
+        // No job can be queued yet.
+        Op::TakeJob => Ok(unchanging(Reply::NoJob)),
         Op::Install { location } => install(alloc, tables, location),
         Op::Resolve { bundle } => resolve(alloc, tables, *bundle),
+        Op::Load { bundle, class } => Ok(unchanging(load(alloc, tables, *bundle, class)?)),
         Op::ListBundles => Ok(unchanging(list_bundles(alloc, &tables.bundles)?)),
         Op::ListServices => Ok(unchanging(services::list_services(alloc, &tables.registry)?)),
         Op::ListWires { bundle } => Ok(unchanging(list_wires(alloc, tables, *bundle)?)),

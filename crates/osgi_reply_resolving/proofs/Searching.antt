@@ -1,9 +1,8 @@
 -- A resolve answers, and changes the tables, as the history says.
-use Rattle.std.proofs.Common.{◌≡◌, ◌+◌, ◌<◌, ℕ, inl, inr, IsTrue, List, [], ◌∷◌, ◌++◌, length, map, ap, sym, subst, ◌∙◌, refl}
-use Rattle.std.specs.Prelude.{◌==◌, Bool, true, false, All, Err, IfOk, is_some, Ok, OnOk, Option, None, Result, Some}
-use Rattle.std.specs.Option.{option_map, option_map_or}
+use Rattle.std.proofs.Common.{◌≡◌, ◌+◌, ◌<◌, ℕ, inl, inr, List, [], ◌∷◌, ◌++◌, map, ap, sym, subst, ◌∙◌, refl}
+use Rattle.std.specs.Prelude.{true, false, All, Err, IfOk, is_some, Ok, OnOk, Option, None, Result, Some}
+use Rattle.std.specs.Option.{option_map_or}
 use Rattle.std.specs.List.Sorted.{IsNonDecreasing}
-use Rattle.std.proofs.lemmas.Bool.{eq-eqb, eqb-true}
 use Rattle.osgi_base.specs.Verdict.{answers, Gives, refuses, Verdict}
 use Rattle.osgi_base.specs.declared.ids.BundleId.{BundleId}
 use Rattle.osgi_base.specs.declared.ids.RevisionId.{RevisionId}
@@ -23,7 +22,7 @@ use Rattle.osgi_ops.specs.Legal.{entry_of, IsTold}
 use Rattle.osgi_ops.specs.Moments.{later, Moment}
 use Rattle.osgi_ops.specs.Operations.{Answers, conditions, IsReply}
 use Rattle.osgi_ops.specs.Replies.{verdict}
-use Rattle.osgi_ops.specs.Resolved.{current_revision, is_current_of, is_fragment_bundle, is_in_use, is_resolved}
+use Rattle.osgi_ops.specs.Resolved.{current_revision, is_fragment_bundle, is_in_use, is_resolved}
 use Rattle.osgi_ops.specs.Resolving.{AnswersResolve, IsResolvedTo, IsUnmet, newly_resolved, Resolves, search_conditions}
 use Rattle.osgi_ops.specs.Soundness.{IsSound}
 use Rattle.osgi_ops.specs.Worlds.{Leaves}
@@ -37,34 +36,29 @@ use Rattle.osgi_ops.specs.declared.reply.Reply.TheVariants as answer
 use Rattle.osgi_ops.specs.laws.Bundles.{row-live}
 use Rattle.osgi_ops.specs.laws.Items.{In-contains}
 use Rattle.osgi_ops.specs.rows.Bundles.{unresolved_refusals}
-use Rattle.osgi_ops.specs.laws.Resolved.{current-is, in_use-from, unresolved-is, in_use-true}
+use Rattle.osgi_ops.specs.laws.Resolved.{current-is, unresolved-is}
 use Rattle.osgi_registry.specs.laws.Standing as registry
 use Rattle.osgi_resolver.specs.Answers.{IsAnswerTo, IsCause}
 use Rattle.osgi_resolver.specs.declared.answer.Answer.{Answer}
 use Rattle.osgi_resolver.specs.declared.answer.Answer.TheVariants.{Found, NoWord, Spent}
 use Rattle.osgi_resolver.specs.declared.answer.Cause.{Cause}
 use Rattle.osgi_resolver.specs.declared.answer.Cause.TheVariants as cause
-use Rattle.osgi_wiring.proofs.Indexed.{known-there}
-use Rattle.osgi_wiring.proofs.Kept.{find-in, none-in}
 use Rattle.osgi_wiring.specs.States.{IsKeptWorld, MayExtend, wiring_at, WiringState, with_wirings}
 use Rattle.osgi_world.specs.Candidates.{IsUnresolved}
 use Rattle.osgi_world.specs.ChoiceWords.{made_by}
 use Rattle.osgi_world.specs.Consistency.{Extends, ExtendsWorld}
 use Rattle.osgi_world.specs.Effort.{IsEffortAbove, IsEffortWithin, IsResolveOf}
 use Rattle.osgi_world.specs.Lists.{In}
-use Rattle.osgi_world.specs.Lookups.{bundle_of, IsCurrentOf, known_at, requirement_at, requirement_count, revision_at}
+use Rattle.osgi_world.specs.Lookups.{bundle_of, IsCurrentOf, requirement_at, requirement_count}
 use Rattle.osgi_world.specs.Partial.{added}
-use Rattle.osgi_world.specs.Satisfaction.{is_host_for, matches_host}
-use Rattle.osgi_world.specs.Wirings.{InForce, InUse}
 use Rattle.osgi_world.specs.declared.problem.Problem.{Problem}
-use Rattle.osgi_world.specs.declared.requirement.Requirement.{Requirement}
-use Rattle.osgi_world.specs.declared.revision.Revision.{Revision}
 use Rattle.osgi_world.specs.declared.wiring.Wiring.{Wiring}
 use Rattle.osgi_world.specs.declared.world.Known.{Known}
 use Rattle.osgi_world.specs.declared.world.World.{World}
 use Rattle.osgi_reply_resolving.proofs.Brought.{sound_of}
 use Rattle.osgi_tables.proofs.Replying.{at, bundles_unsaid, from_own, replied_refused, unsaid, unseen}
 use Rattle.osgi_reply_resolving.proofs.Rows.{distinct, IsSteady, listed_same, rows_after}
+use Rattle.osgi_tables.proofs.Wired.{target_open, whole_bundle}
 use Rattle.osgi_tables.specs.Replied.{IsReplied, IsRepliedToAll, StandsFor}
 use Rattle.osgi_tables.specs.Changes.{IsReplyAndChangeToAll, with_resolved}
 use Rattle.osgi_reply_resolving.specs.computed.Searched.{IsAsked, IsSaid, IsThere, listed}
@@ -98,37 +92,6 @@ some_resolved W b is = by (current_revision W b) refl is
 pub target_fragment : (W : World) (b : BundleId) (k : Known) → Some k ≡ current_revision W b → is_some k.revision.host ≡ true → is_fragment_bundle W b ≡ true
 target_fragment W b k is host = ap (λ o. option_map_or (λ (k : Known). is_some k.revision.host) o false) (sym is) ∙ host
 
-whole_bundle : (W : World) (b : BundleId) (k : Known) → current_revision W b ≡ Some k → is_some k.revision.host ≡ false → is_fragment_bundle W b ≡ false
-whole_bundle W b k is whole = ap (λ o. option_map_or (λ (k : Known). is_some k.revision.host) o false) is ∙ whole
-
-wired : (W : List Wiring) (r : RevisionId) (g : Wiring) → wiring_at W r ≡ Some g → InForce W r
-wired W r g is =
-    let there = find-in (λ (v : Wiring). v.revision.0 == r.0) W g is in
-    record { wiring = g; stands = there.0; revision = λ i. record { 0 = eqb-true g.revision.0 r.0 there.1 i } }
-
-pub target_resolved : (W : World) (b : BundleId) (k : Known) (g : Wiring) → Some k ≡ current_revision W b → is_some k.revision.host ≡ false → Some g ≡ wiring_at W.wirings k.id → (is_fragment_bundle W b ≡ false) × (is_resolved W b ≡ true)
-target_resolved W b k g is whole in_force = (
-  whole_bundle W b k (sym is) whole,
-  ap (λ o. option_map_or (λ (k : Known). is_in_use W.wirings k.id) o false) (sym is) ∙ in_use-from W.wirings k.id (inl (wired W.wirings k.id g (sym in_force))),
-)
-
-not_wired : (W : List Wiring) (r : RevisionId) → wiring_at W r ≡ None → ¬ InForce W r
-not_wired W r none i = none-in (λ (v : Wiring). v.revision.0 == r.0) W i.wiring none i.stands (ap (λ (s : RevisionId). s.0 == r.0) i.revision ∙ eq-eqb r.0 r.0 refl)
-
--- only a fragment is attached
-host_fragment : (K : List Known) (f h : RevisionId) (o : Option Known) → known_at K f ≡ o →
-    IsTrue (option_map_or (λ fragment. option_map_or (λ host. matches_host fragment host) (revision_at K h) false) (option_map (λ (k : Known). k.revision) o) false) → (k : Known) × (o ≡ Some k) × (is_some k.revision.host ≡ true)
-host_fragment K f h None is t = absurd (cc t)
-host_fragment K f h (Some k) is t = (k, refl, has_host k.revision (revision_at K h) t)
-  where
-    asked : (host : Option Requirement) (r : Revision) (v : Revision) → v.host ≡ host → IsTrue (matches_host v r) → is_some host ≡ true
-    asked None r v is t = absurd (cc (ap (λ o. option_map_or (λ (q : Requirement). is_host_for q r) o false) is, t))
-    asked (Some q) r v is t = refl
-
-    has_host : (v : Revision) (o : Option Revision) → IsTrue (option_map_or (λ host. matches_host v host) o false) → is_some v.host ≡ true
-    has_host v None t = absurd (cc t)
-    has_host v (Some r) t = asked v.host r v refl t
-
 module _ (W : World) (b : BundleId) (root : RevisionId) (sound : IsSound W) (asked : IsAsked W b root) where
   pub asked_whole : is_fragment_bundle W b ≡ false
   asked_whole = whole_bundle W b asked.known asked.is asked.whole
@@ -136,26 +99,8 @@ module _ (W : World) (b : BundleId) (root : RevisionId) (sound : IsSound W) (ask
   pub asked_current : IsCurrentOf W.known b root
   asked_current = subst (IsCurrentOf W.known b) asked.id (current-is W sound.is_world.known_once b asked.known asked.is)
 
-  known_root : known_at W.known root ≡ Some asked.known
-  known_root = subst (λ r. known_at W.known r ≡ Some asked.known) asked.id (known-there W.known asked.known sound.is_world.known_once (find-in (is_current_of b) W.known asked.known asked.is).0)
-
-  not_in_use : ¬ InUse W.wirings root
-  not_in_use (inl i) = not_wired W.wirings root asked.unwired i
-  not_in_use (inr a) =
-      let host = host_fragment W.known root a.0 (known_at W.known root) refl (sound.consistent.coherent.rules.attached a.0 root a.1) in
-      let same : Some host.0 ≡ Some asked.known = sym host.1 ∙ known_root in
-      let one : host.0 ≡ asked.known = cc same in
-      cc (ap (λ (k : Known). is_some k.revision.host) one, asked.whole, host.2)
-
-  unused_by : (t : Bool) → is_in_use W.wirings root ≡ t → is_in_use W.wirings root ≡ false
-  unused_by true is = absurd (not_in_use (in_use-true W.wirings root is))
-  unused_by false is = is
-
   pub asked_open : is_resolved W b ≡ false
-  asked_open =
-      ap (λ o. option_map_or (λ (k : Known). is_in_use W.wirings k.id) o false) asked.is
-      ∙ ap (is_in_use W.wirings) asked.id
-      ∙ unused_by (is_in_use W.wirings root) refl
+  asked_open = target_open W b asked.known sound asked.is asked.whole (ap (wiring_at W.wirings) asked.id ∙ asked.unwired)
 
   pub asked_unresolved : IsUnresolved W.known W.wirings root
   asked_unresolved = subst (IsUnresolved W.known W.wirings) asked.id (unresolved-is W sound b asked.known asked.is asked_whole asked_open)
@@ -192,7 +137,7 @@ cause_there W root n cause.Clash a = tt
 
 -- what the search gives, where there is one
 searched : (now : Moment) → IsTold now → (b : BundleId) (k : Known) (v : Verdict Refusal Reply) → current_revision now.world b ≡ Some k → is_fragment_bundle now.world b ≡ false → is_resolved now.world b ≡ false →
-    Gives (search_conditions false now b) (AnswersResolve false now b) v → Gives (conditions now (op.Resolve b)) (Answers now (op.Resolve b)) v
+    Gives (search_conditions now b) (AnswersResolve false now b) v → Gives (conditions now (op.Resolve b)) (Answers now (op.Resolve b)) v
 searched now told b k v is whole unresolved given =
     inr (
       (λ other called. live now told b k is called.1),

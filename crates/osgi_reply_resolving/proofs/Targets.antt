@@ -8,7 +8,7 @@ use Rattle.osgi_wiring.specs.States.{wiring_at}
 use Rattle.osgi_world.specs.declared.wiring.Wiring.{Wiring}
 use Rattle.osgi_world.specs.declared.world.Known.{Known}
 use Rattle.osgi_world.specs.declared.world.World.{World}
-use Rattle.osgi_reply_resolving.proofs.Searching.{target_resolved}
+use Rattle.osgi_tables.proofs.Wired.{target_resolved}
 use Rattle.osgi_reply_resolving.specs.computed.Searched.{IsAsked}
 
 pub some_copied : {X : Type 0} (o : Option (Bor X)) (w : Option X) (t : Bool) → option_copied o ≡ w → is_some o ≡ t → is_some w ≡ t

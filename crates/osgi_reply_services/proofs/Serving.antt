@@ -1,25 +1,18 @@
 -- What the registry answers is what is due at each moment that it stands for.
-use Rattle.std.proofs.Common.{◌≡◌, ◌≢◌, ◌+◌, ◌≤◌, ◌<◌, ℕ, inl, inr, List, [], ◌∷◌, ◌++◌, length, map, ap, sym, subst, ◌∙◌, refl, arith}
-use Rattle.std.specs.Prelude.{Bool, true, false, cond, Contains, ◌==◌, nat_le, nat_lt, Option, None, Some, Result, Ok, Err, IfOk, IsSomeAnd}
+use Rattle.std.proofs.Common.{◌≡◌, ◌≢◌, ◌+◌, ◌≤◌, ◌<◌, ℕ, inl, inr, List, [], ◌∷◌, length, map, ap, sym, subst, ◌∙◌, refl, arith}
+use Rattle.std.specs.Prelude.{Bool, true, false, cond, ◌==◌, nat_le, nat_lt, Option, None, Some, Ok, Err, IsSomeAnd}
 use Rattle.std.specs.Option.{option_map_or, option_or}
-use Rattle.std.proofs.lemmas.List.Elements.{All-contains, All-contains_itself, All-map}
-use Rattle.std.proofs.lemmas.Bool.{eq-eqb, eqb-false, eqb-true, leb-false, leb-true}
+use Rattle.std.proofs.lemmas.Bool.{eqb-false, eqb-true, leb-false, leb-true}
 use Rattle.osgi_base.specs.declared.ids.BundleId.{BundleId}
 use Rattle.osgi_base.specs.declared.ids.ServiceId.{ServiceId}
 use Rattle.osgi_model.specs.declared.filter.Filter.{Filter}
 use Rattle.osgi_model.specs.declared.value.Attribute.{Attribute}
-use Rattle.osgi_legal.specs.Askers.{MayAsk}
-use Rattle.osgi_legal.proofs.Stage.{all-assignable, passes-system, system-owns}
-use Rattle.osgi_ops.specs.Assignable.{IsAssignable}
-use Rattle.osgi_ops.specs.Bundles.{system}
 use Rattle.osgi_ops.specs.Cleaning.{cleaned_by}
-use Rattle.osgi_ops.specs.Classes.{AreRanked, IsFound, IsOf, IsOpenTo}
+use Rattle.osgi_ops.specs.Classes.{AreRanked, IsOf}
 use Rattle.osgi_ops.specs.Operations.{Answers}
-use Rattle.osgi_ops.specs.Legal.{IsTold}
-use Rattle.osgi_ops.specs.Moments.{Moment}
 use Rattle.osgi_ops.specs.Properties.{has_twins}
 use Rattle.osgi_ops.specs.rows.Lists.{service_row}
-use Rattle.osgi_ops.specs.Services.{live, live_at, Registered, registered, service_now, services, uses, uses_held}
+use Rattle.osgi_ops.specs.Services.{live, live_at, Registered, registered, services, uses, uses_held}
 use Rattle.osgi_ops.specs.declared.limits.TheConstants.{MAX_SERVICES}
 use Rattle.osgi_base.specs.Verdict.{answers, Gives, refuses, Verdict, Where}
 use Rattle.osgi_ops.specs.declared.entry.Entry.{Entry}
@@ -34,10 +27,10 @@ use Rattle.osgi_ops.specs.declared.scope.Scope.{Scope}
 use Rattle.osgi_ops.specs.declared.scope.Scope.TheVariants.{Singleton}
 use Rattle.osgi_ops.specs.declared.service.Service.{Service}
 use Rattle.osgi_ops.specs.declared.service.ServiceRow.{ServiceRow}
-use Rattle.osgi_registry.specs.laws.Standing.{Found, nowhere, quiet_find, quiet_find_all, quiet_list, quiet_refused, rows_found, rows_length, rows_services, stands_quiet, there}
-use Rattle.osgi_registry.specs.Rows.{count_of, IsOpenBy, modify_refusal, object_at, refusal_at, register_refusal, RegistryRows, LiveService, row_at, services_in, twins_refusal, use_count}
+use Rattle.osgi_registry.specs.laws.Standing.{Found, nowhere, quiet_find_all, quiet_list, quiet_refused, rows_found, rows_length, rows_services, stands_quiet, there}
+use Rattle.osgi_registry.specs.Rows.{count_of, modify_refusal, object_at, refusal_at, register_refusal, RegistryRows, LiveService, row_at, services_in, twins_refusal, use_count}
 use Rattle.osgi_registry.specs.Stands.{IsRowOf, StandsAfter, StandsFor}
-use Rattle.osgi_reply_services.specs.Served.{IsFoundToAll, IsServedToAll}
+use Rattle.osgi_reply_services.specs.Served.{IsServedToAll}
 
 -- ---- services
 
@@ -196,55 +189,8 @@ served_untaken owner service old new refusal some same who = record {
   stands = refused_stands _ old new refusal refl same;
 }
 
--- Find
 services_now : (history : List Entry) (registry : RegistryRows) → StandsFor history registry → services_in registry.rows ≡ services history
 services_now history registry stands = rows_services registry.rows (live history) stands.rows
-
--- what is found of services, where others say the same of what is asked of them
-found_alike : (P Q : Service → Type 0) (list : List Service) (found : Option ServiceId) → ((s : Service) → Contains list s → P s → Q s) → ((s : Service) → Contains list s → Q s → P s) → IsFound P list found → IsFound Q list found
-found_alike P Q list None to back none = λ k d within asked. none k d within (back _ (All-contains_itself list k d within) asked)
-found_alike P Q list (Some id) to back best = record {
-  service = best.service;
-  there = best.there;
-  is = best.is;
-  asked = to best.service best.there best.asked;
-  best = λ k d within asked. best.best k d within (back _ (All-contains_itself list k d within) asked);
-}
-
-own : BundleId → BundleId → List ℕ → Bool
-own asker registrant class = registrant.0 == asker.0
-
--- each service is the system bundle's, which alone is up
-of_system : (now : Moment) → IsTold now → (s : Service) → Contains (services now.before) s → s.owner ≡ system
-of_system now told s listed =
-    All-contains (λ (x : Service). x.owner ≡ system) (services now.before) s (All-map (λ (x : Service). x.owner ≡ system) service_now (live now.before) (system-owns now told)) listed
-
--- and is assignable to who asks
-assigned : (now : Moment) → IsTold now → (asker : BundleId) → MayAsk now (Some asker) → (s : Service) → Contains (services now.before) s → (class : List ℕ) → IsAssignable now.world s.owner asker class
-assigned now told asker passes s listed =
-    All-contains (λ (x : Service). (class : List ℕ) → IsAssignable now.world x.owner asker class) (services now.before) s
-    (All-map (λ (x : Service). (class : List ℕ) → IsAssignable now.world x.owner asker class) service_now (live now.before) (all-assignable now told asker passes)) listed
-
--- so what is open to who asks are its own services
-open_there : (now : Moment) → IsTold now → (asker : BundleId) → MayAsk now (Some asker) → (class : List ℕ) (filter : Option Filter) (s : Service) → Contains (services now.before) s → IsOpenBy (own asker) class filter s → IsOpenTo now.world asker class filter s
-open_there now told asker passes class filter s listed is = (is.0, λ k d within. assigned now told asker passes s listed _)
-
-open_back : (now : Moment) → IsTold now → (asker : BundleId) → MayAsk now (Some asker) → (class : List ℕ) (filter : Option Filter) (s : Service) → Contains (services now.before) s → IsOpenTo now.world asker class filter s → IsOpenBy (own asker) class filter s
-unfolding own
-open_back now told asker passes class filter s listed is = (is.0, λ k d within. eq-eqb s.owner.0 asker.0 (ap (λ (b : BundleId). b.0) (of_system now told s listed ∙ sym (passes-system now told asker passes))))
-
-pub served_found : (asker : BundleId) (class : List ℕ) (filter : Option Filter) (registry : RegistryRows) (found : Option ServiceId) →
-    IsFound (IsOpenBy (λ registrant class. registrant.0 == asker.0) class filter) (services_in registry.rows) found → IsFoundToAll (op.Find asker class filter) asker registry (answer.Best found)
-unfolding own
-served_found asker class filter registry found is = record {
-  due = λ now who asked may stood. (
-    found,
-    refl,
-    found_alike (IsOpenBy (own asker) class filter) (IsOpenTo now.world asker class filter) (services now.before) found (open_there now asked.told asker may class filter) (open_back now asked.told asker may class filter)
-        (subst (λ list. IsFound (IsOpenBy (own asker) class filter) list found) (services_now now.before registry stood) is),
-  );
-  stands = λ history tag stood. stands_quiet history registry _ stood (quiet_find tag asker class filter found);
-}
 
 -- FindAll
 pub served_found_all : (asker : BundleId) (class : List ℕ) (filter : Option Filter) (registry : RegistryRows) (found : List ServiceId) → AreRanked (IsOf class filter) (services_in registry.rows) found →

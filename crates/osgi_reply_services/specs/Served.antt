@@ -1,16 +1,14 @@
 -- What an operation on services does to the registry, and answers by it, where who asks may ask.
-use Rattle.std.specs.Prelude.{◌-◌, ◌^◌, ◌<◌, List, Some}
+use Rattle.std.specs.Prelude.{◌-◌, ◌^◌, ◌<◌}
 use Rattle.osgi_base.specs.Verdict.{Gives}
 use Rattle.osgi_base.specs.declared.ids.BundleId.{BundleId}
 use Rattle.osgi_base.specs.declared.ids.ServiceId.{ServiceId}
 use Rattle.osgi_base.specs.declared.ids.Tag.{Tag}
-use Rattle.osgi_legal.specs.Askers.{MayAsk}
 use Rattle.osgi_ops.specs.Legal.{IsAskedAt}
 use Rattle.osgi_ops.specs.Moments.{Moment}
 use Rattle.osgi_ops.specs.Operations.{Answers, own_conditions}
 use Rattle.osgi_ops.specs.Replies.{verdict}
 use Rattle.osgi_ops.specs.declared.asked.Asked.{Asked}
-use Rattle.osgi_ops.specs.declared.entry.Entry.{Entry}
 use Rattle.osgi_ops.specs.declared.op.Op.{Op}
 use Rattle.osgi_ops.specs.declared.reply.Reply.{Reply}
 use Rattle.osgi_registry.specs.Rows.{RegistryRows, use_count}
@@ -24,12 +22,6 @@ pub record IsServed (asked : Asked) (old new : RegistryRows) (reply : Reply) : T
 -- it is the same whatever the tag
 abbrev pub IsServedToAll : Op → RegistryRows → RegistryRows → Reply → Type 0
 IsServedToAll op old new reply = (tag : Tag) → IsServed (record { tag = tag; op = op }) old new reply
-
--- what is found for an asker, in a registry that stays as it is: the reply is due at each such moment at which the asker may ask, and then the
--- registry stands for the history with the entry
-pub record IsFoundToAll (op : Op) (asker : BundleId) (registry : RegistryRows) (reply : Reply) : Type 0 where
-  pub due : (now : Moment) (tag : Tag) → IsAskedAt (record { tag = tag; op = op }) now → MayAsk now (Some asker) → StandsFor now.before registry → Gives (own_conditions now op) (Answers now op) (verdict reply)
-  pub stands : StandsAfter op reply registry registry
 
 -- ids are left to be given, and one more use of each user can be counted
 pub record HasRoom (registry : RegistryRows) : Type 0 where

@@ -1,11 +1,11 @@
 //! What operations on services answer, and change in the registry.
 
-ghost use Rattle.std.specs.Prelude.{◌≡◌, ◌==◌, ◌<◌, IfOk, map};
+ghost use Rattle.std.specs.Prelude.{◌≡◌, ◌<◌, IfOk, map};
 ghost use Rattle.osgi_ops.specs.rows.Lists.{service_row};
 ghost use Rattle.osgi_ops.specs.declared.op.Op.TheVariants as op;
 ghost use Rattle.osgi_registry.specs.Rows.{services_in, use_count};
 ghost use Rattle.osgi_reply_services.specs.Changes.{IsReplyAndChange};
-ghost use Rattle.osgi_reply_services.specs.Served.{IsFoundToAll, IsServedToAll};
+ghost use Rattle.osgi_reply_services.specs.Served.{IsServedToAll};
 
 use crate::change::ServiceChange;
 use osgi_base::{BundleId, List, ServiceId, Text};
@@ -85,20 +85,6 @@ pub fn unregister(
         Some(refusal) => (Reply::Refused { refusal }, ServiceChange::Nothing),
         None => (Reply::Done, ServiceChange::Remove { owner, service }),
     }
-}
-
-pub fn find(registry: &Registry, asker: BundleId, class: &Text, filter: &Option<Filter>) -> Reply
-    ensures found { IsFoundToAll (op.Find asker class.now filter.now) asker registry.now result }
-{
-    // So far the system bundle alone is ever up, and its own services are assignable to it.
-    let service = registry.find(
-        class,
-        filter.as_ref(),
-        |registrant: BundleId, _class: &Text| -> bool
-            ensures own { result ≡ (registrant.0 == asker.0) }
-        { registrant.0 == asker.0 },
-    );
-    Reply::Best { service }
 }
 
 pub fn find_all(

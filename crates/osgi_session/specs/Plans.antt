@@ -1,81 +1,240 @@
--- What a command asks of the framework, step by step, and which calls are a run of it.
-use Rattle.std.specs.Prelude.{◌≢◌, ◌==◌, if◌then◌else◌, true, List, [], ◌∷◌, ◌++◌}
+-- What a command asks of the framework, step by step.
+use Rattle.std.specs.Prelude.{ℕ, zero, suc, nat_lt, ◌==◌, ◌+◌, ◌-◌, ◌&&◌, ◌||◌, Bool, true, false, if◌then◌else◌, List, [], ◌∷◌, Option, Some, reverse}
 use Rattle.osgi_base.specs.declared.ids.BundleId.{BundleId}
+use Rattle.osgi_base.specs.declared.ids.ServiceId.{ServiceId}
 use Rattle.osgi_ops.specs.Bundles.{system}
+use Rattle.osgi_ops.specs.Replies.{is_accepted, is_effective, is_refusal}
+use Rattle.osgi_ops.specs.Stages.{is_here}
 use Rattle.osgi_session.specs.declared.command.Command.{Command}
 use Rattle.osgi_session.specs.declared.command.Command.TheVariants as command
 use Rattle.osgi_ops.specs.declared.op.Op.{Op}
 use Rattle.osgi_ops.specs.declared.op.Op.TheVariants as op
+use Rattle.osgi_ops.specs.declared.target.Target.{Target}
+use Rattle.osgi_ops.specs.declared.target.Target.TheVariants.{Id}
+use Rattle.osgi_ops.specs.declared.refusal.Refusal.TheVariants.{ActivatorError}
 use Rattle.osgi_ops.specs.declared.reply.Reply.{Reply}
-use Rattle.osgi_ops.specs.declared.reply.Reply.TheVariants.{Refused}
+use Rattle.osgi_ops.specs.declared.reply.Reply.TheVariants as answer
 use Rattle.osgi_ops.specs.declared.scope.Scope.TheVariants.{Singleton}
-use Rattle.osgi_ops.specs.declared.target.Target.TheVariants as target
+use Rattle.osgi_ops.specs.declared.section.Section.{Section}
+use Rattle.osgi_ops.specs.declared.section.Section.TheVariants as section
 
--- how a plan ended
+-- how a plan ended: as done, as having found or registered a service, as refused, or as told to fail
 pub data End : Type 0 where
   done : End
+  bound : Option ServiceId → End
   refused : End
+  failed : End
 
--- what is left to do: an operation, and what comes after its reply; or nothing
+-- what is left to do: an operation, and what comes after its reply; a section of a bundle's script, and what comes after it,
+-- failed or not; or nothing. After some operations a drain comes before anything else
 pub data Plan : Type 0 where
   ask : Op → (Reply → Plan) → Plan
+  run : ℕ → BundleId → Section → (Bool → Plan) → Plan
   stop : End → Plan
 
+-- after this operation with this reply something may wait to be handed to a listener
+abbrev pub stirs : Op → Reply → Bool
+stirs (op.Register owner classes object scope properties) reply = is_accepted reply
+stirs (op.Modify owner service properties) reply = is_accepted reply
+stirs (op.Unregister owner service) reply = is_accepted reply
+stirs (op.Install location) reply = is_accepted reply
+stirs (op.Resolve bundle) reply = is_accepted reply
+stirs (op.BeginStart bundle transient) (answer.Begun begun row) = true
+stirs (op.EndStart bundle fails) reply = is_effective reply
+stirs (op.BeginStop target transient) (answer.Begun begun row) = true
+stirs (op.EndStop bundle fails) reply = is_effective reply
+stirs (op.Update bundle location) reply = is_accepted reply
+stirs (op.Uninstall bundle) reply = is_accepted reply
+stirs op.DropWirings reply = is_accepted reply
+stirs op.EndRefresh reply = is_accepted reply
+stirs op.EndLevel reply = is_accepted reply
+stirs _ _ = false
+
+-- a drain follows it, as soon as events are handed at all
+abbrev pub is_drained : Op → Reply → Bool
+is_drained o reply = is_here op.Hand && stirs o reply
+
+abbrev pub end_of : Bool → End
+end_of true = refused
+end_of false = done
+
 -- a step that is refused ends its plan as refused
+abbrev pub unless_refused : Reply → Plan → Plan
+unless_refused (answer.Refused refusal) rest = stop refused
+unless_refused reply rest = rest
+
 abbrev pub after_one : Reply → Plan
-after_one (Refused refusal) = stop refused
-after_one _ = stop done
+after_one reply = unless_refused reply (stop done)
 
--- the operation that the plan of a command begins with, where the owner runs it. A bundle is stopped before it is updated or
--- uninstalled, and resolved before the console loads a class from it
-abbrev pub op_of : BundleId → Command → Op
-op_of owner (command.Register classes object properties) = op.Register owner classes object Singleton properties
-op_of owner (command.Modify service properties) = op.Modify owner service properties
-op_of owner (command.Unregister service) = op.Unregister owner service
-op_of owner (command.Find class filter) = op.Find owner class filter
-op_of owner (command.FindAll class filter) = op.FindAll owner class filter
-op_of owner (command.Get service) = op.Get owner service
-op_of owner (command.Unget service) = op.Unget owner service
-op_of owner (command.Start target transient) = op.WishStart target transient
-op_of owner (command.Stop target transient) = op.BeginStop target transient
-op_of owner (command.Load bundle class) = if owner.0 == 0 then op.Resolve bundle else op.Load bundle class
-op_of owner (command.Install location) = op.Install location
-op_of owner (command.Update bundle location) = op.BeginStop (target.Id bundle) true
-op_of owner (command.Uninstall bundle) = op.BeginStop (target.Id bundle) true
-op_of owner (command.Resolve bundle) = op.Resolve bundle
-op_of owner (command.Refresh bundles) = op.BeginRefresh bundles
-op_of owner (command.Wires bundle) = op.ListWires bundle
-op_of owner (command.Level level) = op.BeginLevel level
-op_of owner (command.BundleLevel bundle level) = op.SetBundleLevel bundle level
-op_of owner command.Bundles = op.ListBundles
-op_of owner command.Services = op.ListServices
-op_of owner (command.Listen name kind filter) = op.AddListener owner name kind filter
-op_of owner (command.Unlisten name) = op.RemoveListener owner name
-op_of owner (command.Job name) = op.QueueJob owner name
-op_of owner (command.Print text) = op.Print owner text
-op_of owner (command.Fail text) = op.Fail owner text
+-- one operation
+abbrev pub one : Op → Plan
+one o = ask o after_one
 
--- the plan of a command: that one operation. Some plans go on after it. No line says a command with such a plan yet; as soon as one
--- does, the steps after it belong here, also where they are still refused
+-- ---- starts: what comes then is told whether it was refused
+
+abbrev pub after_end_start : (Bool → Plan) → Reply → Plan
+after_end_start rest reply = rest (is_refusal reply)
+
+abbrev pub after_begin_start : BundleId → (Bool → Plan) → Reply → Plan
+after_begin_start bundle rest (answer.Begun begun row) = run row bundle section.Start (λ fails. ask (op.EndStart bundle fails) (after_end_start rest))
+after_begin_start bundle rest (answer.Refused refusal) = rest true
+after_begin_start bundle rest reply = rest false
+
+abbrev pub after_resolve : BundleId → Bool → (Bool → Plan) → Reply → Plan
+after_resolve bundle transient rest (answer.Refused refusal) = rest true
+after_resolve bundle transient rest reply = ask (op.BeginStart bundle transient) (after_begin_start bundle rest)
+
+abbrev pub after_wish : Bool → (Bool → Plan) → Reply → Plan
+after_wish transient rest (answer.Go bundle) = ask (op.Resolve bundle) (after_resolve bundle transient rest)
+after_wish transient rest (answer.Refused refusal) = rest true
+after_wish transient rest reply = rest false
+
+abbrev pub start : Target → Bool → (Bool → Plan) → Plan
+start target transient rest = ask (op.WishStart target transient) (after_wish transient rest)
+
+-- ---- stops
+
+-- how a stop went: well, whether or not there was something to stop; its section failed; or it was refused otherwise
+pub data Stop : Type 0 where
+  stopped : Bool → Stop
+  section_failed : Stop
+  not_stopped : Stop
+
+abbrev pub how_stopped : Reply → Stop
+how_stopped (answer.Refused ActivatorError) = section_failed
+how_stopped (answer.Refused refusal) = not_stopped
+how_stopped reply = stopped true
+
+abbrev pub after_end_stop : (Stop → Plan) → Reply → Plan
+after_end_stop rest reply = rest (how_stopped reply)
+
+abbrev pub after_begin_stop : (Stop → Plan) → Reply → Plan
+after_begin_stop rest (answer.Begun bundle row) = run row bundle section.Stop (λ fails. ask (op.EndStop bundle fails) (after_end_stop rest))
+after_begin_stop rest (answer.Refused refusal) = rest not_stopped
+after_begin_stop rest reply = rest (stopped false)
+
+abbrev pub halt : Target → Bool → (Stop → Plan) → Plan
+halt target transient rest = ask (op.BeginStop target transient) (after_begin_stop rest)
+
+-- a stop whose section failed goes on, any other refusal ends the plan
+abbrev pub past_failure : Plan → Stop → Plan
+past_failure rest not_stopped = stop refused
+past_failure rest how = rest
+
+-- any refusal ends the plan
+abbrev pub past_stop : Plan → Stop → Plan
+past_stop rest (stopped begun) = rest
+past_stop rest how = stop refused
+
+-- ---- starts and stops of several bundles, one after another, whatever comes of them
+
+abbrev pub start_all : List BundleId → Plan → Plan
+start_all [] rest = rest
+start_all (b ∷ more) rest = start (Id b) true (λ bad. start_all more rest)
+
+-- `goes` says what comes of each stop
+abbrev pub halt_each : (Plan → Stop → Plan) → List BundleId → Plan → Plan
+halt_each goes [] rest = rest
+halt_each goes (b ∷ more) rest = halt (Id b) true (goes (halt_each goes more rest))
+
+abbrev pub halt_all : List BundleId → Plan → Plan
+halt_all bundles rest = halt_each (λ more how. more) bundles rest
+
+-- ---- the commands that are more than one operation
+
+abbrev pub restart : BundleId → Bool → Bool → Plan
+restart bundle true bad = start (Id bundle) true (λ worse. stop (end_of (bad || worse)))
+restart bundle false bad = stop (end_of bad)
+
+abbrev pub updating : BundleId → List ℕ → Bool → Plan
+updating bundle location begun = ask (op.Update bundle location) (λ reply. restart bundle begun (is_refusal reply))
+
+abbrev pub after_stop_to_update : BundleId → List ℕ → Stop → Plan
+after_stop_to_update bundle location (stopped begun) = updating bundle location begun
+after_stop_to_update bundle location section_failed = updating bundle location true
+after_stop_to_update bundle location not_stopped = stop refused
+
+-- the members of a refresh are stopped, each going on where its section alone failed
+abbrev pub stop_members : List BundleId → Plan → Plan
+stop_members bundles rest = halt_each past_failure bundles rest
+
+abbrev pub after_begin_refresh : Reply → Plan
+after_begin_refresh (answer.Closure all active) =
+    stop_members active (ask op.DropWirings (λ reply. unless_refused reply (start_all (reverse active) (one op.EndRefresh))))
+after_begin_refresh reply = after_one reply
+
+abbrev pub to_start : Reply → List BundleId
+to_start (answer.Moved bundles) = bundles
+to_start reply = []
+
+abbrev pub to_stop : Reply → List BundleId
+to_stop (answer.Ids bundles) = bundles
+to_stop reply = []
+
+-- a refused move ends the walk
+abbrev pub unless_stuck : Reply → Plan → Plan
+unless_stuck (answer.Refused refusal) rest = one op.EndLevel
+unless_stuck reply rest = rest
+
+-- so many levels up, from this one
+abbrev pub climb : ℕ → ℕ → Plan
+climb zero level = one op.EndLevel
+climb (suc more) level = ask (op.MoveLevel (level + 1)) (λ reply. unless_stuck reply (start_all (to_start reply) (climb more (level + 1))))
+
+-- so many levels down
+abbrev pub descend : ℕ → ℕ → Plan
+descend zero level = one op.EndLevel
+descend (suc more) level =
+    ask (op.ListLevel level) (λ listed. unless_refused listed
+    (halt_all (to_stop listed) (ask (op.MoveLevel (level - 1)) (λ reply. unless_stuck reply (descend more (level - 1))))))
+
+abbrev pub after_begin_level : Reply → Plan
+after_begin_level (answer.Level from to) = if nat_lt to from then descend (from - to) from else climb (to - from) from
+after_begin_level reply = after_one reply
+
+abbrev pub after_last_set : BundleId → Reply → Plan
+after_last_set bundle (answer.Leveled true) = start (Id bundle) true (λ bad. stop (end_of bad))
+after_last_set bundle reply = after_one reply
+
+abbrev pub after_set : BundleId → ℕ → Reply → Plan
+after_set bundle level (answer.Up up) = halt (Id bundle) true (past_stop (ask (op.SetBundleLevel bundle level) (after_last_set bundle)))
+after_set bundle level reply = after_last_set bundle reply
+
+abbrev pub after_register : Reply → Plan
+after_register (answer.Service service) = stop (bound (Some service))
+after_register reply = after_one reply
+
+abbrev pub after_find : Reply → Plan
+after_find (answer.Best found) = stop (bound found)
+after_find reply = after_one reply
+
+abbrev pub load : BundleId → BundleId → List ℕ → Plan
+load owner bundle class = if owner.0 == 0 then ask (op.Resolve bundle) (λ reply. unless_refused reply (one (op.Load bundle class))) else one (op.Load bundle class)
+
+-- the plan of a command that the owner runs
 abbrev pub plan : BundleId → Command → Plan
-plan owner c = ask (op_of owner c) after_one
-
--- an operation with its reply
-pub record Call : Type 0 where
-  pub op : Op
-  pub reply : Reply
-
--- how a plan reads a beginning of the calls, up to those that are left. Replies are free here: which one comes, the legal
--- history says
-pub data PlanReads : Plan → End → List Call → List Call → Type 0 where
-  stopped : {end : End} {left : List Call} → PlanReads (stop end) end left left
-  asked : {asks : Op} {next : Reply → Plan} {reply : Reply} {end : End} {calls left : List Call} →
-      PlanReads (next reply) end calls left → PlanReads (ask asks next) end (record { op = asks; reply = reply } ∷ calls) left
-
--- the calls are a whole run of the console's command
-abbrev pub Follows : Command → List Call → Type 0
-Follows command calls = (end : End) × PlanReads (plan system command) end calls []
-
--- they are the beginning of one, and something of it is missing
-abbrev pub IsCutRun : Command → List Call → Type 0
-IsCutRun command calls = (missing : List Call) × (missing ≢ []) × Follows command (calls ++ missing)
+plan owner (command.Register classes object properties) = ask (op.Register owner classes object Singleton properties) after_register
+plan owner (command.Modify service properties) = one (op.Modify owner service properties)
+plan owner (command.Unregister service) = one (op.Unregister owner service)
+plan owner (command.Find class filter) = ask (op.Find owner class filter) after_find
+plan owner (command.FindAll class filter) = one (op.FindAll owner class filter)
+plan owner (command.Get service) = one (op.Get owner service)
+plan owner (command.Unget service) = one (op.Unget owner service)
+plan owner (command.Start target transient) = start target transient (λ bad. stop (end_of bad))
+plan owner (command.Stop target transient) = halt target transient (past_stop (stop done))
+plan owner (command.Load bundle class) = load owner bundle class
+plan owner (command.Install location) = one (op.Install location)
+plan owner (command.Update bundle location) = halt (Id bundle) true (after_stop_to_update bundle location)
+plan owner (command.Uninstall bundle) = halt (Id bundle) true (past_failure (one (op.Uninstall bundle)))
+plan owner (command.Resolve bundle) = one (op.Resolve bundle)
+plan owner (command.Refresh bundles) = ask (op.BeginRefresh bundles) after_begin_refresh
+plan owner (command.Wires bundle) = one (op.ListWires bundle)
+plan owner (command.Level level) = ask (op.BeginLevel level) after_begin_level
+plan owner (command.BundleLevel bundle level) = ask (op.SetBundleLevel bundle level) (after_set bundle level)
+plan owner command.Bundles = one op.ListBundles
+plan owner command.Services = one op.ListServices
+plan owner (command.Listen name kind filter) = one (op.AddListener owner name kind filter)
+plan owner (command.Unlisten name) = one (op.RemoveListener owner name)
+plan owner (command.Job name) = one (op.QueueJob owner name)
+plan owner (command.Print text) = one (op.Print owner text)
+plan owner (command.Fail text) = ask (op.Fail owner text) (λ reply. unless_refused reply (stop failed))

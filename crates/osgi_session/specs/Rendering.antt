@@ -1,18 +1,25 @@
 -- The text of a session: what each line and each entry writes.
-use Rattle.std.specs.Prelude.{ℕ, ◌≡◌, ◌↔◌, ◌&&◌, ◌||◌, ◌==◌, not, if◌then◌else◌, Bool, true, false, List, [], ◌∷◌, ◌++◌, codes, map}
-use Rattle.std.specs.List.{concat, join_with_byte, list_any}
+use Rattle.std.specs.Prelude.{ℕ, ◌≡◌, ◌↔◌, ◌&&◌, ◌||◌, ◌==◌, ◌+◌, not, if◌then◌else◌, Bool, true, false, List, [], ◌∷◌, ◌++◌, Option, None, Some, codes, length, map, replicate}
+use Rattle.std.specs.List.{concat, join_with_byte}
 use Rattle.std.specs.Fmt.{decimal, signed_decimal}
 use Rattle.std.specs.Option.{option_to_list}
 use Rattle.osgi_base.specs.declared.ids.BundleId.{BundleId}
+use Rattle.osgi_base.specs.declared.ids.RevisionId.{RevisionId}
 use Rattle.osgi_base.specs.declared.ids.ServiceId.{ServiceId}
 use Rattle.osgi_ops.specs.Along.{along}
+use Rattle.osgi_ops.specs.Brackets.{brackets_of}
+use Rattle.osgi_ops.specs.Conditions.{lesser}
+use Rattle.osgi_ops.specs.Levels.{active_level}
 use Rattle.osgi_session.specs.Lines.{entries_of, has_command, is_of}
 use Rattle.osgi_session.specs.RefusalTexts.{refusal_text, spaced}
+use Rattle.osgi_session.specs.Runs.{Sections}
 use Rattle.osgi_session.specs.Sessions.{IsRunOf}
+use Rattle.osgi_ops.specs.declared.event.Event.{Event}
+use Rattle.osgi_ops.specs.declared.event.Event.TheVariants as event
 use Rattle.osgi_ops.specs.declared.op.Op.{Op}
-use Rattle.osgi_ops.specs.declared.op.Op.TheVariants.{Modify, Unregister, Unget}
+use Rattle.osgi_ops.specs.declared.op.Op.TheVariants as op
 use Rattle.osgi_ops.specs.declared.reply.Reply.{Reply}
-use Rattle.osgi_ops.specs.declared.reply.Reply.TheVariants.{Service, Done, Best, Services, Object, Flag, Bundle, Resolved, Bundles, ServiceRows, Wires, Refused}
+use Rattle.osgi_ops.specs.declared.reply.Reply.TheVariants as answer
 use Rattle.osgi_ops.specs.declared.entry.Entry.{Entry}
 use Rattle.osgi_ops.specs.declared.rows.BundleRow.{BundleRow}
 use Rattle.osgi_ops.specs.declared.rows.WireRow.{WireRow}
@@ -73,42 +80,109 @@ abbrev pub wire_lines : List WireRow → List WireRow → List (List ℕ)
 wire_lines [] [] = codes "none" ∷ []
 wire_lines rows fragments = map wire_row_text rows ++ map fragment_row_text fragments
 
--- the lines that an operation and its reply write, after the entries before them. Other answers write nothing so far
-abbrev pub entry_lines : List Entry → Op → Reply → List (List ℕ)
-entry_lines before op (Service service) = (codes "service " ++ decimal service.0) ∷ []
-entry_lines before op (Best service) = (codes "found" ++ services_text (option_to_list service)) ∷ []
-entry_lines before op (Services services) = (codes "found" ++ services_text services) ∷ []
-entry_lines before op (Object text) = (codes "object " ++ quoted text) ∷ []
-entry_lines before op (Bundle bundle known) = (codes "bundle " ++ decimal bundle.0) ∷ []
-entry_lines before op (Resolved added) = (codes "resolved" ++ bundles_text added) ∷ []
-entry_lines before op (Bundles rows) = map bundle_row_text rows
-entry_lines before op (ServiceRows rows) = service_lines rows
-entry_lines before op (Wires rows fragments) = wire_lines rows fragments
-entry_lines before op (Refused refusal) = refusal_text refusal ∷ []
-entry_lines before (Modify owner service properties) Done = (codes "modified " ++ decimal service.0) ∷ []
-entry_lines before (Unregister owner service) Done = (codes "unregistered " ++ decimal service.0) ∷ []
-entry_lines before (Unget user service) (Flag value) = (codes "unget " ++ truth value) ∷ []
-entry_lines before _ _ = []
+-- an event as a listener's hand writes it
+abbrev pub event_text : Event → List ℕ
+event_text (event.Service code service) = codes "service" ++ spaced (decimal code) ++ spaced (decimal service.0)
+event_text (event.Bundle code bundle) = codes "bundle" ++ spaced (decimal code) ++ spaced (decimal bundle.0)
+event_text (event.Framework code) = codes "framework" ++ spaced (decimal code)
 
--- with a line feed (10) after it
+abbrev pub loaded_text : Option RevisionId → List ℕ
+loaded_text None = codes "none"
+loaded_text (Some r) = codes "r" ++ decimal r.0
+
+-- what an operation writes that was done, where this is the active start level
+abbrev pub done_lines : ℕ → Op → List (List ℕ)
+done_lines level (op.Modify owner service properties) = (codes "modified" ++ spaced (decimal service.0)) ∷ []
+done_lines level (op.Unregister owner service) = (codes "unregistered" ++ spaced (decimal service.0)) ∷ []
+done_lines level (op.QueueJob owner name) = codes "queued" ∷ []
+done_lines level (op.Print owner text) = text ∷ []
+done_lines level (op.Fail owner text) = (codes "fail" ++ spaced (quoted text)) ∷ []
+done_lines level (op.EndStart bundle failed) = (codes "started" ++ spaced (decimal bundle.0)) ∷ []
+done_lines level (op.EndStop bundle failed) = (codes "stopped" ++ spaced (decimal bundle.0)) ∷ []
+done_lines level (op.Update bundle location) = (codes "updated" ++ spaced (decimal bundle.0)) ∷ []
+done_lines level (op.Uninstall bundle) = (codes "uninstalled" ++ spaced (decimal bundle.0)) ∷ []
+done_lines level op.EndRefresh = codes "refreshed" ∷ []
+done_lines level op.EndLevel = (codes "level done" ++ spaced (decimal level)) ∷ []
+done_lines level _ = []
+
+-- the lines that an operation and its reply write, where this was the active start level before them. Other answers write nothing
+abbrev pub entry_lines : ℕ → Op → Reply → List (List ℕ)
+entry_lines level o (answer.Service service) = (codes "service" ++ spaced (decimal service.0)) ∷ []
+entry_lines level o (answer.Best service) = (codes "found" ++ services_text (option_to_list service)) ∷ []
+entry_lines level o (answer.Services services) = (codes "found" ++ services_text services) ∷ []
+entry_lines level o (answer.Object text) = (codes "object" ++ spaced (quoted text)) ∷ []
+entry_lines level o (answer.Listener listener) = (codes "listener" ++ spaced (decimal listener.0)) ∷ []
+entry_lines level o (answer.Handed listener kind owner row name e) = (codes "event" ++ spaced (decimal listener.0) ++ spaced (event_text e)) ∷ []
+entry_lines level o (answer.Job owner row name) = (codes "job" ++ spaced (decimal owner.0) ++ spaced name) ∷ []
+entry_lines level o (answer.Bundle bundle known) = (codes "bundle" ++ spaced (decimal bundle.0)) ∷ []
+entry_lines level o (answer.Resolved added) = (codes "resolved" ++ bundles_text added) ∷ []
+entry_lines level o (answer.Kept bundle) = (codes "kept" ++ spaced (decimal bundle.0)) ∷ []
+entry_lines level o (answer.Active bundle) = (codes "active" ++ spaced (decimal bundle.0)) ∷ []
+entry_lines level (op.BeginStart bundle transient) (answer.Begun begun row) = (codes "starting" ++ spaced (decimal begun.0)) ∷ []
+entry_lines level (op.BeginStop target transient) (answer.Begun begun row) = (codes "stopping" ++ spaced (decimal begun.0)) ∷ []
+entry_lines level o (answer.Idle bundle) = (codes "idle" ++ spaced (decimal bundle.0)) ∷ []
+entry_lines level o (answer.Closure all active) = (codes "refreshing" ++ bundles_text all) ∷ []
+entry_lines level op.DropWirings (answer.Ids ids) = (codes "unresolved" ++ bundles_text ids) ∷ []
+entry_lines level o (answer.Level from to) = (codes "level" ++ spaced (decimal from) ++ spaced (decimal to)) ∷ []
+entry_lines level (op.MoveLevel to) (answer.Moved bundles) = (codes "level at" ++ spaced (decimal to)) ∷ []
+entry_lines level (op.SetBundleLevel bundle own) (answer.Leveled value) = (codes "blevel" ++ spaced (decimal bundle.0) ++ spaced (decimal own)) ∷ []
+entry_lines level o (answer.Loaded by) = (codes "loaded" ++ spaced (loaded_text by)) ∷ []
+entry_lines level o (answer.Bundles rows) = map bundle_row_text rows
+entry_lines level o (answer.ServiceRows rows) = service_lines rows
+entry_lines level o (answer.Wires rows fragments) = wire_lines rows fragments
+entry_lines level o (answer.Refused refusal) = refusal_text refusal ∷ []
+entry_lines level (op.Unget user service) (answer.Flag value) = (codes "unget" ++ spaced (truth value)) ∷ []
+entry_lines level (op.RemoveListener owner name) (answer.Flag value) = (codes "unlisten" ++ spaced (truth value)) ∷ []
+entry_lines level o answer.Done = done_lines level o
+entry_lines level _ _ = []
+
+-- ---- depth
+
+-- how many brackets of its caller are open before the entry, or after it where these are fewer
+abbrev pub depth : List Entry → Entry → ℕ
+depth before e = lesser (length (brackets_of e.tag.caller before)) (length (brackets_of e.tag.caller (before ++ e ∷ [])))
+
+-- two spaces for each
+abbrev pub indented : ℕ → List ℕ → List ℕ
+indented n line = replicate (n + n) 32 ++ line
+
 abbrev pub with_line_end : List ℕ → List ℕ
 with_line_end line = line ++ 10 ∷ []
 
+-- a line at this depth
+abbrev pub line_at : ℕ → List ℕ → List ℕ
+line_at n line = with_line_end (indented n line)
+
+abbrev pub lines_at : ℕ → List (List ℕ) → List ℕ
+lines_at n lines = concat (map (line_at n) lines)
+
 abbrev pub entry_text : List Entry → Entry → List ℕ
-entry_text before e = concat (map with_line_end (entry_lines before e.op e.reply))
+entry_text before e = lines_at (depth before e) (entry_lines (active_level before) e.op e.reply)
 
 -- the entries of a line write their texts, in order of the history
 abbrev pub entries_text : ℕ → List Entry → List ℕ
 entries_text number history = along (λ before e. if is_of number e then entry_text before e else []) [] history
 
--- the line has a command and no entry
-abbrev pub is_full : List Entry → Line → Bool
-is_full history line = has_command line.content && not (list_any (is_of line.number) history)
+-- ---- lines
 
--- a line with a command is not full exactly where its entries are a whole run of its plan
-abbrev pub IsFullWhereCut : List Entry → Line → Type 0
-IsFullWhereCut history line =
-    has_command line.content ≡ true → (is_full history line ≡ false) ↔ IsRunOf 0 line (entries_of line history)
+abbrev pub takes_no_job : Op → Reply → Bool
+takes_no_job op.TakeJob answer.NoJob = true
+takes_no_job _ _ = false
+
+-- the entries end with a TakeJob that found no job
+abbrev pub ends_without_job : List Entry → Bool
+ends_without_job [] = false
+ends_without_job (e ∷ []) = takes_no_job e.op e.reply
+ends_without_job (e ∷ more) = ends_without_job more
+
+-- the line has a command, and its entries do not end so
+abbrev pub is_full : List Entry → Line → Bool
+is_full history line = has_command line.content && not (ends_without_job (entries_of line history))
+
+-- a line with a command is not full exactly where its entries are its caller's whole run of its plan
+abbrev pub IsFullWhereCut : Sections → ℕ → List Entry → Line → Type 0
+IsFullWhereCut scripts caller history line =
+    has_command line.content ≡ true → (is_full history line ≡ false) ↔ IsRunOf scripts caller line (entries_of line history)
 
 abbrev pub content_text : List Entry → ℕ → Content → List ℕ
 content_text history number Empty = []

@@ -1,52 +1,128 @@
 -- Which histories the lines of a session make.
-use Rattle.std.specs.Prelude.{ℕ, ◌≡◌, ◌⊎◌, List, [], ◌∷◌, ◌++◌, map, All, length}
-use Rattle.osgi_session.specs.Plans.{Call, Follows, IsCutRun}
+use Rattle.std.specs.Prelude.{ℕ, zero, suc, ◌≡◌, ◌==◌, ◌+◌, ◌≤◌, ◌<◌, ◌⊎◌, not, Bool, true, false, if◌then◌else◌, List, [], ◌∷◌, ◌++◌, map, filter, All, length}
+use Rattle.std.specs.List.{list_any}
+use Rattle.osgi_ops.specs.Callers.{by}
+use Rattle.osgi_session.specs.Lines.{has_command}
+use Rattle.osgi_session.specs.Runs.{Call, call, Follows, IsCutRun, IsSpentRun, Sections}
 use Rattle.osgi_session.specs.declared.command.Command.{Command}
 use Rattle.osgi_ops.specs.declared.entry.Entry.{Entry}
-use Rattle.osgi_session.specs.declared.line.Content.TheVariants.{Run}
+use Rattle.osgi_session.specs.declared.line.Content.TheVariants as content
 use Rattle.osgi_session.specs.declared.line.Line.{Line}
 
--- the call that an entry records
 abbrev pub call_of : Entry → Call
-call_of e = record { op = e.op; reply = e.reply }
+call_of e = call e.op e.reply
 
 -- the entries are tagged with the caller and the line's number
 abbrev pub AreTagged : ℕ → Line → List Entry → Type 0
 AreTagged caller line entries = All (λ (e : Entry). e.tag ≡ record { caller = caller; command = line.number }) entries
 
-abbrev pub HasNoCommand : Line → Type 0
-HasNoCommand line = (command : Command) → ¬ (line.content ≡ Run command)
-
 -- the entries are the caller's whole run of the line's command
-pub record IsRunOf (caller : ℕ) (line : Line) (entries : List Entry) : Type 0 where
+pub record IsRunOf (script : Sections) (caller : ℕ) (line : Line) (entries : List Entry) : Type 0 where
   pub command : Command
-  pub says : line.content ≡ Run command
+  pub says : line.content ≡ content.Run command
   pub tagged : AreTagged caller line entries
-  pub follows : Follows command (map call_of entries)
+  pub follows : Follows script command (map call_of entries)
 
--- they are a run of it that was cut, or never begun
-pub record IsCutRunOf (caller : ℕ) (line : Line) (entries : List Entry) : Type 0 where
+abbrev pub IsCut : Sections → Command → Bool → List Call → Type 0
+IsCut script command true calls = IsSpentRun script command calls
+IsCut script command false calls = IsCutRun script command calls
+
+-- they are a run of it that was cut, or never begun; `spent` says that it ends with a Hand refused since enough was handed
+pub record IsCutRunOf (script : Sections) (caller : ℕ) (line : Line) (spent : Bool) (entries : List Entry) : Type 0 where
   pub command : Command
-  pub says : line.content ≡ Run command
+  pub says : line.content ≡ content.Run command
   pub tagged : AreTagged caller line entries
-  pub cut : IsCutRun command (map call_of entries)
+  pub cut : IsCut script command spent (map call_of entries)
 
--- the history that the lines make by caller 0, line after line in input order: a whole run for each line with a command
--- and nothing for the others. Where it is lawful a run is cut, and then no later line has an entry
-pub data Makes (lawful : List Entry → Type 0) : List Line → List Entry → Type 0 where
-  over : Makes lawful [] []
-  idle : {line : Line} {lines : List Line} {history : List Entry} →
-      HasNoCommand line → Makes lawful lines history → Makes lawful (line ∷ lines) history
-  run : {line : Line} {lines : List Line} {entries history : List Entry} →
-      IsRunOf 0 line entries → Makes lawful lines history → Makes lawful (line ∷ lines) (entries ++ history)
-  cut : {line : Line} {lines : List Line} {entries : List Entry} →
-      IsCutRunOf 0 line entries → lawful entries → Makes lawful (line ∷ lines) entries
+-- ---- blocks
 
--- a run may be cut where the whole history is as long as it may be, or where memory ran out, which is status 5.
--- Nothing is asked yet of the entries that the cut run has
-abbrev pub MayBeCut : ℕ → ℕ → List Entry → List Entry → Type 0
-MayBeCut limit status history entries = (length history ≡ limit) ⊎ (status ≡ 5)
+-- what runs at a time: a line of caller 0, or lanes beside one another, each with its lines
+pub data Block : Type 0 where
+  plain : Line → Block
+  beside : List (List Line) → Block
+
+abbrev pub is_join : Line → Bool
+is_join line = elim line.content [ content.Join ↦ true | _ ↦ false ]
+
+abbrev pub of_lane : ℕ → List Line → List Line
+of_lane lane lines = filter (λ (line : Line). line.lane == lane) lines
+
+abbrev pub unless_empty : List Line → List (List Line)
+unless_empty [] = []
+unless_empty lines = lines ∷ []
+
+-- the lanes with lines, from this one on, so many of them
+abbrev pub lanes_from : ℕ → ℕ → List Line → List (List Line)
+lanes_from zero lane lines = []
+lanes_from (suc more) lane lines =
+    unless_empty (of_lane lane lines) ++ lanes_from more (lane + 1) lines
+
+abbrev pub most_lanes : ℕ
+most_lanes = 8
+
+-- lanes are numbered from 1
+abbrev pub lanes_of : List Line → List (List Line)
+lanes_of lines = lanes_from most_lanes 1 lines
+
+abbrev pub gathered : List Line → List Block
+gathered [] = []
+gathered lines = beside (lanes_of lines) ∷ []
+
+-- lines gathered so far, and those that follow: lines without a command count for nothing, but for a join
+abbrev pub blocks_after : List Line → List Line → List Block
+blocks_after gathering [] = gathered gathering
+blocks_after gathering (line ∷ rest) =
+    if is_join line then gathered gathering ++ blocks_after [] rest
+    else (if not (has_command line.content) then blocks_after gathering rest
+    else (if line.lane == 0 then gathered gathering ++ (plain line ∷ blocks_after [] rest) else blocks_after (gathering ++ line ∷ []) rest))
+
+abbrev pub blocks : List Line → List Block
+blocks lines = blocks_after [] lines
+
+-- ---- sessions
+
+-- what one caller's lines make: a whole run of each, one after another; where it is lawful a run is cut, and then no later one
+-- has entries. The truth value says that a run was cut
+pub data Lane (script : Sections) (lawful : Bool → Type 0) (caller : ℕ) : Bool → List Line → List Entry → Type 0 where
+  over : Lane script lawful caller false [] []
+  ran : {cut : Bool} {line : Line} {lines : List Line} {entries rest : List Entry} →
+      IsRunOf script caller line entries → Lane script lawful caller cut lines rest → Lane script lawful caller cut (line ∷ lines) (entries ++ rest)
+  cut : {spent : Bool} {line : Line} {lines : List Line} {entries : List Entry} →
+      IsCutRunOf script caller line spent entries → lawful spent → Lane script lawful caller true (line ∷ lines) entries
+
+-- each caller's entries in this part are what its lane makes; callers are numbered by rising lane from the first
+abbrev pub AreLanes : Sections → (Bool → Type 0) → ℕ → List (Bool × List Line) → List Entry → Type 0
+AreLanes script lawful first [] part = All (λ (e : Entry). e.tag.caller < first) part
+AreLanes script lawful first (lane ∷ more) part =
+    Lane script lawful first lane.0 lane.1 (by first part) × AreLanes script lawful (first + 1) more part
+
+-- the blocks make the history, the next caller's number being given: block after block, and after a cut nothing more
+pub data Makes (script : Sections) (lawful : Bool → Type 0) : ℕ → List Block → List Entry → Type 0 where
+  over : {next : ℕ} → Makes script lawful next [] []
+  ran : {next : ℕ} {line : Line} {more : List Block} {entries rest : List Entry} →
+      IsRunOf script 0 line entries → Makes script lawful next more rest → Makes script lawful next (plain line ∷ more) (entries ++ rest)
+  cut : {next : ℕ} {spent : Bool} {line : Line} {more : List Block} {entries : List Entry} →
+      IsCutRunOf script 0 line spent entries → lawful spent → Makes script lawful next (plain line ∷ more) entries
+  lanes : {next : ℕ} (each : List (Bool × List Line)) (part : List Entry) {more : List Block} {rest : List Entry} →
+      All (λ (e : Entry). next ≤ e.tag.caller) part → AreLanes script lawful next each part → All (λ (lane : Bool × List Line). lane.0 ≡ false) each →
+      Makes script lawful (next + length each) more rest →
+      Makes script lawful next (beside (map (λ (lane : Bool × List Line). lane.1) each) ∷ more) (part ++ rest)
+  lanes_cut : {next : ℕ} (each : List (Bool × List Line)) (part : List Entry) {more : List Block} →
+      All (λ (e : Entry). next ≤ e.tag.caller) part → AreLanes script lawful next each part → list_any (λ (lane : Bool × List Line). lane.0) each ≡ true →
+      Makes script lawful next (beside (map (λ (lane : Bool × List Line). lane.1) each) ∷ more) part
+
+-- a run may be cut where enough was handed, where the whole history is as long as it may be, or where memory was wanting,
+-- which is status 5
+abbrev pub MayBeCut : ℕ → ℕ → List Entry → Bool → Type 0
+MayBeCut limit status history spent = (spent ≡ true) ⊎ (length history ≡ limit) ⊎ (status ≡ 5)
 
 -- the history is what the lines make, under this limit of entries, in a session that ended with this status
-abbrev pub IsWhole : ℕ → ℕ → List Line → List Entry → Type 0
-IsWhole limit status lines history = Makes (MayBeCut limit status history) lines history
+abbrev pub IsWhole : Sections → ℕ → ℕ → List Line → List Entry → Type 0
+IsWhole script limit status lines history = Makes script (MayBeCut limit status history) 1 (blocks lines) history
+
+-- no run was cut: it is so where the session ended with status 0 or 1
+abbrev pub Never : Bool → Type 0
+Never spent = ⊥
+
+abbrev pub Uncut : Sections → List Line → List Entry → Type 0
+Uncut script lines history = Makes script Never 1 (blocks lines) history

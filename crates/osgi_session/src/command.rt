@@ -2,7 +2,7 @@
 
 ghost use Rattle.std.specs.Prelude.{◌≡◌, true, IfOk};
 ghost use Rattle.osgi_ops.specs.declared.target.Target.TheVariants as target;
-ghost use Rattle.osgi_session.specs.Plans.{op_of};
+ghost use Rattle.osgi_session.specs.Beginnings.{later_text, op_of};
 
 use osgi_base::{BundleId, Copied, List, ServiceId, Text, copy_three, copy_two};
 use osgi_model::{Attributes, Filter};
@@ -300,19 +300,17 @@ impl Command {
         }
     }
 
-    /// The operation that the command's plan begins with, where the bundle runs it.
-    pub fn op_of(&self, alloc: Global, asker: BundleId) -> Result<Op, AllocError>
-        ensures operation { IfOk result (λ op. op ≡ op_of asker self.now) }
-    {
-        Ok(self.copy(alloc)?.into_op(asker))
-    }
-
-    /// The same, of the command's own parts.
-    fn into_op(self, asker: BundleId) -> Op
-        ensures operation { result ≡ op_of asker self }
+    /// The operation that the command's plan begins with, where the bundle runs it, of the command's own parts, and the text that
+    /// a later operation needs, if one does.
+    pub fn into_op(self, asker: BundleId) -> (Op, Option<Text>)
+        ensures operation { result.0 ≡ op_of asker self }
+        ensures later { result.1 ≡ later_text asker self }
     {
         let (owner, user) = (asker, asker);
-        match self {
+        let op = match self {
+            Command::Load { bundle, class } => return load(asker, bundle, class),
+            Command::Update { bundle, location } => return (stop(bundle), Some(location)),
+            Command::Uninstall { bundle } => stop(bundle),
             Command::Register {
                 classes,
                 object,
@@ -347,13 +345,7 @@ impl Command {
             Command::Unget { service } => Op::Unget { user, service },
             Command::Start { target, transient } => Op::WishStart { target, transient },
             Command::Stop { target, transient } => Op::BeginStop { target, transient },
-            Command::Load { bundle, class } => load(asker, bundle, class),
             Command::Install { location } => Op::Install { location },
-            Command::Update {
-                bundle,
-                location: _,
-            }
-            | Command::Uninstall { bundle } => stop(bundle),
             Command::Resolve { bundle } => Op::Resolve { bundle },
             Command::Refresh { bundles } => Op::BeginRefresh { bundles },
             Command::Wires { bundle } => Op::ListWires { bundle },
@@ -373,18 +365,20 @@ impl Command {
             Command::Job { name } => Op::QueueJob { owner, name },
             Command::Print { text } => Op::Print { owner, text },
             Command::Fail { text } => Op::Fail { owner, text },
-        }
+        };
+        (op, None)
     }
 }
 
 /// What a bundle asks for to load a class; the console resolves the bundle first.
-fn load(asker: BundleId, bundle: BundleId, class: Text) -> Op
-    ensures load { result ≡ op_of asker (Command.Load bundle class) }
+fn load(asker: BundleId, bundle: BundleId, class: Text) -> (Op, Option<Text>)
+    ensures operation { result.0 ≡ op_of asker (Command.Load bundle class) }
+    ensures later { result.1 ≡ later_text asker (Command.Load bundle class) }
 {
     if asker.0 == 0 {
-        Op::Resolve { bundle }
+        (Op::Resolve { bundle }, Some(class))
     } else {
-        Op::Load { bundle, class }
+        (Op::Load { bundle, class }, None)
     }
 }
 

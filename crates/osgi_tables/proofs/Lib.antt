@@ -2,3 +2,4 @@
 pub mod Asking
 pub mod Replying
 pub mod Setting
+pub mod Wired

@@ -1,19 +1,24 @@
 -- What the tables answer is what is due at each moment that they stand for.
 use Rattle.std.proofs.Common.{◌≡◌, ℕ, List, [], ◌∷◌, ◌++◌, refl, sym, subst, ◌∙◌}
-use Rattle.std.specs.Prelude.{false, None, Result, Ok, Err, IfOk, OnErr}
+use Rattle.std.specs.Prelude.{true, false, None, Result, Ok, Err, IfOk, OnErr}
+use Rattle.osgi_base.specs.Verdict.{Gives}
 use Rattle.osgi_base.specs.declared.ids.BundleId.{BundleId}
 use Rattle.osgi_bundle.specs.Rows.{TableRows}
 use Rattle.osgi_bundle.specs.Stands as bundle
 use Rattle.osgi_bundle.specs.laws.Standing as table
+use Rattle.osgi_legal.specs.Askers.{MayAsk}
 use Rattle.osgi_legal.specs.Quiet.{QuietBundles, QuietPhases, QuietServices}
+use Rattle.osgi_legal.proofs.Askers.{asker-passes}
 use Rattle.osgi_legal.proofs.Quiet.{bundles-quiet, refused-quiet}
 use Rattle.osgi_legal.proofs.Stage.{none-seen-now}
 use Rattle.osgi_ops.specs.Bundles.{brings_revision, installed_by, is_uninstall, put_into, updated_to}
+use Rattle.osgi_ops.specs.Conditions.{asker_of}
 use Rattle.osgi_ops.specs.Legal.{entry_of, IsAskedAt, IsTold}
 use Rattle.osgi_ops.specs.Moments.{later, Moment}
-use Rattle.osgi_ops.specs.Operations.{IsReply}
-use Rattle.osgi_ops.specs.Replies.{is_effective}
+use Rattle.osgi_ops.specs.Operations.{Answers, IsReply, own_conditions}
+use Rattle.osgi_ops.specs.Replies.{is_effective, verdict}
 use Rattle.osgi_ops.specs.Soundness.{IsSound}
+use Rattle.osgi_ops.specs.Stages.{is_here}
 use Rattle.osgi_ops.specs.Worlds.{Leaves}
 use Rattle.osgi_ops.specs.declared.asked.Asked.{Asked}
 use Rattle.osgi_ops.specs.declared.entry.Entry.{Entry}
@@ -22,11 +27,14 @@ use Rattle.osgi_ops.specs.declared.op.Op.TheVariants as op
 use Rattle.osgi_ops.specs.declared.refusal.Refusal.{Refusal}
 use Rattle.osgi_ops.specs.declared.reply.Reply.{Reply}
 use Rattle.osgi_ops.specs.declared.reply.Reply.TheVariants as answer
+use Rattle.osgi_ops.specs.laws.Stages.{row-here}
 use Rattle.osgi_registry.specs.Rows.{RegistryRows}
 use Rattle.osgi_registry.specs.Stands as registries
 use Rattle.osgi_registry.specs.laws.Standing as registry
 use Rattle.osgi_wiring.specs.States.{WiringState}
 use Rattle.osgi_world.specs.declared.world.World.{World}
+use Rattle.osgi_tables.proofs.Asking.{here_asks, passed_by}
+use Rattle.osgi_tables.specs.Asked.{asker_here, asker_refusal}
 use Rattle.osgi_tables.specs.Replied.{IsReplied, IsRepliedToAll, IsSame, StandsFor, StandsStill}
 use Rattle.osgi_tables.specs.Changes.{IsReplyAndChange, IsReplyAndChangeToAll}
 use Rattle.osgi_tables.specs.declared.change.Change.{Change}
@@ -99,6 +107,22 @@ unsaid e quiet = record { registers = quiet.registered; takes = quiet.taken; giv
 -- an entry that says nothing of services either leaves all tables
 pub still_tables : (now : Moment) (tables : Tables) (o : Op) (reply : Reply) → StandsFor now tables → IsOfServices o reply → QuietServices o reply → StandsFor (later now o reply tables.wirings.world []) tables
 still_tables now tables o reply stood quiet silent = still_world now tables o reply tables.registry stood quiet (registry.stands_quiet now.before tables.registry (entry_of now o reply) stood.services (unsaid (entry_of now o reply) silent))
+
+-- ---- operations on services
+
+-- what is due to who may ask is replied, where no more than the registry changes
+pub replied_by : (asked : Asked) (old : Tables) (new : RegistryRows) (reply : Reply) → is_here asked.op ≡ true → IsOfServices asked.op reply → asker_refusal old.bundles (asker_here asked.op) ≡ None →
+    ((now : Moment) → IsAskedAt asked now → MayAsk now (asker_of asked.op) → StandsFor now old → Gives (own_conditions now asked.op) (Answers now asked.op) (verdict reply)) →
+    registries.StandsAfter asked.op reply old.registry new → IsReplied asked old (with_services new old) reply
+replied_by asked old new reply here quiet none due stands =
+    let may : (now : Moment) → IsTold now → StandsFor now old → MayAsk now (asker_of asked.op) =
+    λ now told stood. subst (MayAsk now) (here_asks asked.op here) (passed_by now old.bundles (asker_here asked.op) told stood.bundles none) in
+    unseen asked old (with_services new old) reply
+    (λ now told stood.
+    row-here now asked.op reply here
+    (asker-passes now (asker_of asked.op) (own_conditions now asked.op) (Answers now asked.op) (verdict reply) (may now told.told stood) (due now told (may now told.told stood) stood)))
+    (λ now told stood. quiet.leaves now old.wirings.world stood.world)
+    (λ now told stood. still_world now old asked.op reply new stood quiet (stands now.before now.tag stood.services))
 
 -- ---- refusals
 

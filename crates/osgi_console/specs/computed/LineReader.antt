@@ -1,20 +1,17 @@
 -- What the reader computes of commands and of lines. No public promise speaks of this: it is proved to give the
 -- readings of the grammar.
-use Rattle.std.specs.Prelude.{ℕ, ◌+◌, ◌==◌, ◌&&◌, if◌then◌else◌, Bool, not, List, [], ◌∷◌, length, take, drop, codes, Option, None, Some, option_and_then, find}
-use Rattle.std.specs.List.{position}
-use Rattle.std.specs.Option.{option_map, unwrap_or}
+use Rattle.std.specs.Prelude.{ℕ, ◌+◌, ◌==◌, if◌then◌else◌, List, [], ◌∷◌, length, codes, Option, None, Some, option_and_then, find}
+use Rattle.std.specs.Option.{option_map}
 use Rattle.std.specs.Str.{bytes_eq}
-use Rattle.osgi_base.specs.declared.ids.BundleId.{BundleId}
-use Rattle.osgi_base.specs.declared.ids.ServiceId.{ServiceId}
-use Rattle.osgi_filter.specs.computed.Reader.{read_filter}
+use Rattle.osgi_ops.specs.declared.target.Target.TheVariants.{Id}
 use Rattle.osgi_session.specs.declared.command.Command.{Command}
 use Rattle.osgi_session.specs.declared.command.Command.TheVariants as command
 use Rattle.osgi_session.specs.declared.line.Content.{Content}
 use Rattle.osgi_session.specs.declared.line.Content.TheVariants.{Empty, Bad, Run}
 use Rattle.osgi_session.specs.declared.line.Line.{Line}
-use Rattle.osgi_console.specs.declared.commands.Search.{Search}
 use Rattle.osgi_console.specs.declared.commands.Verb.{Verb}
 use Rattle.osgi_console.specs.declared.commands.Verb.TheVariants as verb
+use Rattle.osgi_console.specs.computed.ArgumentReader.{aim_of, bundle_ids_of, location_of, only_bundle_of, only_id_of, only_level_of, search_of}
 use Rattle.osgi_syntax.specs.LineReader.{is_silent}
 use Rattle.osgi_syntax.specs.Splitting.{after_spaces, after_word, first_word, only_word_of, words_of}
 use Rattle.osgi_base.specs.QuoteReader.{quoted_of}
@@ -32,16 +29,25 @@ verb_name verb.Find = codes "find"
 verb_name verb.FindAll = codes "findall"
 verb_name verb.Get = codes "get"
 verb_name verb.Unget = codes "unget"
+verb_name verb.Start = codes "start"
+verb_name verb.Stop = codes "stop"
+verb_name verb.Load = codes "load"
 verb_name verb.Install = codes "install"
+verb_name verb.Update = codes "update"
+verb_name verb.Uninstall = codes "uninstall"
 verb_name verb.Resolve = codes "resolve"
+verb_name verb.Refresh = codes "refresh"
 verb_name verb.Wires = codes "wires"
+verb_name verb.Level = codes "level"
+verb_name verb.BundleLevel = codes "blevel"
 verb_name verb.Bundles = codes "bundles"
 verb_name verb.Services = codes "services"
 
 abbrev pub verbs : List Verb
 verbs =
-    verb.Register ∷ verb.Modify ∷ verb.Unregister ∷ verb.Find ∷ verb.FindAll ∷ verb.Get ∷ verb.Unget ∷ verb.Install
-    ∷ verb.Resolve ∷ verb.Wires ∷ verb.Bundles ∷ verb.Services ∷ []
+    verb.Register ∷ verb.Modify ∷ verb.Unregister ∷ verb.Find ∷ verb.FindAll ∷ verb.Get ∷ verb.Unget ∷ verb.Start ∷ verb.Stop
+    ∷ verb.Load ∷ verb.Install ∷ verb.Update ∷ verb.Uninstall ∷ verb.Resolve ∷ verb.Refresh ∷ verb.Wires ∷ verb.Level
+    ∷ verb.BundleLevel ∷ verb.Bundles ∷ verb.Services ∷ []
 
 abbrev pub verb_of : List ℕ → Option Verb
 verb_of word = find (λ verb. bytes_eq (verb_name verb) word) verbs
@@ -55,40 +61,30 @@ abbrev pub modify_of : List (List ℕ) → Option Command
 modify_of [] = None
 modify_of (id ∷ words) = option_and_then (λ service. option_map (λ properties. command.Modify service properties) (properties_of words)) (service_id_of id)
 
-abbrev pub only_id_of : List (List ℕ) → Option ServiceId
-only_id_of arguments = option_and_then service_id_of (only_word_of arguments)
-
-abbrev pub only_bundle_of : List (List ℕ) → Option BundleId
-only_bundle_of arguments = option_and_then bundle_id_of (only_word_of arguments)
-
 -- a command without arguments
 abbrev pub alone : Command → List (List ℕ) → Option Command
 alone c arguments = if length arguments == 0 then Some c else None
 
--- a space (32)
-abbrev pub is_space : ℕ → Bool
-is_space b = b == 32
+abbrev pub start_of : List (List ℕ) → Option Command
+start_of arguments = option_map (λ aim. command.Start (Id aim.bundle) aim.transient) (aim_of arguments)
 
--- where the first space stands, or else the end
-abbrev pub location_end : List ℕ → ℕ
-location_end text = unwrap_or (position is_space text) (length text)
+abbrev pub stop_of : List (List ℕ) → Option Command
+stop_of arguments = option_map (λ aim. command.Stop (Id aim.bundle) aim.transient) (aim_of arguments)
 
--- the bytes up to that place, if there are some and nothing but spaces follow
-abbrev pub location_to : ℕ → List ℕ → Option (List ℕ)
-location_to end text = if not (end == 0) && (length (after_spaces (drop end text)) == 0) then Some (take end text) else None
+abbrev pub load_of : List (List ℕ) → Option Command
+load_of [] = None
+load_of (id ∷ words) = option_and_then (λ bundle. option_map (λ class. command.Load bundle class) (option_and_then class_of (only_word_of words))) (bundle_id_of id)
 
--- the one argument, where a quote is a byte as any other
-abbrev pub location_of : List ℕ → Option (List ℕ)
-location_of text = location_to (location_end (after_spaces text)) (after_spaces text)
+-- quotes mean nothing in the location
+abbrev pub update_of : List ℕ → Option Command
+update_of text = option_and_then (λ bundle. option_map (λ location. command.Update bundle location) (location_of (after_word text))) (bundle_id_of (first_word text))
 
--- what is wanted of a class, by what follows its name
-abbrev pub search_from : List ℕ → List ℕ → Option Search
-search_from class remainder =
-    if length (after_spaces remainder) == 0 then Some (record { class = class; filter = None })
-    else option_map (λ filter. record { class = class; filter = Some filter }) (read_filter remainder)
+abbrev pub refresh_of : List (List ℕ) → Option Command
+refresh_of arguments = option_map command.Refresh (bundle_ids_of arguments)
 
-abbrev pub search_of : List ℕ → Option Search
-search_of text = option_and_then (λ class. search_from class (after_word text)) (class_of (first_word text))
+abbrev pub bundle_level_of : List (List ℕ) → Option Command
+bundle_level_of [] = None
+bundle_level_of (id ∷ words) = option_and_then (λ bundle. option_map (λ level. command.BundleLevel bundle level) (only_level_of words)) (bundle_id_of id)
 
 -- the command by what follows its first word
 abbrev pub command_by : Verb → List ℕ → Option Command
@@ -99,9 +95,17 @@ command_by verb.Find text = option_map (λ wanted. command.Find wanted.class wan
 command_by verb.FindAll text = option_map (λ wanted. command.FindAll wanted.class wanted.filter) (search_of text)
 command_by verb.Get text = option_map command.Get (only_id_of (words_of text))
 command_by verb.Unget text = option_map command.Unget (only_id_of (words_of text))
+command_by verb.Start text = start_of (words_of text)
+command_by verb.Stop text = stop_of (words_of text)
+command_by verb.Load text = load_of (words_of text)
 command_by verb.Install text = option_map command.Install (location_of text)
+command_by verb.Update text = update_of text
+command_by verb.Uninstall text = option_map command.Uninstall (only_bundle_of (words_of text))
 command_by verb.Resolve text = option_map command.Resolve (only_bundle_of (words_of text))
+command_by verb.Refresh text = refresh_of (words_of text)
 command_by verb.Wires text = option_map command.Wires (only_bundle_of (words_of text))
+command_by verb.Level text = option_map command.Level (only_level_of (words_of text))
+command_by verb.BundleLevel text = bundle_level_of (words_of text)
 command_by verb.Bundles text = alone command.Bundles (words_of text)
 command_by verb.Services text = alone command.Services (words_of text)
 

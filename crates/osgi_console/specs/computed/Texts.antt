@@ -1,35 +1,44 @@
--- The texts of the entries, by the numbers of their lines.
-use Rattle.std.specs.Prelude.{ℕ, ◌≡◌, ◌++◌, if◌then◌else◌, List, [], ◌∷◌, Option, None, Some, codes}
+-- What the entries of each line write, by the numbers of the lines.
+use Rattle.std.specs.Prelude.{ℕ, ◌≡◌, ◌++◌, if◌then◌else◌, Bool, false, List, [], ◌∷◌, Option, codes, filter}
 use Rattle.std.specs.BTreeMap.{BTreeMap, get}
-use Rattle.std.specs.List.{list_any}
-use Rattle.std.specs.Option.{option_map}
+use Rattle.std.specs.Option.{option_map_or}
 use Rattle.std.specs.Ordering.{nat_cmp}
-use Rattle.std.specs.declared.alloc.Global.{Global}
-use Rattle.std.specs.declared.vec.Vec.{Vec}
 use Rattle.osgi_session.specs.Lines.{is_of}
-use Rattle.osgi_session.specs.Rendering.{entries_text}
+use Rattle.osgi_session.specs.Rendering.{ends_without_job, entries_text, with_line_end}
 use Rattle.osgi_ops.specs.declared.entry.Entry.{Entry}
 use Rattle.osgi_session.specs.declared.line.Content.{Content}
 use Rattle.osgi_session.specs.declared.line.Content.TheVariants.{Empty, Join, Bad, Run}
+use Rattle.osgi_console.specs.declared.rendering.LineText.{LineText}
 
 abbrev pub Texts : Type 0
-Texts = BTreeMap ℕ (Vec ℕ Global)
+Texts = BTreeMap ℕ LineText
 
-abbrev pub text_at : Texts → ℕ → Option (List ℕ)
-text_at texts number = option_map (λ text. text.items) (get nat_cmp texts number)
+abbrev pub text_at : Texts → ℕ → Option LineText
+text_at texts number = get nat_cmp texts number
 
--- the text of a line's entries, where it has some
-abbrev pub text_of : List Entry → ℕ → Option (List ℕ)
-text_of history number = if list_any (is_of number) history then Some (entries_text number history) else None
+-- what a line's entries write; nothing where it has none
+abbrev pub written : Option LineText → List ℕ
+written line = option_map_or (λ line. line.text.items) line []
+
+-- the last of them found no job
+abbrev pub has_ended : Option LineText → Bool
+has_ended line = option_map_or (λ line. line.has_ended) line false
 
 -- each line has its text there
-abbrev pub AreTextsOf : List Entry → Texts → Type 0
-AreTextsOf history texts = (number : ℕ) → text_at texts number ≡ text_of history number
+pub record IsTextOf (history : List Entry) (number : ℕ) (line : Option LineText) : Type 0 where
+  pub text : written line ≡ entries_text number history
+  pub ended : has_ended line ≡ ends_without_job (filter (is_of number) history)
 
--- what a line writes, by the text of its entries, where it has some; 10 is a line feed
-abbrev pub line_text_by : Content → Option (List ℕ) → List ℕ
-line_text_by Empty text = []
-line_text_by Join text = []
-line_text_by Bad text = codes "syntax" ++ 10 ∷ []
-line_text_by (Run command) None = codes "full" ++ 10 ∷ []
-line_text_by (Run command) (Some text) = text
+abbrev pub AreTextsOf : List Entry → Texts → Type 0
+AreTextsOf history texts = (number : ℕ) → IsTextOf history number (text_at texts number)
+
+-- what a line with a command writes, by what its entries write
+abbrev pub run_text : List ℕ → Bool → List ℕ
+run_text text ended = text ++ (if ended then [] else with_line_end (codes "full"))
+
+-- what a line writes, by what its entries write
+abbrev pub line_text_by : Content → Option LineText → List ℕ
+line_text_by Empty line = []
+line_text_by Join line = []
+line_text_by Bad line = with_line_end (codes "syntax")
+line_text_by (Run command) line = run_text (written line) (has_ended line)

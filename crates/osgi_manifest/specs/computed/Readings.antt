@@ -9,17 +9,18 @@ use Rattle.osgi_package.specs.Only.{IsOnly}
 use Rattle.osgi_manifest.specs.computed.Answers.{in_header}
 use Rattle.osgi_base.specs.declared.stop.Stop.{Stop}
 use Rattle.osgi_base.specs.declared.stop.Stop.TheVariants.{Fault, Memory}
-use Rattle.osgi_manifest.specs.Manifests.{IsRevisionOf, manifest_faults}
+use Rattle.osgi_manifest.specs.Manifests.{IsRevisionOf, IsScriptOf, manifest_faults}
+use Rattle.osgi_manifest.specs.declared.meaning.Meaning.{Meaning}
 use Rattle.osgi_world.specs.declared.manifest_fault.ManifestFault.{ManifestFault}
 use Rattle.osgi_world.specs.declared.manifest_fault.ManifestKind.{ManifestKind}
 use Rattle.osgi_world.specs.declared.manifest_fault.ManifestKind.TheVariants as fault
 use Rattle.osgi_world.specs.declared.revision.Revision.{Revision}
 
--- the one verdict that is said, or memory ran out
-abbrev pub AnswersOnly : (Verdict ManifestFault Revision → Type 0) → Result Revision (Stop ManifestFault) → Type 0
-AnswersOnly Says (Ok revision) = IsOnly Says (answers revision)
-AnswersOnly Says (Err (Fault found)) = IsOnly Says (refuses found)
-AnswersOnly Says (Err Memory) = ⊤
+-- the one verdict that is said, with the one script of a revision, or memory ran out
+abbrev pub AnswersOnly : Folder → (Verdict ManifestFault Revision → Type 0) → Result Meaning (Stop ManifestFault) → Type 0
+AnswersOnly folder Says (Ok meaning) = IsOnly Says (answers meaning.revision) × IsOnly (IsScriptOf folder meaning.revision.activator) meaning.script
+AnswersOnly folder Says (Err (Fault found)) = IsOnly Says (refuses found)
+AnswersOnly folder Says (Err Memory) = ⊤
 
 -- a fault of no header
 abbrev pub IsStopAt : ManifestKind → ℕ → Stop ManifestFault → Type 0

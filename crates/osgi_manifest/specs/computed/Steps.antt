@@ -1,5 +1,5 @@
 -- The conditions and the facts of each step of reading a manifest. No public promise speaks of this.
-use Rattle.std.specs.Prelude.{ℕ, ◌≡◌, ◌≢◌, ◌⊎◌, ⊤, List, [], ◌∷◌, codes, IsSomeAnd, Option, None, Some}
+use Rattle.std.specs.Prelude.{ℕ, ◌≡◌, ◌≢◌, ◌⊎◌, ⊤, List, [], ◌∷◌, codes, IsSomeAnd, Option, None, Some, Result, Ok, Err}
 use Rattle.osgi_base.specs.declared.folder.Folder.{Folder}
 use Rattle.osgi_header.specs.declared.clause.Clause.{Clause}
 use Rattle.osgi_header.specs.declared.header.Header.{Header}
@@ -13,11 +13,12 @@ use Rattle.osgi_package.specs.Only.{IsOnly}
 use Rattle.osgi_package.specs.Exports.{AreExports}
 use Rattle.osgi_package.specs.Imports.{AreImports}
 use Rattle.osgi_script.specs.Scripts.{IsScript}
+use Rattle.osgi_session.specs.declared.script.Script.{Script}
 use Rattle.osgi_manifest.specs.computed.Answers.{IsMadeIn}
 use Rattle.osgi_manifest.specs.computed.Lone.{IsHostIn, IsNamedAs}
 use Rattle.osgi_manifest.specs.declared.members.Members.{Members}
 use Rattle.osgi_manifest.specs.declared.said.Said.{Said}
-use Rattle.osgi_manifest.specs.Manifests.{AtStart, InHeader, InValue, activator, class_file, file_at, own_version}
+use Rattle.osgi_manifest.specs.Manifests.{AtStart, InHeader, InValue, IsScriptOf, activator, class_file, file_at, own_version}
 use Rattle.osgi_clause.specs.Faults.{bundle_faults, export_clause_faults, import_clause_faults, provided_faults, required_faults}
 use Rattle.osgi_clause.specs.Members.{AreMade, IsRequired, IsRequiredBundle, AreProvided}
 use Rattle.osgi_manifest.specs.Values.{header_value}
@@ -38,13 +39,14 @@ IsVersion headers = IsOnly (λ version. ReadsVersion (own_version headers) (part
 abbrev pub native_conditions : List Header → List (ManifestFault → Type 0)
 native_conditions headers = InHeader (codes "Bundle-NativeCode") (AtStart fault.NativeCode (header_value (codes "Bundle-NativeCode") headers ≢ None)) ∷ []
 
-abbrev pub IsActivator : List Header → Option (List ℕ) → Type 0
-IsActivator headers class = class ≡ activator headers
+-- the class that is the activator, and the only script that its file is
+abbrev pub IsActivator : Folder → List Header → Option (List ℕ) × Script → Type 0
+IsActivator folder headers found = (found.0 ≡ activator headers) × IsOnly (IsScriptOf folder (activator headers)) found.1
 
--- the folder has no file for the class, or that file is no script
-abbrev pub IsClassFault : Folder → List ℕ → Option ManifestKind → Type 0
-IsClassFault folder class None = IsSomeAnd (file_at (class_file class) folder) (λ file. IsScript file.bytes)
-IsClassFault folder class (Some kind) =
+-- the only script that the file of the class is; or the folder has no such file, or that file is no script
+abbrev pub IsClassScript : Folder → List ℕ → Result Script ManifestKind → Type 0
+IsClassScript folder class (Ok script) = IsOnly (IsScriptOf folder (Some class)) script
+IsClassScript folder class (Err kind) =
     (kind ≡ fault.NoScript) × (file_at (class_file class) folder ≡ None)
     ⊎ (kind ≡ fault.BadScript) × IsSomeAnd (file_at (class_file class) folder) (λ file. ¬ IsScript file.bytes)
 
@@ -82,9 +84,9 @@ pub record AreMembers (headers : List Header) (members : Members) : Type 0 where
 -- ---- the whole manifest
 
 -- each part is what the headers say, and the only one that they say
-pub record IsSaid (headers : List Header) (said : Said) : Type 0 where
+pub record IsSaid (folder : Folder) (headers : List Header) (said : Said) : Type 0 where
   pub naming : IsOnly (IsNamedAs headers) said.naming
   pub version : IsVersion headers said.version
   pub host : IsHostIn headers said.host
   pub members : AreMembers headers said.members
-  pub activator : IsActivator headers said.activator
+  pub activator : IsActivator folder headers (said.activator, said.script)

@@ -54,3 +54,6 @@ ends-here op.EndJob e = refl
 ends-here (op.EndStart bundle failed) e = refl
 ends-here (op.EndStop bundle failed) e = refl
 ends-here _ e = absurd (cc e)
+
+pub take-here : is_here op.TakeJob ≡ true
+take-here = refl

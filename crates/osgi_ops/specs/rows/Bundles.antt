@@ -1,6 +1,6 @@
 -- What the operations on bundles and their revisions answer, each with its refusals in order.
-use Rattle.std.specs.Prelude.{ℕ, ◌≡◌, ◌⊎◌, ◌<◌, ◌+◌, Bool, true, false, List, [], ◌∷◌, Option, None, Some, length, take, codes}
-use Rattle.std.specs.Str.{bytes_eq}
+use Rattle.std.specs.Prelude.{ℕ, ◌≡◌, ◌≢◌, ◌⊎◌, ◌<◌, ◌+◌, Bool, true, false, List, [], ◌∷◌, Option, None, Some, length, nat_eq, codes}
+use Rattle.std.specs.List.{starts_with}
 use Rattle.osgi_base.specs.Verdict.{Where}
 use Rattle.osgi_base.specs.declared.ids.BundleId.{BundleId}
 use Rattle.osgi_base.specs.declared.ids.RevisionId.{RevisionId}
@@ -36,7 +36,7 @@ InstallAnswers now location reply = reply ≡ installs (bundle_from now.setting.
 -- where the bundle is not resolved: a refresh that is open and has not dropped, or that another tag began, comes first, and then the search
 abbrev pub unresolved_refusals : Bool → Moment → BundleId → List (Refusal → Type 0)
 unresolved_refusals true now bundle = []
-unresolved_refusals false now bundle = refreshing_where now (λ r. (r.dropped ≡ false) ⊎ (r.tag ≡ now.tag → ⊥)) ∷ search_conditions false now bundle
+unresolved_refusals false now bundle = refreshing_where now (λ r. (r.dropped ≡ false) ⊎ (r.tag ≢ now.tag)) ∷ search_conditions now bundle
 
 -- a fragment is not resolved by itself, but only attached to a host that is being resolved
 abbrev pub resolve_refusals : Moment → BundleId → List (Refusal → Type 0)
@@ -60,13 +60,13 @@ uninstall_refusals now bundle = no_such_bundle now bundle ∷ is_system bundle �
 abbrev pub UninstallAnswers : Reply → Type 0
 UninstallAnswers reply = reply ≡ answer.Done
 
-abbrev pub is_java : List ℕ → Bool
-is_java class = bytes_eq (take 5 class) (codes "java.")
+abbrev pub is_java_class : List ℕ → Bool
+is_java_class class = starts_with nat_eq class (codes "java.")
 
 abbrev pub load_refusals : Moment → BundleId → List ℕ → List (Refusal → Type 0)
 load_refusals now bundle class =
     no_such_bundle now bundle
-    ∷ invalid_where ((is_resolved now.world bundle ≡ false) ⊎ (is_fragment_bundle now.world bundle ≡ true) ⊎ (is_java class ≡ true)) ∷ []
+    ∷ invalid_where ((is_resolved now.world bundle ≡ false) ⊎ (is_fragment_bundle now.world bundle ≡ true) ⊎ (is_java_class class ≡ true)) ∷ []
 
 abbrev pub LoadAnswers : Moment → BundleId → List ℕ → Reply → Type 0
 LoadAnswers now bundle class reply = (by : Option RevisionId) × (reply ≡ answer.Loaded by) × IsLoaded now.world bundle class by

@@ -1,55 +1,38 @@
 -- How lines run on the machine.
-use Rattle.std.specs.Prelude.{ℕ, ◌≡◌, ◌⊎◌, Bool, true, false, List, [], ◌∷◌, ◌++◌, length}
-use Rattle.osgi_base.specs.declared.ids.Tag.{Tag}
-use Rattle.osgi_session.specs.Sessions.{HasNoCommand, IsCutRunOf, IsRunOf, Makes}
+use Rattle.std.specs.Prelude.{ℕ, ◌≡◌, ◌⊎◌, true, false, Bool, List, [], ◌++◌, length}
+use Rattle.osgi_ops.specs.Settings.{Setting}
 use Rattle.osgi_ops.specs.declared.entry.Entry.{Entry}
-use Rattle.osgi_session.specs.declared.line.Line.{Line}
-use Rattle.osgi_ops.specs.declared.op.Op.{Op}
-use Rattle.osgi_ops.specs.declared.reply.Reply.{Reply}
-use Rattle.osgi_ops.specs.declared.reply.Reply.TheVariants.{Refused}
-use Rattle.osgi_ops.specs.declared.refusal.Refusal.TheVariants.{HistoryFull}
 use Rattle.osgi_program.specs.declared.runner.Ran.{Ran}
 use Rattle.osgi_program.specs.declared.runner.Ran.TheVariants.{All, Full, Starved}
+use Rattle.osgi_runs.specs.Plain.{commands_in}
+use Rattle.osgi_session.specs.Lines.{has_command}
+use Rattle.osgi_session.specs.Runs.{Sections}
+use Rattle.osgi_session.specs.Sessions.{IsCutRunOf, IsRunOf, Lane, Never}
+use Rattle.osgi_session.specs.declared.line.Line.{Line}
 
-abbrev pub tag_of : ℕ → Tag
-tag_of number = record { caller = 0; command = number }
+-- a setting without room: whatever runs has one of its own
+abbrev pub empty_setting : Setting
+empty_setting = record { bounds = record { budget = 0; handings = 0; entries = 0 }; depot = [] }
 
--- the reply says that the history is full
-abbrev pub says_full : Reply → Bool
-says_full (Refused HistoryFull) = true
-says_full _ = false
+-- one line with a command: the entries that it added are its whole run; or a run that was cut, since the history is full, or since memory
+-- ran out
+abbrev pub RunsCommand : Ran → Sections → ℕ → Line → List Entry → List Entry → Type 0
+RunsCommand All script limit line before after = (made : List Entry) × (after ≡ before ++ made) × IsRunOf script 0 line made
+RunsCommand Full script limit line before after = (made : List Entry) × (after ≡ before ++ made) × (length after ≡ limit) × IsCutRunOf script 0 line false made
+RunsCommand Starved script limit line before after = (made : List Entry) × (after ≡ before ++ made) × IsCutRunOf script 0 line false made
 
-abbrev pub ran_by : Bool → Ran
-ran_by true = Full
-ran_by false = All
+-- one line: it has no command and added nothing, or its command ran
+abbrev pub RunsLine : Ran → Sections → ℕ → Line → List Entry → List Entry → Type 0
+RunsLine how script limit line before after =
+    ((has_command line.content ≡ false) × (how ≡ All) × (after ≡ before)) ⊎ RunsCommand how script limit line before after
 
--- one operation of a line: it has its entry, or the history is full, or memory ran out
-abbrev pub IsAsked : Ran → ℕ → Tag → Op → List Entry → List Entry → Type 0
-IsAsked All limit tag op before after = (reply : Reply) × (after ≡ before ++ record { tag = tag; op = op; reply = reply } ∷ [])
-IsAsked Full limit tag op before after = (after ≡ before) × (length before ≡ limit)
-IsAsked Starved limit tag op before after = after ≡ before
+-- a run is cut, and not since enough was handed
+abbrev pub Unspent : Bool → Type 0
+Unspent spent = spent ≡ false
 
--- one line: its entries, if it has any, or why its run was cut before the first of them
-abbrev pub RunsLine : Ran → ℕ → Line → List Entry → List Entry → Type 0
-RunsLine All limit line before after = (made : List Entry) × (after ≡ before ++ made) × ((HasNoCommand line × (made ≡ [])) ⊎ IsRunOf 0 line made)
-RunsLine Full limit line before after = (after ≡ before) × (length before ≡ limit) × IsCutRunOf 0 line []
-RunsLine Starved limit line before after = (after ≡ before) × IsCutRunOf 0 line []
-
--- no run may be cut
-abbrev pub never : List Entry → Type 0
-never entries = ⊥
-
--- the lines before one whose run was cut, that line, and those that were never begun
-pub record IsCutAt (lines : List Line) (made : List Entry) : Type 0 where
-  pub prefix : List Line
-  pub line : Line
-  pub rest : List Line
-  pub is : lines ≡ prefix ++ line ∷ rest
-  pub before : Makes never prefix made
-  pub cut : IsCutRunOf 0 line []
-
--- all lines, up to one that could not run
-abbrev pub RunsLines : Ran → ℕ → List Line → List Entry → List Entry → Type 0
-RunsLines All limit lines before after = (made : List Entry) × (after ≡ before ++ made) × Makes never lines made
-RunsLines Full limit lines before after = (made : List Entry) × (after ≡ before ++ made) × (length after ≡ limit) × IsCutAt lines made
-RunsLines Starved limit lines before after = (made : List Entry) × (after ≡ before ++ made) × IsCutAt lines made
+-- all lines, up to one whose run was cut
+abbrev pub RunsLines : Ran → Sections → ℕ → List Line → List Entry → List Entry → Type 0
+RunsLines All script limit lines before after = (made : List Entry) × (after ≡ before ++ made) × Lane script Never 0 false (commands_in lines) made
+RunsLines Full script limit lines before after =
+    (made : List Entry) × (after ≡ before ++ made) × (length after ≡ limit) × Lane script Unspent 0 true (commands_in lines) made
+RunsLines Starved script limit lines before after = (made : List Entry) × (after ≡ before ++ made) × Lane script Unspent 0 true (commands_in lines) made

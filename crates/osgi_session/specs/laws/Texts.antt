@@ -13,31 +13,9 @@ use Rattle.osgi_ops.specs.declared.reply.Reply.{Reply}
 use Rattle.osgi_ops.specs.declared.reply.Reply.TheVariants.{Service, Done, Best, Services, Object, Flag, Bundle, Resolved, Bundles, ServiceRows, Wires, Refused}
 use Rattle.osgi_ops.specs.declared.entry.Entry.{Entry}
 
--- no entry's text depends on those before it yet
-lines_alone : (before : List Entry) (op : Op) (reply : Reply) → entry_lines before op reply ≡ entry_lines [] op reply
-lines_alone before op (Service service) = refl
-lines_alone before op (Best service) = refl
-lines_alone before op (Services services) = refl
-lines_alone before op (Object text) = refl
-lines_alone before op (Bundle bundle known) = refl
-lines_alone before op (Resolved added) = refl
-lines_alone before op (Bundles rows) = refl
-lines_alone before op (ServiceRows rows) = refl
-lines_alone before op (Wires rows fragments) = refl
-lines_alone before op (Refused refusal) = refl
-lines_alone before (Modify owner service properties) Done = refl
-lines_alone before (Unregister owner service) Done = refl
-lines_alone before (Unget user service) (Flag value) = refl
-lines_alone before op reply = refl
-
-pub text_alone : (before : List Entry) (e : Entry) → entry_text before e ≡ entry_text [] e
-text_alone before e = ap (λ (l : List (List ℕ)). concat (map with_line_end l)) (lines_alone before e.op e.reply)
-
 pub entries_text-push : (number : ℕ) (history : List Entry) (e : Entry) →
-    entries_text number (history ++ e ∷ []) ≡ entries_text number history ++ (cond (is_of number e) (entry_text [] e) [])
-entries_text-push number history e =
-    along-last (λ before (x : Entry). cond (is_of number x) (entry_text before x) []) history e
-    ∙ ap (λ t. entries_text number history ++ cond (is_of number e) t []) (text_alone history e)
+    entries_text number (history ++ e ∷ []) ≡ entries_text number history ++ (cond (is_of number e) (entry_text history e) [])
+entries_text-push number history e = along-last (λ before (x : Entry). cond (is_of number x) (entry_text before x) []) history e
 
 none_by : (number : ℕ) (before : List Entry) (e : Entry) (rest : List Entry) → is_of number e ≡ false →
     along (λ before (x : Entry). cond (is_of number x) (entry_text before x) []) (before ++ e ∷ []) rest ≡ [] →

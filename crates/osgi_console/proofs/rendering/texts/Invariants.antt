@@ -1,7 +1,13 @@
--- The texts are those of the entries so far.
-use Rattle.std.proofs.Common.{take}
+-- The brackets, the active level and the texts are those of the entries so far.
+use Rattle.std.proofs.Common.{◌≡◌, take}
+use Rattle.osgi_brackets.specs.Open.{StandsFor}
+use Rattle.osgi_ops.specs.Levels.{active_level}
 use Rattle.osgi_console.specs.computed.Texts.{AreTextsOf}
 use Rattle.osgi_console.proofs.rendering.texts.Given as goal
 
 abbrev pub invariant-loop-entry : goal.invariant-loop-entry
-invariant-loop-entry l = AreTextsOf (take l.entry-index l.entries) l.texts
+invariant-loop-entry l = record {
+  stands : StandsFor (take l.entry-index l.entries) l.brackets;
+  level : l.level ≡ active_level (take l.entry-index l.entries);
+  texts : AreTextsOf (take l.entry-index l.entries) l.texts;
+}

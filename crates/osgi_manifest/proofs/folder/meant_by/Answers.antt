@@ -23,7 +23,7 @@ returns-in-Err c =
     let read = c.in_ok-headers.field-0 in
     let found = c.in-Err.fault in
     record {
-      only = stops (SaysText c.args.folder.now text) fault.Header found.at c.stop.result c.stop.ensures.stop
+      only = stops c.args.folder.now (SaysText c.args.folder.now text) fault.Header found.at c.stop.result c.stop.ensures.stop
           (line_only c.args.folder.now text found (fault_read text read found c.in-Err.is c.in_ok-headers.ensures.reads) (fault_one text read found c.in-Err.is c.in_ok-headers.ensures.fault)
           (no_headers text read found c.in-Err.is c.in_ok-headers.ensures.only));
     }

@@ -2,20 +2,24 @@
 use Rattle.std.proofs.Common.{◌≡◌, ap, sym, subst, ◌∙◌, refl, rules}
 use Rattle.osgi_core.specs.Sound.{IsSoundlyTold}
 use Rattle.osgi_ops.specs.Settings.{bounds_of, Setting, setting_of}
+use Rattle.osgi_ops.specs.declared.depot.Depot.{Depot}
 use Rattle.osgi_program.proofs.framework.run_input.Goals as goal
 
 pub returns-clause-run : goal.returns-clause-run
 returns-clause-run g c =
-    let machine = c.run_lines-ran.new.core in
-    let depot = c.into_parts-depot.result.0 in
+    let machine = c.run_lines-ran.result.1 in
+    let stored : Depot = c.into_parts-stored.result.0 in
+    let depot : Depot = c.into_parts-depot.result.0 in
     let entries = c.into_parts-depot.result.1 in
-    let kept : machine.setting ≡ setting_of c.args.limits c.in_ok-depot.depot = c.run_lines-ran.ensures.setting ∙ c.in_ok-core.ensures.setting in
-    let rows : c.in_ok-depot.depot.rows ≡ depot.rows = sym (c.into_parts-depot.ensures.depot ∙ ap (λ (s : Setting). s.depot) kept) in
+    let kept : machine.setting ≡ setting_of c.args.limits stored = c.run_lines-ran.ensures.setting ∙ c.in_ok-core.ensures.setting in
+    let rows : stored.rows ≡ depot.rows = sym (c.into_parts-depot.ensures.depot ∙ ap (λ (s : Setting). s.depot) kept) in
+    let all : c.in_ok-folders.folders.depot.rows ≡ depot.rows = ap (λ (d : Depot). d.rows) (sym c.into_parts-stored.ensures.depot) ∙ rows in
     let setting : machine.setting ≡ record { bounds = bounds_of c.args.limits; depot = depot.rows } = kept ∙ (λ i. record { bounds = bounds_of c.args.limits; depot = rows i }) in
     let told = subst (λ (s : Setting). IsSoundlyTold s entries machine.world) setting c.into_parts-depot.ensures.sound in
     record {
       lines = search rules;
-      depot = search rules;
+      depot = rw (c.items.ensures.items, all) at c.in_ok-folders.ensures.depot;
+      scripts = rw (all, sym c.into_parts-stored.ensures.scripts) at c.in_ok-folders.ensures.scripts;
       legal = (machine.world, told.replayed);
       sound = told.sound;
       runs = search rules;

@@ -1,9 +1,11 @@
 -- What is decided of each operation is decided for who asks.
 use Rattle.std.proofs.Common.{refl, subst, sym}
 use Rattle.osgi_reply.proofs.BundlesListed.{replied_bundles}
-use Rattle.osgi_reply.proofs.Matching.{found_all, in_registry, served_all}
+use Rattle.osgi_reply.proofs.JobsTaken.{replied_no_job}
+use Rattle.osgi_reply.proofs.Matching.{in_registry, served_all}
 use Rattle.osgi_tables.proofs.Replying.{asked_ok, of_services, unchanging}
 use Rattle.osgi_ops.specs.declared.op.Op.TheVariants as op
+use Rattle.osgi_ops.specs.declared.reply.Reply.TheVariants as answer
 use Rattle.osgi_tables.specs.Replied.{IsRepliedToAll}
 use Rattle.osgi_reply.proofs.replies.decide_by.Goals as goal
 
@@ -27,15 +29,25 @@ pub returns-in-Unget-clause-decided : goal.returns-in-Unget-clause-decided
 returns-in-Unget-clause-decided c =
     in_registry c.args.asked.now (op.Unget c.in-Unget.user c.in-Unget.service) c.args.tables.now c.in_registry-in-Unget.result c.unget.result c.in_registry-in-Unget.ensures.same c.in-Unget.is refl (λ reply. of_services _ reply (λ n since. refl) (λ b. refl) (λ b. refl) refl (λ b. refl) (λ now world same. same)) c.requires.asker c.unget.ensures.decided
 
-pub returns-in-Find-clause-decided : goal.returns-in-Find-clause-decided
-returns-in-Find-clause-decided c =
-    unchanging c.args.asked.now (op.Find c.in-Find.asker c.in-Find.class c.in-Find.filter) c.args.tables.now c.unchanging.result c.find.result c.unchanging.ensures.same c.in-Find.is
-    (found_all (op.Find c.in-Find.asker c.in-Find.class c.in-Find.filter) c.in-Find.asker c.args.tables.now c.find.result refl refl (of_services _ c.find.result (λ n since. refl) (λ b. refl) (λ b. refl) refl (λ b. refl) (λ now world same. same)) (rw c.in-Find.is at c.requires.asker) c.find.ensures.found)
+pub find-requires : goal.find-requires
+find-requires c = record { asker = rw c.in-Find.is at c.requires.asker }
+
+pub returns-in_ok-find-in-Find-clause-decided : goal.returns-in_ok-find-in-Find-clause-decided
+returns-in_ok-find-in-Find-clause-decided c =
+    unchanging c.args.asked.now (op.Find c.in-Find.asker c.in-Find.class c.in-Find.filter) c.args.tables.now c.unchanging.result c.in_ok-find-in-Find.field-0 c.unchanging.ensures.same c.in-Find.is c.in_ok-find-in-Find.ensures.replied
 
 pub returns-in_ok-find_all-in-FindAll-clause-decided : goal.returns-in_ok-find_all-in-FindAll-clause-decided
 returns-in_ok-find_all-in-FindAll-clause-decided c =
     unchanging c.args.asked.now (op.FindAll c.in-FindAll.asker c.in-FindAll.class c.in-FindAll.filter) c.args.tables.now c.unchanging-in-FindAll.result c.in_ok-find_all-in-FindAll.field-0 c.unchanging-in-FindAll.ensures.same c.in-FindAll.is
     (served_all (op.FindAll c.in-FindAll.asker c.in-FindAll.class c.in-FindAll.filter) c.args.tables.now c.in_ok-find_all-in-FindAll.field-0 refl (of_services _ c.in_ok-find_all-in-FindAll.field-0 (λ n since. refl) (λ b. refl) (λ b. refl) refl (λ b. refl) (λ now world same. same)) (rw c.in-FindAll.is at c.requires.asker) c.in_ok-find_all-in-FindAll.ensures.served)
+
+pub returns-in-TakeJob-clause-decided : goal.returns-in-TakeJob-clause-decided
+returns-in-TakeJob-clause-decided c =
+    unchanging c.args.asked.now op.TakeJob c.args.tables.now c.unchanging-in-TakeJob.result answer.NoJob c.unchanging-in-TakeJob.ensures.same c.in-TakeJob.is (replied_no_job c.args.tables.now)
+
+pub returns-in_ok-load-in-Load-clause-decided : goal.returns-in_ok-load-in-Load-clause-decided
+returns-in_ok-load-in-Load-clause-decided c =
+    unchanging c.args.asked.now (op.Load c.in-Load.bundle c.in-Load.class) c.args.tables.now c.unchanging-in-Load.result c.in_ok-load-in-Load.field-0 c.unchanging-in-Load.ensures.same c.in-Load.is c.in_ok-load-in-Load.ensures.replied
 
 pub returns-in_ok-list_services-in-ListServices-clause-decided : goal.returns-in_ok-list_services-in-ListServices-clause-decided
 returns-in_ok-list_services-in-ListServices-clause-decided c =

@@ -23,7 +23,7 @@ pub returns-in_err-manifest_version : goal.returns-in_err-manifest_version
 returns-in_err-manifest_version c =
     let headers = c.args.headers.now in
     record {
-      step = stopped (steps c.args.folder.now headers) 0 (IsSaid headers) c.from_residual.result c.in_err-manifest_version.field-0.0 c.from_residual.ensures.1
+      step = stopped (steps c.args.folder.now headers) 0 (IsSaid c.args.folder.now headers) c.from_residual.result c.in_err-manifest_version.field-0.0 c.from_residual.ensures.1
           tt c.in_err-manifest_version.ensures.step;
     }
 
@@ -31,7 +31,7 @@ pub returns-in_err-naming : goal.returns-in_err-naming
 returns-in_err-naming c =
     let headers = c.args.headers.now in
     record {
-      step = stopped (steps c.args.folder.now headers) 1 (IsSaid headers) c.from_residual-in_err-naming.result c.in_err-naming.field-0.0 c.from_residual-in_err-naming.ensures.1
+      step = stopped (steps c.args.folder.now headers) 1 (IsSaid c.args.folder.now headers) c.from_residual-in_err-naming.result c.in_err-naming.field-0.0 c.from_residual-in_err-naming.ensures.1
           (c.in_ok-manifest_version.ensures.step.0, tt) c.in_err-naming.ensures.step;
     }
 
@@ -39,7 +39,7 @@ pub returns-in_err-version : goal.returns-in_err-version
 returns-in_err-version c =
     let headers = c.args.headers.now in
     record {
-      step = stopped (steps c.args.folder.now headers) 2 (IsSaid headers) c.from_residual-in_err-version.result c.in_err-version.field-0.0 c.from_residual-in_err-version.ensures.1
+      step = stopped (steps c.args.folder.now headers) 2 (IsSaid c.args.folder.now headers) c.from_residual-in_err-version.result c.in_err-version.field-0.0 c.from_residual-in_err-version.ensures.1
           (c.in_ok-manifest_version.ensures.step.0, (c.in_ok-naming.ensures.step.0, tt)) c.in_err-version.ensures.step;
     }
 
@@ -47,7 +47,7 @@ pub returns-in_err-host : goal.returns-in_err-host
 returns-in_err-host c =
     let headers = c.args.headers.now in
     record {
-      step = stopped (steps c.args.folder.now headers) 3 (IsSaid headers) c.from_residual-in_err-host.result c.in_err-host.field-0.0 c.from_residual-in_err-host.ensures.1
+      step = stopped (steps c.args.folder.now headers) 3 (IsSaid c.args.folder.now headers) c.from_residual-in_err-host.result c.in_err-host.field-0.0 c.from_residual-in_err-host.ensures.1
           (c.in_ok-manifest_version.ensures.step.0, (c.in_ok-naming.ensures.step.0, (c.in_ok-version.ensures.step.0, tt))) c.in_err-host.ensures.step;
     }
 
@@ -55,7 +55,7 @@ pub returns-in_err-members : goal.returns-in_err-members
 returns-in_err-members c =
     let headers = c.args.headers.now in
     record {
-      step = stopped (steps c.args.folder.now headers) 4 (IsSaid headers) c.from_residual-in_err-members.result c.in_err-members.field-0.0 c.from_residual-in_err-members.ensures.1
+      step = stopped (steps c.args.folder.now headers) 4 (IsSaid c.args.folder.now headers) c.from_residual-in_err-members.result c.in_err-members.field-0.0 c.from_residual-in_err-members.ensures.1
           (c.in_ok-manifest_version.ensures.step.0, (c.in_ok-naming.ensures.step.0, (c.in_ok-version.ensures.step.0, (c.in_ok-host.ensures.step.0, tt)))) c.in_err-members.ensures.step;
     }
 
@@ -63,7 +63,7 @@ pub returns-in_err-activator : goal.returns-in_err-activator
 returns-in_err-activator c =
     let headers = c.args.headers.now in
     record {
-      step = stopped (steps c.args.folder.now headers) 5 (IsSaid headers) c.from_residual-in_err-activator.result c.in_err-activator.field-0.0 c.from_residual-in_err-activator.ensures.1
+      step = stopped (steps c.args.folder.now headers) 5 (IsSaid c.args.folder.now headers) c.from_residual-in_err-activator.result c.in_err-activator.field-0.0 c.from_residual-in_err-activator.ensures.1
           (c.in_ok-manifest_version.ensures.step.0, (c.in_ok-naming.ensures.step.0, (c.in_ok-version.ensures.step.0, (c.in_ok-host.ensures.step.0, (c.in_ok-members.ensures.step.0, tt))))) c.in_err-activator.ensures.step;
     }
 
@@ -71,7 +71,7 @@ pub returns-in_err-native_code : goal.returns-in_err-native_code
 returns-in_err-native_code c =
     let headers = c.args.headers.now in
     record {
-      step = stopped (steps c.args.folder.now headers) 6 (IsSaid headers) c.from_residual-in_err-native_code.result c.in_err-native_code.field-0.0 c.from_residual-in_err-native_code.ensures.1
+      step = stopped (steps c.args.folder.now headers) 6 (IsSaid c.args.folder.now headers) c.from_residual-in_err-native_code.result c.in_err-native_code.field-0.0 c.from_residual-in_err-native_code.ensures.1
           (c.in_ok-manifest_version.ensures.step.0, (c.in_ok-naming.ensures.step.0, (c.in_ok-version.ensures.step.0, (c.in_ok-host.ensures.step.0, (c.in_ok-members.ensures.step.0, (c.in_ok-activator.ensures.step.0, tt)))))) c.in_err-native_code.ensures.step;
     }
 

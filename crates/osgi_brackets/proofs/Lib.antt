@@ -1,0 +1,2 @@
+-- Lemmas on what is kept of a caller.
+mod Kept

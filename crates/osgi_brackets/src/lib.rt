@@ -1,0 +1,8 @@
+//! The open brackets of each caller: the hands, starts, stops and jobs that it began and has not ended.
+#![tactic(auto)]
+
+mod bracket;
+mod brackets;
+
+pub use bracket::{BracketKind, OpenBracket, ends, opens};
+pub use brackets::Brackets;

@@ -1,0 +1,114 @@
+//! Updates, uninstalls, loads, and the levels of bundles: what comes after their operations.
+
+ghost use Rattle.std.specs.Prelude.{◌≡◌};
+ghost use Rattle.osgi_session.specs.Plans as plans;
+ghost use Rattle.osgi_lifecycle.specs.Following.{left_of, stop_in};
+
+use crate::at::{AfterStart, AfterStop, At, Stop};
+use crate::head::{End, Head};
+use crate::rest::Rest;
+use osgi_base::BundleId;
+use osgi_ops::{Op, Reply, Target};
+
+impl Rest {
+    /// The update, where the stop before it was not refused.
+    pub fn update(&mut self, bundle: BundleId, how: Stop) -> Head
+        ensures left { left_of result self.new ≡ plans.after_stop_to_update bundle self.old.kept.text (stop_in how) }
+    {
+        let restart = match how {
+            Stop::Stopped { begun } => begun,
+            Stop::SectionFailed => true,
+            Stop::NotStopped => return Head::Stop { end: End::Refused },
+        };
+        let location = self.kept.take_text();
+        self.at = At::Update { bundle, restart };
+        Head::Ask {
+            op: Op::Update { bundle, location },
+        }
+    }
+
+    pub fn after_update(&mut self, bundle: BundleId, restart: bool, refused: bool) -> Head
+        ensures left { left_of result self.new ≡ plans.restart bundle restart refused }
+    {
+        if restart {
+            self.start(Target::Id(bundle), true, AfterStart::End { refused })
+        } else {
+            Head::Stop {
+                end: End::of(refused),
+            }
+        }
+    }
+
+    /// The uninstall, where the stop before it was not refused.
+    pub fn uninstall(&mut self, bundle: BundleId, how: Stop) -> Head
+        ensures left { left_of result self.new ≡ plans.past_failure (plans.one (Op.Uninstall bundle)) (stop_in how) }
+    {
+        match how {
+            Stop::NotStopped => Head::Stop { end: End::Refused },
+            _ => {
+                self.at = At::Only;
+                Head::Ask {
+                    op: Op::Uninstall { bundle },
+                }
+            }
+        }
+    }
+
+    /// The load, where the bundle could be resolved.
+    pub fn load(&mut self, bundle: BundleId, reply: &Reply) -> Head
+        ensures left { left_of result self.new ≡ plans.unless_refused reply.now (plans.one (Op.Load bundle self.old.kept.text)) }
+    {
+        if reply.is_refusal() {
+            return Head::Stop { end: End::Refused };
+        }
+        let class = self.kept.take_text();
+        self.at = At::Only;
+        Head::Ask {
+            op: Op::Load { bundle, class },
+        }
+    }
+
+    pub fn after_set_level(&mut self, bundle: BundleId, level: u8, reply: &Reply) -> Head
+        ensures left { left_of result self.new ≡ plans.after_set bundle level reply.now }
+    {
+        match reply {
+            Reply::Up { .. } => {
+                self.halt(
+                    Target::Id(bundle),
+                    true,
+                    AfterStop::SetLevel { bundle, level },
+                )
+            }
+            _ => self.after_last_set(bundle, reply),
+        }
+    }
+
+    /// The level is set again, where the stop before it was not refused.
+    pub fn set_level_again(&mut self, bundle: BundleId, level: u8, how: Stop) -> Head
+        ensures left { left_of result self.new ≡ plans.past_stop (plans.ask (Op.SetBundleLevel bundle level) (plans.after_last_set bundle)) (stop_in how) }
+    {
+        match how {
+            Stop::Stopped { .. } => {
+                self.at = At::SetLevelAgain { bundle };
+                Head::Ask {
+                    op: Op::SetBundleLevel { bundle, level },
+                }
+            }
+            _ => Head::Stop { end: End::Refused },
+        }
+    }
+
+    /// Where the level was set for good, the bundle is started, if it is to be.
+    pub fn after_last_set(&mut self, bundle: BundleId, reply: &Reply) -> Head
+        ensures left { left_of result self.new ≡ plans.after_last_set bundle reply.now }
+    {
+        match reply {
+            Reply::Leveled { value: true } => {
+                self.start(Target::Id(bundle), true, AfterStart::End { refused: false })
+            }
+            _ => Head::Stop {
+                end: End::after_one(reply),
+            },
+        }
+    }
+}

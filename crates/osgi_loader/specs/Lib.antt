@@ -1,0 +1,2 @@
+-- Loading and assignability: what the code computes. What is promised is defined in `osgi_ops`.
+pub mod computed

@@ -1,0 +1,5 @@
+-- Steps, what is left after them, and the calls of a command.
+pub mod Bound
+pub mod Following
+pub mod Loops
+pub mod Unfinished

@@ -1,0 +1,3 @@
+-- What calls add, and how far a runner came with a command.
+pub mod Calls
+pub mod computed

@@ -1,0 +1,13 @@
+//! Commands as they run: plan after plan, section after section, and then the jobs.
+#![tactic(auto)]
+
+mod caller;
+mod frames;
+mod replies;
+mod runner;
+mod sections;
+mod statements;
+mod steps;
+
+pub use caller::Caller;
+pub use runner::{Ended, command};

@@ -1,0 +1,82 @@
+-- Every task has a run, so what was read so far is always the beginning of one.
+use Rattle.std.proofs.Common.{◌≡◌, List, [], ◌∷◌, ◌++◌, Bool, true, false, refl, sym, subst}
+use Rattle.osgi_base.specs.declared.ids.BundleId.{BundleId}
+use Rattle.std.specs.Prelude.{◌==◌, cond}
+use Rattle.osgi_session.specs.Plans.{End, done, failed, refused, Plan, ask, run, stop, is_drained, plan}
+use Rattle.osgi_session.specs.Runs.{Binding, Call, call, command_of, has_failed, Task, planned, drained, statements, taking, Sections, Reads, at_stop, asked, ran, calm, empty, over, fails, none}
+use Rattle.osgi_session.specs.declared.command.Command.{Command}
+use Rattle.osgi_session.specs.declared.command.Command.TheVariants as command
+use Rattle.osgi_ops.specs.declared.op.Op.{Op}
+use Rattle.osgi_ops.specs.declared.op.Op.TheVariants as op
+use Rattle.osgi_ops.specs.declared.refusal.Refusal.TheVariants.{InvalidOperation}
+use Rattle.osgi_ops.specs.declared.reply.Reply.{Reply}
+use Rattle.osgi_ops.specs.declared.reply.Reply.TheVariants.{Refused, NoJob}
+use Rattle.osgi_session.specs.declared.statement.Statement.{Statement}
+use Rattle.osgi_runs.proofs.Runs.{reads-frame}
+
+-- a run of the task that leaves nothing
+pub record IsDone (script : Sections) (t : Task) : Type 0 where
+  pub end : End
+  pub calls : List Call
+  pub reads : Reads script t end calls []
+
+abbrev no : Reply
+no = Refused InvalidOperation
+
+not-drained : (o : Op) → is_drained o no ≡ false
+not-drained o = go o
+  where
+    go : (o : Op) → is_drained o no ≡ false
+    go (op.Register owner classes object scope properties) = refl
+    go o = refl
+
+quiet-drain : {script : Sections} (o : Op) {left : List Call} → Reads script (drained (is_drained o no)) done left left
+quiet-drain {script} o {left} = subst (λ b. Reads script (drained b) done left left) (sym (not-drained o)) calm
+
+-- a plan that begins with an operation, and whose refusal ends it as refused
+pub record IsShort (p : Plan) : Type 0 where
+  pub asks : Op
+  pub next : Reply → Plan
+  pub is : p ≡ ask asks next
+  pub ends : next no ≡ stop refused
+
+short-load : (console : Bool) (first second : Plan) → IsShort first → IsShort second → IsShort (cond console first second)
+short-load true first second a b = a
+short-load false first second a b = b
+
+pub short-plan : (owner : BundleId) (c : Command) → IsShort (plan owner c)
+short-plan owner (command.Load bundle class) =
+    short-load (owner.0 == 0) _ _ (record { asks = op.Resolve bundle; next = _; is = refl; ends = refl }) (record { asks = op.Load bundle class; next = _; is = refl; ends = refl })
+short-plan owner c = record { asks = _; next = _; is = refl; ends = refl }
+
+-- the shortest run of a statement is its first operation, refused
+statement-done : {script : Sections} (owner : BundleId) (c : Command) (left : List Call) → (o : Op) × Reads script (planned (plan owner c)) refused (call o no ∷ left) left
+statement-done {script} owner c left =
+    let s = short-plan owner c in (
+      s.asks,
+      subst (λ p. Reads script (planned p) refused (call s.asks no ∷ left) left) (sym s.is)
+          (asked (quiet-drain s.asks) (subst (λ p. Reads script (planned p) refused left left) (sym s.ends) at_stop)),
+    )
+
+pub statements-done : {script : Sections} (owner : BundleId) (bindings : List Binding) (body : List Statement) → IsDone script (statements owner bindings body)
+statements-done owner bindings [] = record { end = done; calls = []; reads = over }
+statements-done owner bindings (s ∷ more) =
+    let d = statement-done owner (command_of owner bindings s) [] in record { end = failed; calls = call d.0 no ∷ []; reads = fails d.1 refl }
+
+then-done : {script : Sections} {t : Task} {end : End} {calls : List Call} (more : List Call) → Reads script t end calls [] → Reads script t end (calls ++ more) more
+then-done more x = reads-frame more x
+
+pub plan-done : {script : Sections} (p : Plan) → IsDone script (planned p)
+plan-done (stop end) = record { end = end; calls = []; reads = at_stop }
+plan-done (ask o next) = let d = plan-done (next no) in record { end = d.end; calls = call o no ∷ d.calls; reads = asked (quiet-drain o) d.reads }
+plan-done {script} (run row owner which next) =
+    let s = statements-done owner [] (script row which) in
+    let d = plan-done (next (has_failed s.end)) in
+    record { end = d.end; calls = s.calls ++ d.calls; reads = ran (then-done d.calls s.reads) d.reads }
+
+pub drain-done : {script : Sections} (b : Bool) → IsDone script (drained b)
+drain-done true = record { end = done; calls = call op.Hand no ∷ []; reads = empty refl }
+drain-done false = record { end = done; calls = []; reads = calm }
+
+pub jobs-done : {script : Sections} → IsDone script taking
+jobs-done = record { end = done; calls = call op.TakeJob NoJob ∷ []; reads = none refl }
