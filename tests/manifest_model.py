@@ -558,26 +558,27 @@ def section_head(line):
     return None
 
 
-def is_script(data):
-    heads, count = [], 0
+def section_counts(data):
+    """How many statements each section of a script has; None where the text is no script."""
+    heads, counts = [], []
     for line in script_lines(data):
         if line.strip(b" ") == b"" or line.lstrip(b" ")[:1] == b"#":
             continue
         head = section_head(line)
         if head is not None:
             if head in heads:
-                return False
+                return None
             heads.append(head)
-            count = 0
+            counts.append(0)
             continue
-        count += 1
-        if not heads or count > MAX_STATEMENTS:
-            return False
+        if not heads or counts[-1] == MAX_STATEMENTS:
+            return None
         try:
             statement(line)
         except NoScript:
-            return False
-    return True
+            return None
+        counts[-1] += 1
+    return counts
 
 
 # ---------------------------------------------------------------- what a folder means
@@ -617,6 +618,7 @@ class Revision:
     attach: bool
     host: Optional[Requirement]
     activator: Optional[bytes]
+    script: list
     capabilities: list
     requirements: list
     files: list
@@ -797,11 +799,13 @@ def answer_of(files):
     required = checked(headers, b"Require-Capability", REQUIRING)
     provided = checked(headers, b"Provide-Capability", PROVIDING)
     activator = None if is_fragment else headers.get(b"Bundle-Activator")
+    counts = []
     if activator is not None:
         script = file_at(files, activator.replace(b".", b"/") + b".osc")
         if script is None:
             raise Fault(b"Bundle-Activator", "NoScript", 0)
-        if not is_script(script):
+        counts = section_counts(script)
+        if counts is None:
             raise Fault(b"Bundle-Activator", "BadScript", 0)
     if b"Bundle-NativeCode" in headers:
         raise Fault(b"Bundle-NativeCode", "NativeCode", 0)
@@ -814,6 +818,7 @@ def answer_of(files):
         attach=directive(naming, b"fragment-attachment") != b"never",
         host=host_requirement(hosting[0]) if is_fragment else None,
         activator=activator,
+        script=counts,
         capabilities=own + made(exports, export_capability)
         + made([clause for clause in provided if takes_part(clause)], lambda clause, path: Capability(path, path, attributes(clause), [], [])),
         requirements=made(bundles, bundle_requirement)
@@ -881,13 +886,27 @@ def show_capability(it):
             f"mandatory {show_texts(it.mandatory)};")
 
 
+def show_fault(it):
+    return f"fault {shown(it.header) or '-'} {it.kind} {it.at}"
+
+
+def show_activator(it):
+    return f"activator: {'none' if it.activator is None else chr(34) + shown(it.activator) + chr(34)}"
+
+
+def show_script(answer):
+    if isinstance(answer, Fault):
+        return show_fault(answer)
+    return f"{shown(answer.name)} {show_activator(answer)} script: [{''.join(f'{count}|' for count in answer.script)}]"
+
+
 def show(answer):
     if isinstance(answer, Fault):
-        return f"fault {shown(answer.header) or '-'} {answer.kind} {answer.at}"
+        return show_fault(answer)
     it = answer
     return (f"{shown(it.name)} {show_version(it.version)} {'singleton' if it.singleton else 'no-singleton'} {'attach' if it.attach else 'no-attach'} "
             f"host: {'none' if it.host is None else show_requirement(it.host)} "
-            f"activator: {'none' if it.activator is None else chr(34) + shown(it.activator) + chr(34)} "
+            f"{show_activator(it)} "
             f"capabilities: {''.join(show_capability(one) for one in it.capabilities) or 'none'} "
             f"requirements: {''.join(show_requirement(one) for one in it.requirements) or 'none'} "
             f"files: {show_texts(it.files)}")
@@ -928,7 +947,7 @@ def folder_of(line):
     if word == "long":
         times, before = (text.split(" ", 1) + [""])[:2]
         return [(b"META-INF/MANIFEST.MF", plain(before) + b"x" * int(times) + plain(pieces[1]))]
-    files = [(b"META-INF/MANIFEST.MF", plain(text))] if word == "manifest" else []
+    files = [(b"META-INF/MANIFEST.MF", plain(text))] if word in ("manifest", "script") else []
     for piece in pieces[1:]:
         path, data = (piece.split(" ", 2) + [""])[1:3]
         files.append((plain(path), plain(data)))
@@ -939,7 +958,8 @@ def read_line(line):
     """The line with its answer."""
     if line == "" or line.startswith("#"):
         return line
-    return f"{line} => {show(read(folder_of(line)))}"
+    shown_as = show_script if line.startswith("script ") else show
+    return f"{line} => {shown_as(read(folder_of(line)))}"
 
 
 def manifest_line(data, *files):

@@ -9,8 +9,9 @@ status is 1 where one is different."""
 import sys
 
 sys.dont_write_bytecode = True
+from loader_model import is_assignable, loaded
 from resolver_model import FIRST, Found, Problem, Spent, Walk, extended
-from space_model import World
+from space_model import Space, World
 from space_rows import parts, read_revision, spelled_wiring
 
 AMPLE = 1000000
@@ -99,6 +100,13 @@ class Teller:
             return None if self.add(read_revision(rest[0])) else "cannot be known"
         if word == "wires":
             return spelled_wirings(self.world.wirings[1:])
+        if word == "load":
+            revision, _, name = rest[0].partition(" ")
+            by = loaded(Space(self.world), int(revision), name)
+            return "none" if by is None else str(by)
+        if word == "assignable":
+            registrant, asker, name = (rest[0] + " ").split(" ")[:3]
+            return "yes" if is_assignable(Space(self.world), int(registrant), int(asker), name) else "no"
         root, *budget = map(int, rest[0].split())
         return self.resolve(word, root, budget[0] if budget else AMPLE)
 

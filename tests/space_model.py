@@ -53,7 +53,8 @@ class Host:
 
 @dataclass(frozen=True)
 class Revision:
-    """A known revision with its requirements in order; the places of dynamic imports are those after all requirements."""
+    """A known revision with its requirements in order; the places of dynamic imports are those after all requirements. The files are
+    paths in its folder."""
     id: int
     bundle: int
     name: str
@@ -65,6 +66,7 @@ class Revision:
     capabilities: tuple = ()
     requirements: tuple = ()
     dynamics: tuple = ()
+    files: tuple = ()
 
 
 @dataclass(frozen=True)

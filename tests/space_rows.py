@@ -44,7 +44,8 @@ def read_revision(text):
         host=next((Host(name, span or "0") for name, span in hosts), None),
         capabilities=tuple(read_capability(key, value) for key, value in pairs if key in GIVEN),
         requirements=tuple(read_requirement(key, value) for key, value in pairs if key in ASKED and key != "dynamic"),
-        dynamics=tuple(read_requirement(key, value) for key, value in pairs if key == "dynamic"))
+        dynamics=tuple(read_requirement(key, value) for key, value in pairs if key == "dynamic"),
+        files=tuple(value for key, value in pairs if key == "file"))
 
 
 def read_wire(text):
@@ -104,6 +105,7 @@ def spelled_revision(known):
     words += map(spelled_capability, known.capabilities)
     words += map(spelled_requirement, known.requirements)
     words += [spelled_requirement(asked, "dynamic") for asked in known.dynamics]
+    words += [f"file={path}" for path in known.files]
     return " ".join(words)
 
 
