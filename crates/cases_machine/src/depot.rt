@@ -1,6 +1,6 @@
 //! The depots that machines of rows begin with.
 
-use cases_text::{split_word, text_of};
+use cases_text::{put_shown, split_word, text_of};
 use osgi_base::{List, Shared, Text};
 use osgi_ops::{Depot, DepotRow, Stored};
 use osgi_world::{Requirement, Revision, SharedRange, system_revision};
@@ -73,6 +73,34 @@ pub fn depot_of(alloc: Global, text: &str) -> Result<Depot, AllocError> {
     let mut rows = List::new(alloc)?;
     if !location.is_empty() {
         rows.push(row_at(alloc, location, kind)?)?;
+    }
+    Ok(Depot { rows })
+}
+
+/// No depot of rows has more bundles.
+const MOST_BUNDLES: usize = 1_000;
+
+/// The row of a location that is a number.
+fn numbered_row(alloc: Global, number: u32) -> Result<DepotRow, AllocError> {
+    let mut location = String::new(alloc);
+    put_shown(&mut location, &number)?;
+    row_at(alloc, location.as_str(), "")
+}
+
+/// The rows of the locations from 0 on, so many.
+fn numbered_rows(alloc: Global, count: u32) -> Result<List<DepotRow>, AllocError> {
+    let mut rows = List::new(alloc)?;
+    for number in 0..count {
+        rows.push(numbered_row(alloc, number)?)?;
+    }
+    Ok(rows)
+}
+
+/// A depot with so many bundles, at the locations `0`, `1` and so on, each of the name of its location.
+pub fn numbered_depot(alloc: Global, count: u32) -> Result<Depot, AllocError> {
+    let rows = numbered_rows(alloc, count)?;
+    if rows.items().len() > MOST_BUNDLES {
+        return Err(AllocError);
     }
     Ok(Depot { rows })
 }

@@ -2,7 +2,7 @@
 
 use cases_text::text_of;
 use osgi_base::{BundleId, List, ListenerId, Text};
-use osgi_ops::{Kind, Op, Scope, Target};
+use osgi_ops::{Kind, Op, Scope};
 use std::alloc::{AllocError, Global};
 
 /// Operations that have neither a text nor a list.
@@ -11,10 +11,6 @@ enum Plain {
     Hand,
     EndHand,
     EndJob,
-    BeginStart,
-    EndStart,
-    BeginStop,
-    EndStop,
     Uninstall,
     DropWirings,
     EndRefresh,
@@ -31,20 +27,13 @@ enum Wordy {
     AddListener,
     RemoveListener,
     QueueJob,
-    Print,
-    Fail,
     Update,
-    WishStart,
 }
 
-const PLAIN: [(&str, Plain); 15] = [
+const PLAIN: [(&str, Plain); 11] = [
     ("Hand", Plain::Hand),
     ("EndHand", Plain::EndHand),
     ("EndJob", Plain::EndJob),
-    ("BeginStart", Plain::BeginStart),
-    ("EndStart", Plain::EndStart),
-    ("BeginStop", Plain::BeginStop),
-    ("EndStop", Plain::EndStop),
     ("Uninstall", Plain::Uninstall),
     ("DropWirings", Plain::DropWirings),
     ("EndRefresh", Plain::EndRefresh),
@@ -55,14 +44,11 @@ const PLAIN: [(&str, Plain); 15] = [
     ("SetBundleLevel", Plain::SetBundleLevel),
 ];
 
-const WORDY: [(&str, Wordy); 7] = [
+const WORDY: [(&str, Wordy); 4] = [
     ("AddListener", Wordy::AddListener),
     ("RemoveListener", Wordy::RemoveListener),
     ("QueueJob", Wordy::QueueJob),
-    ("Print", Wordy::Print),
-    ("Fail", Wordy::Fail),
     ("Update", Wordy::Update),
-    ("WishStart", Wordy::WishStart),
 ];
 
 fn plain_named(name: &str) -> Option<Plain> {
@@ -90,22 +76,6 @@ fn plain_op(plain: Plain, bundle: BundleId) -> Op {
             listener: ListenerId(1),
         },
         Plain::EndJob => Op::EndJob,
-        Plain::BeginStart => Op::BeginStart {
-            bundle,
-            transient: true,
-        },
-        Plain::EndStart => Op::EndStart {
-            bundle,
-            failed: true,
-        },
-        Plain::BeginStop => Op::BeginStop {
-            target: Target::Id(bundle),
-            transient: true,
-        },
-        Plain::EndStop => Op::EndStop {
-            bundle,
-            failed: false,
-        },
         Plain::Uninstall => Op::Uninstall { bundle },
         Plain::DropWirings => Op::DropWirings,
         Plain::EndRefresh => Op::EndRefresh,
@@ -127,15 +97,9 @@ fn wordy_op(wordy: Wordy, owner: BundleId, text: Text) -> Op {
         },
         Wordy::RemoveListener => Op::RemoveListener { owner, name: text },
         Wordy::QueueJob => Op::QueueJob { owner, name: text },
-        Wordy::Print => Op::Print { owner, text },
-        Wordy::Fail => Op::Fail { owner, text },
         Wordy::Update => Op::Update {
             bundle: owner,
             location: text,
-        },
-        Wordy::WishStart => Op::WishStart {
-            target: Target::Name(text),
-            transient: false,
         },
     }
 }

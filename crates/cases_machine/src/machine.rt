@@ -30,10 +30,25 @@ fn is_last(alloc: Global, entries: &[Entry], entry: &Entry) -> Result<bool, Allo
 fn add_unwritten(out: &mut String, reply: &Reply) -> Result<(), AllocError> {
     match reply {
         Reply::NoJob => put(out, "no job"),
+        Reply::Go { bundle } => {
+            put(out, "go ")?;
+            put_shown(out, &bundle.0)
+        }
         Reply::Loaded { by: None } => put(out, "loaded none"),
         Reply::Loaded { by: Some(revision) } => {
             put(out, "loaded r")?;
             put_shown(out, &revision.0)
+        }
+        _ => Ok(()),
+    }
+}
+
+/// Adds the depot's row whose script is to run, which the console does not write.
+fn add_row(out: &mut String, reply: &Reply) -> Result<(), AllocError> {
+    match reply {
+        Reply::Begun { row, .. } => {
+            put(out, ", row ")?;
+            put_shown(out, row)
         }
         _ => Ok(()),
     }
@@ -44,7 +59,7 @@ fn add_answered(alloc: Global, out: &mut String, entry: &Entry) -> Result<(), Al
     let start = out.len();
     add_checked(alloc, out, entry)?;
     if out.len() > start {
-        return Ok(());
+        return add_row(out, &entry.reply);
     }
     add_unwritten(out, &entry.reply)
 }
@@ -83,8 +98,15 @@ fn kind(op: &Op) -> (&'static str, u32) {
         Op::FindAll { asker, .. } => ("findall", asker.0),
         Op::Get { user, .. } => ("get", user.0),
         Op::Unget { user, .. } => ("unget", user.0),
+        Op::Print { owner, .. } => ("print", owner.0),
+        Op::Fail { owner, .. } => ("fail", owner.0),
         Op::Install { .. } => ("install", 0),
         Op::Resolve { .. } => ("resolve", 0),
+        Op::WishStart { .. } => ("wishstart", 0),
+        Op::BeginStart { .. } => ("beginstart", 0),
+        Op::EndStart { .. } => ("endstart", 0),
+        Op::BeginStop { .. } => ("beginstop", 0),
+        Op::EndStop { .. } => ("endstop", 0),
         Op::TakeJob => ("takejob", 0),
         Op::Load { .. } => ("load", 0),
         Op::ListBundles => ("bundles", 0),

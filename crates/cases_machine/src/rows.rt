@@ -1,6 +1,6 @@
 //! What rows ask of the machine.
 
-use crate::depot::depot_of;
+use crate::depot::{depot_of, numbered_depot};
 use crate::direct::direct;
 use crate::later::{later, later_with_text};
 use crate::machine::{add_history, add_recorded};
@@ -11,7 +11,7 @@ use cases_operations::{number, split_bundle};
 use cases_text::{put, split_word};
 use osgi_base::{BundleId, Tag};
 use osgi_core::Core;
-use osgi_ops::{Limits, Op};
+use osgi_ops::{Depot, Limits, Op};
 use std::alloc::{AllocError, Global};
 use std::mem;
 
@@ -24,15 +24,15 @@ fn limited(entries: u32) -> Limits {
     }
 }
 
-/// A new machine with room for so many entries, and the depot of the location.
+/// A new machine with room for so many entries, and this depot.
 fn begin(
     alloc: Global,
     out: &mut String,
     core: &mut Core,
-    entries: u32,
-    location: &str,
+    entries: &str,
+    depot: Depot,
 ) -> Result<(), AllocError> {
-    let next = Core::new(alloc, limited(entries), depot_of(alloc, location)?)?;
+    let next = Core::new(alloc, limited(number(entries)), depot)?;
     let _ = mem::replace(core, next).into_parts();
     put(out, "begun")
 }
@@ -106,7 +106,16 @@ pub fn add_answer(
     let (word, rest) = split_word(row);
     if word == "core" {
         let (entries, location) = split_word(rest);
-        begin(alloc, out, core, number(entries), location)
+        begin(alloc, out, core, entries, depot_of(alloc, location)?)
+    } else if word == "core_of" {
+        let (entries, count) = split_word(rest);
+        begin(
+            alloc,
+            out,
+            core,
+            entries,
+            numbered_depot(alloc, number(count))?,
+        )
     } else if word == "entries" {
         add_history(alloc, out, core.entries())
     } else if word == "refusal" {

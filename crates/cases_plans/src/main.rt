@@ -11,16 +11,22 @@
 //! The steps are written with `; ` between: an operation by its name, its numbers, its text, and `transient` or `failed`; `run ROW
 //! OWNER SECTION`; `drain`; or `end`, `end refused`, `end failed` or `end SERVICE`. A case with an answer that does not fit
 //! ends with `no such answer`.
+//!
+//! A case `runs COMMAND [ARG..]` is run by a runner, whose caller is answered by the replies behind it, `NoJob` among them; the bundle
+//! of row 1 starts another in its start section, and that of row 2 fails in its stop section. Its answer has the operations that were
+//! called, how many sections began, and `done`, `cut` or `no more replies`.
 #![tactic(auto)]
 
 mod commands;
 mod replies;
+mod runs;
 mod shown;
 mod walks;
 mod words;
 
+use crate::runs::add_run;
 use crate::walks::add_walk;
-use cases_text::{Cases, answer_lines};
+use cases_text::{Cases, answer_lines, split_word};
 use std::alloc::{AllocError, Global};
 use std::io;
 
@@ -35,7 +41,10 @@ impl Cases for PlanCases {
         out: &mut String,
         case: &str,
     ) -> Result<(), AllocError> {
-        add_walk(alloc, out, case)
+        match split_word(case) {
+            ("runs", case) => add_run(alloc, out, case),
+            _ => add_walk(alloc, out, case),
+        }
     }
 }
 

@@ -22,11 +22,12 @@ enum Word {
     Moved,
     Leveled,
     Up,
+    NoJob,
     Refused,
     SectionFailed,
 }
 
-const WORDS: [Word; 17] = [
+const WORDS: [Word; 18] = [
     Word::Service,
     Word::Done,
     Word::Best,
@@ -42,6 +43,7 @@ const WORDS: [Word; 17] = [
     Word::Moved,
     Word::Leveled,
     Word::Up,
+    Word::NoJob,
     Word::Refused,
     Word::SectionFailed,
 ];
@@ -64,6 +66,7 @@ impl Word {
             Word::Moved => "Moved",
             Word::Leveled => "Leveled",
             Word::Up => "Up",
+            Word::NoJob => "NoJob",
             Word::Refused => "Refused",
             Word::SectionFailed => "SectionFailed",
         }
@@ -108,6 +111,7 @@ fn by_numbers(word: Word, first: u32, second: u32) -> Option<Reply> {
         }),
         Word::Leveled => Some(Reply::Leveled { value: first == 1 }),
         Word::Up => Some(Reply::Up { bundle }),
+        Word::NoJob => Some(Reply::NoJob),
         Word::Refused => Some(Reply::Refused {
             refusal: Refusal::InvalidOperation,
         }),

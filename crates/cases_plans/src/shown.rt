@@ -133,7 +133,7 @@ fn put_number(out: &mut String, number: Option<u64>) -> Result<(), AllocError> {
     }
 }
 
-fn add_op(out: &mut String, op: &Op) -> Result<(), AllocError> {
+pub fn add_op(out: &mut String, op: &Op) -> Result<(), AllocError> {
     put(out, name_of(op))?;
     put_number(out, first_number(op).map(u64::from))?;
     put_number(out, second_number(op))?;

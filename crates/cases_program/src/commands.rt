@@ -4,7 +4,7 @@ use crate::escapes::{put_bytes, put_quoted};
 use osgi_base::{BundleId, List, ServiceId, Text};
 use osgi_filter::print;
 use osgi_model::{Attribute, Attributes, Filter, Value};
-use osgi_ops::Op;
+use osgi_ops::{Op, Target};
 use osgi_session::Command;
 use std::alloc::{AllocError, Global};
 use std::fmt::Write;
@@ -25,6 +25,8 @@ pub fn put_command(alloc: Global, out: &mut String, command: &Command) -> Result
         Command::FindAll { class, filter } => put_search(alloc, out, "findall", class, filter),
         Command::Get { service } => put_service(out, "get", *service),
         Command::Unget { service } => put_service(out, "unget", *service),
+        Command::Start { target, transient } => put_life(out, "start", target, *transient),
+        Command::Stop { target, transient } => put_life(out, "stop", target, *transient),
         Command::Install { location } => put_install(out, location),
         Command::Resolve { bundle } => put_bundle(out, "resolve", *bundle),
         Command::Wires { bundle } => put_bundle(out, "wires", *bundle),
@@ -67,6 +69,8 @@ pub fn put_op(alloc: Global, out: &mut String, op: &Op) -> Result<(), AllocError
         Op::FindAll { class, filter, .. } => put_search(alloc, out, "findall", class, filter),
         Op::Get { service, .. } => put_service(out, "get", *service),
         Op::Unget { service, .. } => put_service(out, "unget", *service),
+        Op::WishStart { target, transient } => put_life(out, "wishstart", target, *transient),
+        Op::BeginStop { target, transient } => put_life(out, "beginstop", target, *transient),
         Op::Install { location } => put_install(out, location),
         Op::Resolve { bundle } => put_bundle(out, "resolve", *bundle),
         Op::ListWires { bundle } => put_bundle(out, "wires", *bundle),
@@ -83,6 +87,21 @@ fn put_service(out: &mut String, word: &str, service: ServiceId) -> Result<(), A
 
 fn put_bundle(out: &mut String, word: &str, bundle: BundleId) -> Result<(), AllocError> {
     write!(out, "{word} {}", bundle.0)
+}
+
+/// Appends a start or a stop of a bundle.
+fn put_life(
+    out: &mut String,
+    word: &str,
+    target: &Target,
+    transient: bool,
+) -> Result<(), AllocError> {
+    let option = if transient { " -t" } else { "" };
+    write!(out, "{word}{option} ")?;
+    match target {
+        Target::Id(bundle) => write!(out, "{}", bundle.0),
+        Target::Name(name) => put_bytes(out, name.bytes()),
+    }
 }
 
 fn put_install(out: &mut String, location: &Text) -> Result<(), AllocError> {

@@ -26,6 +26,7 @@ pub fn put_reply(alloc: Global, out: &mut String, reply: &Reply) -> Result<(), A
             write!(out, "bundle {} {kind}", bundle.0)
         }
         Reply::Resolved { added } => put_resolved(out, added.items()),
+        Reply::Active { bundle } => write!(out, "active {}", bundle.0),
         Reply::Wires { rows, fragments } => write!(
             out,
             "{} wires {} fragments",

@@ -10,6 +10,8 @@
 //! | `release BUNDLE`, `count` | the same calls of the registry |
 //! | `has BUNDLE modify ID PROP..` | whether the service is the bundle's, and has just these properties |
 //! | `check` | the services, their uses, and the services of each class, as the registry has them. The answer says so where plain scans of its calls have other services or uses |
+//! | `left WORD BUNDLE` | nothing: after the calls so far comes the entry after which the bundle is what the word says, `installed`, `known`, `resolved`, `starting`, `started`, `failed`, `stopping`, `stopped`, `updated`, `dropped` or `uninstalled` |
+//! | `state BUNDLE` | the bundle's state by OSGi's number, as plain scans read it off all entries |
 //!
 //! TEST is `all`, `none`, `owner BUNDLE` or `owner BUNDLE class CLASS`. Each operation, reply and entry of a row is compared
 //! with its copy; the answer says so where they differ.
@@ -20,6 +22,7 @@ mod calls;
 mod checked;
 mod rows;
 mod scanned;
+mod states;
 mod trial;
 mod uses;
 

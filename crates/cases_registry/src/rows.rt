@@ -46,6 +46,12 @@ fn has(alloc: Global, out: &mut String, trial: &Trial, text: &str) -> Result<(),
     }
 }
 
+/// Leaves an entry that a word and a bundle say.
+fn leave(out: &mut String, trial: &mut Trial, text: &str) -> Result<(), AllocError> {
+    let (word, bundle) = split_word(text);
+    trial.leave(out, word, BundleId(number(bundle)))
+}
+
 /// Adds the answer to a row.
 pub fn add_answer(
     alloc: Global,
@@ -64,6 +70,10 @@ pub fn add_answer(
         has(alloc, out, trial, rest)
     } else if word == "check" {
         trial.check(out)
+    } else if word == "left" {
+        leave(out, trial, rest)
+    } else if word == "state" {
+        trial.state(out, BundleId(number(rest)))
     } else if word == "where" {
         ask_where(alloc, out, trial, rest)
     } else {

@@ -6,6 +6,7 @@ use crate::assignable::Assignable;
 use crate::calls::reply_to;
 use crate::checked::{add_found, add_ids, add_live};
 use crate::scanned::{TAG, add_release, add_uses};
+use crate::states::leave;
 use cases_operations::{add_checked, entry_of};
 use cases_text::{are_equal, put, put_shown};
 use osgi_base::{BundleId, ServiceId};
@@ -58,6 +59,21 @@ impl Trial {
 
     pub fn release(&mut self, out: &mut String, bundle: BundleId) -> Result<(), AllocError> {
         release(out, &mut self.registry, &mut self.entries, bundle)
+    }
+
+    /// Leaves the entry after which the word says what became of the bundle. The registry is not asked.
+    pub fn leave(
+        &mut self,
+        out: &mut String,
+        word: &str,
+        bundle: BundleId,
+    ) -> Result<(), AllocError> {
+        leave(self.alloc, out, &mut self.entries, word, bundle)
+    }
+
+    /// Adds the state of the bundle by OSGi's number, as plain scans read it off the entries.
+    pub fn state(&self, out: &mut String, bundle: BundleId) -> Result<(), AllocError> {
+        put_shown(out, &osgi_history::state(self.entries.as_slice(), bundle))
     }
 
     pub fn count(&self, out: &mut String) -> Result<(), AllocError> {

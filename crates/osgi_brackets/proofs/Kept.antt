@@ -1,6 +1,6 @@
 -- The brackets of each caller, where those of one were written.
-use Rattle.std.proofs.Common.{◌≡◌, ◌==◌, ◌-◌, ℕ, length, take, arith, length-append, length-take, Bool, true, false, cond, List, [], ◌∷◌, ◌++◌, map, reverse, refl, sym, ◌∙◌, ap, subst, Option, None, Some, OnSome, Result, Ok, Err, OnErr}
-use Rattle.std.proofs.lemmas.Bool.{eqb-true}
+use Rattle.std.proofs.Common.{◌≡◌, ◌==◌, ◌-◌, ◌<◌, ℕ, length, take, arith, length-append, length-take, Bool, true, false, cond, List, [], ◌∷◌, ◌++◌, map, reverse, refl, sym, ◌∙◌, ap, subst, Option, None, Some, OnSome, IsSomeAnd, Result, Ok, Err, OnErr, vec_capacity, vec_len}
+use Rattle.std.proofs.lemmas.Bool.{eq-eqb, eqb-true}
 use Rattle.std.proofs.lemmas.List.{reverse-append}
 use Rattle.std.specs.Option.{option_map_or, option_to_list}
 use Rattle.std.specs.declared.alloc.Global.{Global}
@@ -60,3 +60,8 @@ module _ (old new : NumberMap (Vec OpenBracket Global)) (writes : ℕ) (before a
 
   pub shown-kept : shown writes (Some after) ≡ shown writes (value_at old writes) → (caller : ℕ) → shown caller (value_at new caller) ≡ shown caller (value_at old caller)
   shown-kept written caller = shown-after (λ l. l) written caller ∙ cond-same (writes == caller) (shown caller (value_at old caller))
+
+-- where what was written has room, the caller has
+pub room-after : (old new : NumberMap (Vec OpenBracket Global)) (caller : ℕ) (own : Vec OpenBracket Global) → Puts old new caller own → vec_len own < vec_capacity own → IsSomeAnd (value_at new caller) (λ v. vec_len v < vec_capacity v)
+room-after old new caller own puts room =
+    subst (λ (o : Option (Vec OpenBracket Global)). IsSomeAnd o (λ v. vec_len v < vec_capacity v)) (sym (puts caller ∙ ap (λ t. cond t (Some own) (value_at old caller)) (eq-eqb caller caller refl))) room

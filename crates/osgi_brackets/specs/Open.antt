@@ -1,5 +1,5 @@
 -- Which brackets are open, how they change, and that they are those of a history.
-use Rattle.std.specs.Prelude.{ℕ, ◌≡◌, ◌==◌, if◌then◌else◌, List, [], ◌∷◌, map, reverse, Option, None, Some}
+use Rattle.std.specs.Prelude.{ℕ, ◌≡◌, ◌==◌, ◌<◌, if◌then◌else◌, List, [], ◌∷◌, map, reverse, Option, None, Some, IsSomeAnd, vec_capacity, vec_len}
 use Rattle.std.specs.Option.{option_map_or}
 use Rattle.osgi_base.specs.NumberMaps.{value_at}
 use Rattle.osgi_base.specs.declared.ids.Tag.{Tag}
@@ -31,6 +31,10 @@ Closes old new closing = (caller : ℕ) → open_of new caller ≡ (if closing =
 
 abbrev pub HoldsSame : Brackets → Brackets → Type 0
 HoldsSame old new = (caller : ℕ) → open_of new caller ≡ open_of old caller
+
+-- one more bracket of the caller takes no memory
+abbrev pub HasRoom : ℕ → Brackets → Type 0
+HasRoom caller brackets = IsSomeAnd (value_at brackets.callers caller) (λ own. vec_len own < vec_capacity own)
 
 -- they are those that are open in the history
 abbrev pub StandsFor : List Entry → Brackets → Type 0

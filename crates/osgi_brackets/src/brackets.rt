@@ -1,11 +1,11 @@
 //! The open brackets by caller.
 
-ghost use Rattle.std.specs.Prelude.{◌≡◌, ℕ, [], ◌++◌, ◌∷◌, List, length, OnOk, OnErr};
+ghost use Rattle.std.specs.Prelude.{◌≡◌, ℕ, [], ◌++◌, ◌∷◌, List, length, IsOk, OnOk, OnErr};
 ghost use Rattle.std.specs.Option.{option_map};
 ghost use Rattle.osgi_ops.specs.Brackets.{own_closes};
 ghost use Rattle.osgi_ops.specs.declared.entry.Entry.{Entry};
 ghost use Rattle.osgi_brackets.specs.Kinds.{bracket_of, cause_of};
-ghost use Rattle.osgi_brackets.specs.Open.{Closes, HoldsSame, innermost_of, open_of, Opens, StandsFor};
+ghost use Rattle.osgi_brackets.specs.Open.{Closes, HasRoom, HoldsSame, innermost_of, open_of, Opens, StandsFor};
 
 use crate::bracket::{BracketKind, OpenBracket, ends, opens};
 use osgi_base::{NumberMap, Tag};
@@ -48,9 +48,25 @@ impl Brackets {
         self.callers.get(caller)?.last().copied()
     }
 
-    /// Opens a bracket of the tag's caller, which is then its innermost. If memory runs out, nothing is opened.
+    /// Makes room for one more bracket of the caller. The brackets stay, also if memory runs out.
+    pub fn reserve(&mut self, caller: u32) -> Result<(), AllocError>
+        ensures room { OnOk result (HasRoom caller self.new) }
+        ensures unchanged { HoldsSame self.old self.new }
+    {
+        if let Some(own) = self.callers.get_mut(caller) {
+            own.reserve(1)?;
+            return Ok(());
+        }
+        let own = Vec::with_capacity(self.alloc, 1)?;
+        self.callers.insert(caller, own)?;
+        Ok(())
+    }
+
+    /// Opens a bracket of the tag's caller, which is then its innermost. If memory runs out, nothing is opened; where there is
+    /// room, it takes none.
     pub fn push(&mut self, tag: Tag, kind: BracketKind) -> Result<(), AllocError>
         ensures opened { OnOk result (Opens self.old self.new tag (cause_of kind)) }
+        ensures room { HasRoom tag.caller self.old → IsOk result }
         ensures unchanged { OnErr result (HoldsSame self.old self.new) }
     {
         let bracket = OpenBracket {

@@ -21,10 +21,10 @@ text_total = nat_list_cmp_total
 pub name_total : IsTotalOrder name_cmp
 name_total = then_total (on_texts (λ (n : BundleName). n.name)) (on_total (λ (n : BundleName). n.version) version_total)
 
-decides_text : (a b : List ℕ) → Decides (eq_by_cmp text_cmp a b) (a ≡ b)
+pub decides_text : (a b : List ℕ) → Decides (eq_by_cmp text_cmp a b) (a ≡ b)
 decides_text a b = (λ same. (bytes_eq-Decides a b).0 (sym (is_eq-slice_cmp a b) ∙ same), λ same. is_eq-slice_cmp a b ∙ (bytes_eq-Decides a b).1 same)
 
-decides_version : (v w : Version) → Decides (eq_by_cmp version_cmp v w) (v ≡ w)
+pub decides_version : (v w : Version) → Decides (eq_by_cmp version_cmp v w) (v ≡ w)
 decides_version v w = (λ same. (exact_version v w).0 (version_ties v w ∙ same), λ same. sym (version_ties v w) ∙ (exact_version v w).1 same)
 
 both : (a b : BundleName) → Decides (eq_by_cmp text_cmp a.name b.name && eq_by_cmp version_cmp a.version b.version) (a ≡ b)

@@ -1,5 +1,6 @@
 -- The table of bundles as contracts see it.
 pub mod Rows
 pub mod Stands
+pub mod Targets
 pub mod laws
 pub mod computed

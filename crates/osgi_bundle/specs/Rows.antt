@@ -1,19 +1,22 @@
 -- The table of bundles as contracts see it: the live bundles in rows, and what calls answer and change by them.
-use Rattle.std.specs.Prelude.{ℕ, ◌≡◌, ◌==◌, ◌<◌, ◌≤◌, nat_le, Bool, false, if◌then◌else◌, List, [], ◌∷◌, Option, None, Some, Result, Ok, Err, All, AllPairs, Contains, find, map, length, slice_get, IsSomeAnd}
+use Rattle.std.specs.Prelude.{ℕ, ◌≡◌, ◌≢◌, ◌==◌, ◌<◌, ◌≤◌, ◌⊎◌, nat_le, Bool, true, false, if◌then◌else◌, List, [], ◌∷◌, Option, None, Some, Result, Ok, Err, All, AllPairs, Contains, find, map, length, slice_get, IsSomeAnd}
 use Rattle.std.specs.List.Sorted.{IsStrictlyIncreasing}
 use Rattle.std.specs.Option.{option_map}
 use Rattle.std.specs.Str.{bytes_eq}
 use Rattle.osgi_base.specs.Verdict.{Verdict, answers, refuses, Where}
 use Rattle.osgi_base.specs.declared.ids.BundleId.{BundleId}
+use Rattle.osgi_base.specs.declared.ids.Tag.{Tag}
 use Rattle.osgi_bundle.specs.declared.kept.BundleKept.{BundleKept}
+use Rattle.osgi_bundle.specs.declared.life.Begun.{Begun}
+use Rattle.osgi_bundle.specs.declared.life.Begun.TheVariants.{Already, Run}
 use Rattle.osgi_ops.specs.Bundles.{system}
 use Rattle.osgi_ops.specs.declared.limits.TheConstants.{MAX_BUNDLES}
 use Rattle.osgi_ops.specs.declared.refusal.Many.TheVariants.{Bundles}
 use Rattle.osgi_ops.specs.declared.refusal.Refusal.{Refusal}
-use Rattle.osgi_ops.specs.declared.refusal.Refusal.TheVariants.{DuplicateBundle, TooMany}
+use Rattle.osgi_ops.specs.declared.refusal.Refusal.TheVariants.{ActivatorError, DuplicateBundle, InvalidOperation, NoSuchBundle, StateChange, TooMany}
 use Rattle.osgi_ops.specs.declared.rows.BundleRow.{BundleRow}
-use Rattle.osgi_ops.specs.States.{is_up}
-use Rattle.osgi_ops.specs.declared.state.TheConstants.{INSTALLED, RESOLVED, UNINSTALLED}
+use Rattle.osgi_ops.specs.States.{is_changing, is_up}
+use Rattle.osgi_ops.specs.declared.state.TheConstants.{ACTIVE, INSTALLED, RESOLVED, UNINSTALLED}
 use Rattle.osgi_version.specs.declared.version.Version.{Version}
 
 -- the live bundles by rising id, the system bundle first, and how many ids were given, the system bundle's not counted
@@ -116,3 +119,67 @@ install_refusals name version rows = IsTwin name version rows ∷ Where (TooMany
 abbrev pub verdict_of : {A : Type 0} → Result A Refusal → Verdict Refusal A
 verdict_of (Ok answer) = answers answer
 verdict_of (Err refusal) = refuses refusal
+
+-- ---- starts and stops
+
+-- the bundle is resolved and no fragment, so that the table lets a start of it begin
+abbrev pub IsStartable : BundleId → List BundleKept → Type 0
+IsStartable id rows = IsSomeAnd (row_at id rows) (λ (row : BundleKept). (row.fragment ≡ false) × (row.state ≡ RESOLVED))
+
+-- the bundle is active and not the system bundle, so that the table lets a stop of it begin
+abbrev pub IsStoppable : BundleId → List BundleKept → Type 0
+IsStoppable id rows = (id ≢ system) × IsSomeAnd (row_at id rows) (λ (row : BundleKept). row.state ≡ ACTIVE)
+
+-- the bundle is in this state since the line of the tag began that
+abbrev pub IsInChange : ℕ → Tag → BundleId → List BundleKept → Type 0
+IsInChange state tag id rows = IsSomeAnd (row_at id rows) (λ (row : BundleKept). (row.state ≡ state) × (row.by ≡ Some tag))
+
+-- the row in this state that the line of the tag began, if it is that of the bundle
+abbrev pub begun_in : BundleId → ℕ → Tag → BundleKept → BundleKept
+begun_in id state tag row = if has_bundle_id id row then record row { state = state; by = Some tag } else row
+
+-- the rows where the line of the tag began that the bundle is in this state
+abbrev pub with_begun : BundleId → ℕ → Tag → List BundleKept → List BundleKept
+with_begun id state tag rows = map (begun_in id state tag) rows
+
+-- the rows after a begin came to this: where there was nothing to do they stay
+abbrev pub rows_begun : BundleId → ℕ → Tag → List BundleKept → Begun → List BundleKept
+rows_begun id state tag rows (Run row) = with_begun id state tag rows
+rows_begun id state tag rows Already = rows
+
+-- a bundle that was started is active, unless its start failed
+abbrev pub started_state : Bool → ℕ
+started_state failed = if failed then RESOLVED else ACTIVE
+
+-- the bundle is not live
+abbrev pub no_such_row : BundleId → List BundleKept → Refusal → Type 0
+no_such_row id rows = Where NoSuchBundle (row_at id rows ≡ None)
+
+-- the bundle is a fragment, or not resolved, so it cannot be started
+abbrev pub IsUnstartable : BundleId → List BundleKept → Type 0
+IsUnstartable id rows = IsSomeAnd (row_at id rows) (λ (row : BundleKept). (row.fragment ≡ true) ⊎ (row.state ≡ INSTALLED))
+
+-- the bundle is starting or stopping, which the call that is named began
+abbrev pub state_change : BundleId → List BundleKept → Refusal → Type 0
+state_change id rows refusal =
+    IsSomeAnd (row_at id rows) (λ (row : BundleKept). (is_changing row.state ≡ true) × IsSomeAnd row.by (λ by. refusal ≡ StateChange by))
+
+-- why a start does not begin
+abbrev pub begin_start_refusals : BundleId → List BundleKept → List (Refusal → Type 0)
+begin_start_refusals id rows = no_such_row id rows ∷ Where InvalidOperation (IsUnstartable id rows) ∷ state_change id rows ∷ []
+
+-- a start begins, unless the bundle is active
+abbrev pub StartBegins : BundleId → List BundleKept → Begun → Type 0
+StartBegins id rows begun = IsSomeAnd (row_at id rows) (λ (row : BundleKept). begun ≡ (if row.state == ACTIVE then Already else Run row.row))
+
+-- why a stop does not begin
+abbrev pub begin_stop_refusals : BundleId → List BundleKept → List (Refusal → Type 0)
+begin_stop_refusals id rows = no_such_row id rows ∷ Where InvalidOperation (id ≡ system) ∷ state_change id rows ∷ []
+
+-- a stop begins, if the bundle is active
+abbrev pub StopBegins : BundleId → List BundleKept → Begun → Type 0
+StopBegins id rows begun = IsSomeAnd (row_at id rows) (λ (row : BundleKept). begun ≡ (if row.state == ACTIVE then Run row.row else Already))
+
+-- why a start or a stop does not end well: the line of the tag has none open of the bundle, or a section failed
+abbrev pub end_refusals : ℕ → Tag → BundleId → Bool → List BundleKept → List (Refusal → Type 0)
+end_refusals state tag id failed rows = Where InvalidOperation (¬ IsInChange state tag id rows) ∷ Where ActivatorError (failed ≡ true) ∷ []

@@ -1,14 +1,14 @@
 -- Which histories a table stands for.
-use Rattle.std.specs.Prelude.{ℕ, ◌≡◌, Bool, List, [], ◌∷◌, ◌++◌, None, Some, is_some, length, map, false}
+use Rattle.std.specs.Prelude.{ℕ, ◌≡◌, ◌==◌, Bool, if◌then◌else◌, List, [], ◌∷◌, ◌++◌, None, Some, is_some, length, map, true, false}
 use Rattle.osgi_base.specs.declared.ids.BundleId.{BundleId}
 use Rattle.osgi_base.specs.declared.ids.RevisionId.{RevisionId}
 use Rattle.osgi_base.specs.declared.ids.Tag.{Tag}
 use Rattle.osgi_bundle.specs.Rows.{TableRows}
 use Rattle.osgi_bundle.specs.declared.kept.BundleKept.{BundleKept}
-use Rattle.osgi_ops.specs.Bundles.{Bundle, bundles, idle, installed, last_begin, number_of, phase, state, the_system_bundle}
+use Rattle.osgi_ops.specs.Bundles.{active, Bundle, bundles, idle, installed, installed_by, is_uninstall, last_begin, number_of, Phase, phase, put_into, state, the_system_bundle, updated_to}
 use Rattle.osgi_ops.specs.Depots.{stored_revision, row_number}
 use Rattle.osgi_ops.specs.Moments.{first_world}
-use Rattle.osgi_ops.specs.Resolved.{current_revision, is_in_use}
+use Rattle.osgi_ops.specs.Resolved.{current_revision, is_in_use, is_resolved}
 use Rattle.osgi_ops.specs.Worlds.{with_revision}
 use Rattle.osgi_ops.specs.declared.depot.DepotRow.{DepotRow}
 use Rattle.osgi_ops.specs.declared.entry.Entry.{Entry}
@@ -68,3 +68,23 @@ abbrev pub StandsAfter : List ℕ → List ℕ → Version → Bool → ℕ → 
 StandsAfter location name version fragment row id old new =
     (depot : List DepotRow) (history : List Entry) (world : World) (revision : RevisionId) (tag : Tag) (of : IsOfDepot depot location name version fragment row) → IsNewBundle world history revision id → StandsFor depot history world old →
     StandsFor depot (history ++ record { tag = tag; op = op.Install location; reply = answer.Bundle id false } ∷ []) (with_revision world revision id of.revision) new
+
+-- ---- starts and stops
+
+-- the entry puts the bundle into the phase, and installs, uninstalls and updates none
+pub record Puts (phase : Phase) (bundle : BundleId) (e : Entry) : Type 0 where
+  pub puts : (b : BundleId) → put_into b e.op e.reply ≡ (if bundle.0 == b.0 then Some phase else None)
+  pub installs : (earlier : ℕ) (since : List Entry) → installed_by earlier e.op e.reply since ≡ []
+  pub uninstalls : (b : BundleId) → is_uninstall b e.op e.reply ≡ false
+  pub updates : (b : BundleId) → updated_to b e.op e.reply ≡ None
+
+-- if it stood for a history, in a world where the bundle is resolved, it stands for that history with an entry of this tag that puts the
+-- bundle into the phase
+abbrev pub StandsPut : Phase → Tag → BundleId → TableRows → TableRows → Type 0
+StandsPut phase tag bundle old new =
+    (depot : List DepotRow) (history : List Entry) (world : World) (e : Entry) → e.tag ≡ tag → Puts phase bundle e → is_resolved world bundle ≡ true → StandsFor depot history world old →
+    StandsFor depot (history ++ e ∷ []) world new
+
+-- where the start of a bundle leaves it
+abbrev pub started_phase : Bool → Phase
+started_phase failed = if failed then idle else active

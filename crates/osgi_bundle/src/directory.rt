@@ -1,10 +1,10 @@
 //! The live bundles by location, and by name and version.
 
-ghost use Rattle.std.specs.Prelude.{◌≡◌, List, ℕ, None, IfOk, OnOk, OnErr};
+ghost use Rattle.std.specs.Prelude.{◌≡◌, List, ℕ, [], ◌∷◌, ◌++◌, None, IfOk, MatchOption, OnOk, OnErr};
 ghost use Rattle.std.specs.BTreeMap.{get};
 ghost use Rattle.std.specs.Option.{option_copied};
 ghost use Rattle.osgi_base.specs.computed.Texts.{text_cmp};
-ghost use Rattle.osgi_bundle.specs.computed.Kept.{AddsFirst, HoldsSame, name_cmp, named};
+ghost use Rattle.osgi_bundle.specs.computed.Kept.{AddsFirst, HasNoVersion, HoldsSame, IsHighest, lowest_version, name_cmp, named};
 ghost use Rattle.osgi_bundle.specs.declared.directory.BundleName.{BundleName};
 
 use osgi_base::{BundleId, Text};
@@ -27,6 +27,20 @@ impl BundleName {
         Ok(BundleName {
             name: name.copy(alloc)?,
             version: version.copy(alloc)?,
+        })
+    }
+
+    /// The least of all keys that come after those of this name.
+    fn after(alloc: Global, name: &Text) -> Result<BundleName, AllocError>
+        ensures after { IfOk result (λ end. end ≡ named (name.now ++ 0 ∷ []) lowest_version) }
+    {
+        let bytes = name.bytes();
+        let mut longer = Vec::with_capacity(alloc, bytes.len() + 1)?;
+        longer.extend_from_slice(bytes)?;
+        longer.push(0)?;
+        Ok(BundleName {
+            name: Text::from_vec(alloc, longer)?,
+            version: Version::numbered(0, 0, 0),
         })
     }
 }
@@ -61,6 +75,20 @@ impl Directory {
         ensures bundle { result ≡ get name_cmp self.now.names name.now }
     {
         self.names.get(name).copied()
+    }
+
+    /// The bundle with the highest version of the name: the last that comes before all keys of longer names.
+    pub fn highest(&self, name: &Text) -> Result<Option<BundleId>, AllocError>
+        ensures highest { IfOk result (λ found. MatchOption found (HasNoVersion self.now.names name.now) (IsHighest self.now.names name.now)) }
+    {
+        let end = BundleName::after(self.alloc, name)?;
+        let Some((key, &bundle)) = self.names.range(..end).next_back() else {
+            return Ok(None);
+        };
+        if key.name != *name {
+            return Ok(None);
+        }
+        Ok(Some(bundle))
     }
 
     /// Adds a bundle under its name and version, and under its location unless another stands there. If memory runs out, it

@@ -4,8 +4,11 @@
 mod directory;
 mod indexed_depot;
 mod kept;
+mod life;
 mod table;
+mod targets;
 
 pub use indexed_depot::IndexedDepot;
 pub use kept::BundleKept;
+pub use life::Begun;
 pub use table::Table;

@@ -1,11 +1,13 @@
 //! The table of bundles.
 
-ghost use Rattle.std.specs.Prelude.{◌≡◌, ◌+◌, ◌<◌, ◌≤◌, [], ◌∷◌, ◌++◌, length, slice_get, None, Some, IfOk, OnOk, OnErr};
+ghost use Rattle.std.specs.Prelude.{◌≡◌, ◌≢◌, ◌+◌, ◌<◌, ◌≤◌, [], ◌∷◌, ◌++◌, length, slice_get, None, Some, IfOk, MatchOption, OnOk, OnErr};
 ghost use Rattle.std.specs.Option.{option_copied};
 ghost use Rattle.osgi_base.specs.Verdict.{Gives};
+ghost use Rattle.osgi_base.specs.declared.ids.BundleId.{BundleId};
 ghost use Rattle.osgi_bundle.specs.computed.Kept.{bundle_under, name_cmp, bundle_name, row_in};
-ghost use Rattle.osgi_bundle.specs.Rows.{AreApart, AreInOrder, bundle_from, bundle_number, install_refusals, IsSettable, IsTwin, new_row, resolved_state, row_at, state_at, verdict_of, with_state};
+ghost use Rattle.osgi_bundle.specs.Rows.{AreApart, AreInOrder, bundle_from, bundle_number, install_refusals, IsSettable, IsTwin, new_row, resolved_state, row_at, state_at, verdict_of, with_begun, with_state};
 ghost use Rattle.osgi_bundle.specs.Stands.{first_table, kept_of, StandsAfter, StandsForNone};
+ghost use Rattle.osgi_bundle.specs.Targets.{IsNamedRow};
 ghost use Rattle.osgi_ops.specs.Bundles.{the_system_bundle};
 ghost use Rattle.osgi_ops.specs.Moments.{first_world};
 ghost use Rattle.osgi_ops.specs.declared.limits.TheConstants.{MAX_BUNDLES};
@@ -13,7 +15,7 @@ ghost use Rattle.osgi_ops.specs.declared.refusal.Refusal.{Refusal};
 
 use crate::directory::{BundleName, Directory};
 use crate::kept::BundleKept;
-use osgi_base::{BundleId, Text, copy_two};
+use osgi_base::{BundleId, Tag, Text, copy_two};
 use osgi_ops::{ACTIVE, INSTALLED, MAX_BUNDLES, Many, RESOLVED, Refusal, UNINSTALLED};
 use osgi_version::Version;
 use osgi_world::system_revision;
@@ -119,7 +121,7 @@ impl Table {
     }
 
     /// The row of a live bundle.
-    fn row(&self, bundle: BundleId) -> Option<&BundleKept>
+    pub fn row(&self, bundle: BundleId) -> Option<&BundleKept>
         ensures row { option_copied result ≡ row_at bundle self.now.rows }
     {
         let place = self.place(bundle)?;
@@ -131,6 +133,13 @@ impl Table {
         ensures bundle { result ≡ bundle_from location.now self.now.rows }
     {
         self.directory.at_location(location)
+    }
+
+    /// The live bundle of this name with the highest version.
+    pub(crate) fn named(&self, name: &Text) -> Result<Option<BundleId>, AllocError>
+        ensures named { IfOk result (λ found. MatchOption found ((id : BundleId) → ¬ IsNamedRow name.now self.now.rows id) (IsNamedRow name.now self.now.rows)) }
+    {
+        self.directory.highest(name)
     }
 
     /// Installs a bundle under the next id.
@@ -214,12 +223,34 @@ impl Table {
         ensures rows { self.new.rows ≡ with_state bundle (resolved_state resolved) self.old.rows }
         ensures issued { self.new.issued ≡ self.old.issued }
     {
+        self.set_state(bundle, resolved_state(resolved));
+    }
+
+    /// Sets the state of a live bundle.
+    pub(crate) fn set_state(&mut self, bundle: BundleId, state: u8)
+        requires live { row_at bundle self.old.rows ≢ None }
+        ensures rows { self.new.rows ≡ with_state bundle state self.old.rows }
+        ensures issued { self.new.issued ≡ self.old.issued }
+    {
         let Some(place) = self.place(bundle) else {
             unreachable!()
         };
-        let state = resolved_state(resolved);
         let row = &mut self.rows[place];
         row.state = state;
+    }
+
+    /// Sets the state of a live bundle, and whose line began that it is in it.
+    pub(crate) fn set_begun(&mut self, bundle: BundleId, state: u8, tag: Tag)
+        requires live { row_at bundle self.old.rows ≢ None }
+        ensures rows { self.new.rows ≡ with_begun bundle state tag self.old.rows }
+        ensures issued { self.new.issued ≡ self.old.issued }
+    {
+        let Some(place) = self.place(bundle) else {
+            unreachable!()
+        };
+        let row = &mut self.rows[place];
+        row.state = state;
+        row.by = Some(tag);
     }
 
     /// Adds a bundle under the next id. Memory is taken first.

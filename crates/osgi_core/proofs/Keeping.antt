@@ -6,6 +6,7 @@ use Rattle.std.proofs.lemmas.List.Elements.{All-nil, All-push}
 use Rattle.osgi_base.specs.Verdict.{Gives, refuses}
 use Rattle.osgi_base.specs.declared.ids.BundleId.{BundleId}
 use Rattle.osgi_base.specs.declared.ids.Tag.{Tag}
+use Rattle.osgi_brackets.specs.Open as callers
 use Rattle.osgi_bundle.specs.Stands as bundle
 use Rattle.osgi_bundle.specs.Stands.{StandsForNone}
 use Rattle.osgi_core.specs.Sound.{IsSoundlyTold, IsTrulyUnresolvable}
@@ -63,9 +64,9 @@ told_none setting sound = record {
 }
 
 -- the tables of the empty history
-pub kept_none : (setting : Setting) (tables : Tables) → tables.depot.rows ≡ setting.depot → tables.budget ≡ setting.bounds.budget → registry.StandsFor [] tables.registry → StandsForNone tables.bundles → tables.wirings.world ≡ first_world →
+pub kept_none : (setting : Setting) (tables : Tables) → tables.depot.rows ≡ setting.depot → tables.budget ≡ setting.bounds.budget → registry.StandsFor [] tables.registry → StandsForNone tables.bundles → callers.StandsFor [] tables.brackets → tables.wirings.world ≡ first_world →
     tables.wirings.issued ≡ 0 → IsKeptWorld tables.wirings.world tables.wirings.issued → IsKept setting [] tables
-kept_none setting tables depot budget services bundles world issued kept =
+kept_none setting tables depot budget services bundles brackets world issued kept =
     let sound : IsSound tables.wirings.world = record { consistent = kept.consistent; is_world = kept.is_world; ordered = kept.ordered } in
     record {
       told = subst (IsSoundlyTold setting []) (sym world) (told_none setting (subst IsSound world sound));
@@ -74,6 +75,7 @@ kept_none setting tables depot budget services bundles world issued kept =
         budget = budget;
         services = services;
         bundles = subst (λ (w : World). bundle.StandsFor setting.depot [] w tables.bundles) (sym world) (bundles setting.depot);
+        brackets = brackets;
         world = refl;
         issued = issued;
         sound = sound;
@@ -146,6 +148,7 @@ kept_push setting history old new tag o reply kept room replied =
         budget = stands.budget;
         services = stands.services;
         bundles = stands.bundles;
+        brackets = stands.brackets;
         world = refl;
         issued = stands.issued;
         sound = stands.sound;
@@ -170,6 +173,7 @@ still_kept setting history old new kept still =
           budget = again.budget;
           services = again.services;
           bundles = subst (λ (w : World). bundle.StandsFor setting.depot history w new.bundles) (sym again.world) again.bundles;
+          brackets = again.brackets;
           world = refl;
           issued = again.issued;
           sound = subst IsSound (sym again.world) again.sound;

@@ -1,2 +1,3 @@
--- Lemmas on histories, read from their start.
+-- Lemmas on histories, read from their start or from their end.
 pub mod Front
+pub mod Lives

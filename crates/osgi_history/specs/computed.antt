@@ -1,2 +1,3 @@
 -- What private functions and proofs cite. No public promise cites these.
 pub mod Scans
+pub mod States

@@ -2,5 +2,7 @@
 #![tactic(auto)]
 
 mod scans;
+mod states;
 
 pub use scans::{live, uses};
+pub use states::state;

@@ -1,9 +1,9 @@
 -- A bundle has a current revision exactly while it is live, in every legal history; and what is up is resolved.
-use Rattle.std.proofs.Common.{◌≡◌, ◌⊎◌, inl, inr, ◌+◌, ◌<◌, ◌≤◌, ℕ, Bool, true, false, List, [], ◌∷◌, ◌++◌, length, refl, sym, ap, ◌∙◌, subst, arith}
-use Rattle.std.specs.Prelude.{◌==◌, ◌&&◌, ◌||◌, cond, not, map, Option, None, Some, filter, find, IsSomeAnd, Contains}
+use Rattle.std.proofs.Common.{◌≡◌, inl, ◌+◌, ◌<◌, ℕ, Bool, true, false, List, [], ◌∷◌, ◌++◌, length, refl, sym, ap, ◌∙◌, subst, arith}
+use Rattle.std.specs.Prelude.{◌==◌, ◌||◌, cond, not, map, Option, None, Some, find, IsSomeAnd, Contains}
 use Rattle.std.specs.List.{list_any}
 use Rattle.std.specs.Option.{option_map_or}
-use Rattle.std.proofs.lemmas.Bool.{and_parts, eq-eqb, eqb-true, false_from_ne_true, ne_eqb, not-true, or_right}
+use Rattle.std.proofs.lemmas.Bool.{and_parts, eq-eqb, eqb-true, false_from_ne_true, ne_eqb, or_right}
 use Rattle.std.proofs.lemmas.List.Folds.{list_any-append}
 use Rattle.osgi_base.specs.declared.ids.BundleId.{BundleId}
 use Rattle.osgi_legal.specs.Quiet.{QuietBundles}
@@ -17,7 +17,7 @@ use Rattle.osgi_ops.specs.Operations.{IsReply}
 use Rattle.osgi_ops.specs.Replies.{is_accepted}
 use Rattle.osgi_ops.specs.Resolved.{current_revision, is_current_of, is_in_use, is_resolved}
 use Rattle.osgi_ops.specs.Resolving.{AnswersResolve, newly_resolved, Resolves}
-use Rattle.osgi_ops.specs.Worlds.{dropped, is_member, Leaves, pended, with_revision}
+use Rattle.osgi_ops.specs.Worlds.{dropped, is_member, Leaves, pended}
 use Rattle.osgi_ops.specs.rows.Bundles.{installs}
 use Rattle.osgi_ops.specs.declared.entry.Entry.{Entry}
 use Rattle.osgi_ops.specs.declared.op.Op.{Op}
@@ -29,7 +29,6 @@ use Rattle.osgi_ops.specs.laws.Along.{holds}
 use Rattle.osgi_ops.specs.laws.Bundles.{has_id, later, left_by, live-any, live-push, live-stays}
 use Rattle.osgi_ops.specs.laws.Items.{find-kept}
 use Rattle.osgi_ops.specs.laws.Resolved.{in_use-from}
-use Rattle.osgi_world.specs.Lists.{In}
 use Rattle.osgi_world.specs.System.{known_system}
 use Rattle.osgi_world.specs.declared.world.Known.{Known}
 use Rattle.osgi_world.specs.declared.world.World.{World}
@@ -37,9 +36,9 @@ use Rattle.osgi_legal.proofs.Accepted.{accepted}
 use Rattle.osgi_legal.proofs.Facts.{row-at, running-at}
 use Rattle.osgi_legal.proofs.Legal.{at-told, world-last}
 use Rattle.osgi_legal.proofs.Owned.{entries-last}
-use Rattle.osgi_legal.proofs.Quiet.{bundles-quiet, bundles-refused}
+use Rattle.osgi_legal.proofs.Quiet.{bundles-refused}
 use Rattle.osgi_legal.proofs.Rows.{current-at}
-use Rattle.osgi_legal.proofs.Running.{current-pended, IsRunning}
+use Rattle.osgi_legal.proofs.Running.{current-pended}
 use Rattle.osgi_legal.proofs.States.{always-agrees, find-none, find-other, none-current}
 use Rattle.osgi_legal.proofs.Tidy.{extends-of}
 use Rattle.osgi_legal.proofs.Windows.{leaves-refused, refused-is}

@@ -1,23 +1,30 @@
 -- The end of a bundle's own bracket finds the bundle starting, or stopping, since the asking command's own begin.
 use Rattle.std.proofs.Common.{◌≡◌, inl, inr, List, [], ◌∷◌, Bool, true, false, refl, sym, ap, ◌∙◌, subst}
 use Rattle.std.specs.Prelude.{◌==◌, Some}
-use Rattle.std.proofs.lemmas.Bool.{and_parts, eq-eqb, eqb-true}
+use Rattle.std.proofs.lemmas.Bool.{and_parts, eq-eqb, eqb-true, false_from_ne_true}
 use Rattle.osgi_base.specs.declared.ids.BundleId.{BundleId}
 use Rattle.osgi_base.specs.declared.ids.Tag.{Tag}
 use Rattle.osgi_ops.specs.Brackets.{bracket, Bracket, brackets, Cause, closes, ends, own_closes}
 use Rattle.osgi_ops.specs.Brackets as cause
 use Rattle.osgi_ops.specs.Bundles as bundles
-use Rattle.osgi_ops.specs.Bundles.{active, idle, last_begin, phase, Phase}
+use Rattle.osgi_ops.specs.Bundles.{active, idle, is_live, is_up, last_begin, phase, Phase, running, system}
 use Rattle.osgi_ops.specs.Legal.{IsTold}
 use Rattle.osgi_ops.specs.Moments.{Moment}
+use Rattle.osgi_ops.specs.Resolved.{is_resolved}
 use Rattle.osgi_ops.specs.declared.op.Op.{Op}
 use Rattle.osgi_ops.specs.declared.op.Op.TheVariants as op
 use Rattle.osgi_world.specs.Lists.{In}
 use Rattle.osgi_ops.specs.laws.Items.{In-filter, In-kept}
+use Rattle.osgi_legal.proofs.Current.{up-resolved}
 use Rattle.osgi_legal.proofs.Facts.{fit-at}
+use Rattle.osgi_legal.proofs.Legal.{at-told}
 use Rattle.osgi_legal.proofs.Listening.{has-ended}
 use Rattle.osgi_legal.proofs.Owned.{closes-own, of}
-use Rattle.osgi_legal.proofs.Phases.{brackets_for, Fits, is_bracket_for, is_for}
+use Rattle.osgi_legal.proofs.Phases.{brackets_for, Fits, is_bracket_for, is_for, same-id, state-by}
+use Rattle.osgi_legal.proofs.Running.{busy-live}
+use Rattle.osgi_legal.proofs.StateReadings.{IsIn}
+use Rattle.osgi_legal.proofs.SystemIdle.{system-idle-at}
+use Rattle.osgi_legal.proofs.Up.{is_idle}
 
 -- the innermost bracket of the caller, where the operation is its end
 pub record IsInner (tag : Tag) (o : Op) (opened : List Bracket) (x : Bracket) : Type 0 where
@@ -93,3 +100,28 @@ own-stop now told b failed c = go (phase b now.before) refl (fit-at now told b)
     go bundles.starting e f =
         let x : i.0 ≡ bracket f.0 (cause.starting b) = only i.0 _ (subst (In i.0) f.2 among) in
         absurd (let bad : true ≡ false = sym i.1.ended ∙ ap (λ (y : Bracket). ends (op.EndStop b failed) y.cause) x in cc bad)
+
+-- ---- that bundle is there and resolved, and is not the system bundle
+
+busy-in : (now : Moment) → IsTold now → (b : BundleId) (p : Phase) → phase b now.before ≡ p → is_idle p ≡ false → is_up (running p (is_resolved now.world b)) ≡ true → IsIn now b p true
+busy-in now t b p is busy up = record {
+  apart = apart;
+  live = live;
+  in_phase = is;
+  is_so = up-resolved now t b (ap is_up (state-by now b false true apart live ∙ ap (λ q. running q (is_resolved now.world b)) is) ∙ up);
+}
+  where
+    at : is_idle (phase b now.before) ≡ false
+    at = ap is_idle is ∙ busy
+
+    live : is_live b now.before ≡ true
+    live = at-told (λ m. is_idle (phase b m.before) ≡ false → is_live b m.before ≡ true) (λ setting told tag legal. busy-live setting told legal b) now t at
+
+    apart : (b.0 == 0) ≡ false
+    apart = false_from_ne_true _ (λ e. (let bad : true ≡ false = sym (system-idle-at now t) ∙ sym (ap (λ x. is_idle (phase x now.before)) (same-id b system e)) ∙ at in cc bad))
+
+pub own-start-live : (now : Moment) → IsTold now → (b : BundleId) (failed : Bool) → closes now.tag (op.EndStart b failed) (brackets now.before) ≡ true → IsIn now b bundles.starting true
+own-start-live now t b failed c = busy-in now t b bundles.starting (own-start now t b failed c).0 refl refl
+
+pub own-stop-live : (now : Moment) → IsTold now → (b : BundleId) (failed : Bool) → closes now.tag (op.EndStop b failed) (brackets now.before) ≡ true → IsIn now b bundles.stopping true
+own-stop-live now t b failed c = busy-in now t b bundles.stopping (own-stop now t b failed c).0 refl refl

@@ -1,17 +1,20 @@
 -- Facts of legal histories.
 pub mod Accepted
 pub mod Askers
+pub mod Cleanings
 pub mod Current
 pub mod Drops
 pub mod Early
 pub mod Ends
 pub mod Facts
+pub mod Fresh
 pub mod Handing
 pub mod Hands
 pub mod Legal
 pub mod Levels
 pub mod Listening
 pub mod Names
+pub mod Opened
 pub mod Owned
 pub mod Owners
 pub mod Phases
@@ -20,8 +23,11 @@ pub mod Rows
 pub mod Running
 pub mod Sights
 pub mod Stage
+pub mod StateReadings
 pub mod States
+pub mod SystemIdle
 pub mod SystemSources
+pub mod Targets
 pub mod Tidy
 pub mod ToldOnce
 pub mod Unhanded

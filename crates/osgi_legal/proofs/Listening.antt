@@ -113,7 +113,8 @@ counted-with s (Some (clears bundle)) c = counted-left s (λ (a : Added). not (t
 abbrev by_entry : Hearing → Entry → Hearing
 by_entry s e = with_heard (heard_by e.op e.reply) s
 
-abbrev no_hearing : Hearing
+-- no listener was added
+abbrev pub no_hearing : Hearing
 no_hearing = record { count = 0; live = [] }
 
 pub counted : (history : List Entry) → IsCounted (hearing history)

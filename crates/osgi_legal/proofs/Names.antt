@@ -23,7 +23,7 @@ use Rattle.osgi_ops.specs.declared.refusal.Refusal.TheVariants as no
 use Rattle.osgi_ops.specs.declared.reply.Reply.{Reply}
 use Rattle.osgi_ops.specs.declared.reply.Reply.TheVariants as answer
 use Rattle.osgi_world.specs.declared.revision.Revision.{Revision}
-use Rattle.osgi_ops.specs.laws.Along.{holds, latest-quiet, latest-set}
+use Rattle.osgi_ops.specs.laws.Along.{holds}
 use Rattle.osgi_ops.specs.laws.Members.{Contains-cases, Contains-filter, Contains-filter_map, Contains-first, Contains-map, Contains-mapped, Contains-more, Contains-none}
 use Rattle.osgi_legal.proofs.Accepted.{accepted, NoneHolds}
 use Rattle.osgi_ops.specs.laws.Bundles.{later, left_by, live-push, source-by}

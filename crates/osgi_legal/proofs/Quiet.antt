@@ -16,7 +16,7 @@ use Rattle.osgi_ops.specs.Brackets.{brackets, closes, is_end, opens, turned}
 use Rattle.osgi_ops.specs.Bundles as bundles
 use Rattle.osgi_ops.specs.Bundles.{begun_by, brings_revision, Installed, installed, installed_by, is_uninstall, last_begin, live_at, phase, put_into, revisions, row_from, source, updated_to}
 use Rattle.osgi_ops.specs.Cleaning.{cleaned_by, cleans}
-use Rattle.osgi_ops.specs.Depots.{stored_revision, row_number}
+use Rattle.osgi_ops.specs.Depots.{row_number}
 use Rattle.osgi_ops.specs.Jobs as queue
 use Rattle.osgi_ops.specs.Jobs.{jobs, Queued, queued_by, with_jobs}
 use Rattle.osgi_ops.specs.Levels.{leveled, moved_to, refresh, refresh_by, Walk, walk, walk_by, wishes}
@@ -35,7 +35,6 @@ use Rattle.osgi_ops.specs.declared.refusal.Refusal.{Refusal}
 use Rattle.osgi_ops.specs.declared.refusal.Refusal.TheVariants as no
 use Rattle.osgi_ops.specs.declared.reply.Reply.{Reply}
 use Rattle.osgi_ops.specs.declared.reply.Reply.TheVariants as answer
-use Rattle.osgi_world.specs.declared.revision.Revision.{Revision}
 use Rattle.osgi_world.specs.declared.world.World.{World}
 use Rattle.osgi_ops.specs.laws.Along.{along-last, carry-last, latest-quiet}
 use Rattle.osgi_ops.specs.laws.Bundles as installs

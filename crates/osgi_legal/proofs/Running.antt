@@ -48,12 +48,12 @@ use Rattle.osgi_legal.proofs.Listening.{effective-closes}
 use Rattle.osgi_legal.proofs.Owned.{entries-last}
 use Rattle.osgi_legal.proofs.Phases.{brackets_for, ends_for, ends_it, Fits, has-for, innermost-for, leaves, phase-quiet, phases-fit, start-row, starts, state-by, stop-row, stops, Turn, turn-of}
 use Rattle.osgi_legal.proofs.Tidy.{first-tidy, IsTidy, known-bundle, member-contains, extends-of}
-use Rattle.osgi_legal.proofs.Up.{is_idle, is_up_at, not-uninstalled, up-is, up-refused}
+use Rattle.osgi_legal.proofs.Up.{idle-is, is_idle, is_up_at, not-uninstalled, up-is, up-refused}
 use Rattle.osgi_legal.proofs.Windows.{always-kept, IsKept, kept-step, leaves-refused, refused-is, window-outside}
 
 -- ---- what has begun and not come to rest is live
 
-live-by : (b : BundleId) (h : List Entry) → is_up_at h b ≡ true → is_live b h ≡ true
+pub live-by : (b : BundleId) (h : List Entry) → is_up_at h b ≡ true → is_live b h ≡ true
 live-by b h up = go (b.0 == 0) refl up
   where
     go : (k : Bool) → (b.0 == 0) ≡ k → (k || (is_live b h && not (is_idle (phase b h)))) ≡ true → is_live b h ≡ true
@@ -73,14 +73,14 @@ end-stays b o y e = refl
 busy-up : (b : BundleId) (h : List Entry) → is_live b h ≡ true → is_idle (phase b h) ≡ false → is_up_at h b ≡ true
 busy-up b h live busy = or_right _ _ (and_from _ _ live (ap not busy))
 
-stop-up : (m : Moment) (x : Entry) (b : BundleId) (target : Target) (transient : Bool) (row : ℕ) → IsReply m x.op x.reply → x.op ≡ op.BeginStop target transient → x.reply ≡ answer.Begun b row →
+pub stop-up : (m : Moment) (x : Entry) (b : BundleId) (target : Target) (transient : Bool) (row : ℕ) → IsReply m x.op x.reply → x.op ≡ op.BeginStop target transient → x.reply ≡ answer.Begun b row →
     is_up_at m.before b ≡ true
 stop-up m x b target transient row r so sr =
     let s = stop-row m target transient b row (subst (λ y. IsReply m (op.BeginStop target transient) y) sr (subst (λ o. IsReply m o x.reply) so r)) in
     sym (up-is m.world m.before b) ∙ or_left _ _ s.0
 
 -- an end of the bundle's own bracket finds it begun
-end-busy : (setting : Setting) (front : List Told) (x : Told) → AreAllowed setting front → IsAllowed setting front x → (b : BundleId) → is_end x.entry.op ≡ true →
+pub end-busy : (setting : Setting) (front : List Told) (x : Told) → AreAllowed setting front → IsAllowed setting front x → (b : BundleId) → is_end x.entry.op ≡ true →
     ends_for b x.entry.op ≡ true → is_effective x.entry.reply ≡ true → is_idle (phase b (entries_in front)) ≡ false
 end-busy setting front x legal a b e f g =
     let m = moment setting front x.entry.tag in
@@ -192,12 +192,6 @@ begin-running setting front tag b begun transient row legal r was = go (b.0 == 0
     t : IsTidy (bundles.revisions m.before) m.world
     t = (always-kept setting front legal).tidy
 
-    idle-of : (p : Phase) → is_idle p ≡ true → p ≡ idle
-    idle-of idle e = refl
-    idle-of active e = absurd (cc e)
-    idle-of bundles.starting e = absurd (cc e)
-    idle-of bundles.stopping e = absurd (cc e)
-
     resting : (c : Bool) → is_resolved m.world b ≡ c → state_of m b ≡ bundles.resting (is_resolved m.world b) → is_resolved m.world b ≡ true
     resting true e s = e
     resting false e s = absurd (none.1.0 no.InvalidOperation (refl, inr (s ∙ ap bundles.resting e)))
@@ -206,7 +200,7 @@ begin-running setting front tag b begun transient row legal r was = go (b.0 == 0
     go true e i = was (or_left _ _ e)
     go false e (inr busy) = was (busy-up b m.before live busy)
     go false e (inl rests) =
-        let s : state_of m b ≡ bundles.resting (is_resolved m.world b) = state-by m b false true e live ∙ ap (λ p. running p (is_resolved m.world b)) (idle-of (phase b m.before) rests) in
+        let s : state_of m b ≡ bundles.resting (is_resolved m.world b) = state-by m b false true e live ∙ ap (λ p. running p (is_resolved m.world b)) (idle-is (phase b m.before) rests) in
         whole-running (bundles.revisions m.before) m.world b t (resting (is_resolved m.world b) refl s) (false_from_ne_true _ (λ f. none.1.0 no.InvalidOperation (refl, inl f)))
 
 -- ---- and stays so

@@ -1,27 +1,25 @@
--- What holds while these operations have not come: no bracket, walk or refresh is open, no listener is live, no job is queued, and
--- bundles only rest: the system bundle alone is up. Each fact holds at each moment of a legal history.
+-- What holds while these operations have not come: no walk over levels and no refresh is open, no listener is live, no job is queued, each
+-- bundle stays and keeps its revision and its level, and each open bracket is for a start or a stop of a bundle. Each fact holds at each
+-- moment of a legal history.
 use Rattle.std.proofs.Common.{◌≡◌, inl, Bool, true, false, List, [], ◌∷◌, ◌++◌, length, refl, sym, ap, ◌∙◌, subst, arith}
-use Rattle.std.specs.Prelude.{◌==◌, not, cond, ℕ, All, Contains, filter, find, IsSomeAnd, MatchBool, Option, None, Some, unwrap_or}
-use Rattle.std.proofs.lemmas.Bool.{eqb-true}
+use Rattle.std.specs.Prelude.{◌==◌, not, cond, nat_lt, ℕ, All, Contains, filter, find, IsSomeAnd, MatchBool, Option, None, Some, unwrap_or}
+use Rattle.std.specs.Option.{option_map_or}
+use Rattle.std.proofs.lemmas.Bool.{and_right}
 use Rattle.std.proofs.lemmas.List.Elements.{All-contains, All-head, All-nil, All-tail, All-weaker}
 use Rattle.std.proofs.lemmas.List.Folds.{list_any_none}
 use Rattle.osgi_base.specs.declared.ids.BundleId.{BundleId}
 use Rattle.osgi_base.specs.declared.ids.ListenerId.{ListenerId}
 use Rattle.osgi_legal.specs.Askers.{MayAsk}
-use Rattle.osgi_ops.specs.Assignable.{IsAssignable}
-use Rattle.osgi_ops.specs.Brackets.{brackets, closes, is_end, is_own_end}
+use Rattle.osgi_ops.specs.Brackets.{brackets}
 use Rattle.osgi_ops.specs.Bundles as bundles
-use Rattle.osgi_ops.specs.Bundles.{Active, begun_by, idle, Installed, installed, is_there, is_uninstall, is_up, last_begin, phase, Phase, put_into, resting, running, source, State, system, Uninstalled, updated_to}
-use Rattle.osgi_ops.specs.Cleaning.{cleaned_by}
-use Rattle.osgi_ops.specs.Conditions.{refreshing_where, state_change, state_of}
+use Rattle.osgi_ops.specs.Bundles.{Active, Installed, installed, is_there, is_active, is_uninstall, source, system, updated_to}
+use Rattle.osgi_ops.specs.Conditions.{is_above, is_kept, lesser, refreshing_where, state_of}
 use Rattle.osgi_ops.specs.Jobs.{jobs}
 use Rattle.osgi_ops.specs.Legal.{AreAllowed, entry_of, IsAllowed, IsTold}
-use Rattle.osgi_ops.specs.Levels.{active_level, autostart, level_of, leveled, moved_to, Refresh, refresh, refresh_by, walk, walk_by, wishes}
+use Rattle.osgi_ops.specs.Levels.{active_level, level_of, leveled, moved_to, Refresh, refresh, refresh_by, Walk, walk, walk_by}
 use Rattle.osgi_ops.specs.Listening.{AreSights, heard_by, Hearing, hearing, is_listener, IsSight, listeners, with_heard}
 use Rattle.osgi_ops.specs.Moments.{Moment, moment, seen_after, Sight, sights_in, Told}
 use Rattle.osgi_ops.specs.Operations.{IsReply, IsRow}
-use Rattle.osgi_ops.specs.Resolved.{is_resolved}
-use Rattle.osgi_ops.specs.Services.{live, Registered}
 use Rattle.osgi_ops.specs.Settings.{Setting}
 use Rattle.osgi_ops.specs.Stages.{is_here}
 use Rattle.osgi_ops.specs.declared.entry.Entry.{Entry}
@@ -37,40 +35,31 @@ use Rattle.osgi_ops.specs.declared.reply.Reply.TheVariants as answer
 use Rattle.osgi_world.specs.declared.world.World.{World}
 use Rattle.osgi_ops.specs.laws.Along.{holds}
 use Rattle.osgi_ops.specs.laws.Stages.{row-here}
-use Rattle.osgi_legal.proofs.Early.{all-early, carry-still, early-calm, IsCalm, IsEarly, latest-none, none-open, none-queued, since-all}
-use Rattle.osgi_legal.proofs.Facts.{services-up-at, system-assignable-at}
+use Rattle.osgi_legal.proofs.Early.{all-early, carry-still, early-calm, IsCalm, IsEarly, latest-none, none-queued, since-all}
 use Rattle.osgi_legal.proofs.Legal.{at-told, sights-last, Told-of}
-use Rattle.osgi_legal.proofs.Quiet.{begin_of}
+use Rattle.osgi_legal.proofs.Listening.{no_hearing}
+use Rattle.osgi_legal.proofs.Opened.{AreOfBundles, hand-ends-none, job-ends-none, opened-so}
 use Rattle.osgi_legal.proofs.Sights.{sights-once}
 use Rattle.osgi_legal.proofs.Unhanded.{all-unhanded, is_handing}
 
 -- ---- entries
 
--- Each entry is of an operation that has come, is no end of a bracket and opens none, or is refused as an invalid operation.
+-- Each entry is of an operation that has come, or is refused as an invalid operation.
 pub early-at : (now : Moment) → IsTold now → All IsEarly now.before
 early-at now t = at-told (λ m. All IsEarly m.before) (λ setting told tag legal. all-early setting told legal) now t
 
--- No entry says anything of brackets, phases, levels, walks, refreshes, listeners, hands or jobs, and none uninstalls, updates or cleans
--- a bundle.
+-- No entry changes a level, begins a walk or a refresh, hands an event, or uninstalls or updates a bundle.
 pub calm-at : (now : Moment) → IsTold now → All (λ (e : Entry). IsCalm e.op e.reply) now.before
 calm-at now t = All-weaker IsEarly (λ (e : Entry). IsCalm e.op e.reply) early-calm now.before (early-at now t)
 
 each : (P : Entry → Type 0) → ((e : Entry) → IsCalm e.op e.reply → P e) → (now : Moment) → IsTold now → All P now.before
 each P says now t = All-weaker (λ (e : Entry). IsCalm e.op e.reply) P says now.before (calm-at now t)
 
--- No entry cleans a bundle.
-pub none-cleaned : (now : Moment) → IsTold now → All (λ (e : Entry). cleaned_by e.op e.reply ≡ None) now.before
-none-cleaned now t = each (λ e. cleaned_by e.op e.reply ≡ None) (λ e c. c.cleaned) now t
-
 -- ---- brackets
 
--- No bracket is open.
-pub no-bracket : (now : Moment) → IsTold now → brackets now.before ≡ []
-no-bracket now t = at-told (λ m. brackets m.before ≡ []) (λ setting told tag legal. none-open setting told legal) now t
-
--- No operation is the end of its caller's innermost bracket.
-pub no-own-end : (now : Moment) → IsTold now → (o : Op) → is_own_end now.tag o now.before ≡ false
-no-own-end now t o = ap (closes now.tag o) (no-bracket now t)
+-- Each open bracket is for a start or a stop of a bundle.
+pub opened-at : (now : Moment) → IsTold now → AreOfBundles (brackets now.before)
+opened-at now t = at-told (λ m. AreOfBundles (brackets m.before)) (λ setting told tag legal. opened-so setting told legal) now t
 
 -- ---- what is refused
 
@@ -78,26 +67,16 @@ no-own-end now t o = ap (closes now.tag o) (no-bracket now t)
 pub late-due : (now : Moment) (o : Op) → is_here o ≡ false → IsReply now o (answer.Refused InvalidOperation)
 late-due now o late = subst (λ k. MatchBool k (IsRow now o (answer.Refused InvalidOperation)) (answer.Refused InvalidOperation ≡ answer.Refused InvalidOperation)) (sym late) refl
 
--- So is every end of a bracket.
-pub end-due : (now : Moment) → IsTold now → (o : Op) → is_end o ≡ true → IsReply now o (answer.Refused InvalidOperation)
-end-due now t (op.EndHand listener) e =
-    row-here now (op.EndHand listener) (answer.Refused InvalidOperation) refl (inl (InvalidOperation, (refl, no-own-end now t (op.EndHand listener)), refl))
-end-due now t op.EndJob e = row-here now op.EndJob (answer.Refused InvalidOperation) refl (inl (InvalidOperation, (refl, no-own-end now t op.EndJob), refl))
-end-due now t (op.EndStart bundle failed) e =
-    row-here now (op.EndStart bundle failed) (answer.Refused InvalidOperation) refl (inl (InvalidOperation, (refl, no-own-end now t (op.EndStart bundle failed)), refl))
-end-due now t (op.EndStop bundle failed) e =
-    row-here now (op.EndStop bundle failed) (answer.Refused InvalidOperation) refl (inl (InvalidOperation, (refl, no-own-end now t (op.EndStop bundle failed)), refl))
-end-due now t o e = absurd (cc e)
+-- So is the end of a hand,
+pub hand-end-due : (now : Moment) → IsTold now → (listener : ListenerId) → IsReply now (op.EndHand listener) (answer.Refused InvalidOperation)
+hand-end-due now t listener =
+    row-here now (op.EndHand listener) (answer.Refused InvalidOperation) refl (inl (InvalidOperation, (refl, hand-ends-none now.tag listener (brackets now.before) (opened-at now t)), refl))
 
--- ---- what bundles do
+-- and the end of a job.
+pub job-end-due : (now : Moment) → IsTold now → IsReply now op.EndJob (answer.Refused InvalidOperation)
+job-end-due now t = row-here now op.EndJob (answer.Refused InvalidOperation) refl (inl (InvalidOperation, (refl, job-ends-none now.tag (brackets now.before) (opened-at now t)), refl))
 
--- No bundle is starting, active or stopping.
-pub always-idle : (now : Moment) → IsTold now → (b : BundleId) → phase b now.before ≡ idle
-always-idle now t b = ap (λ (o : Option Phase). unwrap_or o idle) (latest-none (λ (e : Entry). put_into b e.op e.reply) now.before (each (λ e. put_into b e.op e.reply ≡ None) (λ e c. c.phases b) now t))
-
--- No start and no stop of a bundle ever began.
-pub never-begun : (now : Moment) → IsTold now → (b : BundleId) → last_begin b now.before ≡ None
-never-begun now t b = latest-none (begun_by b) now.before (each (λ e. begun_by b e ≡ None) (λ e c. ap (begin_of e.tag) (c.phases b)) now t)
+-- ---- refreshes
 
 -- No refresh is open.
 pub no-refresh : (now : Moment) → IsTold now → refresh now.before ≡ None
@@ -107,36 +86,41 @@ no-refresh now t = carry-still (λ before (e : Entry). refresh_by before e e.op 
 pub never-refreshing : (now : Moment) → IsTold now → (Holds : Refresh → Type 0) (f : Refusal) → refreshing_where now Holds f → ⊥
 never-refreshing now t Holds f is = subst (λ o. IsSomeAnd o (λ r. Holds r × (f ≡ no.Refreshing r.tag))) (no-refresh now t) is
 
--- Nor for a change of a bundle's state.
-pub never-changing : (now : Moment) → IsTold now → (is_such : State → Bool) (b : BundleId) (f : Refusal) → state_change is_such now b f → ⊥
-never-changing now t is_such b f is = subst (λ o. IsSomeAnd o (λ by. f ≡ no.StateChange by)) (never-begun now t b) is.1
-
 -- ---- levels
 
 -- No walk over levels is open.
 pub no-walk : (now : Moment) → IsTold now → walk now.before ≡ None
-no-walk now t = carry-still (λ before (e : Entry). walk_by before e e.op e.reply) None now.before (each (λ e. walk_by None e e.op e.reply ≡ None) (λ e c. c.levels.walk None e) now t)
+no-walk now t = carry-still (λ before (e : Entry). walk_by before e e.op e.reply) None now.before (each (λ e. walk_by None e e.op e.reply ≡ None) (λ e c. c.walk None e) now t)
 
 -- The system bundle has level 0, and every other bundle level 1.
 pub first-levels : (now : Moment) → IsTold now → (b : BundleId) → level_of b now.before ≡ cond (b.0 == 0) 0 1
 first-levels now t b =
-    ap (λ (o : Option ℕ). cond (b.0 == 0) 0 (unwrap_or o 1)) (latest-none (λ (e : Entry). leveled b e.op e.reply) now.before (each (λ e. leveled b e.op e.reply ≡ None) (λ e c. c.levels.level b) now t))
+    ap (λ (o : Option ℕ). cond (b.0 == 0) 0 (unwrap_or o 1)) (latest-none (λ (e : Entry). leveled b e.op e.reply) now.before (each (λ e. leveled b e.op e.reply ≡ None) (λ e c. c.level b) now t))
 
 -- The active level is 1.
 pub first-level : (now : Moment) → IsTold now → active_level now.before ≡ 1
-first-level now t = ap (λ (o : Option ℕ). unwrap_or o 1) (latest-none (λ (e : Entry). moved_to e.op e.reply) now.before (each (λ e. moved_to e.op e.reply ≡ None) (λ e c. c.levels.moved) now t))
+first-level now t = ap (λ (o : Option ℕ). unwrap_or o 1) (latest-none (λ (e : Entry). moved_to e.op e.reply) now.before (each (λ e. moved_to e.op e.reply ≡ None) (λ e c. c.moved) now t))
 
--- No bundle is marked to be started with its level.
-pub no-wish : (now : Moment) → IsTold now → (b : BundleId) → autostart b now.before ≡ false
-no-wish now t b = ap (λ (o : Option Bool). unwrap_or o false) (latest-none (λ (e : Entry). wishes b e.op e.reply) now.before (each (λ e. wishes b e.op e.reply ≡ None) (λ e c. c.levels.wish b) now t))
+-- So no bundle's level is too high for it to be started.
+pub never-above : (now : Moment) → IsTold now → (b : BundleId) → is_above now b ≡ false
+never-above now t b =
+    (λ i. nat_lt (option_map_or (λ (w : Walk). lesser w.target (active_level now.before)) (no-walk now t i) (active_level now.before)) (level_of b now.before))
+    ∙ (λ i. nat_lt (first-level now t i) (first-levels now t b i))
+    ∙ low (b.0 == 0)
+  where
+    low : (zero : Bool) → nat_lt 1 (cond zero 0 1) ≡ false
+    low true = refl
+    low false = refl
+
+-- Nor is one kept for its level.
+pub never-kept : (now : Moment) → IsTold now → (b : BundleId) → is_kept now b ≡ false
+never-kept now t b = and_right (not (is_active (state_of now b))) (is_above now b) (never-above now t b)
 
 -- ---- listeners and jobs
 
 -- No listener was added.
 pub no-hearing : (now : Moment) → IsTold now → hearing now.before ≡ record { count = 0; live = [] }
-no-hearing now t =
-    let first : Hearing = record { count = 0; live = [] } in
-    carry-still (λ (s : Hearing) (e : Entry). with_heard (heard_by e.op e.reply) s) first now.before (each (λ e. with_heard (heard_by e.op e.reply) first ≡ first) (λ e c. ap (λ u. with_heard u first) c.heard) now t)
+no-hearing now t = carry-still (λ (s : Hearing) (e : Entry). with_heard (heard_by e.op e.reply) s) no_hearing now.before (each (λ e. with_heard (heard_by e.op e.reply) no_hearing ≡ no_hearing) (λ e c. c.heard) now t)
 
 -- No listener is live.
 pub no-listeners : (now : Moment) → IsTold now → listeners now.before ≡ []
@@ -190,49 +174,11 @@ live-source now t = subst (All (λ (i : Installed). source i ≡ i.location)) (s
 pub system-active : (now : Moment) → state_of now system ≡ Active
 system-active now = refl
 
--- Every other live bundle rests: it is resolved or not.
-pub rests : (now : Moment) → IsTold now → (b : BundleId) → (b.0 == 0) ≡ false → bundles.is_live b now.before ≡ true → state_of now b ≡ resting (is_resolved now.world b)
-rests now t b apart there =
-    let resolved : Bool = is_resolved now.world b in
-    ap (λ c. cond c Active (cond (bundles.is_live b now.before) (running (phase b now.before) resolved) Uninstalled)) apart
-    ∙ ap (λ c. cond c (running (phase b now.before) resolved) Uninstalled) there
-    ∙ ap (λ p. running p resolved) (always-idle now t b)
-
--- What is up is bundle 0.
-pub up-zero : (now : Moment) → IsTold now → (b : BundleId) → is_up (state_of now b) ≡ true → (b.0 == 0) ≡ true
-up-zero now t b up = go (b.0 == 0) (bundles.is_live b now.before) (phase b now.before) (is_resolved now.world b) (always-idle now t b) up
-  where
-    go : (zero there : Bool) (p : Phase) (resolved : Bool) → p ≡ idle → is_up (cond zero Active (cond there (running p resolved) Uninstalled)) ≡ true → zero ≡ true
-    go true there p resolved q e = refl
-    go false true p true q e = absurd (let bad : false ≡ true = sym (ap (λ x. is_up (running x true)) q) ∙ e in cc bad)
-    go false true p false q e = absurd (let bad : false ≡ true = sym (ap (λ x. is_up (running x false)) q) ∙ e in cc bad)
-    go false false p resolved q e = absurd (cc e)
-
--- The system bundle alone is up.
-pub up-system : (now : Moment) → IsTold now → (b : BundleId) → is_up (state_of now b) ≡ true → b ≡ system
-up-system now t b up = let same : b.0 ≡ 0 = eqb-true b.0 0 (up-zero now t b up) in λ i. record { 0 = same i }
-
--- ---- who asks, and who owns
+-- ---- who asks
 
 -- The system bundle may ask, at every moment.
 pub system-passes : (now : Moment) → MayAsk now (Some system)
 system-passes now = (refl, refl)
-
--- Whoever may ask is the system bundle.
-pub passes-system : (now : Moment) → IsTold now → (asker : BundleId) → MayAsk now (Some asker) → asker ≡ system
-passes-system now t asker p = up-system now t asker p.1
-
--- The owner of every live service is the system bundle.
-pub system-owns : (now : Moment) → IsTold now → All (λ (r : Registered). r.owner ≡ system) (live now.before)
-system-owns now t =
-    All-weaker (λ (r : Registered). is_up (state_of now r.owner) ≡ true) (λ r. r.owner ≡ system) (λ r up. up-system now t r.owner up) (live now.before) (services-up-at now t)
-
--- Every live service is assignable to whoever may ask, for every class.
-pub all-assignable : (now : Moment) → IsTold now → (asker : BundleId) → MayAsk now (Some asker) → All (λ (r : Registered). (class : List ℕ) → IsAssignable now.world r.owner asker class) (live now.before)
-all-assignable now t asker p =
-    All-weaker (λ (r : Registered). r.owner ≡ system) (λ r. (class : List ℕ) → IsAssignable now.world r.owner asker class)
-    (λ r mine class. subst (λ b. IsAssignable now.world b asker class) (sym mine) (subst (λ b. IsAssignable now.world system b class) (sym (passes-system now t asker p)) (system-assignable-at now t class)))
-    (live now.before) (system-owns now t)
 
 -- ---- what is seen
 

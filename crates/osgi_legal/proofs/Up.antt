@@ -37,6 +37,12 @@ abbrev pub is_idle : Phase → Bool
 is_idle idle = true
 is_idle p = false
 
+pub idle-is : (p : Phase) → is_idle p ≡ true → p ≡ idle
+idle-is idle e = refl
+idle-is active e = absurd (cc e)
+idle-is bundles.starting e = absurd (cc e)
+idle-is bundles.stopping e = absurd (cc e)
+
 -- the system bundle, or a live one that is starting, active or stopping
 abbrev pub is_up_at : List Entry → BundleId → Bool
 is_up_at history b = (b.0 == 0) || (is_live b history && not (is_idle (phase b history)))
@@ -67,7 +73,7 @@ HasBegun b history = is_idle (phase b history) ≡ false → is_some (last_begin
 abbrev begin_of : Tag → Option Phase → Option Tag
 begin_of tag u = elim u [ Some bundles.starting ↦ Some tag | Some bundles.stopping ↦ Some tag | _ ↦ None ]
 
-begun-quiet : (b : BundleId) (h : List Entry) (e : Entry) (p : Phase) → puts b e ≡ Some p → (p ≡ idle) ⊎ (p ≡ active) → last_begin b (h ++ e ∷ []) ≡ last_begin b h
+pub begun-quiet : (b : BundleId) (h : List Entry) (e : Entry) (p : Phase) → puts b e ≡ Some p → (p ≡ idle) ⊎ (p ≡ active) → last_begin b (h ++ e ∷ []) ≡ last_begin b h
 begun-quiet b h e p q r = latest-quiet (begun_by b) h e (ap (begin_of e.tag) q ∙ rests p r)
   where
     rests : (p : Phase) → (p ≡ idle) ⊎ (p ≡ active) → begin_of e.tag (Some p) ≡ None

@@ -101,7 +101,3 @@ own_turned tag None false own = own
 -- the operation is the end of the innermost bracket of the tag's caller, which the tag's own command opened
 abbrev pub is_own_end : Tag → Op → List Entry → Bool
 is_own_end tag op history = closes tag op (brackets history)
-
--- how many brackets a caller may have open
-abbrev pub most_brackets : ℕ
-most_brackets = 64

@@ -121,7 +121,7 @@ row_of depot history bundle = option_map_or (λ (i : Installed). row_number depo
 
 -- ---- states
 
--- where a bundle is between its last begin and what comes after
+-- whether a bundle is at rest, starting, active or stopping
 pub data Phase : Type 0 where
   idle : Phase
   starting : Phase

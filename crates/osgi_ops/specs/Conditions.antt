@@ -5,7 +5,7 @@ use Rattle.std.specs.Ordering.{is_gt}
 use Rattle.osgi_base.specs.Verdict.{Where}
 use Rattle.osgi_base.specs.declared.ids.BundleId.{BundleId}
 use Rattle.osgi_base.specs.declared.ids.ServiceId.{ServiceId}
-use Rattle.osgi_ops.specs.Brackets.{brackets_of, is_own_end, most_brackets}
+use Rattle.osgi_ops.specs.Brackets.{brackets_of, is_own_end}
 use Rattle.osgi_ops.specs.Bundles.{Active, Bundle, bundles, is_active, is_live, is_up, last_begin, State, state, system}
 use Rattle.osgi_ops.specs.Depots.{stored_revision, stored_at}
 use Rattle.osgi_ops.specs.Levels.{active_level, level_of, Refresh, refresh, Walk, walk}
@@ -13,6 +13,7 @@ use Rattle.osgi_ops.specs.Moments.{Moment}
 use Rattle.osgi_ops.specs.Services.{live_at}
 use Rattle.osgi_ops.specs.declared.depot.Stored.{Stored}
 use Rattle.osgi_ops.specs.declared.depot.Stored.TheVariants as stored
+use Rattle.osgi_ops.specs.declared.limits.TheConstants.{MAX_BRACKETS}
 use Rattle.osgi_ops.specs.declared.op.Op.{Op}
 use Rattle.osgi_ops.specs.declared.op.Op.TheVariants as op
 use Rattle.osgi_ops.specs.declared.refusal.Many.TheVariants.{Locations}
@@ -67,7 +68,7 @@ IsOwnRefresh now dropped r = (refresh now.before ≡ Some r) × (r.tag.caller �
 
 -- this caller has as many brackets open as it may
 abbrev pub IsDeep : Moment → Type 0
-IsDeep now = most_brackets ≤ length (brackets_of now.tag.caller now.before)
+IsDeep now = MAX_BRACKETS ≤ length (brackets_of now.tag.caller now.before)
 
 -- the operation is not the end of the innermost bracket of its caller, or another command of the caller opened that
 abbrev pub no_own_end : Moment → Op → Refusal → Type 0

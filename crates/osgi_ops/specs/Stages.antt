@@ -3,17 +3,13 @@ use Rattle.std.specs.Prelude.{Bool, true, false}
 use Rattle.osgi_ops.specs.declared.op.Op.{Op}
 use Rattle.osgi_ops.specs.declared.op.Op.TheVariants as op
 
--- The ends of brackets are here before what opens one: while no bracket is open, their own conditions refuse them
+-- The ends of hands and of jobs are here before what opens these: while none is open, their own conditions refuse them. So is TakeJob, which
+-- finds no job while none can be queued
 abbrev pub is_here : Op → Bool
 is_here (op.AddListener owner name kind filter) = false
 is_here (op.RemoveListener owner name) = false
 is_here op.Hand = false
 is_here (op.QueueJob owner name) = false
-is_here (op.Print owner text) = false
-is_here (op.Fail owner text) = false
-is_here (op.WishStart target transient) = false
-is_here (op.BeginStart bundle transient) = false
-is_here (op.BeginStop target transient) = false
 is_here (op.Update bundle location) = false
 is_here (op.Uninstall bundle) = false
 is_here (op.BeginRefresh bundles) = false

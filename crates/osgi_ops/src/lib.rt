@@ -23,7 +23,8 @@ pub use entry::Entry;
 pub use event::{Busy, Event};
 pub use kind::Kind;
 pub use limits::{
-    Limits, MAX_BUDGET, MAX_BUNDLES, MAX_ENTRIES, MAX_HANDINGS, MAX_LOCATIONS, MAX_SERVICES,
+    Limits, MAX_BRACKETS, MAX_BUDGET, MAX_BUNDLES, MAX_ENTRIES, MAX_HANDINGS, MAX_LOCATIONS,
+    MAX_SERVICES,
 };
 pub use op::Op;
 pub use refusal::{Many, Refusal, Unmet};
@@ -32,5 +33,5 @@ pub use rows::{BundleRow, WireRow};
 pub use scope::Scope;
 pub use section::Section;
 pub use service::{Service, ServiceRow};
-pub use state::{ACTIVE, INSTALLED, RESOLVED, STARTING, STOPPING, UNINSTALLED, is_up};
+pub use state::{ACTIVE, INSTALLED, RESOLVED, STARTING, STOPPING, UNINSTALLED, is_changing, is_up};
 pub use target::Target;

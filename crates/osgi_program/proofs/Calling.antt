@@ -71,9 +71,9 @@ early-right (e ∷ before) made all = early-right before made (All-tail IsEarly 
 
 -- no Hand is refused since enough was handed while Hand has not come
 not_spent : (e : Entry) → IsEarly e → call_of e ≡ call Hand (Refused HandingsSpent) → ⊥
-not_spent e (inl alone) same =
+not_spent e (inl here) same =
     let hand : e.op ≡ Hand = ap (λ (c : Call). c.op) same in
-    (let bad : true ≡ false = sym alone.0 ∙ ap is_here hand in cc bad)
+    (let bad : true ≡ false = sym here ∙ ap is_here hand in cc bad)
 not_spent e (inr refused) same =
     let reply : Refused InvalidOperation ≡ Refused HandingsSpent = sym refused ∙ ap (λ (c : Call). c.reply) same in cc reply
 

@@ -109,7 +109,7 @@ fn write_session<K: Sink>(alloc: Global, ran: Ran, session: &Session, sink: &mut
 /// The words are the command line without the program's name; they have to be `run`, and may give a limit on the effort of each
 /// resolve, by `--budget B` or `--budget=B`. The status and
 /// the session that are answered are explained at `Finished`. Before the first line runs, the folder of each location that an
-/// `install` line names is read from the shelf, once. Runtime and gate are not used yet.
+/// `install` or an `update` line names is read from the shelf, once. Runtime and gate are not used yet.
 pub fn framework_main<R, S: Source, K: Sink, F: Shelf, G: Gate>(
     rt: &R,
     alloc: Global,

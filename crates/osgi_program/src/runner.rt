@@ -1,13 +1,16 @@
 //! Lines run on the machine.
 
-ghost use Rattle.std.specs.Prelude.{◌≡◌, true};
+ghost use Rattle.std.specs.Prelude.{◌≡◌, ◌==◌, true, false, length, IfOk, OnErr};
 ghost use Rattle.osgi_program.specs.computed.Running.{RunsCommand, RunsLine, RunsLines};
+ghost use Rattle.osgi_runner.specs.Calls.{Adds, IsCutShort};
+ghost use Rattle.osgi_runner.specs.declared.runner.Ended.TheVariants as ended;
 ghost use Rattle.osgi_session.specs.Lines.{has_command};
 ghost use Rattle.osgi_session.specs.Scripts.{sections_of};
+ghost use Rattle.osgi_session.specs.Sessions.{IsCutRunOf, IsRunOf};
 
 use crate::alone::{Alone, Under};
 use osgi_core::Core;
-use osgi_runner::{Ended, command};
+use osgi_runner::{Ended, Runner};
 use osgi_session::{Content, Line, Scripts};
 use std::alloc::{AllocError, Global};
 
@@ -22,12 +25,28 @@ pub enum Ran {
     Starved,
 }
 
+/// Has the only caller run the command of a line, and says what that adds to the history.
+fn run_alone<U: Under>(
+    alloc: Global,
+    alone: &mut Alone<U>,
+    scripts: &Scripts,
+    line: &Line,
+) -> Result<Ended, AllocError>
+    requires command { has_command line.now.content ≡ true }
+    ensures done { IfOk result (λ how. how ≡ ended.Done → Adds (IsRunOf (sections_of scripts.now) 0 line.now) alone.old.core.entries alone.new.core.entries) }
+    ensures cut { IfOk result (λ how. how ≡ ended.Cut →
+        IsCutShort (sections_of scripts.now) 0 line.now (length alone.new.core.entries == U.setting.bounds.entries) alone.old.core.entries alone.new.core.entries) }
+    ensures wanting { OnErr result (Adds (IsCutRunOf (sections_of scripts.now) 0 line.now false) alone.old.core.entries alone.new.core.entries) }
+{
+    Runner::alone(alloc, alone, scripts).command(line)
+}
+
 /// Runs the command of a line.
 fn run_command<U: Under>(alloc: Global, alone: &mut Alone<U>, scripts: &Scripts, line: &Line) -> Ran
     requires command { has_command line.now.content ≡ true }
     ensures command { RunsCommand result (sections_of scripts.now) U.setting.bounds.entries line.now alone.old.core.entries alone.new.core.entries }
 {
-    let ended = command(alloc, alone, scripts, line);
+    let ended = run_alone(alloc, alone, scripts, line);
     let _ = alone.core.world();
     match ended {
         Ok(Ended::Done) => Ran::All,

@@ -109,7 +109,8 @@ others_differ issued service e rest is under after =
 fixed_by : (service : ServiceId) (f : LiveService → LiveService) (row : LiveService) (here : Bool) → is_service service row ≡ here → here ≡ false → cond (is_service service row) (f row) row ≡ row
 fixed_by service f row here is none = rw (is ∙ none) refl
 
-change_none : (service : ServiceId) (f : LiveService → LiveService) (rows : List LiveService) → All (λ row. is_service service row ≡ false) rows → change service f rows ≡ rows
+-- a change of a service that has no row
+pub change_none : (service : ServiceId) (f : LiveService → LiveService) (rows : List LiveService) → All (λ row. is_service service row ≡ false) rows → change service f rows ≡ rows
 change_none service f rows none = map_fixed (λ row. cond (is_service service row) (f row) row) rows (λ k d within. fixed_by service f _ false (none k d within) refl)
 
 without_none : (service : ServiceId) (rows : List LiveService) → All (λ row. is_service service row ≡ false) rows → without service rows ≡ rows

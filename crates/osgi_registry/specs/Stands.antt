@@ -1,7 +1,8 @@
 -- Which histories a registry stands for.
-use Rattle.std.specs.Prelude.{◌≡◌, ◌≤◌, List, [], ◌∷◌, ◌++◌, length}
+use Rattle.std.specs.Prelude.{◌≡◌, ◌≤◌, List, [], ◌∷◌, ◌++◌, Some, length}
 use Rattle.osgi_base.specs.declared.ids.BundleId.{BundleId}
 use Rattle.osgi_base.specs.declared.ids.Tag.{Tag}
+use Rattle.osgi_ops.specs.Cleaning.{cleaned_by}
 use Rattle.osgi_ops.specs.Services.{gets, live, Registered, registered, service_now, ungets, uses_held}
 use Rattle.osgi_ops.specs.declared.entry.Entry.{Entry}
 use Rattle.osgi_ops.specs.declared.op.Op.{Op}
@@ -29,3 +30,7 @@ pub record StandsFor (history : List Entry) (registry : RegistryRows) : Type 0 w
 abbrev pub StandsAfter : Op → Reply → RegistryRows → RegistryRows → Type 0
 StandsAfter op reply old new =
     (history : List Entry) (tag : Tag) → StandsFor history old → StandsFor (history ++ record { tag = tag; op = op; reply = reply } ∷ []) new
+
+-- if it stood for a history, it stands for that history with an entry that cleans the bundle
+abbrev pub StandsCleaned : BundleId → RegistryRows → RegistryRows → Type 0
+StandsCleaned bundle old new = (history : List Entry) (e : Entry) → cleaned_by e.op e.reply ≡ Some bundle → StandsFor history old → StandsFor (history ++ e ∷ []) new

@@ -2,6 +2,7 @@
 #![tactic(auto)]
 
 mod assignability;
+mod bundle_services;
 mod class_index;
 mod finding;
 mod held;

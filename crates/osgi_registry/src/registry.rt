@@ -1,19 +1,22 @@
 //! The registry.
 
-ghost use Rattle.std.specs.Prelude.{◌≡◌, ◌≢◌, ℕ, Bool, List, AllPairs, filter, not, ◌+◌, ◌<◌, [], ◌∷◌, ◌++◌, nat_lt, length, slice_get, None, Some, false, All, IfNone, IfOk, IfSome, OnOk, OnErr};
+ghost use Rattle.std.specs.Prelude.{◌≡◌, Bool, List, ℕ, filter, map, true, ◌+◌, ◌<◌, [], ◌∷◌, ◌++◌, nat_lt, length, slice_get, None, Some, false, All, IfNone, IfOk, IfSome, OnOk, OnErr};
 ghost use Rattle.osgi_base.specs.declared.ids.BundleId.{BundleId};
 ghost use Rattle.osgi_ops.specs.Classes.{AreRanked, IsFound, IsOf, IsOpenTo};
 ghost use Rattle.std.specs.Bool.{OnTrue, OnFalse};
 ghost use Rattle.std.specs.Option.{option_copied, option_map};
 ghost use Rattle.std.specs.Result.{result_err};
-ghost use Rattle.std.specs.BTreeMap.{values};
+ghost use Rattle.std.specs.List.Sorted.{IsStrictlySortedBy};
+ghost use Rattle.std.specs.Ordering.{nat_cmp};
+ghost use Rattle.osgi_base.specs.declared.ids.ServiceId.{ServiceId};
 ghost use Rattle.osgi_ops.specs.declared.op.Op.TheVariants as op;
 ghost use Rattle.osgi_ops.specs.declared.reply.Reply.TheVariants as answers;
-ghost use Rattle.osgi_registry.specs.computed.Places.{HoldsNoMore, IsIndexOf};
-ghost use Rattle.osgi_registry.specs.Rows.{AreInOrder, change, change_refusal, service_number, ids_of, is_owned, IsAskedFor, modify_refusal, IsOpenBy, new_row, object_at, others, register_refusal, released, row_at, services_in, use_count, used_less, used_more, with_properties, without, without_user};
-ghost use Rattle.osgi_registry.specs.Stands.{StandsAfter, StandsFor};
+ghost use Rattle.osgi_registry.specs.computed.Belonging.{AreAmong, concerns, owns};
+ghost use Rattle.osgi_registry.specs.Rows.{AreInOrder, change, change_refusal, ids_of, is_owned, is_service, IsAskedFor, modify_refusal, IsOpenBy, new_row, object_at, register_refusal, released, row_at, services_in, use_count, used_less, used_more, with_properties, without, without_user};
+ghost use Rattle.osgi_registry.specs.Stands.{StandsAfter, StandsCleaned, StandsFor};
 
 use crate::assignability::Assignability;
+use crate::bundle_services::BundleServices;
 use crate::class_index::ClassIndex;
 use crate::finding::{Asked, Told, all_fit, all_of};
 use crate::held::{Held, modified};
@@ -34,6 +37,7 @@ pub struct Registry {
     texts: FrameworkTexts,
     services: BTreeMap<u64, Held>,
     index: ClassIndex,
+    bundles: BundleServices,
     issued: u64,
 }
 
@@ -45,6 +49,7 @@ impl Drop for Registry {
             texts: _,
             services: _,
             index: _,
+            bundles: _,
             issued: _,
         } = self;
     }
@@ -63,7 +68,7 @@ impl Model for Registry {
 
     ghost view = { λ r. record { rows = values_of r.services.entries; issued = r.issued } };
 
-    ghost invariant = { λ r. IsKept r.issued r.services.entries r.index.classes };
+    ghost invariant = { λ r. IsKept r.issued r.services.entries r.index.classes r.bundles.bundles };
 }
 
 impl Registry {
@@ -76,6 +81,7 @@ impl Registry {
             texts: FrameworkTexts::new(alloc)?,
             services: BTreeMap::new(alloc),
             index: ClassIndex::new(alloc),
+            bundles: BundleServices::new(alloc),
             issued: 0,
         })
     }
@@ -186,8 +192,10 @@ impl Registry {
         ensures unchanged { OnErr result (self.new ≡ self.old) }
     {
         let id = service.service.0;
+        let owner = service.owner;
         let place = Place::of(&service);
         let held = Held::new(self.alloc, service, scope)?;
+        self.bundles.add(owner, ServiceId(id))?;
         self.index
             .add_all(held.service().classes.items(), place, held.shared())?;
         if let Err(error) = self.services.insert(id, held) {
@@ -289,13 +297,21 @@ impl Registry {
         if let Some(refusal) = self.refusal_of(owner, service) {
             return Err(refusal);
         }
-        let Some(held) = self.services.remove(&service.0) else {
-            return Err(Refusal::NoSuchService);
-        };
-        let service = held.service();
-        self.index
-            .take_all(service.classes.items(), Place::of(service));
+        self.take_out(service);
         Ok(())
+    }
+
+    /// Takes the service out, if it is live, and its uses with it.
+    fn take_out(&mut self, service: ServiceId)
+        ensures rows { self.new.rows ≡ without service self.old.rows }
+        ensures issued { self.new.issued ≡ self.old.issued }
+    {
+        let Some(held) = self.services.remove(&service.0) else {
+            return;
+        };
+        let taken = held.service();
+        self.index.take_all(taken.classes.items(), Place::of(taken));
+        self.bundles.take(taken.owner, service);
     }
 
     /// Counts one more use of the service by the user, and answers a copy of its object.
@@ -342,6 +358,7 @@ impl Registry {
         let Some(held) = self.services.get_mut(&service.0) else {
             return Ok(false);
         };
+        self.bundles.add(user, service)?;
         held.add_use(self.alloc, user)?;
         Ok(true)
     }
@@ -431,58 +448,102 @@ impl Registry {
         }
     }
 
-    /// Takes out all services of the bundle and all its uses, and gives the ids of these services, rising.
+    /// Takes out all services of the bundle and all its uses, and gives the ids of these services, rising. It looks at no
+    /// service that the bundle neither owned nor used.
     pub fn release(&mut self, bundle: BundleId) -> Result<List<ServiceId>, AllocError>
         ensures services { IfOk result (λ services. services ≡ ids_of (filter (is_owned bundle) self.old.rows)) }
         ensures rows { OnOk result (self.new.rows ≡ released bundle self.old.rows) }
         ensures issued { self.new.issued ≡ self.old.issued }
+        ensures stands { OnOk result (StandsCleaned bundle self.old self.new) }
         ensures unchanged { OnErr result (self.new ≡ self.old) }
     {
-        let services = owned_services(self.alloc, &self.services, bundle)?;
-        take_places(&mut self.index, &self.services, bundle);
-        self.services.retain(
-            |_id: &u64, held: &mut Held| -> bool
-                ensures held { (result ≡ not (is_owned bundle held.old)) × (held.new ≡ without_user bundle held.old) }
-            {
-                held.forget(bundle);
-                held.service().owner.0 != bundle.0
-            },
-        );
-        Ok(services)
+        let services = self.concerned(bundle)?;
+        let owned = self.owned_among(bundle, services.items())?;
+        self.let_go_all(bundle, services.items());
+        self.clear(bundle);
+        Ok(owned)
     }
-}
 
-/// The ids of the bundle's services.
-fn owned_services(
-    alloc: Global,
-    services: &BTreeMap<u64, Held>,
-    bundle: BundleId,
-) -> Result<List<ServiceId>, AllocError>
-    ensures ids { IfOk result (λ ids. ids ≡ ids_of (filter (is_owned bundle) (values services.now))) }
-{
-    let mut ids = List::new(alloc)?;
-    for held in services.values() {
-        let service = held.service();
-        if service.owner.0 != bundle.0 {
-            continue;
-        }
-        ids.push(service.service)?;
+    /// The services that the bundle owns or uses, rising. There may be others, and services that are not live, among them.
+    fn concerned(&self, bundle: BundleId) -> Result<List<ServiceId>, AllocError>
+        ensures all { IfOk result (λ services. AreAmong bundle services self.now.rows) }
+        ensures rising { IfOk result (λ services. IsStrictlySortedBy nat_cmp (map (λ (service : ServiceId). service.0) services)) }
+    {
+        self.bundles.services(self.alloc, bundle)
     }
-    Ok(ids)
-}
 
-/// Takes the places of the bundle's services out of the index.
-fn take_places(index: &mut ClassIndex, services: &BTreeMap<u64, Held>, bundle: BundleId)
-    requires apart { AllPairs (λ a b. service_number a ≢ service_number b) (values services.now) }
-    requires index { IsIndexOf index.old.classes (values services.now) }
-    ensures index { IsIndexOf index.new.classes (others bundle (values services.now)) }
-    ensures no_more { HoldsNoMore index.old.classes index.new.classes }
-{
-    for held in services.values() {
-        let service = held.service();
-        if service.owner.0 != bundle.0 {
-            continue;
+    /// Whether the bundle owns the service, and it is live.
+    fn is_owned(&self, bundle: BundleId, service: ServiceId) -> bool
+        ensures owned { result ≡ owns bundle self.now.rows service }
+        ensures each { All (λ row. is_service service row ≡ true → is_owned bundle row ≡ result) self.now.rows }
+    {
+        match self.services.get(&service.0) {
+            Some(held) => held.service().owner.0 == bundle.0,
+            None => false,
         }
-        index.take_all(service.classes.items(), Place::of(service));
+    }
+
+    /// Those of the services that the bundle owns, where these are all that concern it.
+    fn owned_among(
+        &self,
+        bundle: BundleId,
+        services: &[ServiceId],
+    ) -> Result<List<ServiceId>, AllocError>
+        requires all { AreAmong bundle services.now self.now.rows }
+        requires rising { IsStrictlySortedBy nat_cmp (map (λ (service : ServiceId). service.0) services.now) }
+        ensures owned { IfOk result (λ owned. owned ≡ ids_of (filter (is_owned bundle) self.now.rows)) }
+    {
+        let mut owned = List::new(self.alloc)?;
+        for service in services {
+            if !self.is_owned(bundle, *service) {
+                continue;
+            }
+            owned.push(*service)?;
+        }
+        Ok(owned)
+    }
+
+    /// Forgets the uses of the service by the user, if it is live.
+    fn forget(&mut self, user: BundleId, service: ServiceId)
+        ensures rows { self.new.rows ≡ change service (without_user user) self.old.rows }
+        ensures issued { self.new.issued ≡ self.old.issued }
+    {
+        let Some(held) = self.services.get_mut(&service.0) else {
+            return;
+        };
+        held.forget(user);
+    }
+
+    /// Takes the service out where the bundle owns it, and else forgets the bundle's uses of it.
+    fn let_go(&mut self, bundle: BundleId, service: ServiceId)
+        ensures rest { released bundle self.new.rows ≡ released bundle self.old.rows }
+        ensures among { (others : List ServiceId) → AreAmong bundle (service ∷ others) self.old.rows → AreAmong bundle others self.new.rows }
+        ensures issued { self.new.issued ≡ self.old.issued }
+    {
+        if self.is_owned(bundle, service) {
+            self.take_out(service);
+        } else {
+            self.forget(bundle, service);
+        }
+    }
+
+    /// Lets go of the services, where these are all that concern the bundle.
+    fn let_go_all(&mut self, bundle: BundleId, services: &[ServiceId])
+        requires all { AreAmong bundle services.now self.old.rows }
+        ensures rows { self.new.rows ≡ released bundle self.old.rows }
+        ensures issued { self.new.issued ≡ self.old.issued }
+        ensures none { All (λ row. concerns bundle row ≡ false) self.new.rows }
+    {
+        for service in services {
+            self.let_go(bundle, *service);
+        }
+    }
+
+    /// Forgets which services the bundle owned and used, where none concerns it any more.
+    fn clear(&mut self, bundle: BundleId)
+        requires none { All (λ row. concerns bundle row ≡ false) self.old.rows }
+        ensures same { self.new ≡ self.old }
+    {
+        self.bundles.take_all(bundle);
     }
 }

@@ -19,4 +19,4 @@ replied_no_job tables who =
     (λ now told stood. stood.world)
     (λ now told stood.
     still_tables now tables op.TakeJob answer.NoJob stood
-    (of_services op.TakeJob answer.NoJob (λ n since. refl) (λ b. refl) (λ b. refl) refl (λ b. refl) (λ now world same. same)) quiet_taken)
+    (of_services op.TakeJob answer.NoJob (λ n since. refl) (λ b. refl) (λ b. refl) refl (λ b. refl) refl refl (λ now world same. same)) quiet_taken)

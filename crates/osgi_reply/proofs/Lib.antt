@@ -2,3 +2,4 @@
 pub mod BundlesListed
 pub mod JobsTaken
 pub mod Matching
+pub mod TextsWritten

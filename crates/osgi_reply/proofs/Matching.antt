@@ -1,14 +1,14 @@
 -- What is decided of each operation is decided for who asks.
 use Rattle.std.proofs.Common.{◌≡◌, ap, sym, subst, ◌∙◌, refl}
-use Rattle.std.specs.Prelude.{◌&&◌, Bool, true, false, not, None, Some}
-use Rattle.osgi_legal.proofs.Stage.{end-due, late-due}
-use Rattle.osgi_ops.specs.Brackets.{is_end}
+use Rattle.std.specs.Prelude.{true, false, None, Some}
+use Rattle.osgi_legal.proofs.Stage.{hand-end-due, job-end-due, late-due}
 use Rattle.osgi_ops.specs.Legal.{IsTold}
 use Rattle.osgi_ops.specs.Moments.{Moment}
 use Rattle.osgi_ops.specs.Operations.{IsReply}
 use Rattle.osgi_ops.specs.Stages.{is_here}
 use Rattle.osgi_ops.specs.declared.asked.Asked.{Asked}
 use Rattle.osgi_ops.specs.declared.op.Op.{Op}
+use Rattle.osgi_ops.specs.declared.op.Op.TheVariants as op
 use Rattle.osgi_ops.specs.declared.refusal.Refusal.{Refusal}
 use Rattle.osgi_ops.specs.declared.refusal.Refusal.TheVariants.{InvalidOperation}
 use Rattle.osgi_ops.specs.declared.reply.Reply.{Reply}
@@ -64,14 +64,11 @@ pub replied_unasked : (asked : Asked) (tables : Tables) (refusal : Refusal) → 
 replied_unasked asked tables refusal is =
     replied_refused asked tables refusal (plain_refusal tables.bundles (asker_here asked.op) refusal is) (λ now told stood. unasked now tables.bundles asked.op refusal told.told stood.bundles is)
 
--- an operation that is not decided has not come, or is an end, of which nothing is the beginning
+-- an operation that is not decided has not come, or is the end of a hand or of a job, of which none is open
 undecided_due : (now : Moment) → IsTold now → (o : Op) → is_decided o ≡ false → IsReply now o (answer.Refused InvalidOperation)
-undecided_due now told o undecided = by (is_here o) (is_end o) refl refl undecided
-  where
-    by : (here ends : Bool) → is_here o ≡ here → is_end o ≡ ends → (here && not ends) ≡ false → IsReply now o (answer.Refused InvalidOperation)
-    by false ends late is e = late-due now o late
-    by true true here is e = end-due now told o is
-    by true false here is e = absurd (cc e)
+undecided_due now told (op.EndHand listener) undecided = hand-end-due now told listener
+undecided_due now told op.EndJob undecided = job-end-due now told
+undecided_due now told o undecided = late-due now o undecided
 
 pub replied_not_yet : (asked : Asked) (tables : Tables) → is_decided asked.op ≡ false → IsReplied asked tables tables (answer.Refused InvalidOperation)
 replied_not_yet asked tables undecided = replied_refused asked tables InvalidOperation refl (λ now told stood. undecided_due now told.told asked.op undecided)

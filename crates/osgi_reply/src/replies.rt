@@ -10,13 +10,14 @@ ghost use Rattle.osgi_tables.specs.Replied.{HasRoom, IsReplied, StandsStill};
 
 use crate::listing::list_bundles;
 use osgi_ops::{Asked, Op, Refusal, Reply};
+use osgi_reply_life::{begin_start, begin_stop, end_start, end_stop, wish_start};
 use osgi_reply_loading::{find, load};
 use osgi_reply_resolving::{install, list_wires, resolve};
 use osgi_reply_services::{ServiceChange, services};
 use osgi_tables::{Change, Tables, asker_refusal};
 use std::alloc::{AllocError, Global};
 
-/// The refusal of an operation that the framework does not have yet, or of an end, of which nothing is the beginning yet.
+/// The refusal of an operation that the framework does not have yet, or of the end of a hand or of a job, which nothing begins yet.
 fn not_yet(tables: &Tables, asked: &Asked) -> (Reply, Change)
     requires unknown { is_decided asked.now.op ≡ false }
     ensures decided { IsReplyAndChange asked.now tables.now result.0 result.1 }
@@ -106,8 +107,19 @@ fn decide_by(
         ))),
         // No job can be queued yet.
         Op::TakeJob => Ok(unchanging(Reply::NoJob)),
+        Op::Print { .. } => Ok(unchanging(Reply::Done)),
+        Op::Fail { .. } => Ok(unchanging(Reply::Done)),
         Op::Install { location } => install(alloc, tables, location),
         Op::Resolve { bundle } => resolve(alloc, tables, *bundle),
+        Op::WishStart { target, transient } => {
+            Ok(unchanging(wish_start(tables, target, *transient)?))
+        }
+        Op::BeginStart { bundle, transient } => {
+            Ok(begin_start(tables, asked.tag, *bundle, *transient))
+        }
+        Op::EndStart { bundle, failed } => Ok(end_start(tables, asked.tag, *bundle, *failed)),
+        Op::BeginStop { target, transient } => begin_stop(tables, asked.tag, target, *transient),
+        Op::EndStop { bundle, failed } => Ok(end_stop(tables, asked.tag, *bundle, *failed)),
         Op::Load { bundle, class } => Ok(unchanging(load(alloc, tables, *bundle, class)?)),
         Op::ListBundles => Ok(unchanging(list_bundles(alloc, &tables.bundles)?)),
         Op::ListServices => Ok(unchanging(services::list_services(alloc, &tables.registry)?)),

@@ -14,7 +14,7 @@ use Rattle.osgi_bundle.specs.declared.kept.BundleKept.{BundleKept}
 use Rattle.osgi_bundle.specs.laws.Standing as table
 use Rattle.osgi_legal.specs.Quiet.{QuietServices}
 use Rattle.osgi_legal.proofs.Current.{fresh-at}
-use Rattle.osgi_legal.proofs.Stage.{always-idle, never-begun}
+use Rattle.osgi_legal.proofs.Fresh.{never-given}
 use Rattle.osgi_legal.proofs.Windows.{revisions-more}
 use Rattle.osgi_ops.specs.Bundles.{Bundle, bundle_from, bundles, installed, revisions}
 use Rattle.osgi_ops.specs.Conditions.{depot_refusal, IsDuplicate}
@@ -47,7 +47,7 @@ use Rattle.osgi_version.specs.declared.version.Version.{Version}
 use Rattle.osgi_world.specs.Lookups.{IsKnown}
 use Rattle.osgi_world.specs.declared.revision.Revision.{Revision}
 use Rattle.osgi_world.specs.declared.world.World.{World}
-use Rattle.osgi_tables.proofs.Replying.{at, from_own, of_services, replied_refused, still_tables, unsaid, unseen}
+use Rattle.osgi_tables.proofs.Replying.{at, brackets_left, from_own, of_services, replied_refused, still_tables, unsaid, unseen}
 use Rattle.osgi_tables.specs.Replied.{HasRoom, IsBrought, IsReplied, IsRepliedToAll, StandsFor}
 use Rattle.osgi_tables.specs.Changes.{IsReplyAndChangeToAll}
 use Rattle.osgi_tables.specs.declared.change.Change.TheVariants as change
@@ -72,7 +72,7 @@ replied_known tables location id is who =
     (sym (table.from_location now.setting.depot now.before now.world tables.bundles location stood.bundles) ∙ is))
     (λ now told stood. stood.world)
     (λ now told stood.
-    still_tables now tables (op.Install location) reply stood (of_services (op.Install location) reply (λ n since. refl) (λ b. refl) (λ b. refl) refl (λ b. refl) (λ now world same. same)) (quiet_known location id true))
+    still_tables now tables (op.Install location) reply stood (of_services (op.Install location) reply (λ n since. refl) (λ b. refl) (λ b. refl) refl (λ b. refl) refl refl (λ now world same. same)) (quiet_known location id true))
 
 -- ---- a location that no live bundle has
 
@@ -205,11 +205,13 @@ module _ (old : Tables) (new : TableRows) (after : WiringState) (location : List
       let r : RevisionId = record { 0 = revisions now.before + 1 } in
       let number = numbered now stood in
       let unknown : ¬ IsKnown old.wirings.world.known r = subst (λ n. ¬ IsKnown old.wirings.world.known (record { 0 = n + 1 })) stood.issued i.brought.known.unknown in
+      let above : length (installed now.before) < id.0 = omega (arith, number) in
+      let rests = never-given (at now old) told id above in
       record {
-        no_current = fresh-at (at now old) told id (omega (arith, number));
+        no_current = fresh-at (at now old) told id above;
         unused = unused old.wirings.world r stood.sound unknown;
-        at_rest = always-idle (at now old) told id;
-        never_begun = never-begun (at now old) told id;
+        at_rest = rests.0;
+        never_begun = rests.1;
       }
 
   installed_stands : (now : Moment) → IsTold (at now old) → StandsFor (at now old) old → StandsFor (later (at now old) (op.Install location) (answer.Bundle id false) after.world []) (record old { bundles = new; wirings = after })
@@ -226,6 +228,7 @@ module _ (old : Tables) (new : TableRows) (after : WiringState) (location : List
             (i.stands depot now.before old.wirings.world r now.tag
             (record { revision = revision; is = there now stood; has_name = refl; has_version = refl; has_host = refl; number = i.number ∙ ap (λ (rows : List DepotRow). row_number rows location) stood.depot })
             (is_new now told stood) stood.bundles);
+        brackets = brackets_left now (op.Install location) (answer.Bundle id false) old.brackets stood.brackets refl refl;
         world = refl;
         issued = i.brought.issued ∙ ap (λ n. n + 1) stood.issued ∙ sym (revisions-more now.before e refl);
         sound = sound_of after.world after.issued i.brought.holds;

@@ -56,7 +56,7 @@ use Rattle.osgi_world.specs.declared.wiring.Wiring.{Wiring}
 use Rattle.osgi_world.specs.declared.world.Known.{Known}
 use Rattle.osgi_world.specs.declared.world.World.{World}
 use Rattle.osgi_reply_resolving.proofs.Brought.{sound_of}
-use Rattle.osgi_tables.proofs.Replying.{at, bundles_unsaid, from_own, replied_refused, unsaid, unseen}
+use Rattle.osgi_tables.proofs.Replying.{at, brackets_left, bundles_unsaid, from_own, replied_refused, unsaid, unseen}
 use Rattle.osgi_reply_resolving.proofs.Rows.{distinct, IsSteady, listed_same, rows_after}
 use Rattle.osgi_tables.proofs.Wired.{target_open, whole_bundle}
 use Rattle.osgi_tables.specs.Replied.{IsReplied, IsRepliedToAll, StandsFor}
@@ -189,6 +189,7 @@ replied_resolved tables b whole resolved who =
           bundles =
               subst (λ (w : World). bundle.StandsFor now.setting.depot (now.before ++ e ∷ []) w tables.bundles) (sym stood.world)
               (table.stands_quiet now.setting.depot now.before now.world tables.bundles e stood.bundles (bundles_unsaid e quiet (λ c. refl)));
+          brackets = brackets_left now (op.Resolve b) (answer.Resolved []) tables.brackets stood.brackets refl refl;
           world = refl;
           issued = stood.issued ∙ sym (bundles-quiet now.setting.depot now.before e quiet).revisions;
           sound = subst IsSound (sym stood.world) stood.sound;
@@ -330,6 +331,7 @@ module _ (tables : Tables) (b : BundleId) (root : RevisionId) (kept : IsKeptWorl
             bundles =
                 subst (λ (w : World). bundle.StandsFor depot (now.before ++ e ∷ []) w new) (sym world)
                 (table.stands_quiet depot now.before then new e (rows_then now told stood) (bundles_unsaid e quiet (λ c. refl)));
+            brackets = brackets_left now (op.Resolve b) (answer.Resolved ids) tables.brackets stood.brackets refl refl;
             world = refl;
             issued = issued ∙ stood.issued ∙ sym (bundles-quiet depot now.before e quiet).revisions;
             sound = sound_of after.world after.issued kept_then;

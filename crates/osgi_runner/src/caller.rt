@@ -32,5 +32,6 @@ pub trait Caller {
     fn section(&mut self)
         ensures number { number self.new ≡ number self.old }
         ensures limit { limit self.new ≡ limit self.old }
+        ensures full { full self.new ≡ full self.old }
         ensures made { made self.new ≡ made self.old };
 }

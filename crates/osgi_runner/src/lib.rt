@@ -10,4 +10,4 @@ mod statements;
 mod steps;
 
 pub use caller::Caller;
-pub use runner::{Ended, command};
+pub use runner::{Ended, Runner};

@@ -103,12 +103,8 @@ fn run<C: Caller>(
     finish(alloc, caller, scripts, number, &mut stack, step)
 }
 
-/// Runs the command of a line, step by step, and then the jobs until none is queued. The line has a command.
-///
-/// Where it answers Done, the entries that were added are a whole run of the command. Where it answers Cut, they are the beginning
-/// of one, and the history was seen to be full; or one that ends with a Hand refused since enough was handed. Where memory ran out,
-/// they are the beginning of one.
-pub fn command<C: Caller>(
+/// Runs the command of a line, and then the jobs.
+fn run_line<C: Caller>(
     alloc: Global,
     caller: &mut C,
     scripts: &Scripts,
@@ -126,4 +122,47 @@ pub fn command<C: Caller>(
         unreachable!()
     };
     run(alloc, caller, scripts, line.number, command)
+}
+
+/// A caller of the framework as it runs lines, whose sections are those of these scripts.
+#[derive(Drop)]
+pub struct Runner<'a, C> {
+    alloc: Global,
+    pub caller: &'a mut C,
+    pub scripts: &'a Scripts,
+}
+
+impl<'a, C: Caller> Runner<'a, C> {
+    /// A runner for the one caller that there is. It takes no memory.
+    pub fn alone(alloc: Global, caller: &'a mut C, scripts: &'a Scripts) -> Runner<'a, C>
+        ensures same_caller { result.caller.ghost_name ≡ caller.entry.ghost_name }
+        ensures caller { result.caller.now ≡ caller.old }
+        ensures scripts { result.scripts.now ≡ scripts.now }
+    {
+        Runner {
+            alloc,
+            caller,
+            scripts,
+        }
+    }
+
+    /// Runs the command of a line, step by step, and then the jobs until none is queued. The line has a command.
+    ///
+    /// Where it answers Done, the entries that were added are a whole run of the command. Where it answers Cut, they are the
+    /// beginning of one, and the history was seen to be full; or one that ends with a Hand refused since enough was handed. Where
+    /// memory ran out, they are the beginning of one.
+    pub fn command(&mut self, line: &Line) -> Result<Ended, AllocError>
+        requires command { has_command line.now.content ≡ true }
+        ensures same_caller { self.new.caller.ghost_name ≡ self.old.caller.ghost_name }
+        ensures scripts { self.new.scripts.now ≡ self.old.scripts.now }
+        ensures number { C.number self.new.caller.now ≡ C.number self.old.caller.now }
+        ensures limit { C.limit self.new.caller.now ≡ C.limit self.old.caller.now }
+        ensures done { IfOk result (λ how. how ≡ ended.Done →
+            Adds (IsRunOf (sections_of self.old.scripts.now) (C.number self.old.caller.now) line.now) (C.made self.old.caller.now) (C.made self.new.caller.now)) }
+        ensures cut { IfOk result (λ how. how ≡ ended.Cut →
+            IsCutShort (sections_of self.old.scripts.now) (C.number self.old.caller.now) line.now (C.full self.new.caller.now) (C.made self.old.caller.now) (C.made self.new.caller.now)) }
+        ensures wanting { OnErr result (Adds (IsCutRunOf (sections_of self.old.scripts.now) (C.number self.old.caller.now) line.now false) (C.made self.old.caller.now) (C.made self.new.caller.now)) }
+    {
+        run_line(self.alloc, self.caller, self.scripts, line)
+    }
 }

@@ -3,7 +3,8 @@ use Rattle.std.proofs.Common.{◌≡◌, ◌⊎◌, inl, inr, ◌≤◌, ℕ, Li
 use Rattle.std.specs.Prelude.{cond}
 use Rattle.std.proofs.lemmas.Bool.{eqb-true}
 use Rattle.osgi_ops.specs.Along.{AllAlong}
-use Rattle.osgi_ops.specs.Brackets.{Bracket, brackets, brackets_of, closes, most_brackets, opens, with_entry, own_closes, own_turned}
+use Rattle.osgi_ops.specs.Brackets.{Bracket, brackets, brackets_of, closes, opens, with_entry, own_closes, own_turned}
+use Rattle.osgi_ops.specs.declared.limits.TheConstants.{MAX_BRACKETS}
 use Rattle.osgi_runs.specs.Bound.{is_take, IsBound}
 use Rattle.osgi_ops.specs.Legal.{IsAllowed}
 use Rattle.osgi_ops.specs.Operations.{Answers, IsReply, IsRow}
@@ -24,19 +25,19 @@ use Rattle.osgi_ops.specs.declared.reply.Reply.{Reply}
 use Rattle.osgi_legal.proofs.Owned.{answer-of, answered-of, brackets-last, closes-own, ended-by, entries-last, of, of-turned, of-turned-other}
 
 -- a TakeJob that takes no job found none, or its caller is as deep as it may be
-taken-by : (m : Moment) (op : Op) (reply : Reply) → IsReply m op reply → is_take op ≡ true → ends_jobs reply ≡ true → (takes_no_job op reply ≡ true) ⊎ (most_brackets ≤ length (brackets_of m.tag.caller m.before))
+taken-by : (m : Moment) (op : Op) (reply : Reply) → IsReply m op reply → is_take op ≡ true → ends_jobs reply ≡ true → (takes_no_job op reply ≡ true) ⊎ (MAX_BRACKETS ≤ length (brackets_of m.tag.caller m.before))
 taken-by m TakeJob reply r h e = by (here-row m TakeJob reply take-here r)
   where
-    found : (list : List Queued) → reply ≡ taken m list → (takes_no_job TakeJob reply ≡ true) ⊎ (most_brackets ≤ length (brackets_of m.tag.caller m.before))
+    found : (list : List Queued) → reply ≡ taken m list → (takes_no_job TakeJob reply ≡ true) ⊎ (MAX_BRACKETS ≤ length (brackets_of m.tag.caller m.before))
     found [] q = inl (ap (takes_no_job TakeJob) q)
     found (oldest ∷ rest) q = absurd (let c : true ≡ false = sym e ∙ ap ends_jobs q in cc c)
 
-    by : IsRow m TakeJob reply → (takes_no_job TakeJob reply ≡ true) ⊎ (most_brackets ≤ length (brackets_of m.tag.caller m.before))
+    by : IsRow m TakeJob reply → (takes_no_job TakeJob reply ≡ true) ⊎ (MAX_BRACKETS ≤ length (brackets_of m.tag.caller m.before))
     by (inl p) = inr p.1.1.1
     by (inr (n, p)) = let a = answer-of (Answers m TakeJob) (verdict reply) p in found (jobs m.before) (answered-of reply a.0 a.1 ∙ a.2)
 taken-by m op reply r h e = absurd (cc h)
 
-pub due-reply : (m : Moment) (op : Op) (reply : Reply) → IsReply m op reply → IsBound most_brackets m.tag (brackets_of m.tag.caller m.before) (call op reply)
+pub due-reply : (m : Moment) (op : Op) (reply : Reply) → IsReply m op reply → IsBound MAX_BRACKETS m.tag (brackets_of m.tag.caller m.before) (call op reply)
 due-reply m op reply r = record { ended = λ f. ended-by m op reply r (closes-own m.tag op (brackets m.before) ∙ f); taken = taken-by m op reply r }
 
 -- ---- a caller's own entries
@@ -44,7 +45,7 @@ due-reply m op reply r = record { ended = λ f. ended-by m op reply r (closes-ow
 -- each of the caller's entries has a reply that it is bound to, and this holds of its brackets after them
 abbrev pub AreDue : (List Bracket → Type 0) → List Bracket → List Entry → Type 0
 AreDue after own [] = after own
-AreDue after own (e ∷ rest) = IsBound most_brackets e.tag own (call_of e) × AreDue after (own_turned e.tag (opens e.op e.reply) (own_closes e.tag e.op own) own) rest
+AreDue after own (e ∷ rest) = IsBound MAX_BRACKETS e.tag own (call_of e) × AreDue after (own_turned e.tag (opens e.op e.reply) (own_closes e.tag e.op own) own) rest
 
 -- of a legal history each caller's own entries are so
 pub owned : (setting : Setting) (caller : ℕ) (front rest : List Told) → AllAlong (IsAllowed setting) front rest →
@@ -74,7 +75,7 @@ owned setting caller front (x ∷ rest) legal = go (is_by caller x.entry) refl (
         after ∙ subst (λ c. of c (with_entry (brackets (entries_in front)) e) ≡ own_turned e.tag (opens e.op e.reply) (own_closes e.tag e.op (of c (brackets (entries_in front)))) (of c (brackets (entries_in front)))) same
         (of-turned e.tag (opens e.op e.reply) (closes e.tag e.op (brackets (entries_in front))) (brackets (entries_in front))
         ∙ ap (λ k. own_turned e.tag (opens e.op e.reply) k (of e.tag.caller (brackets (entries_in front)))) (closes-own e.tag e.op (brackets (entries_in front)))) in (
-          subst (λ c. IsBound most_brackets e.tag (brackets_of c (entries_in front)) (call_of e)) same (due-reply (moment setting front e.tag) e.op e.reply legal.0.replied),
+          subst (λ c. IsBound MAX_BRACKETS e.tag (brackets_of c (entries_in front)) (call_of e)) same (due-reply (moment setting front e.tag) e.op e.reply legal.0.replied),
           subst (λ own. AreDue (λ end. end ≡ brackets_of caller (entries_in (front ++ x ∷ rest))) own (by caller (entries_in rest))) turn ih,
         )
     go false q ih =

@@ -5,7 +5,8 @@ use Rattle.std.specs.Prelude.{None, ⊤}
 use Rattle.std.proofs.lemmas.Bool.{false_from_ne_true}
 use Rattle.std.proofs.lemmas.List.Elements.{All-nil}
 use Rattle.osgi_base.specs.declared.ids.Tag.{Tag}
-use Rattle.osgi_ops.specs.Brackets.{Bracket, bracket, job, most_brackets}
+use Rattle.osgi_ops.specs.Brackets.{Bracket, bracket, job}
+use Rattle.osgi_ops.specs.declared.limits.TheConstants.{MAX_BRACKETS}
 use Rattle.osgi_ops.specs.Bundles.{system}
 use Rattle.osgi_ops.specs.declared.entry.Entry.{Entry}
 use Rattle.osgi_ops.specs.declared.op.Op.{Op}
@@ -66,8 +67,8 @@ run-ended {script} {caller} {line} after entries rest r d =
     let then : List Bracket → Type 0 = λ end. AreDue after end rest in
     let lawful = bound-of after caller line entries rest [] r.tagged d in
     let p = closes-plan system r.command in
-    let behind = balanced most_brackets tag then r.follows.plan None [] p lawful in
-    let end = jobs-ended most_brackets tag then r.follows.jobs [] refl behind (omega arith) in
+    let behind = balanced MAX_BRACKETS tag then r.follows.plan None [] p lawful in
+    let end = jobs-ended MAX_BRACKETS tag then r.follows.jobs [] refl behind (omega arith) in
     let u = word-of r.follows.plan in
     ended-calls entries ∙ ap has_ended u.is ∙ ended-behind u.word r.follows.mid end
 

@@ -4,7 +4,8 @@ use Rattle.std.specs.Prelude.{nat_lt, cond, None, All}
 use Rattle.std.proofs.lemmas.Bool.{eq-eqb, ltb-true, ltb-false, ne_eqb}
 use Rattle.std.proofs.lemmas.List.Elements.{All-head, All-tail, All-weaker, filter-append}
 use Rattle.osgi_base.specs.declared.ids.Tag.{Tag}
-use Rattle.osgi_ops.specs.Brackets.{Bracket, most_brackets, opens, own_closes, own_turned}
+use Rattle.osgi_ops.specs.Brackets.{Bracket, opens, own_closes, own_turned}
+use Rattle.osgi_ops.specs.declared.limits.TheConstants.{MAX_BRACKETS}
 use Rattle.osgi_runs.specs.Bound.{IsBound, AreBound}
 use Rattle.osgi_ops.specs.Bundles.{system}
 use Rattle.osgi_session.specs.Runs.{Call, Sections}
@@ -121,12 +122,12 @@ calls_of entries = map call_of entries
 
 -- a run's entries, all tagged alike, with what is due of them and of the entries behind them
 pub bound-of : (after : List Bracket → Type 0) (caller : ℕ) (line : Line) (entries rest : List Entry) (own : List Bracket) → AreTagged caller line entries →
-    AreDue after own (entries ++ rest) → AreBound most_brackets (record { caller = caller; command = line.number }) (λ end. AreDue after end rest) own (calls_of entries)
+    AreDue after own (entries ++ rest) → AreBound MAX_BRACKETS (record { caller = caller; command = line.number }) (λ end. AreDue after end rest) own (calls_of entries)
 bound-of after caller line [] rest own t d = d
 bound-of after caller line (e ∷ more) rest own t d =
     let tag : Tag = record { caller = caller; command = line.number } in
     let same : e.tag ≡ tag = All-head (HasTag caller line) e more t in (
-      subst (λ g. IsBound most_brackets g own (call_of e)) same d.0,
+      subst (λ g. IsBound MAX_BRACKETS g own (call_of e)) same d.0,
       bound-of after caller line more rest (own_turned tag (opens e.op e.reply) (own_closes tag e.op own) own) (All-tail (HasTag caller line) e more t)
           (subst (λ g. AreDue after (own_turned g (opens e.op e.reply) (own_closes g e.op own) own) (more ++ rest)) same d.1),
     )
@@ -137,7 +138,7 @@ run-closed {script} {caller} {line} after entries rest r d =
     let tag : Tag = record { caller = caller; command = line.number } in
     let then : List Bracket → Type 0 = λ end. AreDue after end rest in
     let due = bound-of after caller line entries rest [] r.tagged d in
-    balanced most_brackets tag then r.follows.jobs None [] refl (balanced most_brackets tag then r.follows.plan None [] (closes-plan system r.command) due)
+    balanced MAX_BRACKETS tag then r.follows.jobs None [] refl (balanced MAX_BRACKETS tag then r.follows.plan None [] (closes-plan system r.command) due)
 
 pub runs-closed : {script : Sections} {caller : ℕ} {entries : List Entry} (after : List Bracket → Type 0) → AreRuns script caller entries → AreDue after [] entries → after []
 runs-closed after none d = d

@@ -1,16 +1,22 @@
 -- What the tables answer is what is due at each moment that they stand for.
-use Rattle.std.proofs.Common.{◌≡◌, ℕ, List, [], ◌∷◌, ◌++◌, refl, sym, subst, ◌∙◌}
+use Rattle.std.proofs.Common.{◌≡◌, ℕ, List, [], ◌∷◌, ◌++◌, ap, refl, sym, subst, ◌∙◌}
 use Rattle.std.specs.Prelude.{true, false, None, Result, Ok, Err, IfOk, OnErr}
 use Rattle.osgi_base.specs.Verdict.{Gives}
 use Rattle.osgi_base.specs.declared.ids.BundleId.{BundleId}
+use Rattle.osgi_brackets.specs.Open.{HoldsSame, open_of}
+use Rattle.osgi_brackets.specs.Open as callers
+use Rattle.osgi_brackets.specs.declared.brackets.Brackets.{Brackets}
+use Rattle.osgi_brackets.specs.laws.Following.{quiet-after}
 use Rattle.osgi_bundle.specs.Rows.{TableRows}
 use Rattle.osgi_bundle.specs.Stands as bundle
 use Rattle.osgi_bundle.specs.laws.Standing as table
 use Rattle.osgi_legal.specs.Askers.{MayAsk}
 use Rattle.osgi_legal.specs.Quiet.{QuietBundles, QuietPhases, QuietServices}
 use Rattle.osgi_legal.proofs.Askers.{asker-passes}
-use Rattle.osgi_legal.proofs.Quiet.{bundles-quiet, refused-quiet}
+use Rattle.osgi_legal.proofs.Owned.{closes-not, closes-own}
+use Rattle.osgi_legal.proofs.Quiet.{bundles-quiet, refused-quiet, refused_end_quiet}
 use Rattle.osgi_legal.proofs.Stage.{none-seen-now}
+use Rattle.osgi_ops.specs.Brackets.{brackets, closes, is_end, opens, own_closes}
 use Rattle.osgi_ops.specs.Bundles.{brings_revision, installed_by, is_uninstall, put_into, updated_to}
 use Rattle.osgi_ops.specs.Conditions.{asker_of}
 use Rattle.osgi_ops.specs.Legal.{entry_of, IsAskedAt, IsTold}
@@ -41,16 +47,24 @@ use Rattle.osgi_tables.specs.declared.change.Change.{Change}
 use Rattle.osgi_tables.specs.declared.change.Change.TheVariants as change
 use Rattle.osgi_tables.specs.declared.tables.Tables.{Tables}
 
--- what the operation with this reply says is of services at most, and it leaves the world
+-- what the operation with this reply says is of services at most; it is no end, and leaves the world
 pub record IsOfServices (o : Op) (reply : Reply) : Type 0 where
   pub bundles : QuietBundles o reply
   pub phases : QuietPhases o reply
+  pub opened : opens o reply ≡ None
+  pub no_end : is_end o ≡ false
   pub leaves : (now : Moment) (world : World) → world ≡ now.world → Leaves now o reply world
 
--- where no view of bundles and phases mentions the operation
+-- where no view of bundles, phases and brackets mentions the operation
 pub of_services : (o : Op) (reply : Reply) → ((n : ℕ) (since : List Entry) → installed_by n o reply since ≡ []) → ((b : BundleId) → is_uninstall b o reply ≡ false) → ((b : BundleId) → updated_to b o reply ≡ None) → brings_revision o reply ≡ false →
-    ((b : BundleId) → put_into b o reply ≡ None) → ((now : Moment) (world : World) → world ≡ now.world → Leaves now o reply world) → IsOfServices o reply
-of_services o reply installs gone updated brings phases leaves = record { bundles = record { installed = installs; gone = gone; updated = updated; brings = brings }; phases = phases; leaves = leaves }
+    ((b : BundleId) → put_into b o reply ≡ None) → opens o reply ≡ None → is_end o ≡ false → ((now : Moment) (world : World) → world ≡ now.world → Leaves now o reply world) → IsOfServices o reply
+of_services o reply installs gone updated brings phases opened no_end leaves = record {
+  bundles = record { installed = installs; gone = gone; updated = updated; brings = brings };
+  phases = phases;
+  opened = opened;
+  no_end = no_end;
+  leaves = leaves;
+}
 
 -- the moment with the world that the tables have
 abbrev pub at : Moment → Tables → Moment
@@ -83,10 +97,21 @@ with_services services tables = record tables { registry = services }
 pub bundles_unsaid : (e : Entry) → QuietBundles e.op e.reply → QuietPhases e.op e.reply → table.IsQuietOfBundles e
 bundles_unsaid e quiet phases = record { installs = quiet.installed; uninstalls = quiet.gone; updates = quiet.updated; puts = phases }
 
+-- the operation is the end of the innermost of the caller's brackets in the history where it is that of those that are kept
+pub kept_closes : (now : Moment) (o : Op) (kept : Brackets) → callers.StandsFor now.before kept → own_closes now.tag o (open_of kept now.tag.caller) ≡ closes now.tag o (brackets now.before)
+kept_closes now o kept stood = ap (own_closes now.tag o) (stood now.tag.caller) ∙ sym (closes-own now.tag o (brackets now.before))
+
+-- an entry that opens no bracket and is the end of none leaves all that are open
+brackets_unsaid : (now : Moment) (o : Op) (reply : Reply) (kept : Brackets) → callers.StandsFor now.before kept → opens o reply ≡ None → closes now.tag o (brackets now.before) ≡ false → callers.StandsFor (now.before ++ entry_of now o reply ∷ []) kept
+brackets_unsaid now o reply kept stood opened stays = quiet-after now.before (entry_of now o reply) kept stood opened (kept_closes now o kept stood ∙ stays)
+
+pub brackets_left : (now : Moment) (o : Op) (reply : Reply) (kept : Brackets) → callers.StandsFor now.before kept → opens o reply ≡ None → is_end o ≡ false → callers.StandsFor (now.before ++ entry_of now o reply ∷ []) kept
+brackets_left now o reply kept stood opened no_end = brackets_unsaid now o reply kept stood opened (closes-not now.tag o (brackets now.before) no_end)
+
 -- the tables after an entry that changes no more than the registry
-pub still_world : (now : Moment) (tables : Tables) (o : Op) (reply : Reply) (services : RegistryRows) → StandsFor now tables → IsOfServices o reply → registries.StandsFor (now.before ++ entry_of now o reply ∷ []) services →
-    StandsFor (later now o reply tables.wirings.world []) (with_services services tables)
-still_world now tables o reply services stood quiet stands =
+still_by : (now : Moment) (tables : Tables) (o : Op) (reply : Reply) (services : RegistryRows) → StandsFor now tables → QuietBundles o reply → QuietPhases o reply → opens o reply ≡ None → closes now.tag o (brackets now.before) ≡ false →
+    registries.StandsFor (now.before ++ entry_of now o reply ∷ []) services → StandsFor (later now o reply tables.wirings.world []) (with_services services tables)
+still_by now tables o reply services stood quiet phases opened stays stands =
     let e : Entry = entry_of now o reply in
     let depot = now.setting.depot in
     record {
@@ -95,11 +120,16 @@ still_world now tables o reply services stood quiet stands =
       services = stands;
       bundles =
           subst (λ (w : World). bundle.StandsFor depot (now.before ++ e ∷ []) w tables.bundles) (sym stood.world)
-          (table.stands_quiet depot now.before now.world tables.bundles e stood.bundles (bundles_unsaid e quiet.bundles quiet.phases));
+          (table.stands_quiet depot now.before now.world tables.bundles e stood.bundles (bundles_unsaid e quiet phases));
+      brackets = brackets_unsaid now o reply tables.brackets stood.brackets opened stays;
       world = refl;
-      issued = stood.issued ∙ sym (bundles-quiet depot now.before e quiet.bundles).revisions;
+      issued = stood.issued ∙ sym (bundles-quiet depot now.before e quiet).revisions;
       sound = subst IsSound (sym stood.world) stood.sound;
     }
+
+pub still_world : (now : Moment) (tables : Tables) (o : Op) (reply : Reply) (services : RegistryRows) → StandsFor now tables → IsOfServices o reply → registries.StandsFor (now.before ++ entry_of now o reply ∷ []) services →
+    StandsFor (later now o reply tables.wirings.world []) (with_services services tables)
+still_world now tables o reply services stood quiet stands = still_by now tables o reply services stood quiet.bundles quiet.phases quiet.opened (closes-not now.tag o (brackets now.before) quiet.no_end) stands
 
 pub unsaid : (e : Entry) → QuietServices e.op e.reply → registry.IsQuiet e
 unsaid e quiet = record { registers = quiet.registered; takes = quiet.taken; gives = quiet.given; gets = quiet.got; ungets = quiet.let_go; cleans = quiet.cleaned }
@@ -136,17 +166,18 @@ refused-leaves now op.DropWirings f world same = same
 refused-leaves now o f world same = same
 
 -- what is refused, but for a section that failed, changes nothing
-pub refused_of : (o : Op) (refusal : Refusal) → is_effective (answer.Refused refusal) ≡ false → IsOfServices o (answer.Refused refusal)
-refused_of o refusal none =
+still_refused : (now : Moment) (tables : Tables) (o : Op) (refusal : Refusal) → is_effective (answer.Refused refusal) ≡ false → IsReply now o (answer.Refused refusal) → StandsFor now tables → StandsFor (later now o (answer.Refused refusal) tables.wirings.world []) tables
+still_refused now tables o refusal none due stood =
     let quiet = refused-quiet o refusal none in
-    record { bundles = quiet.bundles; phases = quiet.phases; leaves = λ now world same. refused-leaves now o refusal world same }
+    still_by now tables o (answer.Refused refusal) tables.registry stood quiet.bundles quiet.phases quiet.opened (refused_end_quiet now o refusal due none)
+    (registry.stands_quiet now.before tables.registry (entry_of now o (answer.Refused refusal)) stood.services (unsaid (entry_of now o (answer.Refused refusal)) quiet.services))
 
 pub replied_refused : (asked : Asked) (tables : Tables) (refusal : Refusal) → is_effective (answer.Refused refusal) ≡ false → ((now : Moment) → IsAskedAt asked now → StandsFor now tables → IsReply now asked.op (answer.Refused refusal)) →
     IsReplied asked tables tables (answer.Refused refusal)
 replied_refused asked tables refusal none due =
     unseen asked tables tables (answer.Refused refusal) due
     (λ now told stood. refused-leaves now asked.op refusal tables.wirings.world stood.world)
-    (λ now told stood. still_tables now tables asked.op (answer.Refused refusal) stood (refused_of asked.op refusal none) (refused-quiet asked.op refusal none).services)
+    (λ now told stood. still_refused now tables asked.op refusal none (due now told stood) stood)
 
 -- ---- what is decided
 
@@ -158,15 +189,23 @@ decided_same asked tables reply replied = record { possible = tt; replied = λ n
 pub decided_all : (o : Op) (tables : Tables) (reply : Reply) → IsRepliedToAll o tables tables reply → IsReplyAndChangeToAll o tables reply change.Nothing
 decided_all o tables reply replied who = decided_same (record { tag = who; op = o }) tables reply (replied who)
 
+-- what is decided for the tag that asks is decided for who asks
+pub decided_own : (asked : Asked) (o : Op) (tables : Tables) (reply : Reply) (c : Change) → asked.op ≡ o → IsReplyAndChange (record { tag = asked.tag; op = o }) tables reply c → IsReplyAndChange asked tables reply c
+decided_own asked o tables reply c is decided = subst (λ p. IsReplyAndChange (record { tag = asked.tag; op = p }) tables reply c) (sym is) decided
+
 -- what is decided whoever asks is decided for who asks
 pub decided_asked : (asked : Asked) (o : Op) (tables : Tables) (reply : Reply) (c : Change) → asked.op ≡ o → IsReplyAndChangeToAll o tables reply c → IsReplyAndChange asked tables reply c
-decided_asked asked o tables reply c is decided = subst (λ p. IsReplyAndChange (record { tag = asked.tag; op = p }) tables reply c) (sym is) (decided asked.tag)
+decided_asked asked o tables reply c is decided = decided_own asked o tables reply c is (decided asked.tag)
 
 -- ---- what functions answer
 
 pub unchanging : (asked : Asked) (o : Op) (tables : Tables) (x : Reply × Change) (reply : Reply) → (x.0 ≡ reply) × (x.1 ≡ change.Nothing) → asked.op ≡ o → IsRepliedToAll o tables tables reply → IsReplyAndChange asked tables x.0 x.1
 unchanging asked o tables x reply same is replied =
     subst (λ y. IsReplyAndChange asked tables y x.1) (sym same.0) (subst (IsReplyAndChange asked tables reply) (sym same.1) (decided_asked asked o tables reply change.Nothing is (decided_all o tables reply replied)))
+
+pub own_ok : {E : Type 0} (r : Result (Reply × Change) E) (asked : Asked) (o : Op) (tables : Tables) → asked.op ≡ o → IfOk r (λ x. IsReplyAndChange (record { tag = asked.tag; op = o }) tables x.0 x.1) → IfOk r (λ x. IsReplyAndChange asked tables x.0 x.1)
+own_ok (Ok x) asked o tables is decided = decided_own asked o tables x.0 x.1 is decided
+own_ok (Err e) asked o tables is decided = tt
 
 pub asked_ok : {E : Type 0} (r : Result (Reply × Change) E) (asked : Asked) (o : Op) (tables : Tables) → asked.op ≡ o → IfOk r (λ x. IsReplyAndChangeToAll o tables x.0 x.1) → IfOk r (λ x. IsReplyAndChange asked tables x.0 x.1)
 asked_ok (Ok x) asked o tables is decided = decided_asked asked o tables x.0 x.1 is decided
@@ -189,7 +228,21 @@ stays_same tables rows after same is = λ now stood. record {
   budget = stood.budget;
   services = stood.services;
   bundles = subst (bundle.StandsFor now.setting.depot now.before now.world) (sym same) stood.bundles;
+  brackets = stood.brackets;
   world = is.world ∙ stood.world;
   issued = is.issued ∙ stood.issued;
+  sound = stood.sound;
+}
+
+-- where each caller has the brackets that it had
+pub stays_open : (tables : Tables) (kept : Brackets) → HoldsSame tables.brackets kept → StandsStill tables (record tables { brackets = kept })
+stays_open tables kept same = λ now stood. record {
+  depot = stood.depot;
+  budget = stood.budget;
+  services = stood.services;
+  bundles = stood.bundles;
+  brackets = λ caller. same caller ∙ stood.brackets caller;
+  world = stood.world;
+  issued = stood.issued;
   sound = stood.sound;
 }

@@ -1,19 +1,21 @@
 -- Which operations are decided one by one, and why the bundle that asks for one may not.
-use Rattle.std.specs.Prelude.{ℕ, ◌==◌, ◌&&◌, if◌then◌else◌, not, Bool, Option, None, Some}
+use Rattle.std.specs.Prelude.{ℕ, ◌==◌, if◌then◌else◌, Bool, false, Option, None, Some}
 use Rattle.osgi_base.specs.declared.ids.BundleId.{BundleId}
 use Rattle.osgi_bundle.specs.Rows.{state_at, TableRows}
-use Rattle.osgi_ops.specs.Brackets.{is_end}
 use Rattle.osgi_ops.specs.Conditions.{asker_of}
 use Rattle.osgi_ops.specs.Stages.{is_here}
 use Rattle.osgi_ops.specs.States.{is_up}
 use Rattle.osgi_ops.specs.declared.op.Op.{Op}
+use Rattle.osgi_ops.specs.declared.op.Op.TheVariants.{EndHand, EndJob}
 use Rattle.osgi_ops.specs.declared.refusal.Refusal.{Refusal}
 use Rattle.osgi_ops.specs.declared.refusal.Refusal.TheVariants.{InvalidOperation, NoSuchBundle}
 use Rattle.osgi_ops.specs.declared.state.TheConstants.{UNINSTALLED}
 
--- the operation has come, and is none of the ends, of which nothing is the beginning yet
+-- the operation has come, and is not the end of a hand or of a job, which nothing begins yet
 abbrev pub is_decided : Op → Bool
-is_decided op = is_here op && not (is_end op)
+is_decided (EndHand listener) = false
+is_decided EndJob = false
+is_decided op = is_here op
 
 -- the bundle that asks for an operation that has come, where one does. Others are refused whoever asks
 abbrev pub asker_here : Op → Option BundleId

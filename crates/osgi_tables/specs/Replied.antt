@@ -2,6 +2,7 @@
 use Rattle.std.specs.Prelude.{◌≡◌, ◌<◌, ◌+◌, ◌-◌, ◌^◌, true, List, None}
 use Rattle.osgi_base.specs.declared.ids.BundleId.{BundleId}
 use Rattle.osgi_base.specs.declared.ids.Tag.{Tag}
+use Rattle.osgi_brackets.specs.Open as callers
 use Rattle.osgi_bundle.specs.Stands as table
 use Rattle.osgi_ops.specs.Bundles.{revisions}
 use Rattle.osgi_ops.specs.Legal.{entry_of, IsAskedAt}
@@ -26,6 +27,7 @@ pub record StandsFor (now : Moment) (tables : Tables) : Type 0 where
   pub budget : tables.budget ≡ now.setting.bounds.budget
   pub services : registry.StandsFor now.before tables.registry
   pub bundles : table.StandsFor now.setting.depot now.before now.world tables.bundles
+  pub brackets : callers.StandsFor now.before tables.brackets
   pub world : tables.wirings.world ≡ now.world
   -- as many ids of revisions were given as revisions were brought, and the wirings in force keep all rules
   pub issued : tables.wirings.issued ≡ revisions now.before

@@ -8,7 +8,7 @@ ghost use Rattle.osgi_tables.specs.Changes.{CanBeAdded, Changes, CanBeMade, with
 ghost use Rattle.osgi_wiring.specs.States.{IsKeptWorld, MayExtend, with_wirings};
 
 use crate::tables::Tables;
-use osgi_base::{BundleId, List, Shared};
+use osgi_base::{BundleId, List, Shared, Tag};
 use osgi_bundle::{BundleKept, Table};
 use osgi_reply_services::ServiceChange;
 use osgi_resolver::IndexedWirings;
@@ -32,6 +32,28 @@ pub enum Change {
         added: List<Wiring>,
         resolved: List<BundleId>,
     },
+    /// The start of the bundle begins, for the line of the tag.
+    BeginStart {
+        tag: Tag,
+        bundle: BundleId,
+    },
+    /// The start that the line of the tag began ends. Where it failed, the bundle's services and uses go.
+    EndStart {
+        tag: Tag,
+        bundle: BundleId,
+        failed: bool,
+    },
+    /// The stop of the bundle begins, for the line of the tag.
+    BeginStop {
+        tag: Tag,
+        bundle: BundleId,
+    },
+    /// The stop that the line of the tag began ends, and the bundle's services and uses go.
+    EndStop {
+        tag: Tag,
+        bundle: BundleId,
+        failed: bool,
+    },
 }
 
 /// Not derived, so that each exit at which one is dropped is a single call, which is cheap to prove.
@@ -47,6 +69,18 @@ impl Drop for Change {
             Change::Resolve {
                 added: _,
                 resolved: _,
+            } => {}
+            Change::BeginStart { tag: _, bundle: _ } => {}
+            Change::EndStart {
+                tag: _,
+                bundle: _,
+                failed: _,
+            } => {}
+            Change::BeginStop { tag: _, bundle: _ } => {}
+            Change::EndStop {
+                tag: _,
+                bundle: _,
+                failed: _,
             } => {}
         }
     }
@@ -73,6 +107,18 @@ impl Change {
                 extend(&mut tables.bundles, &mut tables.wirings, added, &resolved)?;
                 Ok(())
             }
+            Change::BeginStart { tag, bundle } => tables.begin_start(tag, bundle),
+            Change::EndStart {
+                tag,
+                bundle,
+                failed,
+            } => tables.end_start(tag, bundle, failed),
+            Change::BeginStop { tag, bundle } => tables.begin_stop(tag, bundle),
+            Change::EndStop {
+                tag,
+                bundle,
+                failed,
+            } => tables.end_stop(tag, bundle, failed),
         }
     }
 }

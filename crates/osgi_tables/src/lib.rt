@@ -3,6 +3,7 @@
 
 mod askers;
 mod change;
+mod life;
 mod tables;
 
 pub use askers::asker_refusal;

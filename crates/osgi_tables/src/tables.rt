@@ -1,18 +1,20 @@
 //! The tables that operations read and change.
 
+use osgi_brackets::Brackets;
 use osgi_bundle::{IndexedDepot, Table};
 use osgi_ops::Depot;
 use osgi_registry::Registry;
 use osgi_resolver::IndexedWirings;
 
-/// The depot and the limit on the effort of a resolve, which never change; the services that are live, the bundles, and the
-/// wirings in force.
+/// The depot and the limit on the effort of a resolve, which never change; the services that are live, the bundles, the
+/// wirings in force, and the starts and stops that callers have begun and not ended.
 pub struct Tables {
     pub depot: IndexedDepot,
     pub budget: u64,
     pub registry: Registry,
     pub bundles: Table,
     pub wirings: IndexedWirings,
+    pub brackets: Brackets,
 }
 
 /// Not derived, so that each exit at which one is dropped is a single call, which is cheap to prove.
@@ -24,6 +26,7 @@ impl Drop for Tables {
             registry: _,
             bundles: _,
             wirings: _,
+            brackets: _,
         } = self;
     }
 }
@@ -41,6 +44,7 @@ impl Tables {
             registry: _,
             bundles: _,
             wirings: _,
+            brackets: _,
         } = self;
         depot.into_depot()
     }

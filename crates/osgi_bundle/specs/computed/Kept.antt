@@ -1,9 +1,10 @@
 -- What is true of the table's fields between calls.
-use Rattle.std.specs.Prelude.{ℕ, ◌≡◌, cond, List, Option, None, Some, find, slice_get}
+use Rattle.std.specs.Prelude.{ℕ, ◌≡◌, false, cond, List, Option, None, Some, IsSome, find, slice_get}
 use Rattle.std.specs.BTreeMap.{BTreeMap, get}
 use Rattle.std.specs.Option.{option_map, option_or}
-use Rattle.std.specs.Ordering.{eq_by_cmp, on, then_cmp}
+use Rattle.std.specs.Ordering.{eq_by_cmp, is_lt, on, then_cmp}
 use Rattle.std.specs.declared.cmp.Ordering.{Ordering}
+use Rattle.std.proofs.Common.{lit≤}
 use Rattle.osgi_base.specs.computed.Texts.{text_cmp}
 use Rattle.osgi_base.specs.declared.ids.BundleId.{BundleId}
 use Rattle.osgi_bundle.specs.Rows.{AreApart, AreInOrder, TableRows}
@@ -11,6 +12,7 @@ use Rattle.osgi_bundle.specs.declared.directory.BundleName.{BundleName}
 use Rattle.osgi_bundle.specs.declared.directory.Directory.{Directory}
 use Rattle.osgi_bundle.specs.declared.kept.BundleKept.{BundleKept}
 use Rattle.osgi_version.specs.Comparing.{version_cmp}
+use Rattle.osgi_version.specs.VersionValues.{version_numbered}
 use Rattle.osgi_version.specs.declared.version.Version.{Version}
 
 -- the row at a place, if there is one
@@ -38,6 +40,20 @@ bundle_name row = named row.name row.version
 -- by name, then by version
 abbrev pub name_cmp : BundleName → BundleName → Ordering
 name_cmp = then_cmp (on (λ n. n.name) text_cmp) (on (λ n. n.version) version_cmp)
+
+-- 0.0.0
+abbrev pub lowest_version : Version
+lowest_version = version_numbered 0 0 0 (lit≤ tt, lit≤ tt, lit≤ tt)
+
+-- no bundle stands under the name in any version
+abbrev pub HasNoVersion : BTreeMap BundleName BundleId → List ℕ → Type 0
+HasNoVersion names name = (version : Version) → get name_cmp names (named name version) ≡ None
+
+-- the bundle stands under the name in a version, and none under a higher one
+pub record IsHighest (names : BTreeMap BundleName BundleId) (name : List ℕ) (bundle : BundleId) : Type 0 where
+  pub version : Version
+  pub stands : get name_cmp names (named name version) ≡ Some bundle
+  pub highest : (other : Version) → IsSome (get name_cmp names (named name other)) → is_lt (version_cmp version other) ≡ false
 
 -- the directory is that of these rows
 pub record IsDirectoryOf (directory : Directory) (rows : List BundleKept) : Type 0 where

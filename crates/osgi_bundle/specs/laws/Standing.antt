@@ -9,7 +9,7 @@ use Rattle.std.proofs.lemmas.List.Elements.{All-contains, All-contains_itself, A
 use Rattle.osgi_base.specs.declared.ids.BundleId.{BundleId}
 use Rattle.osgi_base.specs.declared.ids.RevisionId.{RevisionId}
 use Rattle.osgi_base.specs.declared.ids.Tag.{Tag}
-use Rattle.osgi_bundle.specs.Rows.{bundle_from, bundle_number, first_level_of, has_bundle_id, has_location as has_location_row, IsTwin, new_row, resolved_state, row_at, row_of, set_in, state_at, state_by, TableRows, with_state}
+use Rattle.osgi_bundle.specs.Rows.{bundle_from, bundle_number, first_level_of, has_bundle_id, has_location as has_location_row, IsTwin, new_row, row_at, row_of, state_at, state_by, TableRows}
 use Rattle.osgi_bundle.specs.Stands.{IsNewBundle, IsOfDepot, kept_of, StandsFor}
 use Rattle.osgi_bundle.specs.laws.Worlds.{resolved_other, unresolved_new}
 use Rattle.osgi_bundle.specs.declared.kept.BundleKept.{BundleKept}
@@ -37,15 +37,15 @@ use Rattle.osgi_world.specs.declared.world.World.{World}
 
 -- ---- what is kept of a bundle
 
-map_twice : {X Y Z : Type 0} (f : Y → Z) (g : X → Y) (xs : List X) → map f (map g xs) ≡ map (λ x. f (g x)) xs
+pub map_twice : {X Y Z : Type 0} (f : Y → Z) (g : X → Y) (xs : List X) → map f (map g xs) ≡ map (λ x. f (g x)) xs
 map_twice f g [] = refl
 map_twice f g (x ∷ xs) = ap (λ l. f (g x) ∷ l) (map_twice f g xs)
 
-map_alike : {X Y : Type 0} (f g : X → Y) (xs : List X) → ((x : X) → Contains xs x → f x ≡ g x) → map f xs ≡ map g xs
+pub map_alike : {X Y : Type 0} (f g : X → Y) (xs : List X) → ((x : X) → Contains xs x → f x ≡ g x) → map f xs ≡ map g xs
 map_alike f g [] same = refl
 map_alike f g (x ∷ xs) same = λ i. same x (Contains-first x xs) i ∷ map_alike f g xs (λ y there. same y (Contains-more x xs y there)) i
 
-contains_map : {X Y : Type 0} (f : X → Y) (xs : List X) (x : X) → Contains xs x → Contains (map f xs) (f x)
+pub contains_map : {X Y : Type 0} (f : X → Y) (xs : List X) (x : X) → Contains xs x → Contains (map f xs) (f x)
 contains_map f xs x there =
     (there.0, subst (λ n. there.0 < n) (sym (length-map xs f)) there.1, get_or-map f xs there.0 x (f x) there.1 ∙ ap f there.2)
 
@@ -99,16 +99,28 @@ or_none : (x y : Bool) → y ≡ false → (x || y) ≡ x
 or_none true y none = refl
 or_none false y none = none
 
+-- entries that install, uninstall and update nothing leave the bundles as they were
+module _ (depot : List DepotRow) (history : List Entry) (e : Entry) (installs : (n : ℕ) (since : List Entry) → installed_by n e.op e.reply since ≡ []) (uninstalls : (b : BundleId) → is_uninstall b e.op e.reply ≡ false) where
+  pub same_bundles : ((b : BundleId) → updated_to b e.op e.reply ≡ None) → bundles depot (history ++ e ∷ []) ≡ bundles depot history
+  same_bundles updates = bundles-push depot history e uninstalls updates ∙ append_none (bundles depot history) _ (ap (filter_map (row_from depot)) (installs (length (installed history)) []))
+
+  pub same_count : length (installed (history ++ e ∷ [])) ≡ length (installed history)
+  same_count =
+      length_later history e
+      ∙ ap (λ l. length (installed history) + length l) (installs (length (installed history)) [])
+      ∙ (let same : length (installed history) + 0 ≡ length (installed history) = omega arith in same)
+
+  pub same_live : (b : BundleId) → is_live b (history ++ e ∷ []) ≡ is_live b history
+  same_live b = is_live-kept b history e uninstalls ∙ or_none (is_live b history) _ (ap (list_any (has_id b)) (installs (length (installed history)) []))
+
 pub alike_quiet : (depot : List DepotRow) (history : List Entry) (e : Entry) → IsQuietOfBundles e → BundlesReadAlike depot history (history ++ e ∷ [])
-alike_quiet depot history e quiet =
-    let none : installed_by (length (installed history)) e.op e.reply [] ≡ [] = quiet.installs (length (installed history)) [] in
-    record {
-      rows = sym (bundles-push depot history e quiet.uninstalls quiet.updates ∙ append_none (bundles depot history) _ (ap (filter_map (row_from depot)) none));
-      issued = sym (length_later history e ∙ ap (λ l. length (installed history) + length l) none ∙ let same : length (installed history) + 0 ≡ length (installed history) = omega arith in same);
-      live = λ b. sym (is_live-kept b history e quiet.uninstalls ∙ or_none (is_live b history) _ (ap (list_any (has_id b)) none));
-      phases = λ b. sym (phase-kept b history e (quiet.puts b));
-      begun = λ b. sym (last_begin-kept b history e (quiet.puts b));
-    }
+alike_quiet depot history e quiet = record {
+  rows = sym (same_bundles depot history e quiet.installs quiet.uninstalls quiet.updates);
+  issued = sym (same_count depot history e quiet.installs quiet.uninstalls);
+  live = λ b. sym (same_live depot history e quiet.installs quiet.uninstalls b);
+  phases = λ b. sym (phase-kept b history e (quiet.puts b));
+  begun = λ b. sym (last_begin-kept b history e (quiet.puts b));
+}
 
 -- such an entry, in the same world
 pub stands_quiet : (depot : List DepotRow) (history : List Entry) (world : World) (table : TableRows) (e : Entry) → StandsFor depot history world table → IsQuietOfBundles e → StandsFor depot (history ++ e ∷ []) world table
@@ -237,7 +249,7 @@ rows_count depot history world table stands = ap length stands.rows ∙ length-m
 
 -- ---- bundles of one name and version
 
-contains_of : {X Y : Type 0} (f : X → Y) (xs : List X) (y : Y) → Contains (map f xs) y → (x : X) × Contains xs x × (y ≡ f x)
+pub contains_of : {X Y : Type 0} (f : X → Y) (xs : List X) (y : Y) → Contains (map f xs) y → (x : X) × Contains xs x × (y ≡ f x)
 contains_of {X} f xs y there =
     All-contains (λ z. (x : X) × Contains xs x × (z ≡ f x)) (map f xs) y
     (All-map (λ z. (x : X) × Contains xs x × (z ≡ f x)) f xs (λ k d within. (slice_index_or xs k d, All-contains_itself xs k d within, refl))) there
@@ -290,20 +302,22 @@ says_by world history id given (Some b) is none some =
     let same : b.bundle ≡ id = λ i. record { 0 = there.1 i } in
     subst (λ (c : BundleId). SaysState world history id (Some (number_of (state world history c)))) (sym same) (live (subst (λ (c : BundleId). is_live c history ≡ true) same there.0))
 
--- at a history where each live bundle has its row
+-- at a history where each live bundle has its row, one with no row is not live
+pub no_row : (depot : List DepotRow) (history : List Entry) (id : BundleId) → HaveRows depot history → find (is_bundle_of id) (bundles depot history) ≡ None → is_live id history ≡ false
+no_row depot history id rows none = false_from_ne_true (is_live id history) (λ there.
+    let row = rows id there in
+    let found = find-some (is_bundle_of id) (bundles depot history) row.0 (contains-In (bundles depot history) row.0 row.1) (eq-eqb row.0.bundle.0 id.0 (ap (λ (x : BundleId). x.0) row.2)) in
+    let bad : Some found.0 ≡ None = sym found.1 ∙ none in
+    cc bad)
+
+-- what is found of a bundle is of that bundle
+pub some_row : (depot : List DepotRow) (history : List Entry) (id : BundleId) (b : Bundle) → find (is_bundle_of id) (bundles depot history) ≡ Some b → Contains (bundles depot history) b × (b.bundle ≡ id)
+some_row depot history id b some =
+    let there = found-in (is_bundle_of id) (bundles depot history) b some in
+    (In-contains (bundles depot history) b there.0, (let same : b.bundle.0 ≡ id.0 = eqb-true b.bundle.0 id.0 there.1 in λ i. record { 0 = same i }))
+
 pub says_state : (depot : List DepotRow) (history : List Entry) (world : World) (table : TableRows) (id : BundleId) → StandsFor depot history world table → HaveRows depot history → SaysState world history id (state_at id table)
 says_state depot history world table id stands rows =
     subst (λ o. SaysState world history id (state_by o (nat_le id.0 table.issued))) (sym (row_of_bundle depot history world table id stands))
-    (says_by world history id (nat_le id.0 table.issued) (find (is_bundle_of id) (bundles depot history)) (was_given-is id history ∙ ap (nat_le id.0) (sym stands.issued)) no_row some_row)
-  where
-    no_row : find (is_bundle_of id) (bundles depot history) ≡ None → is_live id history ≡ false
-    no_row none = false_from_ne_true (is_live id history) (λ there.
-        let row = rows id there in
-        let found = find-some (is_bundle_of id) (bundles depot history) row.0 (contains-In (bundles depot history) row.0 row.1) (eq-eqb row.0.bundle.0 id.0 (ap (λ (x : BundleId). x.0) row.2)) in
-        let bad : Some found.0 ≡ None = sym found.1 ∙ none in
-        cc bad)
-
-    some_row : (b : Bundle) → find (is_bundle_of id) (bundles depot history) ≡ Some b → (is_live b.bundle history ≡ true) × (b.bundle.0 ≡ id.0)
-    some_row b some =
-        let there = found-in (is_bundle_of id) (bundles depot history) b some in
-        (row-live depot history b (In-contains (bundles depot history) b there.0), eqb-true b.bundle.0 id.0 there.1)
+    (says_by world history id (nat_le id.0 table.issued) (find (is_bundle_of id) (bundles depot history)) (was_given-is id history ∙ ap (nat_le id.0) (sym stands.issued)) (no_row depot history id rows)
+    (λ b some. let there = some_row depot history id b some in (row-live depot history b there.0, ap (λ (x : BundleId). x.0) there.1)))

@@ -47,7 +47,7 @@ accepted-row now o y r e = row-of now o y r (effective y e)
 
 -- ---- what has come
 
--- the ends came before what they end; while nothing that opens a bracket has come, their own row refuses them
+-- the ends came before what they end, or with it; while no bracket is open, their own row refuses them
 pub ends-here : (o : Op) → is_end o ≡ true → is_here o ≡ true
 ends-here (op.EndHand listener) e = refl
 ends-here op.EndJob e = refl

@@ -19,12 +19,13 @@ use Rattle.osgi_ops.specs.Services.{gets, given_by, given_last, is_get, is_servi
 use Rattle.osgi_ops.specs.declared.entry.Entry.{Entry}
 use Rattle.osgi_ops.specs.declared.op.Op.{Op}
 use Rattle.osgi_ops.specs.declared.op.Op.TheVariants as op
+use Rattle.osgi_ops.specs.declared.reply.Reply.{Reply}
 use Rattle.osgi_ops.specs.declared.reply.Reply.TheVariants as answer
 use Rattle.osgi_ops.specs.declared.refusal.Refusal.{Refusal}
 use Rattle.osgi_ops.specs.declared.scope.Scope.{Scope}
 use Rattle.osgi_ops.specs.declared.service.Service.{Service}
 use Rattle.osgi_ops.specs.declared.service.ServiceRow.{ServiceRow}
-use Rattle.osgi_registry.specs.Rows.{change, count_of, is_service as is_row_of, new_row, RegistryRows, LiveService, row_at, services_in, used_less, used_more, with_count, with_properties, without}
+use Rattle.osgi_registry.specs.Rows.{change, count_of, is_owned, is_service as is_row_of, new_row, others, RegistryRows, LiveService, released, row_at, services_in, used_less, used_more, with_count, with_properties, without, without_user}
 use Rattle.osgi_registry.specs.Stands.{AreRowsOf, IsRowOf, StandsFor}
 
 -- ---- rows one by one
@@ -251,6 +252,15 @@ count_cond : (other : BundleId) (here : Bool) (a b : List (ℕ × ℕ)) → coun
 count_cond other true a b = refl
 count_cond other false a b = refl
 
+flip_by : (a b : ℕ) (ab ba : Bool) → (a == b) ≡ ab → (b == a) ≡ ba → ab ≡ ba
+flip_by a b true true first second = refl
+flip_by a b true false first second = absurd (cc (second, eq-eqb b a (sym (eqb-true a b first))))
+flip_by a b false true first second = absurd (cc (first, eq-eqb a b (sym (eqb-true b a second))))
+flip_by a b false false first second = refl
+
+flip : (a b : ℕ) → (a == b) ≡ (b == a)
+flip a b = flip_by a b (a == b) (b == a) refl refl
+
 -- a user's count is put, and another's stays
 pub count-with : (user other : BundleId) (count : ℕ) (uses : List (ℕ × ℕ)) → count_of other (with_count user count uses) ≡ cond (user.0 == other.0) count (count_of other uses)
 count-with user other count [] = ap (λ b. unwrap_or (cond b (Some count) None) 0) (flip other.0 user.0) ∙ out (user.0 == other.0)
@@ -258,15 +268,6 @@ count-with user other count [] = ap (λ b. unwrap_or (cond b (Some count) None) 
     out : (b : Bool) → unwrap_or (cond b (Some count) None) 0 ≡ cond b count 0
     out true = refl
     out false = refl
-
-    flip_by : (a b : ℕ) (ab ba : Bool) → (a == b) ≡ ab → (b == a) ≡ ba → ab ≡ ba
-    flip_by a b true true first second = refl
-    flip_by a b true false first second = absurd (cc (second, eq-eqb b a (sym (eqb-true a b first))))
-    flip_by a b false true first second = absurd (cc (first, eq-eqb a b (sym (eqb-true b a second))))
-    flip_by a b false false first second = refl
-
-    flip : (a b : ℕ) → (a == b) ≡ (b == a)
-    flip a b = flip_by a b (a == b) (b == a) refl refl
 count-with user other count (first ∷ rest) =
     count_cond other (user.0 == first.0) ((first.0, count) ∷ rest) (first ∷ with_count user count rest)
     ∙ counted_by user.0 other.0 first.0 count first.1 (lookup (λ o. other.0 == o) rest) (lookup (λ o. other.0 == o) (with_count user count rest)) (user.0 == first.0) (other.0 == first.0) (user.0 == other.0) refl refl refl
@@ -386,6 +387,105 @@ pub stands_unreturned : (history : List Entry) (registry : RegistryRows) (tag : 
     StandsFor (history ++ record { tag = tag; op = op.Unget user service; reply = answer.Flag false } ∷ []) registry
 stands_unreturned history registry tag user service stands =
     stands_quiet history registry _ stands (record { registers = λ n since. refl; takes = λ s o. refl; gives = λ s. refl; gets = λ u s. refl; ungets = λ u s. refl; cleans = refl })
+
+-- ---- a bundle let go
+
+-- an entry that cleans the bundle, and says nothing else of services and their uses
+record IsCleaning (bundle : BundleId) (e : Entry) : Type 0 where
+  pub registers : (earlier : ℕ) → registered_by earlier e.op e.reply [] ≡ []
+  pub takes : (service : ServiceId) (owner : BundleId) → takes_out service owner e.op e.reply ≡ (bundle.0 == owner.0)
+  pub gives : (service : ServiceId) → given_by service e.op e.reply ≡ None
+  pub gets : (user : BundleId) (service : ServiceId) → is_get user service e.op e.reply ≡ false
+  pub ungets : (user : BundleId) (service : ServiceId) → is_unget user service e.op e.reply ≡ false
+  pub cleans : (user : BundleId) → cleans user e.op e.reply ≡ (bundle.0 == user.0)
+
+cleaning : (bundle : BundleId) (e : Entry) → cleaned_by e.op e.reply ≡ Some bundle → IsCleaning bundle e
+cleaning bundle e is = record {
+  registers = none_registered e.op e.reply is;
+  takes = λ service owner. owners_taken e.op e.reply is service owner ∙ cleaned owner;
+  gives = none_given e.op e.reply is;
+  gets = none_got e.op e.reply is;
+  ungets = none_ungot e.op e.reply is;
+  cleans = cleaned;
+}
+  where
+    cleaned : (user : BundleId) → cleans user e.op e.reply ≡ (bundle.0 == user.0)
+    cleaned user = ap (λ (o : Option BundleId). option_map_or (λ (b : BundleId). b.0 == user.0) o false) is
+
+    none_registered : (o : Op) (reply : Reply) → cleaned_by o reply ≡ Some bundle → (earlier : ℕ) → registered_by earlier o reply [] ≡ []
+    none_registered (op.Register owner classes object scope properties) reply is earlier = absurd (cc is)
+    none_registered o reply is earlier = refl
+
+    owners_taken : (o : Op) (reply : Reply) → cleaned_by o reply ≡ Some bundle → (service : ServiceId) (owner : BundleId) → takes_out service owner o reply ≡ cleans owner o reply
+    owners_taken (op.Unregister by taken) reply is service owner = absurd (cc is)
+    owners_taken o reply is service owner = refl
+
+    none_given : (o : Op) (reply : Reply) → cleaned_by o reply ≡ Some bundle → (service : ServiceId) → given_by service o reply ≡ None
+    none_given (op.Modify owner modified properties) reply is service = absurd (cc is)
+    none_given o reply is service = refl
+
+    none_got : (o : Op) (reply : Reply) → cleaned_by o reply ≡ Some bundle → (user : BundleId) (service : ServiceId) → is_get user service o reply ≡ false
+    none_got (op.Get by got) reply is user service = absurd (cc is)
+    none_got o reply is user service = refl
+
+    none_ungot : (o : Op) (reply : Reply) → cleaned_by o reply ≡ Some bundle → (user : BundleId) (service : ServiceId) → is_unget user service o reply ≡ false
+    none_ungot (op.Unget by let_go) reply is user service = absurd (cc is)
+    none_ungot o reply is user service = refl
+
+unused_by : (gone user first count : ℕ) (left more : Option ℕ) (gf uf gu : Bool) → (gone == first) ≡ gf → (user == first) ≡ uf → (gone == user) ≡ gu → unwrap_or more 0 ≡ cond gu 0 (unwrap_or left 0) →
+    cond (not gf) (unwrap_or (cond uf (Some count) more) 0) (unwrap_or more 0) ≡ cond gu 0 (unwrap_or (cond uf (Some count) left) 0)
+unused_by gone user first count left more true true true a b c is = is
+unused_by gone user first count left more true true false a b c is = absurd (cc (c, eq-eqb gone user (eqb-true gone first a ∙ sym (eqb-true user first b))))
+unused_by gone user first count left more true false true a b c is = absurd (cc (b, eq-eqb user first (sym (eqb-true gone user c) ∙ eqb-true gone first a)))
+unused_by gone user first count left more true false false a b c is = is
+unused_by gone user first count left more false true true a b c is = absurd (cc (a, eq-eqb gone first (eqb-true gone user c ∙ eqb-true user first b)))
+unused_by gone user first count left more false true false a b c is = refl
+unused_by gone user first count left more false false gu a b c is = is
+
+-- the count of the bundle that is let go is 0, and another's stays
+count-without : (bundle user : BundleId) (uses : List (ℕ × ℕ)) → count_of user (filter (λ other. not (bundle.0 == other.0)) uses) ≡ cond (bundle.0 == user.0) 0 (count_of user uses)
+count-without bundle user [] = either (bundle.0 == user.0) 0
+  where
+    either : (b : Bool) (n : ℕ) → n ≡ cond b n n
+    either true n = refl
+    either false n = refl
+count-without bundle user (first ∷ rest) =
+    let left = filter (λ other. not (bundle.0 == other.0)) rest in
+    count_cond user (not (bundle.0 == first.0)) (first ∷ left) left
+    ∙ unused_by bundle.0 user.0 first.0 first.1 (lookup (λ o. user.0 == o) rest) (lookup (λ o. user.0 == o) left) (bundle.0 == first.0) (user.0 == first.0) (bundle.0 == user.0) refl refl refl
+    (count-without bundle user rest)
+
+let_go_by : (bundle user : BundleId) (row : LiveService) (r : Registered) (e : Entry) (own : Bool) → IsCleaning bundle e → (bundle.0 == user.0) ≡ own → IsRowOf row r →
+    (cond own 0 (count_of user row.uses) ≡ uses_held user (later e r)) × (ungets user (later e r) ≤ gets user (later e r))
+let_go_by bundle user row r e true cleaning own is =
+    let got : gets user (later e r) ≡ 0 = gets-push user r e ∙ ap (λ c. cond c 0 (gets user r + one_where (is_get user r.service e.op e.reply))) (cleaning.cleans user ∙ own) in
+    let ungot : ungets user (later e r) ≡ 0 = ungets-push user r e ∙ ap (λ c. cond c 0 (ungets user r + one_where (is_unget user r.service e.op e.reply))) (cleaning.cleans user ∙ own) in
+    (rw (got, ungot) refl, rw (got, ungot) (omega arith))
+let_go_by bundle user row r e false cleaning own is =
+    let kept : cleans user e.op e.reply ≡ false = cleaning.cleans user ∙ own in
+    (uses_kept e row r user kept (cleaning.gets user r.service) (cleaning.ungets user r.service) is, paid_kept e row r user kept (cleaning.gets user r.service) (cleaning.ungets user r.service) is)
+
+released_row : (bundle : BundleId) (e : Entry) (row : LiveService) (r : Registered) → IsCleaning bundle e → IsRowOf row r → IsRowOf (without_user bundle row) (later e r)
+released_row bundle e row r cleaning is = record {
+  service = service_kept row r e is.service (cleaning.gives r.service);
+  scope = is.scope;
+  uses = λ user. count-without bundle user row.uses ∙ (let_go_by bundle user row r e (bundle.0 == user.0) cleaning refl is).0;
+  paid = λ user. (let_go_by bundle user row r e (bundle.0 == user.0) cleaning refl is).1;
+}
+
+-- a bundle's services and uses are let go by an entry that cleans it
+pub stands_released : (history : List Entry) (old new : RegistryRows) (bundle : BundleId) (e : Entry) → cleaned_by e.op e.reply ≡ Some bundle → StandsFor history old → new.rows ≡ released bundle old.rows → new.issued ≡ old.issued → StandsFor (history ++ e ∷ []) new
+stands_released history old new bundle e cleaned stands rows issued =
+    let c : IsCleaning bundle e = cleaning bundle e cleaned in
+    let none : [] ≡ registered_by (length (registered history)) e.op e.reply [] = sym (c.registers (length (registered history))) in
+    stands_by history old new e stands
+    (subst (λ l. AreRowsOf new.rows (map (later e) (left_by e (live history)) ++ l)) none
+    (subst (λ l. AreRowsOf new.rows l) (sym (append-nil (map (later e) (left_by e (live history)))))
+    (subst (λ l. AreRowsOf l (map (later e) (left_by e (live history)))) (sym rows)
+    (rows_map (without_user bundle) (later e) (λ row r is. released_row bundle e row r c is) (others bundle old.rows) (left_by e (live history))
+    (rows_filter (λ row. not (is_owned bundle row)) (λ r. not (takes_out r.service r.owner e.op e.reply))
+    (λ row r is. ap not (flip row.service.owner.0 bundle.0 ∙ ap (λ (s : Service). bundle.0 == s.owner.0) is.service ∙ sym (c.takes r.service r.owner))) old.rows (live history) stands.rows)))))
+    (issued ∙ (let same : old.issued ≡ old.issued + 0 = omega arith in same) ∙ ap (λ (l : List Registered). old.issued + length l) none)
 
 -- ---- nothing of this
 

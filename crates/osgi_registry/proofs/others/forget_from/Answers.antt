@@ -1,5 +1,5 @@
 -- The uses of the others.
-use Rattle.osgi_registry.proofs.Released.{forgotten}
+use Rattle.osgi_registry.proofs.Forgotten.{forgotten}
 use Rattle.osgi_registry.proofs.others.forget_from.Goals as goal
 
 pub returns : goal.returns

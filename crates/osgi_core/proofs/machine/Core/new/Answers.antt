@@ -7,5 +7,5 @@ use Rattle.osgi_core.proofs.machine.Core.new.Goals as goal
 pub invariant_of-result : goal.invariant_of-result
 invariant_of-result c =
     rw c.new.ensures.items
-    (kept_none (setting_of c.args.limits c.in_ok-first_tables.field-0.depot) c.in_ok-first_tables.field-0 refl c.in_ok-first_tables.ensures.budget c.in_ok-first_tables.ensures.services c.in_ok-first_tables.ensures.bundles
+    (kept_none (setting_of c.args.limits c.in_ok-first_tables.field-0.depot) c.in_ok-first_tables.field-0 refl c.in_ok-first_tables.ensures.budget c.in_ok-first_tables.ensures.services c.in_ok-first_tables.ensures.bundles c.in_ok-first_tables.ensures.brackets
     c.in_ok-first_tables.ensures.world c.in_ok-first_tables.ensures.issued c.in_ok-first_tables.ensures.holds)

@@ -1,15 +1,17 @@
 -- A service under the next id.
 use Rattle.std.proofs.Common.{◌≡◌, ◌≢◌, ◌+◌, ◌-◌, ◌^◌, ◌<◌, [], ◌∷◌, ◌++◌, ap, ◌∙◌, sym, refl, arith, length, subst}
-use Rattle.std.specs.Prelude.{All, None, Some}
+use Rattle.std.specs.Prelude.{All, None, Some, true}
 use Rattle.std.specs.BTreeMap.{insert_entry}
 use Rattle.std.specs.Map.{values_of}
 use Rattle.std.specs.Ordering.{nat_cmp}
 use Rattle.std.proofs.lemmas.Map.Entries.{length-values_of}
 use Rattle.osgi_ops.specs.declared.limits.TheConstants.{MAX_SERVICES}
+use Rattle.osgi_registry.proofs.Covered.{covered_grown, covered_push, covered_same}
 use Rattle.osgi_registry.proofs.Current.{current_push, current_same}
 use Rattle.osgi_registry.proofs.Entries.{inserted, kept_push, values-push}
 use Rattle.osgi_registry.proofs.Holds.{undone}
 use Rattle.osgi_registry.proofs.Placed.{fresh_id, fresh_place, index_same, placed_push}
+use Rattle.osgi_registry.specs.computed.Belonging.{Sets}
 use Rattle.osgi_registry.specs.computed.Places.{HoldsSame, IsFresh, place_of, Puts}
 use Rattle.osgi_registry.specs.Rows.{service_number}
 use Rattle.osgi_registry.proofs.registry.Registry.insert.Goals as goal
@@ -24,8 +26,17 @@ add_all-requires c =
 pub invariant_of-self : goal.invariant_of-self
 invariant_of-self c = record {
   rows = c.self.invariant.rows;
+  index = c.self.invariant.index;
+  current = c.self.invariant.current;
+  covered = covered_same c.self.inside.bundles.bundles c.add.new.self.bundles (values_of c.self.inside.services.entries) c.in_err-add.ensures.unchanged c.self.invariant.covered;
+}
+
+pub invariant_of-self-in_err-add_all : goal.invariant_of-self-in_err-add_all
+invariant_of-self-in_err-add_all c = record {
+  rows = c.self.invariant.rows;
   index = index_same c.self.inside.index.classes c.add_all.new.self.classes (values_of c.self.inside.services.entries) c.self.invariant.index c.in_err-add_all.ensures.unchanged;
   current = current_same c.self.inside.index.classes c.add_all.new.self.classes (values_of c.self.inside.services.entries) c.self.invariant.current c.in_err-add_all.ensures.unchanged;
+  covered = covered_grown c.self.inside.bundles.bundles c.add.new.self.bundles c.args.service.owner c.args.service.service (values_of c.self.inside.services.entries) c.in_ok-add.ensures.added c.self.invariant.covered;
 }
 
 pub invariant_of-self-in-Err : goal.invariant_of-self-in-Err
@@ -48,7 +59,12 @@ invariant_of-self-in-Err c =
     = subst (λ l. Puts mid new l place None) among (subst (λ q. Puts mid new c.items-in-Err.result.now q None) c.of-place.ensures.place c.take_all.ensures.taken) in
     let same : HoldsSame old new = undone old mid new c.args.service.classes place shared fresh added taken in
     rw c.in-Err.ensures.err
-    (record { rows = c.self.invariant.rows; index = index_same old new rows c.self.invariant.index same; current = current_same old new rows c.self.invariant.current same })
+    (record {
+      rows = c.self.invariant.rows;
+      index = index_same old new rows c.self.invariant.index same;
+      current = current_same old new rows c.self.invariant.current same;
+      covered = covered_grown c.self.inside.bundles.bundles c.add.new.self.bundles c.args.service.owner c.args.service.service rows c.in_ok-add.ensures.added c.self.invariant.covered;
+    })
 
 pub invariant_of-self-2 : goal.invariant_of-self-2
 invariant_of-self-2 c =
@@ -78,6 +94,10 @@ invariant_of-self-2 c =
           rw (values-push c.self.inside.services.entries (c.self.inside.issued + 1) c.in_ok-held.held)
           (placed_push old new rows row c.self.invariant.index added);
       current = rw (values-push c.self.inside.services.entries (c.self.inside.issued + 1) row) (current_push old new rows row (fresh_place old rows (place_of row.service) c.self.invariant.index apart) apart c.self.invariant.current added);
+      covered =
+          rw (values-push c.self.inside.services.entries (c.self.inside.issued + 1) row)
+          (covered_push c.self.inside.bundles.bundles c.add.new.self.bundles rows row
+          (subst (λ s. Sets c.self.inside.bundles.bundles c.add.new.self.bundles s.owner s.service true) is c.in_ok-add.ensures.added) (ap (λ r. r.uses) c.in_ok-held.ensures.service) c.self.invariant.covered);
     })
 
 pub returns-clause-rows : goal.returns-clause-rows

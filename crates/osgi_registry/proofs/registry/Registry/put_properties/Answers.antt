@@ -5,6 +5,7 @@ use Rattle.std.specs.Map.{lookup, values_of}
 use Rattle.std.proofs.lemmas.Bool.{eq-eqb}
 use Rattle.std.proofs.lemmas.Result.{err_from_is_err_and}
 use Rattle.osgi_registry.proofs.Changed.{kept_set, rows_set, written_same}
+use Rattle.osgi_registry.proofs.Covered.{covered_alike, covered_set}
 use Rattle.osgi_registry.proofs.Current.{current_change, current_same}
 use Rattle.osgi_registry.proofs.Entries.{found_under, row_absent}
 use Rattle.osgi_registry.proofs.Keys.{found_by, set_by}
@@ -59,6 +60,7 @@ invariant_of-self-in_err-move_all c =
       rows = c.self.invariant.rows;
       index = index_same c.self.inside.index.classes c.move_all.new.self.classes (values_of c.self.inside.services.entries) c.self.invariant.index c.in_err-move_all.ensures.unchanged;
       current = current_same c.self.inside.index.classes c.move_all.new.self.classes (values_of c.self.inside.services.entries) c.self.invariant.current c.in_err-move_all.ensures.unchanged;
+      covered = c.self.invariant.covered;
     })
 
 pub returns-in_err-move_all-clause-unchanged : goal.returns-in_err-move_all-clause-unchanged
@@ -100,6 +102,9 @@ invariant_of-self-2 c =
       current =
           rw (rows_set _ c.args.service row c.replace.new.self (with_properties c.args.properties) _ rows.under rows.rising is found)
           (current_change old new c.args.service (with_properties c.args.properties) row (values_of c.self.inside.services.entries) (place_of row.service) c.self.invariant.current c.self.invariant.index moved (sym key) only);
+      covered =
+          covered_set c.self.inside.bundles.bundles c.args.service.0 row c.replace.new.self c.self.inside.services.entries found
+          (covered_alike c.self.inside.bundles.bundles row c.replace.new.self (ap (λ r. r.service.service.0) (sym is)) (ap (λ r. r.service.owner) (sym is)) (ap (λ r. r.uses) (sym is))) c.self.invariant.covered;
     })
 
 pub returns-clause-rows : goal.returns-clause-rows

@@ -4,6 +4,7 @@ use Rattle.std.specs.Prelude.{false, None, Some}
 use Rattle.std.specs.Map.{lookup, values_of}
 use Rattle.std.proofs.lemmas.Bool.{OnFalse_at, OnFalse_from, OnTrue_at, OnTrue_from}
 use Rattle.osgi_registry.proofs.Changed.{kept_set, rows_set, written_same}
+use Rattle.osgi_registry.proofs.Covered.{covered_returned, covered_set}
 use Rattle.osgi_registry.proofs.Current.{current_kept}
 use Rattle.osgi_registry.proofs.Entries.{found_under, row_absent, row_present}
 use Rattle.osgi_registry.proofs.Keys.{found_by, set_by}
@@ -28,6 +29,9 @@ invariant_of-self-2 c =
       rows = kept_set _ c.args.service.0 _ _ c.self.invariant.rows (ap (λ s. s.service.0) c.take_use.ensures.service ∙ sym (found_under _ _ _ _ c.self.invariant.rows.under found).key);
       index = index_kept _ c.args.service c.in-Some.held.now c.take_use.new.self _ c.self.inside.index.classes c.self.invariant.rows c.self.invariant.index c.take_use.ensures.service found;
       current = current_kept _ c.args.service c.in-Some.held.now c.take_use.new.self _ c.self.inside.index.classes c.self.invariant.rows c.self.invariant.current c.take_use.ensures.service found;
+      covered =
+          covered_set c.self.inside.bundles.bundles c.args.service.0 c.in-Some.held.now c.take_use.new.self c.self.inside.services.entries found
+          (covered_returned c.self.inside.bundles.bundles c.args.user c.in-Some.held.now c.take_use.new.self c.take_use.result c.take_use.ensures.answer c.take_use.ensures.used c.take_use.ensures.unchanged) c.self.invariant.covered;
     })
 
 pub returns-clause-answer : goal.returns-clause-answer

@@ -1,0 +1,65 @@
+-- A target names no more than one bundle, and that is a live one.
+use Rattle.std.proofs.Common.{◌≡◌, ◌≤◌, ◌↔◌, inl, inr, true, false, sym, ap, ◌∙◌, subst, arith}
+use Rattle.std.specs.Prelude.{ℕ, List}
+use Rattle.std.specs.Ordering.{is_gt, ordering_reverse}
+use Rattle.std.specs.declared.cmp.Ordering.{Ordering}
+use Rattle.std.specs.declared.cmp.Ordering.TheVariants.{Equal, Greater, Less}
+use Rattle.std.proofs.lemmas.List.Elements.{All-contains}
+use Rattle.osgi_base.specs.declared.ids.BundleId.{BundleId}
+use Rattle.osgi_ops.specs.Bundles.{Bundle, bundles, is_live}
+use Rattle.osgi_ops.specs.Conditions.{at_target, IsFirstOf, IsNamed, IsTarget, no_target}
+use Rattle.osgi_ops.specs.Moments.{Moment}
+use Rattle.osgi_ops.specs.declared.refusal.Refusal.{Refusal}
+use Rattle.osgi_ops.specs.declared.target.Target.{Target}
+use Rattle.osgi_ops.specs.declared.target.Target.TheVariants.{Id, Name}
+use Rattle.osgi_ops.specs.laws.Bundles.{row-live}
+use Rattle.osgi_resolver_theory.proofs.Laws.{order_total}
+use Rattle.osgi_version.specs.VersionValues.{order, parts}
+use Rattle.osgi_version.specs.Versions.{Parts}
+
+-- ---- of two bundles of one name only one is first
+
+one-greater : (o : Ordering) → is_gt o ≡ true → is_gt (ordering_reverse o) ≡ true → ⊥
+one-greater Less a b = cc a
+one-greater Equal a b = cc a
+one-greater Greater a b = cc b
+
+one-higher : (a b : Parts) → is_gt (order a b) ≡ true → is_gt (order b a) ≡ true → ⊥
+one-higher a b above below = one-greater (order a b) above (sym (ap is_gt (order_total.antisymm b a)) ∙ below)
+
+first-once : (r s : Bundle) → IsFirstOf r s → IsFirstOf s r → r.bundle ≡ s.bundle
+first-once r s (inl above) (inl below) = absurd (one-higher (parts r.revision.version) (parts s.revision.version) above below)
+first-once r s (inl above) (inr low) = absurd (let bad : true ≡ false = sym above ∙ low.0 in cc bad)
+first-once r s (inr low) (inl above) = absurd (let bad : true ≡ false = sym above ∙ low.0 in cc bad)
+first-once r s (inr low) (inr high) =
+    let a : r.bundle.0 ≤ s.bundle.0 = low.1 in
+    let b : s.bundle.0 ≤ r.bundle.0 = high.1 in
+    let same : r.bundle.0 ≡ s.bundle.0 = omega (arith, a, b) in λ i. record { 0 = same i }
+
+named-once : (now : Moment) (name : List ℕ) (b c : BundleId) → IsNamed now name b → IsNamed now name c → b ≡ c
+named-once now name b c m n =
+    sym m.is
+    ∙ first-once m.row n.row
+    (All-contains (λ (other : Bundle). other.revision.name ≡ name → IsFirstOf m.row other) (bundles now.setting.depot now.before) n.row m.first n.live n.named)
+    (All-contains (λ (other : Bundle). other.revision.name ≡ name → IsFirstOf n.row other) (bundles now.setting.depot now.before) m.row n.first m.live m.named)
+    ∙ n.is
+
+-- ---- what a target names
+
+-- no more than one bundle
+pub target-once : (now : Moment) (t : Target) (b c : BundleId) → IsTarget now t b → IsTarget now t c → b ≡ c
+target-once now (Id id) b c is other = is.0 ∙ sym other.0
+target-once now (Name name) b c is other = named-once now name b c is other
+
+-- a live one
+pub target-live : (now : Moment) (t : Target) (b : BundleId) → IsTarget now t b → is_live b now.before ≡ true
+target-live now (Id id) b is = ap (λ x. is_live x now.before) is.0 ∙ is.1
+target-live now (Name name) b is = ap (λ x. is_live x now.before) (sym is.is) ∙ row-live now.setting.depot now.before is.row is.live
+
+-- so a condition on the target is one on this bundle
+pub at-target : (now : Moment) (t : Target) (b : BundleId) → IsTarget now t b → (condition : BundleId → Refusal → Type 0) (f : Refusal) → at_target now t condition f ↔ condition b f
+at-target now t b is condition f = ((λ at. subst (λ x. condition x f) (target-once now t at.0 b at.1 is) at.2), (λ holds. (b, is, holds)))
+
+-- and it is not refused since there is no such bundle
+pub no-target : (now : Moment) (t : Target) (b : BundleId) → IsTarget now t b → (f : Refusal) → no_target now t f → ⊥
+no-target now t b is f none = none.1 (b, is)

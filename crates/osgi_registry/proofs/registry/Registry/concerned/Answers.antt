@@ -1,0 +1,6 @@
+-- What belongs to the bundle is all that concerns it.
+use Rattle.osgi_registry.proofs.Covered.{among_all}
+use Rattle.osgi_registry.proofs.registry.Registry.concerned.Goals as goal
+
+pub returns-clause-all : goal.returns-clause-all
+returns-clause-all c = rw (← c.self.view_is) (among_all c.services.result c.self.inside.bundles.bundles c.args.bundle _ c.services.ensures.services c.self.invariant.covered)

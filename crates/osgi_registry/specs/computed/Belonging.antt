@@ -1,0 +1,54 @@
+-- Which services belong to which bundle, and the index that keeps them.
+use Rattle.std.specs.Prelude.{ℕ, ◌≡◌, ◌==◌, ◌&&◌, ◌||◌, Bool, true, false, List, [], All, map, if◌then◌else◌}
+use Rattle.std.specs.List.{list_any}
+use Rattle.std.specs.BTreeMap.{BTreeMap, get, is_at}
+use Rattle.std.specs.BTreeSet.{BTreeSet}
+use Rattle.std.specs.Option.{option_map_or}
+use Rattle.std.specs.Ordering.{nat_cmp}
+use Rattle.osgi_base.specs.declared.ids.BundleId.{BundleId}
+use Rattle.osgi_base.specs.declared.ids.ServiceId.{ServiceId}
+use Rattle.osgi_registry.specs.Rows.{is_owned, LiveService, row_at, service_number}
+
+-- the services of each bundle, by their numbers
+abbrev pub Bundles : Type 0
+Bundles = BTreeMap ℕ (BTreeSet ℕ)
+
+-- the services of the bundle
+abbrev pub services_of : Bundles → ℕ → List ℕ
+services_of bundles bundle = option_map_or (λ services. services.keys) (get nat_cmp bundles bundle) []
+
+-- the service is one of the bundle's
+abbrev pub belongs : Bundles → ℕ → ℕ → Bool
+belongs bundles bundle service = list_any (is_at (nat_cmp service)) (services_of bundles bundle)
+
+-- the service comes to be the bundle's, or not to be; nothing else changes
+abbrev pub Sets : Bundles → Bundles → BundleId → ServiceId → Bool → Type 0
+Sets old new bundle service is = (b s : ℕ) → belongs new b s ≡ (if (bundle.0 == b) && (service.0 == s) then is else belongs old b s)
+
+abbrev pub BelongsSame : Bundles → Bundles → Type 0
+BelongsSame old new = (b s : ℕ) → belongs new b s ≡ belongs old b s
+
+-- nothing belongs to the bundle, and to each other bundle what belonged to it
+abbrev pub Empties : Bundles → Bundles → BundleId → Type 0
+Empties old new bundle = (b s : ℕ) → belongs new b s ≡ (if bundle.0 == b then false else belongs old b s)
+
+-- ---- whom a service concerns
+
+-- the bundle owns the service, or is one of its users
+abbrev pub concerns : BundleId → LiveService → Bool
+concerns bundle row = is_owned bundle row || list_any (λ other. bundle.0 == other.0) row.uses
+
+-- the service belongs to each bundle that it concerns
+abbrev pub IsCovered : Bundles → LiveService → Type 0
+IsCovered bundles row = (bundle : BundleId) → concerns bundle row ≡ true → belongs bundles bundle.0 (service_number row) ≡ true
+
+abbrev pub AreCovered : Bundles → List LiveService → Type 0
+AreCovered bundles rows = All (IsCovered bundles) rows
+
+-- the bundle owns the service, and it is live
+abbrev pub owns : BundleId → List LiveService → ServiceId → Bool
+owns bundle rows service = option_map_or (is_owned bundle) (row_at service rows) false
+
+-- each service that concerns the bundle is one of these
+abbrev pub AreAmong : BundleId → List ServiceId → List LiveService → Type 0
+AreAmong bundle services rows = All (λ row. concerns bundle row ≡ true → list_any (is_at (nat_cmp (service_number row))) (map (λ (service : ServiceId). service.0) services) ≡ true) rows

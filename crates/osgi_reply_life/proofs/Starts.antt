@@ -1,0 +1,273 @@
+-- What a wish to start a bundle is answered, and the begin of a start.
+use Rattle.std.proofs.Common.{◌≡◌, ◌≢◌, ◌⊎◌, ℕ, ◌≤◌, List, inl, inr, ap, sym, subst, ◌∙◌, refl}
+use Rattle.std.specs.Prelude.{Bool, true, false, cond, [], ◌∷◌, None, Some, IsSomeAnd, length}
+use Rattle.osgi_base.specs.Verdict.{Gives, Where}
+use Rattle.osgi_base.specs.declared.ids.BundleId.{BundleId}
+use Rattle.osgi_base.specs.declared.ids.Tag.{Tag}
+use Rattle.osgi_brackets.specs.Open.{open_of}
+use Rattle.osgi_bundle.specs.Rows.{row_at}
+use Rattle.osgi_bundle.specs.Targets.{IsTargetRow}
+use Rattle.osgi_bundle.specs.declared.kept.BundleKept.{BundleKept}
+use Rattle.osgi_bundle.specs.laws.OneBundle.{rows_of_target, target_of_rows}
+use Rattle.osgi_legal.specs.Quiet.{QuietServices}
+use Rattle.osgi_legal.proofs.Facts.{row-at}
+use Rattle.osgi_legal.proofs.Stage.{never-above, never-kept, never-refreshing}
+use Rattle.osgi_legal.proofs.StateReadings.{when-resolved}
+use Rattle.osgi_legal.proofs.Targets.{no-target}
+use Rattle.osgi_ops.specs.Brackets.{starting as start_of}
+use Rattle.osgi_ops.specs.Bundles.{Active, is_active, is_changing, is_live, Resolved, row_of, starting, Unresolved}
+use Rattle.osgi_ops.specs.Conditions.{at_target, invalid_where, is_above, is_kept, IsDeep, IsTarget, no_such_bundle, state_change, state_of}
+use Rattle.osgi_ops.specs.Legal.{IsTold}
+use Rattle.osgi_ops.specs.Moments.{Moment}
+use Rattle.osgi_ops.specs.Operations.{IsReply}
+use Rattle.osgi_ops.specs.Replies.{is_effective, verdict}
+use Rattle.osgi_ops.specs.States.{is_changing as is_changing_number}
+use Rattle.osgi_ops.specs.Resolved.{is_fragment_bundle}
+use Rattle.osgi_ops.specs.declared.asked.Asked.{Asked}
+use Rattle.osgi_ops.specs.declared.limits.TheConstants.{MAX_BRACKETS}
+use Rattle.osgi_ops.specs.declared.op.Op.TheVariants as op
+use Rattle.osgi_ops.specs.declared.refusal.Refusal.{Refusal}
+use Rattle.osgi_ops.specs.declared.refusal.Refusal.TheVariants as no
+use Rattle.osgi_ops.specs.declared.reply.Reply.{Reply}
+use Rattle.osgi_ops.specs.declared.reply.Reply.TheVariants as answer
+use Rattle.osgi_ops.specs.declared.state.TheConstants.{ACTIVE, INSTALLED, RESOLVED}
+use Rattle.osgi_ops.specs.declared.target.Target.{Target}
+use Rattle.osgi_ops.specs.laws.Stages.{row-here}
+use Rattle.osgi_ops.specs.rows.Life.{BeginStartAnswers, start_transient, WishStartAnswers}
+use Rattle.osgi_tables.proofs.Living.{EachTime, IsBeginOf, replied_begun}
+use Rattle.osgi_tables.proofs.Replying.{decided_same, of_services, replied_refused}
+use Rattle.osgi_tables.specs.Changes.{IsReplyAndChange}
+use Rattle.osgi_tables.specs.Replied.{IsRepliedToAll}
+use Rattle.osgi_tables.specs.declared.change.Change.TheVariants as change
+use Rattle.osgi_tables.specs.declared.tables.Tables.{Tables}
+use Rattle.osgi_reply_life.proofs.Idle.{IsIdle, replied_idle}
+use Rattle.osgi_reply_life.proofs.Conditions.{changed_by, deep_at, not_at, says_nothing, SaysChange, shallow_at}
+use Rattle.osgi_reply_life.proofs.Rows.{changing_at, changing_rest, down_at, row_gone, row_there, state_is, state_not}
+
+-- ---- a wish, at a moment
+
+wish_missing : (now : Moment) (target : Target) (transient : Bool) → ((b : BundleId) → ¬ IsTarget now target b) → IsReply now (op.WishStart target transient) (answer.Refused no.NoSuchBundle)
+wish_missing now target transient none =
+    row-here now (op.WishStart target transient) (answer.Refused no.NoSuchBundle) refl (inl (no.NoSuchBundle, (refl, λ some. none some.0 some.1), refl))
+
+-- the bundle is a fragment
+abbrev of_fragment : Moment → BundleId → Refusal → Type 0
+of_fragment now b = invalid_where (is_fragment_bundle now.world b ≡ true)
+
+-- what refuses a wish for a bundle that is no fragment
+abbrev wish_rest : Moment → Target → Bool → List (Refusal → Type 0)
+wish_rest now target transient = at_target now target (state_change is_changing now) ∷ at_target now target (λ b. start_transient now b transient) ∷ []
+
+module _ (now : Moment) (told : IsTold now) (target : Target) (transient : Bool) (b : BundleId) (at : IsTarget now target b) where
+  wish_fragment : is_fragment_bundle now.world b ≡ true → IsReply now (op.WishStart target transient) (answer.Refused no.InvalidOperation)
+  wish_fragment fragment =
+      row-here now (op.WishStart target transient) (answer.Refused no.InvalidOperation) refl (inr (no-target now target b at, inl (no.InvalidOperation, (b, at, (refl, fragment)), refl)))
+
+  -- past the first refusals
+  wish_whole : (reply : Reply) → is_fragment_bundle now.world b ≡ false → Gives (wish_rest now target transient) (WishStartAnswers now target) (verdict reply) → IsReply now (op.WishStart target transient) reply
+  wish_whole reply whole rest =
+      row-here now (op.WishStart target transient) reply refl
+      (inr (no-target now target b at, inr (not_at now target b (of_fragment now) at (λ f called. (let bad : true ≡ false = sym called.1 ∙ whole in cc bad)), rest)))
+
+  wish_changing : (f : Refusal) → is_fragment_bundle now.world b ≡ false → state_change is_changing now b f → IsReply now (op.WishStart target transient) (answer.Refused f)
+  wish_changing f whole changes = wish_whole (answer.Refused f) whole (inl (f, (b, at, changes), refl))
+
+  -- past them all
+  wish_resting : (reply : Reply) → is_fragment_bundle now.world b ≡ false → is_changing (state_of now b) ≡ false → Gives [] (WishStartAnswers now target) (verdict reply) → IsReply now (op.WishStart target transient) reply
+  wish_resting reply whole rests says =
+      wish_whole reply whole
+      (inr (
+        not_at now target b (state_change is_changing now) at (λ f called. (let bad : true ≡ false = sym called.0 ∙ rests in cc bad)),
+        inr (not_at now target b (λ c. start_transient now c transient) at (λ f called. (let bad : true ≡ false = sym called.1.0 ∙ never-kept now told b in cc bad)), says),
+      ))
+
+  wish_active : is_fragment_bundle now.world b ≡ false → state_of now b ≡ Active → IsReply now (op.WishStart target transient) (answer.Active b)
+  wish_active whole is =
+      wish_resting (answer.Active b) whole (ap is_changing is) (b, at, sym (ap (λ s. cond (is_active s) (answer.Active b) (cond (is_above now b) (answer.Kept b) (answer.Go b))) is))
+
+  wish_go : is_fragment_bundle now.world b ≡ false → is_changing (state_of now b) ≡ false → is_active (state_of now b) ≡ false → IsReply now (op.WishStart target transient) (answer.Go b)
+  wish_go whole rests down =
+      wish_resting (answer.Go b) whole rests (b, at, sym (λ i. cond (down i) (answer.Active b) (cond (never-above now told b i) (answer.Kept b) (answer.Go b))))
+
+-- ---- a begin, at a moment
+
+begin_missing : (now : Moment) (b : BundleId) (transient : Bool) → is_live b now.before ≡ false → IsReply now (op.BeginStart b transient) (answer.Refused no.NoSuchBundle)
+begin_missing now b transient gone = row-here now (op.BeginStart b transient) (answer.Refused no.NoSuchBundle) refl (inl (no.NoSuchBundle, (refl, gone), refl))
+
+-- what refuses the begin of a start of a bundle that is no fragment, and resolved
+abbrev begin_rest : Moment → BundleId → Bool → List (Refusal → Type 0)
+begin_rest now b transient =
+    state_change is_changing now b ∷ start_transient now b transient ∷ Where no.TooDeep ((is_active (state_of now b) ≡ false) × (is_kept now b ≡ false) × IsDeep now) ∷ []
+
+module _ (now : Moment) (told : IsTold now) (b : BundleId) (transient : Bool) (live : is_live b now.before ≡ true) where
+  there : (f : Refusal) → ¬ no_such_bundle now b f
+  there f called = let bad : true ≡ false = sym live ∙ called.1 in cc bad
+
+  begin_invalid : (is_fragment_bundle now.world b ≡ true) ⊎ (state_of now b ≡ Unresolved) → IsReply now (op.BeginStart b transient) (answer.Refused no.InvalidOperation)
+  begin_invalid invalid = row-here now (op.BeginStart b transient) (answer.Refused no.InvalidOperation) refl (inr (there, inl (no.InvalidOperation, (refl, invalid), refl)))
+
+  -- past the first refusals
+  begin_valid : (reply : Reply) → is_fragment_bundle now.world b ≡ false → state_of now b ≢ Unresolved → Gives (begin_rest now b transient) (BeginStartAnswers now b) (verdict reply) → IsReply now (op.BeginStart b transient) reply
+  begin_valid reply whole resolved rest =
+      row-here now (op.BeginStart b transient) reply refl
+      (inr (there, inr (none, inr (λ f called. never-refreshing now told _ f called, rest))))
+    where
+      none : (f : Refusal) → ¬ invalid_where ((is_fragment_bundle now.world b ≡ true) ⊎ (state_of now b ≡ Unresolved)) f
+      none f (is, inl fragment) = let bad : true ≡ false = sym fragment ∙ whole in cc bad
+      none f (is, inr unresolved) = resolved unresolved
+
+  begin_changing : (f : Refusal) → is_fragment_bundle now.world b ≡ false → state_of now b ≢ Unresolved → state_change is_changing now b f → IsReply now (op.BeginStart b transient) (answer.Refused f)
+  begin_changing f whole resolved changes = begin_valid (answer.Refused f) whole resolved (inl (f, changes, refl))
+
+  -- past all but that of the depth
+  begin_resting : (reply : Reply) → is_fragment_bundle now.world b ≡ false → state_of now b ≢ Unresolved → is_changing (state_of now b) ≡ false →
+      Gives (Where no.TooDeep ((is_active (state_of now b) ≡ false) × (is_kept now b ≡ false) × IsDeep now) ∷ []) (BeginStartAnswers now b) (verdict reply) → IsReply now (op.BeginStart b transient) reply
+  begin_resting reply whole resolved rests rest =
+      begin_valid reply whole resolved
+      (inr (
+        λ f called. (let bad : true ≡ false = sym called.0 ∙ rests in cc bad),
+        inr (λ f called. (let bad : true ≡ false = sym called.1.0 ∙ never-kept now told b in cc bad), rest),
+      ))
+
+  begin_active : is_fragment_bundle now.world b ≡ false → state_of now b ≡ Active → IsReply now (op.BeginStart b transient) (answer.Active b)
+  begin_active whole is =
+      begin_resting (answer.Active b) whole (λ unresolved. (let bad : Active ≡ Unresolved = sym is ∙ unresolved in cc bad)) (ap is_changing is)
+      (inr (
+        λ f called. (let bad : true ≡ false = sym (ap is_active is) ∙ called.1.0 in cc bad),
+        sym (ap (λ s. cond (is_active s) (answer.Active b) (cond (is_above now b) (answer.Kept b) (answer.Begun b (row_of now.setting.depot now.before b)))) is),
+      ))
+
+  begin_deep : is_fragment_bundle now.world b ≡ false → state_of now b ≡ Resolved → IsDeep now → IsReply now (op.BeginStart b transient) (answer.Refused no.TooDeep)
+  begin_deep whole is deep =
+      begin_resting (answer.Refused no.TooDeep) whole (λ unresolved. (let bad : Resolved ≡ Unresolved = sym is ∙ unresolved in cc bad)) (ap is_changing is)
+      (inl (no.TooDeep, (refl, (ap is_active is, never-kept now told b, deep)), refl))
+
+  begin_begun : (row : ℕ) → row ≡ row_of now.setting.depot now.before b → is_fragment_bundle now.world b ≡ false → state_of now b ≡ Resolved → ¬ IsDeep now → IsReply now (op.BeginStart b transient) (answer.Begun b row)
+  begin_begun row same whole is shallow =
+      begin_resting (answer.Begun b row) whole (λ unresolved. (let bad : Resolved ≡ Unresolved = sym is ∙ unresolved in cc bad)) (ap is_changing is)
+      (inr (
+        λ f called. shallow called.1.2,
+        sym (λ i. cond (is_active (is i)) (answer.Active b) (cond (never-above now told b i) (answer.Kept b) (answer.Begun b (sym same i)))),
+      ))
+
+-- ---- a wish is replied to
+
+abbrev wish : Tag → Target → Bool → Asked
+wish tag target transient = record { tag = tag; op = op.WishStart target transient }
+
+idle_wish : (target : Target) (transient : Bool) (reply : Reply) → IsIdle (op.WishStart target transient) reply
+idle_wish target transient reply = record {
+  others = of_services (op.WishStart target transient) reply (λ n since. refl) (λ b. refl) (λ b. refl) refl (λ b. refl) refl refl (λ now world same. same);
+  services = record { registered = λ n since. refl; taken = λ s owner. refl; given = λ s. refl; got = λ u s. refl; let_go = λ u s. refl; cleaned = refl };
+}
+
+pub replied_wish_missing : (tables : Tables) (target : Target) (transient : Bool) → ((b : BundleId) → ¬ IsTargetRow target tables.bundles.rows b) → IsRepliedToAll (op.WishStart target transient) tables tables (answer.Refused no.NoSuchBundle)
+replied_wish_missing tables target transient none tag =
+    replied_refused (wish tag target transient) tables no.NoSuchBundle refl
+    (λ now at stood. wish_missing now target transient (λ b is. none b (rows_of_target now tables.bundles stood.bundles target b (row-at now at.told) is)))
+
+module _ (tables : Tables) (target : Target) (transient : Bool) (b : BundleId) (row : BundleKept) (names : IsTargetRow target tables.bundles.rows b) (is : row_at b tables.bundles.rows ≡ Some row) where
+  pub replied_wish_fragment : row.fragment ≡ true → IsRepliedToAll (op.WishStart target transient) tables tables (answer.Refused no.InvalidOperation)
+  replied_wish_fragment fragment tag =
+      replied_refused (wish tag target transient) tables no.InvalidOperation refl
+      (λ now at stood.
+      let of = row_there now at.told tables.bundles b row stood.bundles is in
+      wish_fragment now at.told target transient b (target_of_rows now tables.bundles stood.bundles target b (row-at now at.told) names) (sym of.fragment ∙ fragment))
+
+  pub replied_wish_changing : (f : Refusal) → row.fragment ≡ false → is_changing_number row.state ≡ true → SaysChange row.by f → IsRepliedToAll (op.WishStart target transient) tables tables (answer.Refused f)
+  replied_wish_changing f whole changing says tag =
+      replied_refused (wish tag target transient) tables f (says_nothing row.by f says)
+      (λ now at stood.
+      let of = row_there now at.told tables.bundles b row stood.bundles is in
+      wish_changing now at.told target transient b (target_of_rows now tables.bundles stood.bundles target b (row-at now at.told) names) f (sym of.fragment ∙ whole)
+      (changed_by now at.told b row f of (changing_at of changing) says))
+
+  pub replied_wish_active : row.fragment ≡ false → row.state ≡ ACTIVE → IsRepliedToAll (op.WishStart target transient) tables tables (answer.Active b)
+  replied_wish_active whole active tag =
+      replied_idle (wish tag target transient) tables (answer.Active b) (idle_wish target transient (answer.Active b))
+      (λ now at stood.
+      let of = row_there now at.told tables.bundles b row stood.bundles is in
+      wish_active now at.told target transient b (target_of_rows now tables.bundles stood.bundles target b (row-at now at.told) names) (sym of.fragment ∙ whole) (state_is Active of active))
+
+  pub replied_wish_go : row.fragment ≡ false → is_changing_number row.state ≡ false → row.state ≢ ACTIVE → IsRepliedToAll (op.WishStart target transient) tables tables (answer.Go b)
+  replied_wish_go whole rests down tag =
+      replied_idle (wish tag target transient) tables (answer.Go b) (idle_wish target transient (answer.Go b))
+      (λ now at stood.
+      let of = row_there now at.told tables.bundles b row stood.bundles is in
+      wish_go now at.told target transient b (target_of_rows now tables.bundles stood.bundles target b (row-at now at.told) names) (sym of.fragment ∙ whole) (changing_at of rests) (down_at of down))
+
+-- ---- a begin is replied to
+
+abbrev begin : Tag → BundleId → Bool → Asked
+begin tag b transient = record { tag = tag; op = op.BeginStart b transient }
+
+-- a begin says nothing of services
+begin_services : (b : BundleId) (transient : Bool) (reply : Reply) → QuietServices (op.BeginStart b transient) reply
+begin_services b transient reply = record { registered = λ n since. refl; taken = λ s owner. refl; given = λ s. refl; got = λ u s. refl; let_go = λ u s. refl; cleaned = refl }
+
+idle_begin : (b : BundleId) (transient : Bool) → IsIdle (op.BeginStart b transient) (answer.Active b)
+idle_begin b transient = record {
+  others = of_services (op.BeginStart b transient) (answer.Active b) (λ n since. refl) (λ c. refl) (λ c. refl) refl (λ c. refl) refl refl (λ now world same. same);
+  services = begin_services b transient (answer.Active b);
+}
+
+begins_start : (b : BundleId) (transient : Bool) (row : ℕ) → IsBeginOf starting (start_of b) b (op.BeginStart b transient) (answer.Begun b row)
+begins_start b transient row = record {
+  puts = λ c. refl;
+  bundles = record { installed = λ n since. refl; gone = λ c. refl; updated = λ c. refl; brings = refl };
+  services = begin_services b transient (answer.Begun b row);
+  opened = refl;
+  leaves = λ now world same. same;
+}
+
+module _ (tables : Tables) (tag : Tag) (b : BundleId) (transient : Bool) where
+  refused_begin : (f : Refusal) → is_effective (answer.Refused f) ≡ false → EachTime (begin tag b transient) tables (λ now. IsReply now (op.BeginStart b transient) (answer.Refused f)) →
+      IsReplyAndChange (begin tag b transient) tables (answer.Refused f) change.Nothing
+  refused_begin f none due = decided_same (begin tag b transient) tables (answer.Refused f) (replied_refused (begin tag b transient) tables f none due)
+
+  pub decided_begin_missing : row_at b tables.bundles.rows ≡ None → IsReplyAndChange (begin tag b transient) tables (answer.Refused no.NoSuchBundle) change.Nothing
+  decided_begin_missing none = refused_begin no.NoSuchBundle refl (λ now at stood. begin_missing now b transient (row_gone now at.told tables.bundles b stood.bundles none))
+
+  module _ (row : BundleKept) (is : row_at b tables.bundles.rows ≡ Some row) where
+    pub decided_begin_invalid : (row.fragment ≡ true) ⊎ (row.state ≡ INSTALLED) → IsReplyAndChange (begin tag b transient) tables (answer.Refused no.InvalidOperation) change.Nothing
+    decided_begin_invalid invalid =
+        refused_begin no.InvalidOperation refl
+        (λ now at stood.
+        let of = row_there now at.told tables.bundles b row stood.bundles is in
+        begin_invalid now at.told b transient of.live (elim invalid [ inl fragment ↦ inl (sym of.fragment ∙ fragment) | inr installed ↦ inr (state_is Unresolved of installed) ]))
+
+    pub decided_begin_active : row.fragment ≡ false → row.state ≡ ACTIVE → IsReplyAndChange (begin tag b transient) tables (answer.Active b) change.Nothing
+    decided_begin_active whole active =
+        decided_same (begin tag b transient) tables (answer.Active b)
+        (replied_idle (begin tag b transient) tables (answer.Active b) (idle_begin b transient)
+        (λ now at stood.
+        let of = row_there now at.told tables.bundles b row stood.bundles is in
+        begin_active now at.told b transient of.live (sym of.fragment ∙ whole) (state_is Active of active)))
+
+    pub decided_begin_changing : (f : Refusal) → row.fragment ≡ false → row.state ≢ INSTALLED → row.state ≢ ACTIVE → row.state ≢ RESOLVED → SaysChange row.by f → IsReplyAndChange (begin tag b transient) tables (answer.Refused f) change.Nothing
+    decided_begin_changing f whole installed active resolved says =
+        refused_begin f (says_nothing row.by f says)
+        (λ now at stood.
+        let of = row_there now at.told tables.bundles b row stood.bundles is in
+        begin_changing now at.told b transient of.live f (sym of.fragment ∙ whole) (state_not Unresolved of installed)
+        (changed_by now at.told b row f of (changing_rest of installed resolved active) says))
+
+    pub decided_begin_deep : row.fragment ≡ false → row.state ≡ RESOLVED → MAX_BRACKETS ≤ length (open_of tables.brackets tag.caller) → IsReplyAndChange (begin tag b transient) tables (answer.Refused no.TooDeep) change.Nothing
+    decided_begin_deep whole resolved deep =
+        refused_begin no.TooDeep refl
+        (λ now at stood.
+        let of = row_there now at.told tables.bundles b row stood.bundles is in
+        begin_deep now at.told b transient of.live (sym of.fragment ∙ whole) (state_is Resolved of resolved) (deep_at (begin tag b transient) tables now at stood deep))
+
+    pub decided_begun : row.fragment ≡ false → row.state ≡ RESOLVED → ¬ (MAX_BRACKETS ≤ length (open_of tables.brackets tag.caller)) →
+        IsReplyAndChange (begin tag b transient) tables (answer.Begun b row.row) (change.BeginStart tag b)
+    decided_begun whole resolved shallow = record {
+      possible = subst (λ o. IsSomeAnd o (λ (r : BundleKept). (r.fragment ≡ false) × (r.state ≡ RESOLVED))) (sym is) (whole, resolved);
+      replied = λ new changed.
+          replied_begun (begin tag b transient) tables new (answer.Begun b row.row) starting (start_of b) b (begins_start b transient row.row)
+          (λ now at stood.
+          let of = row_there now at.told tables.bundles b row stood.bundles is in
+          begin_begun now at.told b transient of.live row.row of.depot_row (sym of.fragment ∙ whole) (state_is Resolved of resolved) (shallow_at (begin tag b transient) tables now at stood shallow))
+          (λ now at stood. let of = row_there now at.told tables.bundles b row stood.bundles is in (when-resolved now b (state_is Resolved of resolved)).is_so)
+          changed;
+    }

@@ -1,0 +1,136 @@
+-- What the tables answer to the begin or the end of a start or a stop, where the reply is due: then they stand for the history with its
+-- entry.
+use Rattle.std.proofs.Common.{◌≡◌, [], ◌∷◌, ◌++◌, ap, refl, sym, subst, ◌∙◌}
+use Rattle.std.specs.Prelude.{◌==◌, if◌then◌else◌, Bool, true, false, length, MatchBool, None, Some}
+use Rattle.osgi_base.specs.declared.ids.BundleId.{BundleId}
+use Rattle.osgi_base.specs.declared.ids.Tag.{Tag}
+use Rattle.osgi_brackets.specs.Open.{Closes, open_of, Opens}
+use Rattle.osgi_brackets.specs.laws.Following.{closed-after, opened-after}
+use Rattle.osgi_bundle.specs.Rows.{TableRows}
+use Rattle.osgi_bundle.specs.Stands.{Puts, StandsPut}
+use Rattle.osgi_bundle.specs.Stands as bundle
+use Rattle.osgi_legal.specs.Quiet.{QuietBundles, QuietServices}
+use Rattle.osgi_legal.proofs.Quiet.{bundles-quiet}
+use Rattle.osgi_ops.specs.Brackets.{brackets_of, Cause, is_own_end, opens, own_closes}
+use Rattle.osgi_ops.specs.Bundles.{Phase, put_into}
+use Rattle.osgi_ops.specs.Cleaning.{cleaned_by}
+use Rattle.osgi_ops.specs.Legal.{entry_of, IsAskedAt}
+use Rattle.osgi_ops.specs.Moments.{later, Moment}
+use Rattle.osgi_ops.specs.Operations.{IsReply}
+use Rattle.osgi_ops.specs.Resolved.{is_resolved}
+use Rattle.osgi_ops.specs.Soundness.{IsSound}
+use Rattle.osgi_ops.specs.Worlds.{Leaves}
+use Rattle.osgi_ops.specs.declared.asked.Asked.{Asked}
+use Rattle.osgi_ops.specs.declared.entry.Entry.{Entry}
+use Rattle.osgi_ops.specs.declared.op.Op.{Op}
+use Rattle.osgi_ops.specs.declared.reply.Reply.{Reply}
+use Rattle.osgi_registry.specs.Rows.{RegistryRows}
+use Rattle.osgi_registry.specs.Stands as registries
+use Rattle.osgi_registry.specs.laws.Standing as registry
+use Rattle.osgi_world.specs.declared.world.World.{World}
+use Rattle.osgi_tables.proofs.Replying.{kept_closes, unsaid, unseen}
+use Rattle.osgi_tables.specs.Changes.{Begins, Cleans, Ends}
+use Rattle.osgi_tables.specs.Replied.{IsReplied, StandsFor}
+use Rattle.osgi_tables.specs.declared.tables.Tables.{Tables}
+
+-- what holds at each moment at which it is asked for and that the tables stand for
+abbrev pub EachTime : Asked → Tables → (Moment → Type 0) → Type 0
+EachTime asked tables P = (now : Moment) → IsAskedAt asked now → StandsFor now tables → P now
+
+-- ---- what the tables say of brackets at the moment
+
+pub own_end_at : (asked : Asked) (tables : Tables) (now : Moment) → IsAskedAt asked now → StandsFor now tables → is_own_end now.tag asked.op now.before ≡ own_closes asked.tag asked.op (open_of tables.brackets asked.tag.caller)
+own_end_at asked tables now at stood =
+    sym (kept_closes now asked.op tables.brackets stood.brackets) ∙ ap (λ (t : Tag). own_closes t asked.op (open_of tables.brackets t.caller)) at.tag
+
+pub depth_at : (asked : Asked) (tables : Tables) (now : Moment) → IsAskedAt asked now → StandsFor now tables → length (brackets_of now.tag.caller now.before) ≡ length (open_of tables.brackets asked.tag.caller)
+depth_at asked tables now at stood =
+    ap length (sym (stood.brackets now.tag.caller)) ∙ ap (λ (t : Tag). length (open_of tables.brackets t.caller)) at.tag
+
+-- ---- the tables after an entry that puts a bundle into a phase
+
+puts_by : (now : Moment) (o : Op) (reply : Reply) (phase : Phase) (b : BundleId) → QuietBundles o reply → ((c : BundleId) → put_into c o reply ≡ (if b.0 == c.0 then Some phase else None)) → Puts phase b (entry_of now o reply)
+puts_by now o reply phase b quiet puts = record { puts = puts; installs = quiet.installed; uninstalls = quiet.gone; updates = quiet.updated }
+
+module _ (now : Moment) (old : Tables) (o : Op) (reply : Reply) (phase : Phase) (tag : Tag) (b : BundleId) (stood : StandsFor now old) (quiet : QuietBundles o reply)
+    (puts : (c : BundleId) → put_into c o reply ≡ (if b.0 == c.0 then Some phase else None)) (own : now.tag ≡ tag) (resolved : is_resolved now.world b ≡ true) where
+  bundles_put : (rows : TableRows) → StandsPut phase tag b old.bundles rows → bundle.StandsFor now.setting.depot (now.before ++ entry_of now o reply ∷ []) old.wirings.world rows
+  bundles_put rows put =
+      subst (λ (w : World). bundle.StandsFor now.setting.depot (now.before ++ entry_of now o reply ∷ []) w rows) (sym stood.world)
+      (put now.setting.depot now.before now.world (entry_of now o reply) own (puts_by now o reply phase b quiet puts) resolved stood.bundles)
+
+-- ---- a begin
+
+-- the operation with this reply begins a start or a stop of the bundle
+pub record IsBeginOf (phase : Phase) (cause : Cause) (b : BundleId) (o : Op) (reply : Reply) : Type 0 where
+  pub puts : (c : BundleId) → put_into c o reply ≡ (if b.0 == c.0 then Some phase else None)
+  pub bundles : QuietBundles o reply
+  pub services : QuietServices o reply
+  pub opened : opens o reply ≡ Some cause
+  pub leaves : (now : Moment) (world : World) → world ≡ now.world → Leaves now o reply world
+
+begun_stands : (asked : Asked) (old new : Tables) (reply : Reply) (phase : Phase) (cause : Cause) (b : BundleId) → IsBeginOf phase cause b asked.op reply → EachTime asked old (λ now. is_resolved now.world b ≡ true) → (begins : Begins phase cause asked.tag b old new) →
+    (now : Moment) → IsAskedAt asked now → StandsFor now old → StandsFor (later now asked.op reply old.wirings.world []) (record old { bundles = begins.bundles; brackets = begins.brackets })
+begun_stands asked old new reply phase cause b is resolved begins now at stood =
+    let e : Entry = entry_of now asked.op reply in
+    record {
+      depot = stood.depot;
+      budget = stood.budget;
+      services = registry.stands_quiet now.before old.registry e stood.services (unsaid e is.services);
+      bundles = bundles_put now old asked.op reply phase asked.tag b stood is.bundles is.puts at.tag (resolved now at stood) begins.bundles begins.put;
+      brackets = opened-after now.before e cause old.brackets begins.brackets stood.brackets is.opened (subst (λ (t : Tag). Opens old.brackets begins.brackets t cause) (sym at.tag) begins.opened);
+      world = refl;
+      issued = stood.issued ∙ sym (bundles-quiet now.setting.depot now.before e is.bundles).revisions;
+      sound = subst IsSound (sym stood.world) stood.sound;
+    }
+
+-- where its reply is due and the bundle is resolved, it is replied to so
+pub replied_begun : (asked : Asked) (old new : Tables) (reply : Reply) (phase : Phase) (cause : Cause) (b : BundleId) → IsBeginOf phase cause b asked.op reply → EachTime asked old (λ now. IsReply now asked.op reply) →
+    EachTime asked old (λ now. is_resolved now.world b ≡ true) → Begins phase cause asked.tag b old new → IsReplied asked old new reply
+replied_begun asked old new reply phase cause b is due resolved begins =
+    subst (λ (t : Tables). IsReplied asked old t reply) (sym begins.is)
+    (unseen asked old (record old { bundles = begins.bundles; brackets = begins.brackets }) reply due
+    (λ now at stood. is.leaves now old.wirings.world stood.world)
+    (begun_stands asked old new reply phase cause b is resolved begins))
+
+-- ---- an end
+
+-- the operation with this reply ends a start or a stop of the bundle, and cleans it if this is so
+pub record IsEndOf (phase : Phase) (cleaned : Bool) (b : BundleId) (o : Op) (reply : Reply) : Type 0 where
+  pub puts : (c : BundleId) → put_into c o reply ≡ (if b.0 == c.0 then Some phase else None)
+  pub bundles : QuietBundles o reply
+  pub cleans : MatchBool cleaned (cleaned_by o reply ≡ Some b) (QuietServices o reply)
+  pub opened : opens o reply ≡ None
+  pub leaves : (now : Moment) (world : World) → world ≡ now.world → Leaves now o reply world
+
+services_after : (now : Moment) (o : Op) (reply : Reply) (cleaned : Bool) (b : BundleId) (old new : RegistryRows) → registries.StandsFor now.before old → MatchBool cleaned (cleaned_by o reply ≡ Some b) (QuietServices o reply) → Cleans cleaned b old new →
+    registries.StandsFor (now.before ++ entry_of now o reply ∷ []) new
+services_after now o reply true b old new stood says cleans = cleans now.before (entry_of now o reply) says stood
+services_after now o reply false b old new stood says same =
+    subst (registries.StandsFor (now.before ++ entry_of now o reply ∷ [])) (sym same) (registry.stands_quiet now.before old (entry_of now o reply) stood (unsaid (entry_of now o reply) says))
+
+ended_stands : (asked : Asked) (old new : Tables) (reply : Reply) (phase : Phase) (cleaned : Bool) (b : BundleId) → IsEndOf phase cleaned b asked.op reply → own_closes asked.tag asked.op (open_of old.brackets asked.tag.caller) ≡ true →
+    EachTime asked old (λ now. is_resolved now.world b ≡ true) → (ends : Ends phase cleaned asked.tag b old new) →
+    (now : Moment) → IsAskedAt asked now → StandsFor now old → StandsFor (later now asked.op reply old.wirings.world []) (record old { registry = ends.registry; bundles = ends.bundles; brackets = ends.brackets })
+ended_stands asked old new reply phase cleaned b is own resolved ends now at stood =
+    let e : Entry = entry_of now asked.op reply in
+    record {
+      depot = stood.depot;
+      budget = stood.budget;
+      services = services_after now asked.op reply cleaned b old.registry ends.registry stood.services is.cleans ends.cleans;
+      bundles = bundles_put now old asked.op reply phase asked.tag b stood is.bundles is.puts at.tag (resolved now at stood) ends.bundles ends.put;
+      brackets = closed-after now.before e old.brackets ends.brackets stood.brackets is.opened (subst (λ (t : Tag). own_closes t asked.op (open_of old.brackets t.caller) ≡ true) (sym at.tag) own)
+          (subst (λ (t : Tag). Closes old.brackets ends.brackets t.caller) (sym at.tag) ends.closed);
+      world = refl;
+      issued = stood.issued ∙ sym (bundles-quiet now.setting.depot now.before e is.bundles).revisions;
+      sound = subst IsSound (sym stood.world) stood.sound;
+    }
+
+-- where its reply is due and it is the end of its caller's innermost bracket, it is replied to so
+pub replied_ended : (asked : Asked) (old new : Tables) (reply : Reply) (phase : Phase) (cleaned : Bool) (b : BundleId) → IsEndOf phase cleaned b asked.op reply → own_closes asked.tag asked.op (open_of old.brackets asked.tag.caller) ≡ true →
+    EachTime asked old (λ now. IsReply now asked.op reply) → EachTime asked old (λ now. is_resolved now.world b ≡ true) → Ends phase cleaned asked.tag b old new → IsReplied asked old new reply
+replied_ended asked old new reply phase cleaned b is own due resolved ends =
+    subst (λ (t : Tables). IsReplied asked old t reply) (sym ends.is)
+    (unseen asked old (record old { registry = ends.registry; bundles = ends.bundles; brackets = ends.brackets }) reply due
+    (λ now at stood. is.leaves now old.wirings.world stood.world)
+    (ended_stands asked old new reply phase cleaned b is own resolved ends))
