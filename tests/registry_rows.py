@@ -1,5 +1,5 @@
 """Random rows of cases_machine and cases_registry with the answers that plain scans give, and the files that they
-stand in.
+stand in. Rows of cases_machine are of services alone, or of bundles that start and stop besides.
 
 What is answered is written here a second time, by the rules of docs/FRAMEWORK.md alone: a history is a list of calls, and
 what is live, used and found is searched in that whole list each time. Nothing is taken from the program's own output.
@@ -221,15 +221,23 @@ class Rows:
         """Adds a row of the registry, or of the machine where there is a limit of entries."""
         if self.limit is None:
             return self.rows.append((f"{bundle} {command}", reply_of(answer)))
-        tag = f"{self.random.below(3)}.{len(self.rows)}"
-        if len(self.entries) == self.limit:
-            return self.rows.append((f"{tag} {bundle} {command}", "refused 18 HistoryFull, not recorded"))
         kind = command.split()[0]
         if bundle != 0 and kind != "services":
-            answer = lambda: refuse("1 NoSuchBundle")
+            answer = self.asked_by(bundle, answer)
+        self.record(f"{self.random.below(3)}.{len(self.rows)}", bundle, command, kind, 0 if kind == "services" else bundle, answer)
+
+    def asked_by(self, bundle, answer):
+        """What is answered to a bundle that is not the system bundle: here there is none."""
+        return lambda: refuse("1 NoSuchBundle")
+
+    def record(self, tag, bundle, command, kind, asker, answer, unwritten=""):
+        """Adds a row of the machine, and its entry unless the history is full. Behind a reply that is no refusal stands what the
+        console does not write of it; of one that a bundle is to be started it writes nothing, so nothing is shown in the history."""
+        if len(self.entries) == self.limit:
+            return self.rows.append((f"{tag} {bundle} {command}", "refused 18 HistoryFull, not recorded"))
         reply = reply_of(answer)
-        self.entries.append(f"{tag} {0 if kind == 'services' else bundle} {kind}: {reply}")
-        self.rows.append((f"{tag} {bundle} {command}", reply))
+        self.entries.append(f"{tag} {asker} {kind}: {'' if reply.startswith('go ') else reply}")
+        self.rows.append((f"{tag} {bundle} {command}", reply if reply.startswith("refused") else reply + unwritten))
 
     def register(self, bundle):
         classes, text, properties = classes_of(self.random), f"x{self.random.below(9)}", properties_of(self.random)
@@ -296,9 +304,227 @@ class Rows:
         found = "".join(f" | {name} {ids(history.found(name))}" for name in CLASSES)
         self.rows.append(("check", f"{live} | uses{uses}{found}"))
 
-    def end(self):
+    def end_of_history(self):
         if self.limit is not None:
             self.rows.append(("entries", "".join([str(len(self.entries))] + [f" | {entry}" for entry in self.entries])))
+
+
+# ---- rows of bundles that start and stop
+
+BUNDLES = 3  # the ids from 1 on, each of which is one more than its location and its row
+CALLERS = 2
+
+
+class Life(History):
+    """Calls of bundles besides those of a registry: a bundle is put into a state, and a caller opens or closes a bracket."""
+
+    def state(self, bundle):
+        return next((call[2] for call in reversed(self.calls) if call[:2] == ("state", bundle)), "active" if bundle == 0 else "none")
+
+    def begun_by(self, bundle):
+        """The tag of the bundle's last begin, as a refusal writes it."""
+        caller, command = next(call[1:3] for call in reversed(self.calls) if call[0] == "open" and call[3] == bundle)
+        return f"{caller} {command}"
+
+    def brackets(self, caller):
+        """The open brackets of a caller, the innermost last: the command, the bundle, and the state that it is in meanwhile."""
+        opened = []
+        for call in self.calls:
+            if call[:2] == ("open", caller):
+                opened.append(call[2:])
+            elif call == ("close", caller):
+                opened.pop()
+        return opened
+
+    def there(self, bundle):
+        if self.state(bundle) == "none":
+            raise Refused("1 NoSuchBundle")
+
+    def settled(self, bundle):
+        if self.state(bundle) in ("starting", "stopping"):
+            raise Refused(f"3 StateChange {self.begun_by(bundle)}")
+
+    def is_up(self, bundle):
+        return self.state(bundle) in ("starting", "active", "stopping")
+
+    def put(self, bundle, state):
+        self.calls.append(("state", bundle, state))
+
+    def install(self, bundle):
+        if self.state(bundle) == "none":
+            self.put(bundle, "installed")
+        return f"bundle {bundle}"
+
+    def resolve(self, bundle):
+        self.there(bundle)
+        if self.state(bundle) != "installed":
+            return "resolved none"
+        self.put(bundle, "resolved")
+        return f"resolved {bundle}"
+
+    def begin(self, caller, command, bundle, state):
+        self.put(bundle, state)
+        self.calls.append(("open", caller, command, bundle, state))
+        return f"{state} {bundle}"
+
+    def wish_start(self, bundle):
+        self.there(bundle)
+        self.settled(bundle)
+        return f"active {bundle}" if self.state(bundle) == "active" else f"go {bundle}"
+
+    def begin_start(self, caller, command, bundle):
+        self.there(bundle)
+        if self.state(bundle) == "installed":
+            raise Refused("2 InvalidOperation")
+        self.settled(bundle)
+        return f"active {bundle}" if self.state(bundle) == "active" else self.begin(caller, command, bundle, "starting")
+
+    def begin_stop(self, caller, command, bundle):
+        self.there(bundle)
+        if bundle == 0:
+            raise Refused("2 InvalidOperation")
+        self.settled(bundle)
+        return self.begin(caller, command, bundle, "stopping") if self.state(bundle) == "active" else f"idle {bundle}"
+
+    def end(self, caller, command, bundle, state, failed):
+        """The end of a start or a stop, as which state says. What ends in any other state than active is cleaned."""
+        if self.brackets(caller)[-1:] != [(command, bundle, state)]:
+            raise Refused("2 InvalidOperation")
+        self.calls.append(("close", caller))
+        is_active = state == "starting" and not failed
+        self.put(bundle, "active" if is_active else "resolved")
+        if not is_active:
+            self.release(bundle)
+        if failed:
+            raise Refused("11 ActivatorError")
+        return f"{'started' if state == 'starting' else 'stopped'} {bundle}"
+
+
+class LifeRows(Rows):
+    """Random rows of a machine with bundles, and their answers."""
+
+    def __init__(self, seed, limit):
+        super().__init__(seed, limit)
+        self.history = Life()
+        self.rows = [(f"core_of {limit} {BUNDLES}", "begun")]
+        for bundle in range(1, BUNDLES + 1):
+            self.ask(0, f"install {bundle - 1}", "install", lambda b=bundle: self.history.install(b))
+        for bundle in range(1, BUNDLES):
+            self.ask(0, f"resolve {bundle}", "resolve", lambda b=bundle: self.history.resolve(b))
+
+    def asked_by(self, bundle, answer):
+        def asked():
+            self.history.there(bundle)
+            if not self.history.is_up(bundle):
+                raise Refused("2 InvalidOperation")
+            return answer()
+        return asked
+
+    def ask(self, bundle, command, kind, answer, tag=None, unwritten=""):
+        """Adds a row of an operation that no bundle asks for."""
+        self.record(tag or f"{self.random.below(CALLERS)}.{len(self.rows)}", bundle, command, kind, 0, answer, unwritten)
+
+    def find(self, bundle):
+        """No bundle exports a package of these classes, so that each finds its own services alone."""
+        name = self.random.one_of(CLASSES)
+        text, matches = filter_of(self.random)
+        found = [s for s in self.history.found(name, matches) if self.history.owner(s) == bundle]
+        self.add(bundle, f"find {name}{text}", lambda: f"found {ids(found[:1])}")
+
+    def bundle(self):
+        """A bundle, mostly one that is there and not the system bundle."""
+        return self.random.one_of([0, *range(1, BUNDLES + 1), *range(1, BUNDLES + 1), BUNDLES + 1])
+
+    def asker(self):
+        """A bundle, mostly one that is up."""
+        return self.bundle() if self.random.below(4) == 0 else self.random.one_of([b for b in range(BUNDLES + 1) if self.history.is_up(b)])
+
+    def tag(self):
+        """The tag of an operation, as words of a row and as numbers: mostly of a command of its own."""
+        caller, command = self.random.below(CALLERS), len(self.rows)
+        opened = self.history.brackets(caller)
+        if opened and self.random.below(3) == 0:
+            command = opened[-1][0]
+        return f"{caller}.{command}", caller, command
+
+    def resolve(self):
+        bundle = self.bundle()
+        self.ask(0, f"resolve {bundle}", "resolve", lambda: self.history.resolve(bundle))
+
+    def wish_start(self):
+        bundle = self.bundle()
+        self.ask(0, f"start {bundle}", "wishstart", lambda: self.history.wish_start(bundle))
+
+    def begin_start(self):
+        bundle, (tag, caller, command) = self.bundle(), self.tag()
+        unwritten = f", row {bundle - 1}" if self.history.state(bundle) == "resolved" else ""
+        self.ask(bundle, "direct BeginStart", "beginstart", lambda: self.history.begin_start(caller, command, bundle), tag, unwritten)
+
+    def begin_stop(self):
+        bundle, (tag, caller, command) = self.bundle(), self.tag()
+        unwritten = f", row {bundle - 1}" if self.history.state(bundle) == "active" else ""
+        self.ask(0, f"stop {bundle}", "beginstop", lambda: self.history.begin_stop(caller, command, bundle), tag, unwritten)
+
+    def end(self):
+        """An end, mostly of the innermost bracket of its caller."""
+        bundle, (tag, caller, command) = self.bundle(), self.tag()
+        state = self.random.one_of(["starting", "stopping"])
+        opened = self.history.brackets(caller)
+        if opened and self.random.below(4) != 0:
+            command, bundle, state = opened[-1]
+            tag = f"{caller}.{command}"
+        failed = self.random.below(3) == 0
+        name = "EndStart" if state == "starting" else "EndStop"
+        self.ask(bundle, f"direct {name}{' failed' if failed else ''}", name.lower(),
+                 lambda: self.history.end(caller, command, bundle, state, failed), tag)
+
+    def bundles(self):
+        numbers = {"installed": 2, "resolved": 4, "starting": 8, "stopping": 16, "active": 32}
+        rows = [f"bundle {b} {numbers[self.history.state(b)]} 1 {b - 1} 1.0.0" for b in range(1, BUNDLES + 1)]
+        self.ask(0, "bundles", "bundles", lambda: "; ".join(["bundle 0 32 0 system.bundle 1.0.0", *rows]))
+
+    def step(self):
+        if self.random.below(2) == 0:
+            kinds = [(8, self.register), (2, self.modify), (1, self.unregister), (9, self.get), (4, self.unget), (2, self.find),
+                     (1, self.find_all), (2, self.services)]
+            return self.random.one_of([call for times, call in kinds for _ in range(times)])(self.asker())
+        kinds = [(1, self.resolve), (1, self.wish_start), (6, self.begin_start), (4, self.begin_stop), (8, self.end), (1, self.bundles)]
+        return self.random.one_of([call for times, call in kinds for _ in range(times)])()
+
+
+def deep_rows(most):
+    """Rows of a machine on which a caller begins as many starts, one within another, as it may."""
+    last, unresolved = most + 1, most + 2
+    rows = [(f"core_of 1000 {unresolved}", "begun")]
+    rows += [(f"0.1 0 install {bundle - 1}", f"bundle {bundle}") for bundle in range(1, unresolved + 1)]
+    rows += [(f"0.2 0 resolve {bundle}", f"resolved {bundle}") for bundle in range(1, last + 1)]
+    rows += [(f"0.3 {bundle} direct BeginStart", f"starting {bundle}, row {bundle - 1}") for bundle in range(1, most + 1)]
+    return rows + [
+        (f"0.4 0 start {last}", f"go {last}"),
+        (f"0.4 {last} direct BeginStart", "refused 16 TooDeep"),
+        # The other refusals come first.
+        (f"0.5 {unresolved + 1} direct BeginStart", "refused 1 NoSuchBundle"),
+        (f"0.5 {unresolved} direct BeginStart", "refused 2 InvalidOperation"),
+        ("0.5 1 direct BeginStart", "refused 3 StateChange 0 3"),
+        ("0.5 0 stop 1", "refused 3 StateChange 0 3"),
+        ("0.5 0 stop 0", "refused 2 InvalidOperation"),
+        # What opens nothing is not refused, and another caller has brackets of its own.
+        (f"0.5 0 stop {last}", f"idle {last}"),
+        ("0.5 0 direct BeginStart", "active 0"),
+        ("0.5 0 direct TakeJob", "no job"),
+        (f"1.6 {last} direct BeginStart", f"starting {last}, row {last - 1}"),
+        (f"1.6 {last} direct EndStart", f"started {last}"),
+        (f"0.7 {last} direct BeginStart", f"active {last}"),
+        (f"0.7 0 stop {last}", "refused 16 TooDeep"),
+        (f"0.7 0 start {last}", f"active {last}"),
+        # With one bracket less there is room for another.
+        (f"0.3 {most} direct EndStart failed", "refused 11 ActivatorError"),
+        (f"0.8 0 stop {last}", f"stopping {last}, row {last - 1}"),
+        (f"0.8 {most} direct BeginStart", "refused 16 TooDeep"),
+        (f"0.8 {last} direct EndStop", f"stopped {last}"),
+        (f"0.9 {most} direct BeginStart", f"starting {most}, row {most - 1}"),
+        (f"0.10 {last} direct BeginStart", "refused 16 TooDeep"),
+    ]
 
 
 def refuse(text):
@@ -325,15 +551,24 @@ def machine_rows(seed, calls, limit):
     rows = Rows(seed, limit)
     for _ in range(calls):
         rows.step()
-    rows.end()
+    rows.end_of_history()
     return rows.rows
 
 
-def write(folder, heading, rows):
-    """Writes stdin and stdout of a folder: the rows of its table, and these under the heading. With the word `--check` it
-    writes nothing, and the status is 1 where the files are others."""
+def life_rows(seed, calls, limit):
+    rows = LifeRows(seed, limit)
+    for _ in range(calls):
+        rows.step()
+    rows.end_of_history()
+    return rows.rows
+
+
+def write(folder, heading, rows, *more):
+    """Writes stdin and stdout of a folder: the rows of its table, and these under the heading; then more headings, each with its
+    rows after it. With the word `--check` it writes nothing, and the status is 1 where the files are others."""
     lines = open(f"{folder}/table").read().splitlines()
-    lines += ["", f"# ---- {heading}"] + [f"{row} => {answer}" for row, answer in rows]
+    for title, part in zip([heading, *more[::2]], [rows, *more[1::2]]):
+        lines += ["", f"# ---- {title}"] + [f"{row} => {answer}" for row, answer in part]
     files = {
         "stdout": "".join(f"{line}\n" for line in lines),
         "stdin": "".join(f"{line if line.startswith('#') else line.split(' => ')[0]}\n" for line in lines),
