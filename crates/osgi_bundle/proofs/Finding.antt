@@ -1,7 +1,7 @@
 -- Rows found: by a key, and by a binary search for an id.
 use Rattle.std.proofs.Common.{◌≡◌, ◌⊎◌, inl, inr, ◌<◌, ◌≤◌, ℕ, suc, List, [], ◌∷◌, length, map, get_or, ap, sym, subst, ◌∙◌, refl, arith, Result, Ok, Err, Bor}
 use Rattle.std.proofs.lemmas.List.{get_or-map, length-map}
-use Rattle.std.specs.Prelude.{Bool, true, false, cond, Option, None, Some, All, Contains, find, slice_get}
+use Rattle.std.specs.Prelude.{Bool, true, false, cond, Option, None, Some, IfSome, All, Contains, find, slice_get}
 use Rattle.std.specs.List.Sorted.{IsBinarySearchResult, IsNonDecreasingBy, IsPartitionPoint, IsSearchInRange, IsStrictlyIncreasing}
 use Rattle.std.specs.Option.{option_copied, option_map}
 use Rattle.std.specs.Ordering.{eq_by_cmp, nat_cmp, ordering_index}
@@ -54,6 +54,11 @@ some_passes p (y ∷ ys) x some = by (p y) refl some (some_passes p ys x)
 pub lent : (rows : List BundleKept) (i : ℕ) (r : Option (Bor BundleKept)) → IsItemAt rows i r → option_copied r ≡ slice_get rows i
 lent rows i None got = sym (slice_get_past rows i got.3)
 lent rows i (Some x) got = sym (slice_get_read rows (length rows) i x.now refl got.3.0 (got.3.1 x.now))
+
+-- and what holds of each row holds of it
+pub lent_so : (P : BundleKept → Type 0) (rows : List BundleKept) (i : ℕ) (r : Option (Bor BundleKept)) → IsItemAt rows i r → All P rows → IfSome r (λ (x : Bor BundleKept). P x.now)
+lent_so P rows i None got all = tt
+lent_so P rows i (Some x) got all = subst P (sym (got.3.1 x.now)) (all i x.now got.3.0)
 
 any_of : {X : Type 0} (xs : List X) (i : ℕ) → i < length xs → X
 any_of [] i within = absurd (omega (arith, within))

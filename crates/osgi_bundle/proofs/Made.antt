@@ -1,11 +1,12 @@
 -- A bundle that is made, and then inserted.
-use Rattle.std.proofs.Common.{◌≡◌, inl, inr, ℕ, List, [], ◌∷◌, ap, sym, ◌∙◌}
+use Rattle.std.proofs.Common.{◌≡◌, inl, inr, true, false, ℕ, List, [], ◌∷◌, ap, sym, ◌∙◌}
 use Rattle.std.specs.Prelude.{Bool}
 use Rattle.osgi_base.specs.Verdict.{answers, Gives, refuses}
 use Rattle.osgi_base.specs.declared.ids.BundleId.{BundleId}
-use Rattle.osgi_bundle.specs.Rows.{install_refusals, IsTwin, new_row}
+use Rattle.osgi_bundle.specs.Rows.{install_refusals, IsBegun, IsTwin, new_row}
 use Rattle.osgi_bundle.specs.declared.kept.BundleKept.{BundleKept}
 use Rattle.osgi_ops.specs.declared.refusal.Refusal.{Refusal}
+use Rattle.osgi_ops.specs.States.{is_changing}
 use Rattle.osgi_version.specs.declared.version.Version.{Version}
 
 -- ---- an answer that is given, said otherwise
@@ -37,3 +38,7 @@ made_apart name version rows due x (inr (none, given)) = none
 -- it is one as it is installed
 pub made_new : (made : BundleKept) (id : BundleId) (location name : List ℕ) (version : Version) (fragment : Bool) (row : ℕ) → made ≡ new_row id location name version fragment row → made ≡ new_row made.bundle made.location made.name made.version made.fragment made.row
 made_new made id location name version fragment row is = is ∙ ap (λ (r : BundleKept). new_row r.bundle r.location r.name r.version r.fragment r.row) (sym is)
+
+-- and so neither starting nor stopping
+pub new_begun : (made : BundleKept) → made ≡ new_row made.bundle made.location made.name made.version made.fragment made.row → IsBegun made
+new_begun made is changing = let bad : true ≡ false = sym changing ∙ ap (λ (r : BundleKept). is_changing r.state) is in absurd (cc bad)

@@ -8,7 +8,7 @@ use Rattle.std.proofs.lemmas.List.Kept.{AllPairs-from_increasing}
 use Rattle.std.proofs.lemmas.List.Quantifiers.{all_pairs_push}
 use Rattle.osgi_base.specs.computed.Texts.{text_cmp}
 use Rattle.osgi_bundle.specs.computed.Kept.{AddsFirst, bundle_under, HoldsSame, IsKept, location_of, name_cmp, bundle_name, named}
-use Rattle.osgi_bundle.specs.Rows.{AreApart, AreInOrder, bundle_number, TableRows}
+use Rattle.osgi_bundle.specs.Rows.{AreApart, AreInOrder, bundle_number, IsBegun, TableRows}
 use Rattle.osgi_bundle.specs.declared.directory.Directory.{Directory}
 use Rattle.osgi_bundle.specs.declared.kept.BundleKept.{BundleKept}
 use Rattle.osgi_bundle.proofs.Finding.{none_named}
@@ -41,11 +41,12 @@ apart_push rows row apart none =
 
 -- what is true of the fields stays so when a row is added to the rows and to the directory
 pub kept_push : (old : TableRows) (row : BundleKept) (before after : Directory) → IsKept old before → bundle_number row ≡ old.issued + 1 → bundle_under name_cmp bundle_name (bundle_name row) old.rows ≡ None →
-    AddsFirst text_cmp before.locations after.locations row.location row.bundle → AddsFirst name_cmp before.names after.names (bundle_name row) row.bundle →
+    IsBegun row → AddsFirst text_cmp before.locations after.locations row.location row.bundle → AddsFirst name_cmp before.names after.names (bundle_name row) row.bundle →
     IsKept (record { rows = old.rows ++ row ∷ []; issued = old.issued + 1 }) after
-kept_push old row before after kept next none locations names = record {
+kept_push old row before after kept next none begun locations names = record {
   in_order = order_push old row kept.in_order next;
   apart = apart_push old.rows row kept.apart none;
+  begun = All-push IsBegun old.rows row kept.begun begun;
   index = record {
     locations = index_push text_cmp location_of before.locations after.locations old.rows row kept.index.locations locations;
     names = index_push name_cmp bundle_name before.names after.names old.rows row kept.index.names names;
@@ -57,6 +58,7 @@ pub kept_same : (table : TableRows) (before after : Directory) → IsKept table 
 kept_same table before after kept locations names = record {
   in_order = kept.in_order;
   apart = kept.apart;
+  begun = kept.begun;
   index = record {
     locations = index_same text_cmp location_of before.locations after.locations table.rows kept.index.locations locations;
     names = index_same name_cmp bundle_name before.names after.names table.rows kept.index.names names;

@@ -12,8 +12,8 @@ use Rattle.std.proofs.lemmas.List.Elements.{All-map}
 use Rattle.osgi_base.specs.computed.Texts.{text_cmp}
 use Rattle.osgi_base.specs.declared.ids.BundleId.{BundleId}
 use Rattle.osgi_base.specs.declared.ids.Tag.{Tag}
-use Rattle.osgi_bundle.specs.Rows.{AreApart, bundle_number, has_bundle_id, IsSettable, row_at, TableRows}
-use Rattle.osgi_ops.specs.States.{is_up}
+use Rattle.osgi_bundle.specs.Rows.{AreApart, bundle_number, has_bundle_id, IsBegun, IsSettable, row_at, TableRows}
+use Rattle.osgi_ops.specs.States.{is_changing, is_up}
 use Rattle.osgi_bundle.specs.computed.Kept.{bundle_under, IsKept, location_of, name_cmp, named, bundle_name}
 use Rattle.osgi_bundle.specs.declared.directory.BundleName.{BundleName}
 use Rattle.osgi_bundle.specs.declared.directory.Directory.{Directory}
@@ -40,6 +40,10 @@ leaves_set state = record { bundle = λ row. refl; location = λ row. refl; name
 
 pub leaves_begun : (state : ℕ) (tag : Tag) → LeavesKeys (λ row. record row { state = state; by = Some tag })
 leaves_begun state tag = record { bundle = λ row. refl; location = λ row. refl; name = λ row. refl; version = λ row. refl }
+
+-- a state that is put with no tag is none that a line began, so where it is put it is not asked whose
+pub settled_begun : (state : ℕ) → is_changing state ≡ false → (row : BundleKept) → IsBegun (record row { state = state })
+settled_begun state settled row changing = let bad : true ≡ false = sym changing ∙ settled in absurd (cc bad)
 
 -- what the change leaves stays
 same_by : {X : Type 0} (says : BundleKept → X) (changed row : BundleKept) → says changed ≡ says row → (here : Bool) → says (cond here changed row) ≡ says row
@@ -92,15 +96,23 @@ module _ (id : BundleId) (change : BundleKept → BundleKept) (leaves : LeavesKe
       let version : (k : ℕ) → k < length rows → (get_or (with_changed id change rows) k d).version ≡ (get_or rows k d).version = λ k lt. ap (λ (n : BundleName). n.version) (at k lt) in
       λ names versions. apart i j d before inside (sym (name i (omega (arith, before, inside))) ∙ names ∙ name j inside) (sym (version i (omega (arith, before, inside))) ∙ versions ∙ version j inside)
 
+  begun_same : ((row : BundleKept) → IsBegun (change row)) → (row : BundleKept) → IsBegun row → IsBegun (changed_in id change row)
+  begun_same begun row was = by (has_bundle_id id row)
+    where
+      by : (here : Bool) → IsBegun (cond here (change row) row)
+      by true = begun row
+      by false = was
+
   -- all that is true of the fields
-  pub kept_with_changed : (table : TableRows) (directory : Directory) → IsKept table directory → IsKept (record { rows = with_changed id change table.rows; issued = table.issued }) directory
-  kept_with_changed table directory kept = record {
+  pub kept_with_changed : (table : TableRows) (directory : Directory) → ((row : BundleKept) → IsBegun (change row)) → IsKept table directory → IsKept (record { rows = with_changed id change table.rows; issued = table.issued }) directory
+  kept_with_changed table directory begun kept = record {
     in_order = record {
       first = first_same table.rows (λ row. (row.bundle ≡ record { 0 = 0 }) × (row.location ≡ [])) (λ row is. (same_bundle row ∙ is.0, same_location row ∙ is.1)) kept.in_order.first;
       rising = subst IsStrictlyIncreasing (sym (ids_same table.rows)) kept.in_order.rising;
       issued = all_same (λ row. bundle_number row ≤ table.issued) table.rows (λ row le. subst (λ n. n ≤ table.issued) (sym (same_id row)) le) kept.in_order.issued;
     };
     apart = apart_same table.rows kept.apart;
+    begun = all_same IsBegun table.rows (begun_same begun) kept.begun;
     index = record {
       locations = λ key. kept.index.locations key ∙ sym (under_same text_cmp location_of key table.rows same_location);
       names = λ key. kept.index.names key ∙ sym (under_same name_cmp bundle_name key table.rows same_name);

@@ -1,5 +1,5 @@
 -- The table of bundles as contracts see it: the live bundles in rows, and what calls answer and change by them.
-use Rattle.std.specs.Prelude.{ℕ, ◌≡◌, ◌≢◌, ◌==◌, ◌<◌, ◌≤◌, ◌⊎◌, nat_le, Bool, true, false, if◌then◌else◌, List, [], ◌∷◌, Option, None, Some, Result, Ok, Err, All, AllPairs, Contains, find, map, length, slice_get, IsSomeAnd}
+use Rattle.std.specs.Prelude.{ℕ, ◌≡◌, ◌≢◌, ◌==◌, ◌<◌, ◌≤◌, ◌⊎◌, nat_le, Bool, true, false, if◌then◌else◌, List, [], ◌∷◌, Option, None, Some, Result, Ok, Err, All, AllPairs, Contains, find, map, length, slice_get, IsSome, IsSomeAnd}
 use Rattle.std.specs.List.Sorted.{IsStrictlyIncreasing}
 use Rattle.std.specs.Option.{option_map}
 use Rattle.std.specs.Str.{bytes_eq}
@@ -129,6 +129,10 @@ IsStartable id rows = IsSomeAnd (row_at id rows) (λ (row : BundleKept). (row.fr
 -- the bundle is active and not the system bundle, so that the table lets a stop of it begin
 abbrev pub IsStoppable : BundleId → List BundleKept → Type 0
 IsStoppable id rows = (id ≢ system) × IsSomeAnd (row_at id rows) (λ (row : BundleKept). row.state ≡ ACTIVE)
+
+-- a bundle that is starting or stopping is so since a line began that
+abbrev pub IsBegun : BundleKept → Type 0
+IsBegun row = is_changing row.state ≡ true → IsSome row.by
 
 -- the bundle is in this state since the line of the tag began that
 abbrev pub IsInChange : ℕ → Tag → BundleId → List BundleKept → Type 0

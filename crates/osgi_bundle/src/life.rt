@@ -134,7 +134,7 @@ impl Table {
     }
 
     /// Whether the bundle is in this state since the line of the tag began that.
-    fn is_in_change(&self, state: u8, tag: Tag, bundle: BundleId) -> bool
+    pub fn is_in_change(&self, state: u8, tag: Tag, bundle: BundleId) -> bool
         ensures change { Decides result (IsInChange state tag bundle self.now.rows) }
     {
         match self.row(bundle) {

@@ -1,15 +1,16 @@
 //! The table of bundles.
 
-ghost use Rattle.std.specs.Prelude.{◌≡◌, ◌≢◌, ◌+◌, ◌<◌, ◌≤◌, [], ◌∷◌, ◌++◌, length, slice_get, None, Some, IfOk, MatchOption, OnOk, OnErr};
+ghost use Rattle.std.specs.Prelude.{◌≡◌, ◌≢◌, ◌+◌, ◌<◌, ◌≤◌, [], ◌∷◌, ◌++◌, length, slice_get, None, Some, false, IfOk, IfSome, MatchOption, OnOk, OnErr};
 ghost use Rattle.std.specs.Option.{option_copied};
 ghost use Rattle.osgi_base.specs.Verdict.{Gives};
 ghost use Rattle.osgi_base.specs.declared.ids.BundleId.{BundleId};
 ghost use Rattle.osgi_bundle.specs.computed.Kept.{bundle_under, name_cmp, bundle_name, row_in};
-ghost use Rattle.osgi_bundle.specs.Rows.{AreApart, AreInOrder, bundle_from, bundle_number, install_refusals, IsSettable, IsTwin, new_row, resolved_state, row_at, state_at, verdict_of, with_begun, with_state};
+ghost use Rattle.osgi_bundle.specs.Rows.{AreApart, AreInOrder, bundle_from, bundle_number, install_refusals, IsBegun, IsSettable, IsTwin, new_row, resolved_state, row_at, state_at, verdict_of, with_begun, with_state};
 ghost use Rattle.osgi_bundle.specs.Stands.{first_table, kept_of, StandsAfter, StandsForNone};
 ghost use Rattle.osgi_bundle.specs.Targets.{IsNamedRow};
 ghost use Rattle.osgi_ops.specs.Bundles.{the_system_bundle};
 ghost use Rattle.osgi_ops.specs.Moments.{first_world};
+ghost use Rattle.osgi_ops.specs.States.{is_changing};
 ghost use Rattle.osgi_ops.specs.declared.limits.TheConstants.{MAX_BUNDLES};
 ghost use Rattle.osgi_ops.specs.declared.refusal.Refusal.{Refusal};
 
@@ -120,9 +121,10 @@ impl Table {
             .ok()
     }
 
-    /// The row of a live bundle.
+    /// The row of a live bundle. That of one that is starting or stopping names the line that began that.
     pub fn row(&self, bundle: BundleId) -> Option<&BundleKept>
         ensures row { option_copied result ≡ row_at bundle self.now.rows }
+        ensures begun { IfSome result (λ row. IsBegun row.now) }
     {
         let place = self.place(bundle)?;
         self.rows.get(place)
@@ -226,9 +228,10 @@ impl Table {
         self.set_state(bundle, resolved_state(resolved));
     }
 
-    /// Sets the state of a live bundle.
+    /// Sets the state of a live bundle, which is then neither starting nor stopping.
     pub(crate) fn set_state(&mut self, bundle: BundleId, state: u8)
         requires live { row_at bundle self.old.rows ≢ None }
+        requires settled { is_changing state ≡ false }
         ensures rows { self.new.rows ≡ with_state bundle state self.old.rows }
         ensures issued { self.new.issued ≡ self.old.issued }
     {
@@ -258,6 +261,7 @@ impl Table {
         requires next { row.bundle.0 ≡ self.old.issued + 1 }
         requires named { key ≡ bundle_name row }
         requires fresh { bundle_under name_cmp bundle_name key self.old.rows ≡ None }
+        requires begun { IsBegun row }
         ensures rows { OnOk result (self.new.rows ≡ self.old.rows ++ row ∷ []) }
         ensures issued { OnOk result (self.new.issued ≡ self.old.issued + 1) }
         ensures unchanged { OnErr result (self.new ≡ self.old) }

@@ -1,7 +1,7 @@
 -- The machine's fields between calls.
-use Rattle.std.proofs.Common.{◌≡◌, ◌<◌, ◌≤◌, inl, inr, List, [], ◌∷◌, ◌++◌, length, map, ap, arith, subst, sym, ◌∙◌, refl}
+use Rattle.std.proofs.Common.{ℕ, ◌≡◌, ◌<◌, ◌≤◌, ◌-◌, inl, inr, List, [], ◌∷◌, ◌++◌, length, map, ap, arith, subst, sym, ◌∙◌, refl}
 use Rattle.std.specs.Prelude.{All, Bool, true, false, None, Option, Some, IsSomeAnd}
-use Rattle.std.proofs.lemmas.List.{map-append}
+use Rattle.std.proofs.lemmas.List.{length-map, map-append}
 use Rattle.std.proofs.lemmas.List.Elements.{All-nil, All-push}
 use Rattle.osgi_base.specs.Verdict.{Gives, refuses}
 use Rattle.osgi_base.specs.declared.ids.BundleId.{BundleId}
@@ -10,12 +10,16 @@ use Rattle.osgi_brackets.specs.Open as callers
 use Rattle.osgi_bundle.specs.Stands as bundle
 use Rattle.osgi_bundle.specs.Stands.{StandsForNone}
 use Rattle.osgi_core.specs.Sound.{IsSoundlyTold, IsTrulyUnresolvable}
-use Rattle.osgi_legal.proofs.Legal.{world-last}
+use Rattle.osgi_legal.proofs.Legal.{sights-last, world-last}
 use Rattle.osgi_legal.proofs.Owned.{entries-last}
 use Rattle.osgi_legal.proofs.ToldOnce.{told-once}
 use Rattle.osgi_ops.specs.Legal.{IsAllowed, IsAllowedNow, IsAskedAt, IsStep, IsTold}
 use Rattle.osgi_ops.specs.Levels.{Refresh, refresh}
-use Rattle.osgi_ops.specs.Moments.{first_world, Moment, moment, Seen, Sight, sights_in, Told, world_after}
+use Rattle.osgi_listeners.specs.Rows.{no_listeners}
+use Rattle.osgi_listeners.specs.Stands as hearing
+use Rattle.osgi_listeners.specs.Stands.{AreSmall}
+use Rattle.osgi_listeners.specs.laws.Standing.{stands-at-first}
+use Rattle.osgi_ops.specs.Moments.{first_world, Moment, moment, Seen, seen_after, Sight, sights_in, Told, world_after}
 use Rattle.osgi_ops.specs.Operations.{IsReply}
 use Rattle.osgi_ops.specs.Resolved.{is_resolved}
 use Rattle.osgi_ops.specs.Resolving.{AnswersResolve}
@@ -57,19 +61,19 @@ asked_next kept tag o = record { tag = refl; told = told_next kept tag }
 
 -- ---- the empty history
 
-told_none : (setting : Setting) → IsSound first_world → IsSoundlyTold setting [] first_world
-told_none setting sound = record {
-  replayed = record { told = []; tells = refl; ends = refl; allowed = tt };
-  sound = record { worlds = All-push IsSound [] first_world (All-nil IsSound) sound; unresolvable = tt };
-}
+minus_zero : (n : ℕ) → n ≡ n - 0
+minus_zero n = omega (arith)
 
 -- the tables of the empty history
-pub kept_none : (setting : Setting) (tables : Tables) → tables.depot.rows ≡ setting.depot → tables.budget ≡ setting.bounds.budget → registry.StandsFor [] tables.registry → StandsForNone tables.bundles → callers.StandsFor [] tables.brackets → tables.wirings.world ≡ first_world →
-    tables.wirings.issued ≡ 0 → IsKeptWorld tables.wirings.world tables.wirings.issued → IsKept setting [] tables
-kept_none setting tables depot budget services bundles brackets world issued kept =
+pub kept_none : (setting : Setting) (tables : Tables) → tables.depot.rows ≡ setting.depot → tables.budget ≡ setting.bounds.budget → registry.StandsFor [] tables.registry → StandsForNone tables.bundles → callers.StandsFor [] tables.brackets → tables.listeners ≡ no_listeners →
+    tables.handings_left ≡ setting.bounds.handings → tables.wirings.world ≡ first_world → tables.wirings.issued ≡ 0 → IsKeptWorld tables.wirings.world tables.wirings.issued → IsKept setting [] tables
+kept_none setting tables depot budget services bundles brackets listeners handings world issued kept =
     let sound : IsSound tables.wirings.world = record { consistent = kept.consistent; is_world = kept.is_world; ordered = kept.ordered } in
     record {
-      told = subst (IsSoundlyTold setting []) (sym world) (told_none setting (subst IsSound world sound));
+      told = record {
+        replayed = record { told = []; tells = refl; ends = sym world; allowed = tt };
+        sound = record { worlds = All-push IsSound [] first_world (All-nil IsSound) (subst IsSound world sound); unresolvable = tt };
+      };
       stands = λ tag. record {
         depot = depot;
         budget = budget;
@@ -79,6 +83,9 @@ kept_none setting tables depot budget services bundles brackets world issued kep
         world = refl;
         issued = issued;
         sound = sound;
+        listeners = subst (hearing.StandsFor [] []) (sym listeners) stands-at-first;
+        small = All-nil (λ (s : Seen). s.place < 4294967296);
+        handings = handings ∙ minus_zero setting.bounds.handings;
       };
     }
 
@@ -129,20 +136,29 @@ told_push setting history before after tag o reply sights soundly allowed sound 
     }
 
 -- an operation that was replied to was allowed
-allowed : (setting : Setting) (history : List Entry) (old new : Tables) (tag : Tag) (o : Op) (reply : Reply) (kept : IsKept setting history old) → length history < setting.bounds.entries →
-    (replied : IsReplied (record { tag = tag; op = o }) old new reply) → IsAllowedNow (next kept tag) o reply new.wirings.world replied.sights
-allowed setting history old new tag o reply kept room replied =
+allowed : (setting : Setting) (history : List Entry) (old new : Tables) (tag : Tag) (o : Op) (reply : Reply) (sights : List Sight) (kept : IsKept setting history old) → length history < setting.bounds.entries →
+    IsReplied (length history) (record { tag = tag; op = o }) old new reply sights → IsAllowedNow (next kept tag) o reply new.wirings.world sights
+allowed setting history old new tag o reply sights kept room replied =
     let now = next kept tag in
     let here = asked_next kept tag o in
-    record { room = room; replied = replied.due now here (kept.stands tag); left = replied.left now here (kept.stands tag); seen = replied.seen now here (kept.stands tag) }
+    record { room = room; replied = replied.due now here refl (kept.stands tag); left = replied.left now here refl (kept.stands tag); seen = replied.seen now here refl (kept.stands tag) }
+
+-- what is seen with it is put behind what was seen
+sights_push : {setting : Setting} {history : List Entry} {tables : Tables} (kept : IsKept setting history tables) (tag : Tag) (o : Op) (reply : Reply) (after : World) (sights : List Sight) →
+    sights_in (kept.told.replayed.told ++ record { entry = record { tag = tag; op = o; reply = reply }; world = after; sights = sights } ∷ []) ≡ sights_in kept.told.replayed.told ++ seen_after (length history) sights
+sights_push kept tag o reply after sights =
+    let told = kept.told.replayed.told in
+    sights-last told (record { entry = record { tag = tag; op = o; reply = reply }; world = after; sights = sights })
+    ∙ ap (λ n. sights_in told ++ seen_after n sights) (sym (length-map told (λ (t : Told). t.entry)) ∙ ap length kept.told.replayed.tells)
 
 -- one more entry, with what was replied
-kept_push : (setting : Setting) (history : List Entry) (old new : Tables) (tag : Tag) (o : Op) (reply : Reply) → IsKept setting history old → length history < setting.bounds.entries → IsReplied (record { tag = tag; op = o }) old new reply →
+kept_push : (setting : Setting) (history : List Entry) (old new : Tables) (tag : Tag) (o : Op) (reply : Reply) (sights : List Sight) → IsKept setting history old → length history < setting.bounds.entries → IsReplied (length history) (record { tag = tag; op = o }) old new reply sights →
     IsKept setting (history ++ record { tag = tag; op = o; reply = reply } ∷ []) new
-kept_push setting history old new tag o reply kept room replied =
-    let stands = replied.stands (next kept tag) (asked_next kept tag o) (kept.stands tag) in
+unfolding told_push
+kept_push setting history old new tag o reply sights kept room replied =
+    let stands = replied.stands (next kept tag) (asked_next kept tag o) refl (kept.stands tag) in
     record {
-      told = told_push setting history old.wirings.world new.wirings.world tag o reply replied.sights kept.told (allowed setting history old new tag o reply kept room replied) stands.sound;
+      told = told_push setting history old.wirings.world new.wirings.world tag o reply sights kept.told (allowed setting history old new tag o reply sights kept room replied) stands.sound;
       stands = λ other. record {
         depot = stands.depot;
         budget = stands.budget;
@@ -152,12 +168,15 @@ kept_push setting history old new tag o reply kept room replied =
         world = refl;
         issued = stands.issued;
         sound = stands.sound;
+        listeners = subst (λ (all : List Seen). hearing.StandsFor all (history ++ record { tag = tag; op = o; reply = reply } ∷ []) new.listeners) (sym (sights_push kept tag o reply new.wirings.world sights)) stands.listeners;
+        small = subst AreSmall (sym (sights_push kept tag o reply new.wirings.world sights)) stands.small;
+        handings = stands.handings;
       };
     }
 
 -- the depot stays
-depot_stays : (setting : Setting) (history : List Entry) (old new : Tables) (tag : Tag) (o : Op) (reply : Reply) → IsKept setting history old → IsReplied (record { tag = tag; op = o }) old new reply → new.depot.rows ≡ setting.depot
-depot_stays setting history old new tag o reply kept replied = (replied.stands (next kept tag) (asked_next kept tag o) (kept.stands tag)).depot
+depot_stays : (setting : Setting) (history : List Entry) (old new : Tables) (tag : Tag) (o : Op) (reply : Reply) (sights : List Sight) → IsKept setting history old → IsReplied (length history) (record { tag = tag; op = o }) old new reply sights → new.depot.rows ≡ setting.depot
+depot_stays setting history old new tag o reply sights kept replied = (replied.stands (next kept tag) (asked_next kept tag o) refl (kept.stands tag)).depot
 
 -- what still stands is as it was in all that contracts see
 still_kept : (setting : Setting) (history : List Entry) (old new : Tables) → IsKept setting history old → StandsStill old new → (new.depot.rows ≡ setting.depot) × (new.wirings.world ≡ old.wirings.world) × IsKept setting history new
@@ -167,7 +186,10 @@ still_kept setting history old new kept still =
       stands.depot,
       stands.world,
       record {
-        told = subst (IsSoundlyTold setting history) (sym stands.world) kept.told;
+        told = record {
+          replayed = record { told = kept.told.replayed.told; tells = kept.told.replayed.tells; ends = kept.told.replayed.ends ∙ sym stands.world; allowed = kept.told.replayed.allowed };
+          sound = kept.told.sound;
+        };
         stands = λ other. let again = still (next kept other) (kept.stands other) in record {
           depot = again.depot;
           budget = again.budget;
@@ -177,6 +199,9 @@ still_kept setting history old new kept still =
           world = refl;
           issued = again.issued;
           sound = subst IsSound (sym again.world) again.sound;
+          listeners = again.listeners;
+          small = again.small;
+          handings = again.handings;
         };
       },
     )
@@ -201,14 +226,14 @@ stays_same limits history after old new kept still is =
     λ i. record { setting = same_setting limits old.depot new.depot k.0 i; entries = is i; world = k.1 i }
 
 -- an operation was recorded
-pub recorded_setting : (limits : Limits) (history : List Entry) (old new : Tables) (tag : Tag) (o : Op) (reply : Reply) → IsKept (setting_of limits old.depot) history old → IsReplied (record { tag = tag; op = o }) old new reply → setting_of limits new.depot ≡ setting_of limits old.depot
-recorded_setting limits history old new tag o reply kept replied = same_setting limits old.depot new.depot (depot_stays (setting_of limits old.depot) history old new tag o reply kept replied)
+pub recorded_setting : (limits : Limits) (history : List Entry) (old new : Tables) (tag : Tag) (o : Op) (reply : Reply) (sights : List Sight) → IsKept (setting_of limits old.depot) history old → IsReplied (length history) (record { tag = tag; op = o }) old new reply sights → setting_of limits new.depot ≡ setting_of limits old.depot
+recorded_setting limits history old new tag o reply sights kept replied = same_setting limits old.depot new.depot (depot_stays (setting_of limits old.depot) history old new tag o reply sights kept replied)
 
-pub recorded_kept : (limits : Limits) (history after : List Entry) (old new : Tables) (tag : Tag) (o : Op) (reply : Reply) → IsKept (setting_of limits old.depot) history old → length history < limits.entries → IsReplied (record { tag = tag; op = o }) old new reply →
+pub recorded_kept : (limits : Limits) (history after : List Entry) (old new : Tables) (tag : Tag) (o : Op) (reply : Reply) (sights : List Sight) → IsKept (setting_of limits old.depot) history old → length history < limits.entries → IsReplied (length history) (record { tag = tag; op = o }) old new reply sights →
     after ≡ history ++ record { tag = tag; op = o; reply = reply } ∷ [] → IsKept (setting_of limits new.depot) after new
-recorded_kept limits history after old new tag o reply kept room replied is =
-    subst (λ (s : Setting). IsKept s after new) (sym (recorded_setting limits history old new tag o reply kept replied))
-    (subst (λ (h : List Entry). IsKept (setting_of limits old.depot) h new) (sym is) (kept_push (setting_of limits old.depot) history old new tag o reply kept room replied))
+recorded_kept limits history after old new tag o reply sights kept room replied is =
+    subst (λ (s : Setting). IsKept s after new) (sym (recorded_setting limits history old new tag o reply sights kept replied))
+    (subst (λ (h : List Entry). IsKept (setting_of limits old.depot) h new) (sym is) (kept_push (setting_of limits old.depot) history old new tag o reply sights kept room replied))
 
 -- whatever is said of what listeners saw, it is what the machine's telling says of it
 step_by : (limits : Limits) (history : List Entry) (tables : Tables) (kept : IsKept (setting_of limits tables.depot) history tables) (tag : Tag) (after : List Entry) (world : World) (o : Op) (reply : Reply) →
@@ -217,12 +242,12 @@ step_by limits history tables kept tag after world o reply step sights those =
     let same : sights_in kept.told.replayed.told ≡ sights = ap sights_in (told-once (setting_of limits tables.depot) history tables.wirings.world tables.wirings.world kept.told.replayed those.0) ∙ those.1 in
     subst (λ (s : List Seen). IsStep (moment_of (seen limits history tables) tag s) after world o reply) same step
 
-pub recorded_step : (limits : Limits) (history after : List Entry) (old new : Tables) (tag : Tag) (o : Op) (reply : Reply) → IsKept (setting_of limits old.depot) history old → length history < limits.entries → IsReplied (record { tag = tag; op = o }) old new reply →
+pub recorded_step : (limits : Limits) (history after : List Entry) (old new : Tables) (tag : Tag) (o : Op) (reply : Reply) (sights : List Sight) → IsKept (setting_of limits old.depot) history old → length history < limits.entries → IsReplied (length history) (record { tag = tag; op = o }) old new reply sights →
     after ≡ history ++ record { tag = tag; op = o; reply = reply } ∷ [] → (sights : List Seen) → AreSightsOf (seen limits history old) sights → IsStep (moment_of (seen limits history old) tag sights) after new.wirings.world o reply
-recorded_step limits history after old new tag o reply kept room replied is =
+recorded_step limits history after old new tag o reply sights kept room replied is =
     step_by limits history old kept tag after new.wirings.world o reply (record {
       full = λ full. absurd (omega (arith, room, full));
-      room = λ below. (replied.sights, allowed (setting_of limits old.depot) history old new tag o reply kept room replied, is);
+      room = λ below. (sights, allowed (setting_of limits old.depot) history old new tag o reply sights kept room replied, is);
     })
 
 -- a full history refuses, and nothing changes

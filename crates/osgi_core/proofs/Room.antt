@@ -1,8 +1,11 @@
 -- The room that the tables of a history within its limit have.
 use Rattle.std.proofs.Common.{◌<◌, ◌≤◌, ◌+◌, ℕ, List, [], ◌∷◌, length, length-append, ap, arith, ◌∙◌}
-use Rattle.std.specs.Prelude.{false}
+use Rattle.std.specs.Prelude.{All, false}
 use Rattle.std.proofs.lemmas.List.Sums.{count_by-le-length, length-filter}
 use Rattle.osgi_legal.proofs.Current.{fresh-at}
+use Rattle.osgi_listeners.specs.Sights.{IsOfEarlier}
+use Rattle.osgi_listeners.specs.laws.Handing.{waits-of-earlier}
+use Rattle.osgi_listeners.specs.laws.Premises.{past-at}
 use Rattle.osgi_ops.specs.Bundles.{brings_revision, installed, installed_after, installed_by, revisions}
 use Rattle.osgi_ops.specs.Legal.{IsTold}
 use Rattle.osgi_ops.specs.Moments.{Moment}
@@ -51,3 +54,7 @@ has_room now tables told stands short least = record {
   fresh = λ b next. ap (λ (w : World). current_revision w b) stands.world ∙ fresh-at now told b (omega (arith, next, stands.bundles.issued));
   budget = omega (arith, least, stands.budget);
 }
+
+-- what waits at listeners is of entries of the history
+pub all_earlier : (now : Moment) (tables : Tables) → IsTold now → StandsFor now tables → All (IsOfEarlier (length now.before)) tables.listeners.rows
+all_earlier now tables told stands = waits-of-earlier now.sights now.before tables.listeners (length now.before) (past-at now told) stands.small stands.listeners

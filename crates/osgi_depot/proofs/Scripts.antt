@@ -15,7 +15,7 @@ module _ (told : Option (List ShelfRow)) (location : List ℕ) (before after : �
   -- what is kept of a folder with a revision has that folder's script, and all else one without sections
   pub script_at : (answer : Found) (kept : Stored) → IsAsTold told location answer → KeepsLimits answer → IsKept answer before after kept → IsScriptKept answer kept script →
       IsScriptAt told location kept script
-  script_at (found.Folder folder) (stored.Read revision manifest) as_told within kept is = (folder, record { as_told = as_told; within = within }, kept.0, is)
+  script_at (found.Folder folder) (stored.Read revision manifest) as_told within kept is = (folder, record { as_told = as_told; within = within }, kept.0, kept.1, is)
   script_at found.NoFolder (stored.Read revision manifest) as_told within kept is = absurd (cc kept)
   script_at (found.TooLarge bytes files) (stored.Read revision manifest) as_told within kept is = absurd (cc kept)
   script_at found.Failed (stored.Read revision manifest) as_told within kept is = absurd (cc kept)

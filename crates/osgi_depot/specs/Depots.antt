@@ -87,11 +87,12 @@ pub record IsDepotOf (lines : List Line) (told : Option (List ShelfRow)) (from t
 
 -- ---- the scripts
 
--- the script of a location whose revision was read is that of the activator in the folder that means the revision, or has no sections where the
--- revision has no activator. That of any other location has no sections
+-- the script of a location whose revision was read is that of the activator in the folder that means the revision and has this manifest, or has
+-- no sections where the revision has no activator. That of any other location has no sections
 abbrev pub IsScriptAt : Option (List ShelfRow) → List ℕ → Stored → Script → Type 0
 IsScriptAt told location (stored.Read revision manifest) script =
-    (folder : Folder) × IsFoundAt told location folder × Means folder revision × IsScriptOf folder revision.activator script
+    (folder : Folder) × IsFoundAt told location folder × Means folder revision × IsSomeAnd (file_at manifest_path folder) (λ (file : File). manifest ≡ file.bytes) ×
+    IsScriptOf folder revision.activator script
 IsScriptAt told location _ script = script.sections ≡ []
 
 -- a script for each row, in the order of the rows: that of the row's location

@@ -1,19 +1,26 @@
 -- The facts of legal histories at the moment at which an operation is asked for: what the operations' proofs cite.
-use Rattle.std.proofs.Common.{◌≡◌, true, false}
-use Rattle.std.specs.Prelude.{◌==◌, ℕ, List, Some, All, Contains}
+use Rattle.std.proofs.Common.{◌≡◌, ◌≤◌, true, false, sym, ap, ◌∙◌, subst}
+use Rattle.std.specs.Prelude.{◌==◌, ℕ, List, map, Some, All, Contains, count_by}
+use mathlib.Core.List.{IsPrefix}
 use Rattle.osgi_base.specs.declared.ids.BundleId.{BundleId}
+use Rattle.osgi_base.specs.declared.ids.ListenerId.{ListenerId}
 use Rattle.osgi_legal.specs.States.{state_at}
 use Rattle.osgi_ops.specs.Assignable.{IsAssignable}
+use Rattle.osgi_ops.specs.Brackets.{Bracket, brackets}
 use Rattle.osgi_ops.specs.Bundles.{Bundle, bundles, is_live, is_up, revisions, system}
 use Rattle.osgi_ops.specs.Conditions.{state_change, state_of}
 use Rattle.osgi_ops.specs.Jobs.{jobs, Queued}
 use Rattle.osgi_ops.specs.Legal.{IsTold}
 use Rattle.osgi_ops.specs.Levels.{Refresh, refresh}
-use Rattle.osgi_ops.specs.Listening.{Added, listeners}
-use Rattle.osgi_ops.specs.Moments.{Moment}
+use Rattle.osgi_ops.specs.Listening.{Added, event_at, handed, handed_in, handings, is_in_turn, listeners, spots_of}
+use Rattle.osgi_ops.specs.Moments.{Moment, sights_in}
 use Rattle.osgi_ops.specs.Services.{live, Registered}
+use Rattle.osgi_ops.specs.declared.entry.Entry.{Entry}
 use Rattle.osgi_ops.specs.declared.refusal.Refusal.{Refusal}
-use Rattle.osgi_legal.proofs.Legal.{at-told}
+use Rattle.osgi_world.specs.Lists.{In}
+use Rattle.osgi_legal.proofs.Handings.{handings-told, handings-within, is_handing}
+use Rattle.osgi_legal.proofs.Legal.{at-told, due-spots, handed-flat, handed-is-prefix, spots-flat}
+use Rattle.osgi_legal.proofs.Listening.{is_turn}
 use Rattle.osgi_legal.proofs.Names.{AreNamedApart, names-apart}
 use Rattle.osgi_legal.proofs.Owners.{jobs-up, listeners-up, services-up}
 use Rattle.osgi_legal.proofs.Phases.{IsFit, phases-fit}
@@ -21,6 +28,7 @@ use Rattle.osgi_legal.proofs.Running.{all-run, IsRunning}
 use Rattle.osgi_legal.proofs.States.{live-row, state-agrees}
 use Rattle.osgi_legal.proofs.SystemSources.{own-assignable}
 use Rattle.osgi_legal.proofs.Tidy.{IsClosed}
+use Rattle.osgi_legal.proofs.Turns.{AreTurns, same-turn, turns_of, turns-fit}
 use Rattle.osgi_legal.proofs.Up.{up-refused}
 use Rattle.osgi_legal.proofs.Windows.{always-kept, IsKept, IsWindow, members-closed, members-stay}
 
@@ -70,3 +78,27 @@ up-refused-at now t b = at-told (λ m. (b.0 == 0) ≡ false → is_up (state_of 
 -- a bundle's state is read off the entries alone
 pub state-at : (now : Moment) → IsTold now → (b : BundleId) → state_of now b ≡ state_at now.before b
 state-at now t b = at-told (λ m. state_of m b ≡ state_at m.before b) (λ setting told tag legal. state-agrees setting told legal b) now t
+
+-- what a listener was handed is a beginning of what it saw
+pub handed-at : (now : Moment) → IsTold now → (listener : ListenerId) → IsPrefix (handed_in listener now.before) (map event_at (spots_of listener now.sights))
+handed-at now t listener =
+    at-told (λ m. IsPrefix (handed_in listener m.before) (map event_at (spots_of listener m.sights)))
+    (λ setting told tag legal.
+    subst (λ l. IsPrefix l (map event_at (spots_of listener (sights_in told)))) (sym (handed-flat listener told))
+    (subst (IsPrefix (handed listener told)) (due-spots listener told ∙ ap (map event_at) (sym (spots-flat listener told))) (handed-is-prefix setting told legal listener)))
+    now t
+
+-- as many events were handed as replies say so, and no more than may be
+pub handings-told-at : (now : Moment) → IsTold now → count_by (λ (e : Entry). is_handing e.reply) now.before ≡ handings now.before
+handings-told-at now t = at-told (λ m. count_by (λ (e : Entry). is_handing e.reply) m.before ≡ handings m.before) (λ setting told tag legal. handings-told setting told legal) now t
+
+pub handings-within-at : (now : Moment) → IsTold now → handings now.before ≤ now.setting.bounds.handings
+handings-within-at now t = at-told (λ m. handings m.before ≤ m.setting.bounds.handings) (λ setting told tag legal. handings-within setting told legal) now t
+
+-- a listener is in a turn exactly with one open bracket of a hand of it
+pub turns-at : (now : Moment) → IsTold now → (listener : ListenerId) → AreTurns listener (is_in_turn listener now.before) (turns_of listener (brackets now.before))
+turns-at now t listener = at-told (λ m. AreTurns listener (is_in_turn listener m.before) (turns_of listener (brackets m.before))) (λ setting told tag legal. turns-fit setting told legal listener) now t
+
+pub same-turn-at : (now : Moment) → IsTold now → (listener : ListenerId) (x y : Bracket) → In x (brackets now.before) → In y (brackets now.before) → is_turn listener x ≡ true → is_turn listener y ≡ true → x ≡ y
+same-turn-at now t listener x y i j e f =
+    at-told (λ m. In x (brackets m.before) → In y (brackets m.before) → x ≡ y) (λ setting told tag legal i j. same-turn setting told legal listener x y i j e f) now t i j

@@ -9,7 +9,9 @@ pub mod Ends
 pub mod Facts
 pub mod Fresh
 pub mod Handing
+pub mod Handings
 pub mod Hands
+pub mod Innermost
 pub mod Legal
 pub mod Levels
 pub mod Listening
@@ -30,6 +32,7 @@ pub mod SystemSources
 pub mod Targets
 pub mod Tidy
 pub mod ToldOnce
+pub mod Turns
 pub mod Unhanded
 pub mod Up
 pub mod Verdicts

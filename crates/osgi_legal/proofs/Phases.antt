@@ -4,7 +4,7 @@ use Rattle.std.specs.Prelude.{◌==◌, ◌&&◌, cond, filter, IsSomeAnd, Optio
 use Rattle.std.proofs.lemmas.Bool.{eqb-true, eq-eqb, false_from_ne_true, true_from_ne_false}
 use Rattle.osgi_base.specs.declared.ids.BundleId.{BundleId}
 use Rattle.osgi_base.specs.declared.ids.Tag.{Tag}
-use Rattle.osgi_ops.specs.Brackets.{Bracket, bracket, brackets, Cause, closes, ends, handing, is_end, job, opens, starting, stopping, turned, without_innermost}
+use Rattle.osgi_ops.specs.Brackets.{Bracket, bracket, brackets, Cause, closes, ends, handing, is_end, job, opens, starting, stopping, turned}
 use Rattle.osgi_ops.specs.Bundles as bundles
 use Rattle.osgi_ops.specs.Bundles.{active, begun_by, idle, is_active, is_changing, is_live, last_begin, phase, Phase, put_into, running, state, State}
 use Rattle.osgi_ops.specs.Legal.{AreAllowed, IsAllowed}
@@ -27,6 +27,7 @@ use Rattle.osgi_ops.specs.declared.reply.Reply.{Reply}
 use Rattle.osgi_ops.specs.declared.reply.Reply.TheVariants as answer
 use Rattle.osgi_legal.proofs.Owned.{ends-open-none}
 use Rattle.osgi_ops.specs.laws.Along.{holds, latest-quiet, latest-set}
+use Rattle.osgi_legal.proofs.Innermost.{AreFew, closed-one, left-alone, opened-one}
 use Rattle.osgi_legal.proofs.Listening.{effective-closes, has-ended}
 use Rattle.osgi_legal.proofs.Owned.{brackets-last, closes-not, ended-by, entries-last, of}
 
@@ -224,50 +225,6 @@ stop-free m target transient n row r fit = go (stop-row m target transient n row
     go s false true e f bundles.stopping q t =
         absurd (let bad : true ≡ false = sym s.0 ∙ ap is_active (state-by m n false true e f) ∙ ap (λ x. is_active (running x (is_resolved m.world n))) q in cc bad)
 
--- ---- the innermost bracket goes
-
-pub has-for : (b : BundleId) (caller : ℕ) (opened : List Bracket) (x : Bracket) (outer : List Bracket) → of caller opened ≡ x ∷ outer → is_bracket_for b x ≡ true → brackets_for b opened ≡ [] → ⊥
-has-for b caller [] x outer e f g = cc e
-has-for b caller (y ∷ rest) x outer e f g = go (y.tag.caller == caller) (is_bracket_for b y) refl e g (has-for b caller rest x outer)
-  where
-    go : (k l : Bool) → is_bracket_for b y ≡ l → cond k (y ∷ of caller rest) (of caller rest) ≡ x ∷ outer → cond l (y ∷ brackets_for b rest) (brackets_for b rest) ≡ [] →
-        (of caller rest ≡ x ∷ outer → is_bracket_for b x ≡ true → brackets_for b rest ≡ [] → ⊥) → ⊥
-    go k true q e g ih = cc g
-    go true false q e g ih = let same : y ≡ x = cc e in let bad : true ≡ false = sym f ∙ sym (ap (is_bracket_for b) same) ∙ q in cc bad
-    go false false q e g ih = ih e f g
-
-abbrev AreFew : List Bracket → Type 0
-AreFew l = (l ≡ []) ⊎ ((z : Bracket) × (l ≡ z ∷ []))
-
-rest-few : (y : Bracket) (l : List Bracket) → AreFew (y ∷ l) → l ≡ []
-rest-few y l (inl e) = absurd (cc e)
-rest-few y l (inr (z, e)) = cc e
-
-drop-for : (b : BundleId) (caller : ℕ) (opened : List Bracket) (x : Bracket) (outer : List Bracket) → of caller opened ≡ x ∷ outer → is_bracket_for b x ≡ true → AreFew (brackets_for b opened) →
-    brackets_for b (without_innermost caller opened) ≡ []
-drop-for b caller [] x outer e f few = absurd (cc e)
-drop-for b caller (y ∷ rest) x outer e f few = go (y.tag.caller == caller) (is_bracket_for b y) refl e few (drop-for b caller rest x outer)
-  where
-    go : (k l : Bool) → is_bracket_for b y ≡ l → cond k (y ∷ of caller rest) (of caller rest) ≡ x ∷ outer → AreFew (cond l (y ∷ brackets_for b rest) (brackets_for b rest)) →
-        (of caller rest ≡ x ∷ outer → is_bracket_for b x ≡ true → AreFew (brackets_for b rest) → brackets_for b (without_innermost caller rest) ≡ []) →
-        brackets_for b (cond k rest (y ∷ without_innermost caller rest)) ≡ []
-    go true true q e w ih = rest-few y _ w
-    go true false q e w ih = absurd (let same : y ≡ x = cc e in let bad : true ≡ false = sym f ∙ sym (ap (is_bracket_for b) same) ∙ q in cc bad)
-    go false true q e w ih = absurd (has-for b caller rest x outer e f (rest-few y _ w))
-    go false false q e w ih = ap (λ k. cond k (y ∷ brackets_for b (without_innermost caller rest)) (brackets_for b (without_innermost caller rest))) q ∙ ih e f w
-
-keep-for : (b : BundleId) (caller : ℕ) (opened : List Bracket) (x : Bracket) (outer : List Bracket) → of caller opened ≡ x ∷ outer → is_bracket_for b x ≡ false →
-    brackets_for b (without_innermost caller opened) ≡ brackets_for b opened
-keep-for b caller [] x outer e f = refl
-keep-for b caller (y ∷ rest) x outer e f = go (y.tag.caller == caller) e (keep-for b caller rest x outer)
-  where
-    go : (k : Bool) → cond k (y ∷ of caller rest) (of caller rest) ≡ x ∷ outer → (of caller rest ≡ x ∷ outer → is_bracket_for b x ≡ false → brackets_for b (without_innermost caller rest) ≡ brackets_for b rest) →
-        brackets_for b (cond k rest (y ∷ without_innermost caller rest)) ≡ cond (is_bracket_for b y) (y ∷ brackets_for b rest) (brackets_for b rest)
-    go true e ih =
-        let same : y ≡ x = cc e in
-        sym (ap (λ k. cond k (y ∷ brackets_for b rest) (brackets_for b rest)) (ap (is_bracket_for b) same ∙ f))
-    go false e ih = ap (λ l. cond (is_bracket_for b y) (y ∷ l) l) (ih e f)
-
 -- the innermost bracket of a legal end is for a bundle where the end is
 pub innermost-for : (b : BundleId) (tag : Tag) (o : Op) (opened : List Bracket) → closes tag o opened ≡ true →
     (x : Bracket) × (outer : List Bracket) × (of tag.caller opened ≡ x ∷ outer) × (is_bracket_for b x ≡ ends_for b o)
@@ -299,26 +256,6 @@ fits-rest : (b : BundleId) (p : Phase) (last : Option Tag) → (p ≡ idle) ⊎ 
 fits-rest b p last (inl e) = subst (λ x. Fits b x last []) (sym e) refl
 fits-rest b p last (inr e) = subst (λ x. Fits b x last []) (sym e) refl
 
--- the brackets after an entry that opens one for the bundle, after one that ends it, and after any other
-opened-for : (b : BundleId) (tag : Tag) (o : Option Cause) (closed : Bool) (before : List Bracket) (cause : Cause) → o ≡ Some cause → is_for b cause ≡ true → brackets_for b before ≡ [] →
-    brackets_for b (turned tag o closed before) ≡ bracket tag cause ∷ []
-opened-for b tag None closed before cause e f g = absurd (cc e)
-opened-for b tag (Some c) closed before cause e f g =
-    let same : c ≡ cause = cc e in
-    ap (λ k. cond k (bracket tag c ∷ brackets_for b before) (brackets_for b before)) (ap (is_for b) same ∙ f) ∙ (λ i. bracket tag (same i) ∷ g i)
-
-closed-for : (b : BundleId) (tag : Tag) (o : Option Cause) (closed : Bool) (before : List Bracket) (x : Bracket) (outer : List Bracket) → o ≡ None → closed ≡ true →
-    of tag.caller before ≡ x ∷ outer → is_bracket_for b x ≡ true → AreFew (brackets_for b before) → brackets_for b (turned tag o closed before) ≡ []
-closed-for b tag (Some c) closed before x outer n c1 e f few = absurd (cc n)
-closed-for b tag None false before x outer n c1 e f few = absurd (cc c1)
-closed-for b tag None true before x outer n c1 e f few = drop-for b tag.caller before x outer e f few
-
-left-for : (b : BundleId) (tag : Tag) (o : Option Cause) (closed : Bool) (before : List Bracket) → ((cause : Cause) → o ≡ Some cause → is_for b cause ≡ false) →
-    (closed ≡ true → (x : Bracket) × (outer : List Bracket) × (of tag.caller before ≡ x ∷ outer) × (is_bracket_for b x ≡ false)) → brackets_for b (turned tag o closed before) ≡ brackets_for b before
-left-for b tag (Some cause) closed before f g = ap (λ k. cond k (bracket tag cause ∷ brackets_for b before) (brackets_for b before)) (f cause refl)
-left-for b tag None false before f g = refl
-left-for b tag None true before f g = let r = g refl in keep-for b tag.caller before r.0 r.1 r.2 r.3
-
 pub own-id : (b : BundleId) → (b.0 == b.0) ≡ true
 own-id b = eq-eqb b.0 b.0 refl
 
@@ -343,26 +280,26 @@ fit-step setting b front x a fit = go (turn-of b x.entry.op x.entry.reply)
         let free : brackets_for b (brackets h) ≡ [] =
         start-free m b begun transient row (subst (λ y. IsReply m (op.BeginStart b transient) y) sr (subst (λ y. IsReply m y x.entry.reply) so a.replied)) fit in
         made-fit b (h ++ x.entry ∷ []) bundles.starting (Some x.entry.tag) _ (phase-set b h x.entry bundles.starting p) (begun-set b h x.entry (Some bundles.starting) p refl)
-        (ap (brackets_for b) is ∙ opened-for b x.entry.tag (opens x.entry.op x.entry.reply) (closes x.entry.tag x.entry.op (brackets h)) (brackets h) (starting b) o (own-id b) free)
+        (ap (brackets_for b) is ∙ opened-one (is_bracket_for b) x.entry.tag (opens x.entry.op x.entry.reply) (closes x.entry.tag x.entry.op (brackets h)) (brackets h) (starting b) o (own-id b) free)
         (x.entry.tag, refl, refl)
     go (stops o p target transient row so sr) =
         let free : brackets_for b (brackets h) ≡ [] =
         stop-free m target transient b row (subst (λ y. IsReply m (op.BeginStop target transient) y) sr (subst (λ y. IsReply m y x.entry.reply) so a.replied)) fit in
         made-fit b (h ++ x.entry ∷ []) bundles.stopping (Some x.entry.tag) _ (phase-set b h x.entry bundles.stopping p) (begun-set b h x.entry (Some bundles.stopping) p refl)
-        (ap (brackets_for b) is ∙ opened-for b x.entry.tag (opens x.entry.op x.entry.reply) (closes x.entry.tag x.entry.op (brackets h)) (brackets h) (stopping b) o (own-id b) free)
+        (ap (brackets_for b) is ∙ opened-one (is_bracket_for b) x.entry.tag (opens x.entry.op x.entry.reply) (closes x.entry.tag x.entry.op (brackets h)) (brackets h) (stopping b) o (own-id b) free)
         (x.entry.tag, refl, refl)
     go (ends_it e f g p q r) =
         let closed = effective-closes m x.entry.op x.entry.reply a.replied e g in
         let i = innermost-for b x.entry.tag x.entry.op (brackets h) closed in
         made-fit b (h ++ x.entry ∷ []) p (last_begin b (h ++ x.entry ∷ [])) [] (phase-set b h x.entry p q) refl
-        (ap (brackets_for b) is ∙ closed-for b x.entry.tag (opens x.entry.op x.entry.reply) (closes x.entry.tag x.entry.op (brackets h)) (brackets h) i.0 i.1
+        (ap (brackets_for b) is ∙ closed-one (is_bracket_for b) x.entry.tag (opens x.entry.op x.entry.reply) (closes x.entry.tag x.entry.op (brackets h)) (brackets h) i.0 i.1
         (ends-open-none x.entry.op x.entry.reply e) closed i.2 (i.3 ∙ f)
         (few-of b (phase b h) (last_begin b h) (brackets_for b (brackets h)) fit))
         (fits-rest b p (last_begin b (h ++ x.entry ∷ [])) r)
     go (leaves q f g) =
         made-fit b (h ++ x.entry ∷ []) (phase b h) (last_begin b h) (brackets_for b (brackets h)) (phase-quiet b h x.entry q)
         (latest-quiet (begun_by b) h x.entry (subst (λ (v : Option Phase). (elim v [ Some bundles.starting ↦ Some x.entry.tag | Some bundles.stopping ↦ Some x.entry.tag | _ ↦ None ]) ≡ None) (sym q) refl))
-        (ap (brackets_for b) is ∙ left-for b x.entry.tag (opens x.entry.op x.entry.reply) (closes x.entry.tag x.entry.op (brackets h)) (brackets h) f (λ c.
+        (ap (brackets_for b) is ∙ left-alone (is_bracket_for b) x.entry.tag (opens x.entry.op x.entry.reply) (closes x.entry.tag x.entry.op (brackets h)) (brackets h) f (λ c.
         (let i = innermost-for b x.entry.tag x.entry.op (brackets h) c in
         let e : is_end x.entry.op ≡ true = true_from_ne_false _ (λ n. (let bad : true ≡ false = sym c ∙ closes-not x.entry.tag x.entry.op (brackets h) n in cc bad)) in
         (i.0, i.1, i.2, i.3 ∙ g e (ended-by m x.entry.op x.entry.reply a.replied c)))))

@@ -46,7 +46,8 @@ use Rattle.osgi_ops.specs.laws.Bundles.{live-stays}
 use Rattle.osgi_legal.proofs.Legal.{world-last}
 use Rattle.osgi_legal.proofs.Listening.{effective-closes}
 use Rattle.osgi_legal.proofs.Owned.{entries-last}
-use Rattle.osgi_legal.proofs.Phases.{brackets_for, ends_for, ends_it, Fits, has-for, innermost-for, leaves, phase-quiet, phases-fit, start-row, starts, state-by, stop-row, stops, Turn, turn-of}
+use Rattle.osgi_legal.proofs.Innermost.{has-one}
+use Rattle.osgi_legal.proofs.Phases.{brackets_for, ends_for, ends_it, Fits, innermost-for, is_bracket_for, leaves, phase-quiet, phases-fit, start-row, starts, state-by, stop-row, stops, Turn, turn-of}
 use Rattle.osgi_legal.proofs.Tidy.{first-tidy, IsTidy, known-bundle, member-contains, extends-of}
 use Rattle.osgi_legal.proofs.Up.{idle-is, is_idle, is_up_at, not-uninstalled, up-is, up-refused}
 use Rattle.osgi_legal.proofs.Windows.{always-kept, IsKept, kept-step, leaves-refused, refused-is, window-outside}
@@ -86,7 +87,7 @@ end-busy setting front x legal a b e f g =
     let m = moment setting front x.entry.tag in
     let closed = effective-closes m x.entry.op x.entry.reply a.replied e g in
     let i = innermost-for b x.entry.tag x.entry.op (brackets (entries_in front)) closed in
-    open-busy b _ _ (brackets_for b (brackets (entries_in front))) (phases-fit setting front legal b) (λ none. has-for b x.entry.tag.caller (brackets (entries_in front)) i.0 i.1 i.2 (i.3 ∙ f) none)
+    open-busy b _ _ (brackets_for b (brackets (entries_in front))) (phases-fit setting front legal b) (λ none. has-one (is_bracket_for b) x.entry.tag.caller (brackets (entries_in front)) i.0 i.1 i.2 (i.3 ∙ f) none)
 
 abbrev IsBusyLive : BundleId → List Entry → Type 0
 IsBusyLive b h = is_idle (phase b h) ≡ false → is_live b h ≡ true

@@ -35,12 +35,13 @@ use Rattle.osgi_ops.specs.declared.reply.Reply.TheVariants as answer
 use Rattle.osgi_world.specs.declared.world.World.{World}
 use Rattle.osgi_ops.specs.laws.Along.{holds}
 use Rattle.osgi_ops.specs.laws.Stages.{row-here}
+use Rattle.osgi_legal.proofs.Handings.{is_handing}
 use Rattle.osgi_legal.proofs.Early.{all-early, carry-still, early-calm, IsCalm, IsEarly, latest-none, none-queued, since-all}
 use Rattle.osgi_legal.proofs.Legal.{at-told, sights-last, Told-of}
 use Rattle.osgi_legal.proofs.Listening.{no_hearing}
 use Rattle.osgi_legal.proofs.Opened.{AreOfBundles, hand-ends-none, job-ends-none, opened-so}
 use Rattle.osgi_legal.proofs.Sights.{sights-once}
-use Rattle.osgi_legal.proofs.Unhanded.{all-unhanded, is_handing}
+use Rattle.osgi_legal.proofs.Unhanded.{all-unhanded}
 
 -- ---- entries
 

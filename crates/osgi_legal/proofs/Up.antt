@@ -29,7 +29,8 @@ use Rattle.osgi_legal.proofs.Accepted.{accepted, effective-refused}
 use Rattle.osgi_ops.specs.laws.Bundles.{live-stays}
 use Rattle.osgi_legal.proofs.Listening.{effective-closes}
 use Rattle.osgi_legal.proofs.Owned.{entries-last, some-of}
-use Rattle.osgi_legal.proofs.Phases.{begun-set, brackets_for, ends_it, Fits, has-for, innermost-for, leaves, phase-quiet, phase-set, phases-fit, puts, same-id, starts, stops, Turn, turn-of}
+use Rattle.osgi_legal.proofs.Innermost.{has-one}
+use Rattle.osgi_legal.proofs.Phases.{begun-set, brackets_for, ends_it, Fits, innermost-for, is_bracket_for, leaves, phase-quiet, phase-set, phases-fit, puts, same-id, starts, stops, Turn, turn-of}
 
 -- ---- up, read off the history alone
 
@@ -103,7 +104,7 @@ begun-step setting b front x legal a has = go (turn-of b x.entry.op x.entry.repl
         let closed = effective-closes m x.entry.op x.entry.reply a.replied e g in
         let i = innermost-for b x.entry.tag x.entry.op (brackets h) closed in
         ap (λ (o : Option Tag). is_some o) (begun-quiet b h x.entry p q r)
-        ∙ open-begun b (phase b h) (last_begin b h) (brackets_for b (brackets h)) (phases-fit setting front legal b) (λ none. has-for b x.entry.tag.caller (brackets h) i.0 i.1 i.2 (i.3 ∙ f) none)
+        ∙ open-begun b (phase b h) (last_begin b h) (brackets_for b (brackets h)) (phases-fit setting front legal b) (λ none. has-one (is_bracket_for b) x.entry.tag.caller (brackets h) i.0 i.1 i.2 (i.3 ∙ f) none)
     go (leaves q f g) = λ n.
         ap (λ (o : Option Tag). is_some o) (latest-quiet (begun_by b) h x.entry (ap (begin_of x.entry.tag) q))
         ∙ has (sym (ap is_idle (phase-quiet b h x.entry q)) ∙ n)

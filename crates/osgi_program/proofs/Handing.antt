@@ -6,7 +6,7 @@ use Rattle.std.proofs.lemmas.Bool.{eqb-true}
 use Rattle.std.proofs.lemmas.List.Folds.{sum_by-zero}
 use Rattle.std.proofs.lemmas.List.Sums.{list_all-from_AllPass}
 use Rattle.osgi_legal.proofs.Stage.{none-handed}
-use Rattle.osgi_legal.proofs.Unhanded as legal
+use Rattle.osgi_legal.proofs.Handings as legal
 use Rattle.osgi_ops.specs.Legal.{IsTold, Legal}
 use Rattle.osgi_ops.specs.Moments.{Moment, sights_in}
 use Rattle.osgi_ops.specs.Settings.{Setting}

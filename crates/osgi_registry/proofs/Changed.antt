@@ -6,12 +6,12 @@ use Rattle.std.specs.Map.{lookup, remove_entry, set_value, values_of}
 use Rattle.std.specs.Ordering.{nat_cmp}
 use Rattle.std.proofs.lemmas.Bool.{eqb-true, ne_eqb}
 use Rattle.std.proofs.lemmas.List.Elements.{All-cons, All-head, All-map, All-tail}
-use Rattle.std.proofs.lemmas.List.Folds.{map_fixed}
 use Rattle.std.proofs.lemmas.List.Kept.{AllPairs-cons}
 use Rattle.std.proofs.lemmas.Map.Steps.{set_value_same}
 use Rattle.osgi_base.specs.declared.ids.ServiceId.{ServiceId}
 use Rattle.osgi_registry.specs.computed.Kept.{IsBefore, AreKept, IsUnder}
 use Rattle.osgi_registry.specs.Rows.{change, service_number, is_service, LiveService, without}
+use Rattle.osgi_registry.specs.laws.Changing.{change_none}
 use Rattle.osgi_registry.proofs.Entries.{pairs_head, pairs_tail}
 use Rattle.osgi_registry.proofs.Keys.{found_by, set_by}
 
@@ -105,13 +105,6 @@ pub others_differ : (issued : ℕ) (service : ServiceId) (e : ℕ × LiveService
 others_differ issued service e rest is under after =
     All-map (λ row. is_service service row ≡ false) (λ (x : ℕ × LiveService). x.1) rest
     (λ k d within. let u = under k d within in let b = after k d within in ne_eqb service.0 _ (λ same. absurd (omega (arith, is, same, u.key, b))))
-
-fixed_by : (service : ServiceId) (f : LiveService → LiveService) (row : LiveService) (here : Bool) → is_service service row ≡ here → here ≡ false → cond (is_service service row) (f row) row ≡ row
-fixed_by service f row here is none = rw (is ∙ none) refl
-
--- a change of a service that has no row
-pub change_none : (service : ServiceId) (f : LiveService → LiveService) (rows : List LiveService) → All (λ row. is_service service row ≡ false) rows → change service f rows ≡ rows
-change_none service f rows none = map_fixed (λ row. cond (is_service service row) (f row) row) rows (λ k d within. fixed_by service f _ false (none k d within) refl)
 
 without_none : (service : ServiceId) (rows : List LiveService) → All (λ row. is_service service row ≡ false) rows → without service rows ≡ rows
 without_none service [] none = refl

@@ -1,24 +1,26 @@
 -- Those of the services that concern a bundle that it owns are all that it owns.
-use Rattle.std.proofs.Common.{◌≡◌, ℕ, ◌+◌, ◌<◌, List, [], ◌∷◌, ap, sym, ◌∙◌, refl, arith, map}
-use Rattle.std.specs.Prelude.{Bool, true, false, cond, ◌==◌, ◌||◌, ◌&&◌, Option, Some, All, AllPairs, filter}
+use Rattle.std.proofs.Common.{◌≡◌, ℕ, ◌+◌, ◌<◌, List, [], ◌∷◌, ◌++◌, ap, sym, ◌∙◌, refl, arith, get_or, length, map, take}
+use Rattle.std.specs.Prelude.{Bool, true, false, cond, ◌==◌, ◌||◌, ◌&&◌, Option, None, Some, All, AllPairs, filter, option_to_list}
 use Rattle.std.specs.BTreeMap.{is_at}
 use Rattle.std.specs.BTreeSet.{BTreeSet}
-use Rattle.std.specs.List.{list_any}
+use Rattle.std.specs.List.{cons_option, list_any}
 use Rattle.std.specs.List.Sorted.{IsStrictlySortedBy}
 use Rattle.std.specs.Map.{values_of}
-use Rattle.std.specs.Option.{option_map_or}
+use Rattle.std.specs.Option.{option_map, option_map_or}
 use Rattle.std.specs.Ordering.{nat_cmp}
-use Rattle.std.proofs.lemmas.Bool.{eqb-true, ne_eqb, or_left}
-use Rattle.std.proofs.lemmas.List.Elements.{All-head, All-map, All-tail}
+use Rattle.std.proofs.lemmas.Bool.{eq-eqb, eqb-true, ne_eqb, or_left}
+use Rattle.std.proofs.lemmas.List.{take_more}
+use Rattle.std.proofs.lemmas.List.Elements.{All-cons, All-filter, All-head, All-map, All-tail, filter_map-append}
 use Rattle.std.proofs.lemmas.List.Kept.{AllPairs-cons, AllPairs-filter, IsStrictlySortedBy-filter}
 use Rattle.std.proofs.lemmas.Map.Keys.{sorted_from_strictly_increasing}
 use Rattle.std.proofs.lemmas.Cmp.{nat_cmp_total}
 use Rattle.std.proofs.lemmas.Map.Lookups.{btree_set_from_contains, exact_unsigned}
 use Rattle.osgi_base.specs.declared.ids.BundleId.{BundleId}
 use Rattle.osgi_base.specs.declared.ids.ServiceId.{ServiceId}
-use Rattle.osgi_registry.specs.computed.Belonging.{AreAmong, concerns, owns}
+use Rattle.osgi_ops.specs.declared.service.Service.{Service}
+use Rattle.osgi_registry.specs.computed.Belonging.{AreAmong, concerns, live_among, owns}
 use Rattle.osgi_registry.specs.computed.Kept.{AreKept, IsBefore, IsUnder}
-use Rattle.osgi_registry.specs.Rows.{ids_of, is_owned, LiveService, row_at, service_number}
+use Rattle.osgi_registry.specs.Rows.{ids_of, is_owned, LiveService, row_at, service_number, services_in}
 use Rattle.osgi_registry.proofs.Belongs.{same_number}
 use Rattle.osgi_registry.proofs.Entries.{pairs_head, pairs_tail}
 
@@ -143,3 +145,38 @@ owned_exact issued bundle entries services kept among rising =
     (sorted_numbers (filter (is_owned bundle) rows) (AllPairs-filter (λ a b. service_number a < service_number b) (is_owned bundle) rows up))
     (λ q. asked q p (map number_of services) ∙ and_if (p q) (list_any (is_at (nat_cmp q)) (map number_of services)) (owned_among bundle services rows q among) ∙ sym (rows_among q (is_owned bundle) rows up)) exact_unsigned in
     sym (ids_from (filter (owns bundle rows) services)) ∙ ap (map of_number) (numbers_filter (owns bundle rows) services ∙ keys) ∙ ids_numbers (filter (is_owned bundle) rows)
+
+-- ---- the services of these ids
+
+each_found : (rows : List LiveService) → AllPairs (λ a b. service_number a < service_number b) rows → All (λ row. row_at row.service.service rows ≡ Some row) rows
+each_found [] pairs = λ k d within. absurd (omega arith)
+each_found (row ∷ rest) pairs =
+    let after = pairs_head (λ a b. service_number a < service_number b) row rest pairs in
+    let more = each_found rest (pairs_tail (λ a b. service_number a < service_number b) row rest pairs) in
+    All-cons (λ r. row_at r.service.service (row ∷ rest) ≡ Some r) row rest (ap (λ b. cond b (Some row) (row_at row.service.service rest)) (eq-eqb (service_number row) (service_number row) refl))
+    (λ k d within.
+    let r = get_or rest k d in
+    let above = after k d within in
+    let apart : (service_number r == service_number row) ≡ false = ne_eqb (service_number r) (service_number row) (λ same. absurd (omega (arith, same, above))) in
+    ap (λ b. cond b (Some row) (row_at r.service.service rest)) apart ∙ more k d within)
+
+found_live : (rows some : List LiveService) → All (λ row. row_at row.service.service rows ≡ Some row) some → live_among rows (ids_of some) ≡ services_in some
+found_live rows [] all = refl
+found_live rows (row ∷ rest) all =
+    let P : LiveService → Type 0 = λ r. row_at r.service.service rows ≡ Some r in
+    ap (λ at. cons_option (option_map (λ (r : LiveService). r.service) at) (live_among rows (ids_of rest))) (All-head P row rest all) ∙ ap (λ l. row.service ∷ l) (found_live rows rest (All-tail P row rest all))
+
+-- of the rows that the bundle owns, the services are found by their ids
+pub owned_services : (bundle : BundleId) (rows : List LiveService) → AllPairs (λ a b. service_number a < service_number b) rows → live_among rows (ids_of (filter (is_owned bundle) rows)) ≡ services_in (filter (is_owned bundle) rows)
+owned_services bundle rows pairs = found_live rows (filter (is_owned bundle) rows) (All-filter (is_owned bundle) (λ row. row_at row.service.service rows ≡ Some row) rows (each_found rows pairs))
+
+one_live : (found : Option Service) → cons_option found [] ≡ option_to_list found
+one_live None = refl
+one_live (Some service) = refl
+
+-- one id more
+pub live_more : (rows : List LiveService) (ids : List ServiceId) (i : ℕ) (d : ServiceId) → i < length ids →
+    live_among rows (take (i + 1) ids) ≡ live_among rows (take i ids) ++ option_to_list (option_map (λ (r : LiveService). r.service) (row_at (get_or ids i d) rows))
+live_more rows ids i d within =
+    let service_of : ServiceId → Option Service = λ id. option_map (λ (r : LiveService). r.service) (row_at id rows) in
+    ap (live_among rows) (take_more ids i d within) ∙ filter_map-append service_of (take i ids) (get_or ids i d ∷ []) ∙ ap (λ l. live_among rows (take i ids) ++ l) (one_live (service_of (get_or ids i d)))

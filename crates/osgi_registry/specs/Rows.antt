@@ -1,5 +1,5 @@
 -- The registry as contracts see it: the live services in rows, and what calls answer and change by them.
-use Rattle.std.specs.Prelude.{ℕ, ◌≡◌, ◌==◌, ◌+◌, ◌-◌, ◌<◌, ◌≤◌, nat_le, Bool, true, not, if◌then◌else◌, List, [], ◌∷◌, Option, None, Some, Result, Ok, Err, All, Contains, find, filter, map, length, unwrap_or}
+use Rattle.std.specs.Prelude.{ℕ, ◌≡◌, ◌==◌, ◌+◌, ◌-◌, ◌<◌, ◌≤◌, nat_le, Bool, true, not, if◌then◌else◌, List, [], ◌∷◌, Option, None, Some, Result, Ok, Err, All, Contains, IsSomeAnd, find, filter, map, length, unwrap_or}
 use Rattle.std.specs.List.Sorted.{IsStrictlyIncreasing}
 use Rattle.std.specs.Map.{lookup}
 use Rattle.std.specs.Option.{option_map_or, option_or}
@@ -112,6 +112,14 @@ abbrev pub with_properties : List Attribute → LiveService → LiveService
 with_properties properties row = record row {
   service = record row.service { properties = with_framework properties row.service.classes row.scope row.service.service row.service.owner };
 }
+
+-- the row with this service in place of its own
+abbrev pub with_service : Service → LiveService → LiveService
+with_service service row = record row { service = service }
+
+-- the service is that of a live one but for its properties
+abbrev pub DiffersInProperties : Service → List LiveService → Type 0
+DiffersInProperties service rows = IsSomeAnd (row_at service.service rows) (λ row. service ≡ record row.service { properties = service.properties })
 
 -- ---- the release of a bundle
 

@@ -1,2 +1,4 @@
 -- Laws of the definitions, for the proofs of other crates, with what they rest on. No promise cites them.
+pub mod Changing
+pub mod Happening
 pub mod Standing

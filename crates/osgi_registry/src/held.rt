@@ -127,11 +127,11 @@ pub fn modified(
     service: &Service,
     scope: Scope,
     given: Attributes,
-) -> Result<Shared<Service>, AllocError>
+) -> Result<Service, AllocError>
     requires fits { service.now.service.0 ≤ u32.MAX }
     ensures modified { IfOk result (λ modified. modified ≡ record service.now { properties = with_framework given service.now.classes scope service.now.service service.now.owner }) }
 {
-    let all = texts.with_framework(
+    let properties = texts.with_framework(
         alloc,
         given,
         service.classes.items(),
@@ -139,25 +139,11 @@ pub fn modified(
         service.service,
         service.owner,
     )?;
-    service_with(alloc, service, all)
-}
-
-/// The service with these properties in place of its own.
-fn service_with(
-    alloc: Global,
-    service: &Service,
-    properties: Attributes,
-) -> Result<Shared<Service>, AllocError>
-    ensures changed { IfOk result (λ changed. changed ≡ record service.now { properties = properties }) }
-{
-    let classes = service.classes.copy(alloc)?;
-    let object = service.object.copy(alloc)?;
-    let changed = Service {
+    Ok(Service {
         service: service.service,
         owner: service.owner,
-        classes,
-        object,
+        classes: service.classes.copy(alloc)?,
+        object: service.object.copy(alloc)?,
         properties,
-    };
-    Shared::new(alloc, changed)
+    })
 }

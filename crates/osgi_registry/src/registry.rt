@@ -11,8 +11,8 @@ ghost use Rattle.std.specs.Ordering.{nat_cmp};
 ghost use Rattle.osgi_base.specs.declared.ids.ServiceId.{ServiceId};
 ghost use Rattle.osgi_ops.specs.declared.op.Op.TheVariants as op;
 ghost use Rattle.osgi_ops.specs.declared.reply.Reply.TheVariants as answers;
-ghost use Rattle.osgi_registry.specs.computed.Belonging.{AreAmong, concerns, owns};
-ghost use Rattle.osgi_registry.specs.Rows.{AreInOrder, change, change_refusal, ids_of, is_owned, is_service, IsAskedFor, modify_refusal, IsOpenBy, new_row, object_at, register_refusal, released, row_at, services_in, use_count, used_less, used_more, with_properties, without, without_user};
+ghost use Rattle.osgi_registry.specs.computed.Belonging.{AreAmong, concerns, live_among, owns};
+ghost use Rattle.osgi_registry.specs.Rows.{AreInOrder, change, change_refusal, DiffersInProperties, ids_of, is_owned, is_service, IsAskedFor, modify_refusal, IsOpenBy, new_row, object_at, register_refusal, released, row_at, services_in, use_count, used_less, used_more, with_properties, with_service, without, without_user};
 ghost use Rattle.osgi_registry.specs.Stands.{StandsAfter, StandsCleaned, StandsFor};
 
 use crate::assignability::Assignability;
@@ -24,7 +24,7 @@ use crate::place::Place;
 use crate::properties::{FrameworkTexts, has_twins};
 use crate::service_test::first_passing;
 use crate::services::Services;
-use osgi_base::{BundleId, List, ServiceId, Text};
+use osgi_base::{BundleId, List, ServiceId, Shared, Text};
 use osgi_model::{Attributes, Filter};
 use osgi_ops::{MAX_SERVICES, Many, Refusal, Scope, Service};
 use std::alloc::{AllocError, Global};
@@ -155,6 +155,7 @@ impl Registry {
         ensures refusal { IfOk result (λ answer. result_err answer ≡ register_refusal properties self.now.rows) }
         ensures made { IfOk result (λ answer. IfOk answer (λ made. made ≡ (new_row (record { 0 = self.now.issued + 1 }) owner classes object scope properties).service)) }
         ensures room { IfOk result (λ answer. OnOk answer (length self.now.rows < MAX_SERVICES)) }
+        ensures in_order { OnOk result (AreInOrder self.now) }
     {
         if has_twins(self.alloc, properties.items())? {
             return Ok(Err(Refusal::BadProperties));
@@ -238,9 +239,10 @@ impl Registry {
         if let Some(refusal) = self.modify_refusal(owner, service, &properties)? {
             return Ok(Err(refusal));
         }
-        if !self.put_properties(service, properties)? {
+        let Some(made) = self.make_modified(service, properties)? else {
             return Ok(Err(Refusal::NoSuchService));
-        }
+        };
+        self.replace(made)?;
         Ok(Ok(()))
     }
 
@@ -262,28 +264,40 @@ impl Registry {
         Ok(None)
     }
 
-    /// Puts these properties in place of all that were given for the service; false, and nothing changed, where it is not live.
-    pub fn put_properties(
-        &mut self,
+    /// The service as it stands once these properties are put in place of all that were given of it; none where it is not live.
+    pub fn make_modified(
+        &self,
         service: ServiceId,
         properties: Attributes,
-    ) -> Result<bool, AllocError>
-        ensures absent { IfOk result (λ live. OnFalse live (row_at service self.old.rows ≡ None)) }
-        ensures rows { IfOk result (λ live. OnTrue live (self.new.rows ≡ change service (with_properties properties) self.old.rows)) }
-        ensures issued { self.new.issued ≡ self.old.issued }
-        ensures refused { IfOk result (λ live. OnFalse live (self.new ≡ self.old)) }
-        ensures unchanged { OnErr result (self.new ≡ self.old) }
+    ) -> Result<Option<Service>, AllocError>
+        ensures made { IfOk result (λ made. made ≡ option_map (λ row. (with_properties properties row).service) (row_at service self.now.rows)) }
+        ensures in_order { OnOk result (AreInOrder self.now) }
     {
-        let Some(held) = self.services.get_mut(&service.0) else {
-            return Ok(false);
+        let Some(held) = self.services.get(&service.0) else {
+            return Ok(None);
         };
         let now = held.service();
-        let next = modified(self.alloc, &self.texts, now, held.scope(), properties)?;
-        let place = Place::of(next.get());
+        let made = modified(self.alloc, &self.texts, now, held.scope(), properties)?;
+        Ok(Some(made))
+    }
+
+    /// Puts a service in place of the live one of its id, from which it differs in its properties alone.
+    pub fn replace(&mut self, service: Service) -> Result<(), AllocError>
+        requires differs { DiffersInProperties service self.old.rows }
+        ensures rows { OnOk result (self.new.rows ≡ change service.service (with_service service) self.old.rows) }
+        ensures issued { self.new.issued ≡ self.old.issued }
+        ensures unchanged { OnErr result (self.new ≡ self.old) }
+    {
+        let Some(held) = self.services.get_mut(&service.service.0) else {
+            unreachable!()
+        };
+        let now = held.service();
+        let place = Place::of(&service);
+        let next = Shared::new(self.alloc, service)?;
         self.index
             .move_all(now.classes.items(), Place::of(now), place, &next)?;
         held.replace(next);
-        Ok(true)
+        Ok(())
     }
 
     /// Takes the service out, and its uses with it.
@@ -336,6 +350,14 @@ impl Registry {
             return Ok(Err(Refusal::NoSuchService));
         }
         Ok(Ok(object))
+    }
+
+    /// The live service of this id.
+    pub fn service(&self, service: ServiceId) -> Option<&Service>
+        ensures service { option_copied result ≡ option_map (λ row. row.service) (row_at service self.now.rows) }
+    {
+        let held = self.services.get(&service.0)?;
+        Some(held.service())
     }
 
     /// The object of a live service.
@@ -448,6 +470,29 @@ impl Registry {
         }
     }
 
+    /// The services of the owner by rising id. It looks at no service that the owner neither owns nor used.
+    pub fn owned(&self, owner: BundleId) -> Result<Vec<&Service>, AllocError>
+        ensures services { IfOk result (λ owned. map (λ s. s.now) owned.items ≡ services_in (filter (is_owned owner) self.now.rows)) }
+    {
+        let concerned = self.concerned(owner)?;
+        let ids = self.owned_among(owner, concerned.items())?;
+        self.services_of(ids.items())
+    }
+
+    /// The services of these ids that are live.
+    fn services_of(&self, ids: &[ServiceId]) -> Result<Vec<&Service>, AllocError>
+        ensures services { IfOk result (λ services. map (λ s. s.now) services.items ≡ live_among self.now.rows ids.now) }
+    {
+        let mut services = Vec::with_capacity(self.alloc, ids.len())?;
+        for id in ids {
+            let Some(held) = self.services.get(&id.0) else {
+                continue;
+            };
+            services.push(held.service())?;
+        }
+        Ok(services)
+    }
+
     /// Takes out all services of the bundle and all its uses, and gives the ids of these services, rising. It looks at no
     /// service that the bundle neither owned nor used.
     pub fn release(&mut self, bundle: BundleId) -> Result<List<ServiceId>, AllocError>
@@ -468,6 +513,7 @@ impl Registry {
     fn concerned(&self, bundle: BundleId) -> Result<List<ServiceId>, AllocError>
         ensures all { IfOk result (λ services. AreAmong bundle services self.now.rows) }
         ensures rising { IfOk result (λ services. IsStrictlySortedBy nat_cmp (map (λ (service : ServiceId). service.0) services)) }
+        ensures in_order { AreInOrder self.now }
     {
         self.bundles.services(self.alloc, bundle)
     }

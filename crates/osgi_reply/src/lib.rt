@@ -4,4 +4,4 @@
 mod listing;
 mod replies;
 
-pub use replies::reply_to;
+pub use replies::{Replied, reply_to};

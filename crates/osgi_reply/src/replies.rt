@@ -1,14 +1,16 @@
 //! Operations carried out on the tables.
 //!
 //! What may fail comes first: the reply and the change are decided, and the reply is copied, for the caller and for the history.
-//! The change comes last, and is made whole or not at all.
+//! The change comes last, and is made whole or not at all; listeners are told with it.
 
-ghost use Rattle.std.specs.Prelude.{◌≡◌, false, None, IfOk, OnErr};
+ghost use Rattle.std.specs.Prelude.{◌≡◌, ◌<◌, false, All, None, IfOk, map, OnErr};
+ghost use Rattle.osgi_listeners.specs.Sights.{IsOfEarlier, sights_of};
 ghost use Rattle.osgi_tables.specs.Asked.{asker_here, asker_refusal, is_decided};
 ghost use Rattle.osgi_tables.specs.Changes.{IsReplyAndChange};
 ghost use Rattle.osgi_tables.specs.Replied.{HasRoom, IsReplied, StandsStill};
 
 use crate::listing::list_bundles;
+use osgi_listeners::Sight;
 use osgi_ops::{Asked, Op, Refusal, Reply};
 use osgi_reply_life::{begin_start, begin_stop, end_start, end_stop, wish_start};
 use osgi_reply_loading::{find, load};
@@ -140,19 +142,31 @@ fn decide(alloc: Global, tables: &mut Tables, asked: &Asked) -> Result<(Reply, C
     }
 }
 
-/// Carries an operation out, and answers its reply, with a copy. If memory runs out, the tables stand for what they did.
+/// An operation that was carried out.
+pub struct Replied {
+    pub reply: Reply,
+    /// The same, for the history.
+    pub kept: Reply,
+    /// What listeners see of it.
+    pub told: Vec<Sight>,
+}
+
+/// Carries an operation out, by the entry before which there are so many. If memory runs out, the tables stand for what they did.
 pub fn reply_to(
     alloc: Global,
     tables: &mut Tables,
     asked: &Asked,
-) -> Result<(Reply, Reply), AllocError>
+    entries: u64,
+) -> Result<Replied, AllocError>
     requires room { HasRoom tables.old }
-    ensures copied { IfOk result (λ r. r.1 ≡ r.0) }
-    ensures replied { IfOk result (λ r. IsReplied asked.now tables.old tables.new r.0) }
+    requires countable { entries < 4294967295 }
+    requires earlier { All (IsOfEarlier entries) tables.old.listeners.rows }
+    ensures copied { IfOk result (λ r. r.kept ≡ r.reply) }
+    ensures replied { IfOk result (λ r. IsReplied entries asked.now tables.old tables.new r.reply (sights_of r.told.items)) }
     ensures unchanged { OnErr result (StandsStill tables.old tables.new) }
 {
     let (reply, change) = decide(alloc, tables, asked)?;
     let kept = reply.copy(alloc)?;
-    change.commit(tables)?;
-    Ok((reply, kept))
+    let told = change.make(alloc, tables, entries)?;
+    Ok(Replied { reply, kept, told })
 }

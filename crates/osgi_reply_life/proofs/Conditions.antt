@@ -1,15 +1,14 @@
 -- When the conditions of starts and stops hold, by what is read of the tables.
 use Rattle.std.proofs.Common.{◌≡◌, ◌≤◌, ap, sym, subst, ◌∙◌, false, true}
-use Rattle.std.specs.Prelude.{◌↔◌, Bool, IsTrue, length, MatchOption, None, Option, Some, IsSomeAnd}
+use Rattle.std.specs.Prelude.{◌↔◌, Bool, IsTrue, length, None, Option, Some, IsSomeAnd}
 use Rattle.osgi_base.specs.declared.ids.BundleId.{BundleId}
 use Rattle.osgi_base.specs.declared.ids.Tag.{Tag}
 use Rattle.osgi_brackets.specs.Open.{open_of}
 use Rattle.osgi_bundle.specs.declared.kept.BundleKept.{BundleKept}
-use Rattle.osgi_legal.proofs.StateReadings.{changing-begun}
 use Rattle.osgi_legal.proofs.Targets.{target-once}
 use Rattle.osgi_ops.specs.Bundles.{is_changing}
 use Rattle.osgi_ops.specs.Conditions.{at_target, IsDeep, IsTarget, state_change, state_of}
-use Rattle.osgi_ops.specs.Legal.{IsAskedAt, IsTold}
+use Rattle.osgi_ops.specs.Legal.{IsAskedAt}
 use Rattle.osgi_ops.specs.Moments.{Moment}
 use Rattle.osgi_ops.specs.Replies.{is_effective}
 use Rattle.osgi_ops.specs.declared.asked.Asked.{Asked}
@@ -37,22 +36,18 @@ not_at now target b condition is none f called = none f (subst (λ c. condition 
 
 -- ---- state changes
 
--- the refusal names whose line began the change, where one did
+-- the refusal names the line that began the change
 abbrev pub SaysChange : Option Tag → Refusal → Type 0
-SaysChange by f = MatchOption by (f ≡ no.InvalidOperation) (λ tag. f ≡ no.StateChange tag)
+SaysChange by f = IsSomeAnd by (λ tag. f ≡ no.StateChange tag)
 
 -- it is none that comes with a clean up
 pub says_nothing : (by : Option Tag) (f : Refusal) → SaysChange by f → is_effective (answer.Refused f) ≡ false
-says_nothing None f is = ap (λ g. is_effective (answer.Refused g)) is
+says_nothing None f is = absurd is
 says_nothing (Some tag) f is = ap (λ g. is_effective (answer.Refused g)) is
 
 -- so it is the one that a bundle in change calls for
-pub changed_by : (now : Moment) → IsTold now → (b : BundleId) (row : BundleKept) (f : Refusal) → IsRowAt now b row → is_changing (state_of now b) ≡ true → SaysChange row.by f → state_change is_changing now b f
-changed_by now told b row f is changing says =
-    let begun = changing-begun now told b changing in (
-      changing,
-      subst (λ o. IsSomeAnd o (λ by. f ≡ no.StateChange by)) (sym begun.1) (subst (λ o. SaysChange o f) (is.by ∙ begun.1) says),
-    )
+pub changed_by : (now : Moment) (b : BundleId) (row : BundleKept) (f : Refusal) → IsRowAt now b row → is_changing (state_of now b) ≡ true → SaysChange row.by f → state_change is_changing now b f
+changed_by now b row f is changing says = (changing, subst (λ o. SaysChange o f) is.by says)
 
 -- ---- brackets
 

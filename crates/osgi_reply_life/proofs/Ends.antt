@@ -1,6 +1,6 @@
 -- What the end of a start and the end of a stop are answered.
 use Rattle.std.proofs.Common.{◌≡◌, inl, inr, ap, sym, subst, ◌∙◌, refl}
-use Rattle.std.specs.Prelude.{Bool, true, false, None, Some, IsSomeAnd, Option}
+use Rattle.std.specs.Prelude.{Bool, true, false, cond, None, Some, IsSomeAnd, Option}
 use Rattle.std.proofs.lemmas.Bool.{false_from_ne_true}
 use Rattle.osgi_base.specs.declared.ids.BundleId.{BundleId}
 use Rattle.osgi_base.specs.declared.ids.Tag.{Tag}
@@ -14,8 +14,10 @@ use Rattle.osgi_legal.proofs.StateReadings.{state-in}
 use Rattle.osgi_ops.specs.Brackets.{is_own_end, own_closes}
 use Rattle.osgi_ops.specs.Bundles as phases
 use Rattle.osgi_ops.specs.Bundles.{is_up, last_begin, number_of, Starting, State, Stopping}
+use Rattle.osgi_ops.specs.Cleaning.{cleaned_by}
 use Rattle.osgi_ops.specs.Conditions.{state_of}
-use Rattle.osgi_ops.specs.Legal.{IsAskedAt, IsTold}
+use Rattle.osgi_ops.specs.Legal.{entry_of, IsAskedAt, IsTold}
+use Rattle.osgi_ops.specs.Listening.{happenings}
 use Rattle.osgi_ops.specs.Moments.{Moment}
 use Rattle.osgi_ops.specs.Operations.{IsReply}
 use Rattle.osgi_ops.specs.declared.asked.Asked.{Asked}
@@ -25,9 +27,11 @@ use Rattle.osgi_ops.specs.declared.reply.Reply.{Reply}
 use Rattle.osgi_ops.specs.declared.reply.Reply.TheVariants as answer
 use Rattle.osgi_ops.specs.declared.state.TheConstants.{STARTING, STOPPING}
 use Rattle.osgi_ops.specs.laws.Stages.{row-here}
+use Rattle.osgi_sights.specs.Shown.{AreShown}
 use Rattle.osgi_tables.proofs.Living.{IsEndOf, own_end_at, replied_ended}
-use Rattle.osgi_tables.proofs.Replying.{decided_same, replied_refused}
-use Rattle.osgi_tables.specs.Changes.{IsReplyAndChange}
+use Rattle.osgi_tables.proofs.Replying.{decided_refused}
+use Rattle.osgi_tables.proofs.Shown.{cleaned_shown, one_shown, stopped_shown}
+use Rattle.osgi_tables.specs.Changes.{happened, IsReplyAndChange}
 use Rattle.osgi_bundle.specs.Stands.{started_phase}
 use Rattle.osgi_tables.specs.Replied.{StandsFor}
 use Rattle.osgi_tables.specs.declared.change.Change.TheVariants as change
@@ -107,19 +111,17 @@ module _ (tables : Tables) (tag : Tag) (b : BundleId) (failed : Bool) where
 
   pub decided_start_refused : ¬ (IsOwnEnd (end_start tag b failed) tables × IsInChange STARTING tag b tables.bundles.rows) → IsReplyAndChange (end_start tag b failed) tables (answer.Refused no.InvalidOperation) change.Nothing
   decided_start_refused none =
-      decided_same (end_start tag b failed) tables (answer.Refused no.InvalidOperation)
-      (replied_refused (end_start tag b failed) tables no.InvalidOperation refl
+      decided_refused (end_start tag b failed) tables no.InvalidOperation refl
       (λ now at stood.
       start_refused now b failed
-      (false_from_ne_true _ (λ own. none (sym (own_end_at (end_start tag b failed) tables now at stood) ∙ own, starting_here now at stood own)))))
+      (false_from_ne_true _ (λ own. none (sym (own_end_at (end_start tag b failed) tables now at stood) ∙ own, starting_here now at stood own))))
 
   pub decided_stop_refused : ¬ (IsOwnEnd (end_stop tag b failed) tables × IsInChange STOPPING tag b tables.bundles.rows) → IsReplyAndChange (end_stop tag b failed) tables (answer.Refused no.InvalidOperation) change.Nothing
   decided_stop_refused none =
-      decided_same (end_stop tag b failed) tables (answer.Refused no.InvalidOperation)
-      (replied_refused (end_stop tag b failed) tables no.InvalidOperation refl
+      decided_refused (end_stop tag b failed) tables no.InvalidOperation refl
       (λ now at stood.
       stop_refused now b failed
-      (false_from_ne_true _ (λ own. none (sym (own_end_at (end_stop tag b failed) tables now at stood) ∙ own, stopping_here now at stood own)))))
+      (false_from_ne_true _ (λ own. none (sym (own_end_at (end_stop tag b failed) tables now at stood) ∙ own, stopping_here now at stood own))))
 
 -- an end says nothing of which bundles there are
 start_bundles : (b : BundleId) (failed : Bool) (reply : Reply) → QuietBundles (op.EndStart b failed) reply
@@ -133,6 +135,9 @@ is_end_start b true = record {
   puts = λ c. refl;
   bundles = start_bundles b true (reply_of true);
   cleans = refl;
+  hears = refl;
+  hands = record { handed = λ l. refl; counted = refl };
+  no_turn = λ l. refl;
   opened = refl;
   leaves = λ now world same. same;
 }
@@ -140,6 +145,9 @@ is_end_start b false = record {
   puts = λ c. refl;
   bundles = start_bundles b false (reply_of false);
   cleans = record { registered = λ n since. refl; taken = λ s owner. refl; given = λ s. refl; got = λ u s. refl; let_go = λ u s. refl; cleaned = refl };
+  hears = refl;
+  hands = record { handed = λ l. refl; counted = refl };
+  no_turn = λ l. refl;
   opened = refl;
   leaves = λ now world same. same;
 }
@@ -149,6 +157,9 @@ is_end_stop b true = record {
   puts = λ c. refl;
   bundles = stop_bundles b true (reply_of true);
   cleans = refl;
+  hears = refl;
+  hands = record { handed = λ l. refl; counted = refl };
+  no_turn = λ l. refl;
   opened = refl;
   leaves = λ now world same. same;
 }
@@ -156,30 +167,60 @@ is_end_stop b false = record {
   puts = λ c. refl;
   bundles = stop_bundles b false (reply_of false);
   cleans = refl;
+  hears = refl;
+  hands = record { handed = λ l. refl; counted = refl };
+  no_turn = λ l. refl;
   opened = refl;
   leaves = λ now world same. same;
 }
+
+-- the row that is there
+row_in : (P : BundleKept → Type 0) (o p : Option BundleKept) → p ≡ o → IsSomeAnd p P → (row : BundleKept) × (p ≡ Some row)
+row_in P None p same is = absurd (subst (λ q. IsSomeAnd q P) same is)
+row_in P (Some row) p same is = (row, same)
+
+-- one that failed cleans the bundle, and so does each end of a stop
+cleans_start : (b : BundleId) (failed : Bool) → cleaned_by (op.EndStart b failed) (reply_of failed) ≡ cond failed (Some b) None
+cleans_start b true = refl
+cleans_start b false = refl
+
+cleans_stop : (b : BundleId) (failed : Bool) → cleaned_by (op.EndStop b failed) (reply_of failed) ≡ Some b
+cleans_stop b true = refl
+cleans_stop b false = refl
+
+-- what happens is shown by the tables
+start_shown : (now : Moment) (tables : Tables) → IsTold now → StandsFor now tables → (tag : Tag) (b : BundleId) (failed : Bool) → IsInChange STARTING tag b tables.bundles.rows →
+    AreShown (happened (change.EndStart tag b failed) tables.registry tables.bundles) (happenings now.before now.world tables.wirings.world (entry_of now (op.EndStart b failed) (reply_of failed)) (op.EndStart b failed) (reply_of failed))
+start_shown now tables told stood tag b true is = let there = row_in _ (row_at b tables.bundles.rows) (row_at b tables.bundles.rows) refl is in cleaned_shown now tables told stood b there.0 there.1
+start_shown now tables told stood tag b false is = let there = row_in _ (row_at b tables.bundles.rows) (row_at b tables.bundles.rows) refl is in one_shown 2 now tables told stood b there.0 there.1
+
+stop_shown : (now : Moment) (tables : Tables) → IsTold now → StandsFor now tables → (tag : Tag) (b : BundleId) (failed : Bool) → IsInChange STOPPING tag b tables.bundles.rows →
+    AreShown (happened (change.EndStop tag b failed) tables.registry tables.bundles) (happenings now.before now.world tables.wirings.world (entry_of now (op.EndStop b failed) (reply_of failed)) (op.EndStop b failed) (reply_of failed))
+stop_shown now tables told stood tag b true is = let there = row_in _ (row_at b tables.bundles.rows) (row_at b tables.bundles.rows) refl is in stopped_shown now tables told stood b there.0 there.1
+stop_shown now tables told stood tag b false is = let there = row_in _ (row_at b tables.bundles.rows) (row_at b tables.bundles.rows) refl is in stopped_shown now tables told stood b there.0 there.1
 
 start_ended_so : (tables : Tables) (tag : Tag) (b : BundleId) (failed : Bool) → IsOwnEnd (end_start tag b failed) tables → IsInChange STARTING tag b tables.bundles.rows →
     IsReplyAndChange (end_start tag b failed) tables (reply_of failed) (change.EndStart tag b failed)
 start_ended_so tables tag b failed own is = record {
   possible = is;
-  replied = λ new changed.
-      replied_ended (end_start tag b failed) tables new (reply_of failed) (started_phase failed) failed b (is_end_start b failed) own
+  cleans = cleans_start b failed;
+  answered = λ new changed.
+      replied_ended (end_start tag b failed) tables new (reply_of failed) (started_phase failed) failed b (happened (change.EndStart tag b failed) tables.registry tables.bundles) (is_end_start b failed) own
       (λ now at stood. start_ended now b failed (own_end_at (end_start tag b failed) tables now at stood ∙ own))
       (λ now at stood. up-resolved now at.told b (ap is_up (state_at now tables b Starting tag at.told stood is)))
-      changed;
+      (λ now at stood. start_shown now tables at.told stood tag b failed is) changed;
 }
 
 stop_ended_so : (tables : Tables) (tag : Tag) (b : BundleId) (failed : Bool) → IsOwnEnd (end_stop tag b failed) tables → IsInChange STOPPING tag b tables.bundles.rows →
     IsReplyAndChange (end_stop tag b failed) tables (reply_of failed) (change.EndStop tag b failed)
 stop_ended_so tables tag b failed own is = record {
   possible = is;
-  replied = λ new changed.
-      replied_ended (end_stop tag b failed) tables new (reply_of failed) phases.idle true b (is_end_stop b failed) own
+  cleans = cleans_stop b failed;
+  answered = λ new changed.
+      replied_ended (end_stop tag b failed) tables new (reply_of failed) phases.idle true b (happened (change.EndStop tag b failed) tables.registry tables.bundles) (is_end_stop b failed) own
       (λ now at stood. stop_ended now b failed (own_end_at (end_stop tag b failed) tables now at stood ∙ own))
       (λ now at stood. up-resolved now at.told b (ap is_up (state_at now tables b Stopping tag at.told stood is)))
-      changed;
+      (λ now at stood. stop_shown now tables at.told stood tag b failed is) changed;
 }
 
 pub decided_start_ended : (tables : Tables) (tag : Tag) (b : BundleId) (failed so : Bool) → failed ≡ so → IsOwnEnd (end_start tag b failed) tables → IsInChange STARTING tag b tables.bundles.rows →

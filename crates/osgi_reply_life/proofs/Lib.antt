@@ -1,6 +1,5 @@
 -- Lemmas on starts and stops.
 pub mod Conditions
-pub mod DepotRows
 pub mod Ends
 pub mod Idle
 pub mod Rows

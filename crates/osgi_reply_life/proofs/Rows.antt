@@ -21,7 +21,7 @@ use Rattle.osgi_ops.specs.declared.state.TheConstants.{ACTIVE, INSTALLED, RESOLV
 use Rattle.osgi_ops.specs.declared.target.Target.{Target}
 use Rattle.osgi_ops.specs.declared.target.Target.TheVariants.{Id, Name}
 use Rattle.osgi_ops.specs.laws.Items.{contains-In, find-some}
-use Rattle.osgi_reply_life.proofs.DepotRows.{depot_row}
+use Rattle.osgi_tables.proofs.DepotRows.{depot_row}
 
 -- ---- states by their numbers
 
@@ -49,14 +49,14 @@ same_changing Starting = refl
 same_changing Stopping = refl
 same_changing Active = refl
 
--- a live bundle is starting or stopping where it is none of the rest
-changing_else : (s : State) → s ≢ Uninstalled → number_of s ≢ INSTALLED → number_of s ≢ RESOLVED → number_of s ≢ ACTIVE → is_changing s ≡ true
-changing_else Uninstalled there i r a = absurd (there refl)
-changing_else Unresolved there i r a = absurd (i refl)
-changing_else Resolved there i r a = absurd (r refl)
-changing_else Starting there i r a = refl
-changing_else Stopping there i r a = refl
-changing_else Active there i r a = absurd (a refl)
+-- a live bundle is not resolved where it is none of the rest
+unresolved_else : (s : State) → s ≢ Uninstalled → is_changing_number (number_of s) ≡ false → number_of s ≢ RESOLVED → number_of s ≢ ACTIVE → s ≡ Unresolved
+unresolved_else Uninstalled there rests r a = absurd (there refl)
+unresolved_else Unresolved there rests r a = refl
+unresolved_else Resolved there rests r a = absurd (r refl)
+unresolved_else Starting there rests r a = absurd (cc rests)
+unresolved_else Stopping there rests r a = absurd (cc rests)
+unresolved_else Active there rests r a = absurd (a refl)
 
 down_else : (s : State) → number_of s ≢ ACTIVE → is_active s ≡ false
 down_else Uninstalled not = refl
@@ -126,16 +126,13 @@ target_has_row (Name name) rows b is none =
 pub state_is : {now : Moment} {b : BundleId} {row : BundleKept} (s : State) → IsRowAt now b row → row.state ≡ number_of s → state_of now b ≡ s
 state_is {now = now} {b = b} s is number = same_state (state_of now b) s (sym is.state ∙ number)
 
-pub state_not : {now : Moment} {b : BundleId} {row : BundleKept} (s : State) → IsRowAt now b row → row.state ≢ number_of s → state_of now b ≢ s
-state_not s is other same = other (is.state ∙ ap number_of same)
-
 pub changing_at : {now : Moment} {b : BundleId} {row : BundleKept} {k : Bool} → IsRowAt now b row → is_changing_number row.state ≡ k → is_changing (state_of now b) ≡ k
 changing_at {now = now} {b = b} is changing = sym (same_changing (state_of now b)) ∙ ap is_changing_number (sym is.state) ∙ changing
 
 pub down_at : {now : Moment} {b : BundleId} {row : BundleKept} → IsRowAt now b row → row.state ≢ ACTIVE → is_active (state_of now b) ≡ false
 down_at {now = now} {b = b} is down = down_else (state_of now b) (λ same. down (is.state ∙ same))
 
--- the bundle is starting or stopping where it is none of the rest
-pub changing_rest : {now : Moment} {b : BundleId} {row : BundleKept} → IsRowAt now b row → row.state ≢ INSTALLED → row.state ≢ RESOLVED → row.state ≢ ACTIVE → is_changing (state_of now b) ≡ true
-changing_rest {now = now} {b = b} is installed resolved active =
-    changing_else (state_of now b) (live_there now b is.live) (λ same. installed (is.state ∙ same)) (λ same. resolved (is.state ∙ same)) (λ same. active (is.state ∙ same))
+-- the bundle is not resolved where it is none of the rest
+pub unresolved_rest : {now : Moment} {b : BundleId} {row : BundleKept} → IsRowAt now b row → is_changing_number row.state ≡ false → row.state ≢ RESOLVED → row.state ≢ ACTIVE → state_of now b ≡ Unresolved
+unresolved_rest {now = now} {b = b} is rests resolved active =
+    unresolved_else (state_of now b) (live_there now b is.live) (ap is_changing_number (sym is.state) ∙ rests) (λ same. resolved (is.state ∙ same)) (λ same. active (is.state ∙ same))

@@ -30,19 +30,20 @@ use Rattle.osgi_ops.specs.declared.refusal.Refusal.{Refusal}
 use Rattle.osgi_ops.specs.declared.refusal.Refusal.TheVariants as no
 use Rattle.osgi_ops.specs.declared.reply.Reply.{Reply}
 use Rattle.osgi_ops.specs.declared.reply.Reply.TheVariants as answer
-use Rattle.osgi_ops.specs.declared.state.TheConstants.{ACTIVE, INSTALLED, RESOLVED}
+use Rattle.osgi_ops.specs.declared.state.TheConstants.{ACTIVE, RESOLVED}
 use Rattle.osgi_ops.specs.declared.target.Target.{Target}
 use Rattle.osgi_ops.specs.laws.Stages.{row-here}
 use Rattle.osgi_ops.specs.rows.Life.{BeginStartAnswers, start_transient, WishStartAnswers}
-use Rattle.osgi_tables.proofs.Living.{EachTime, IsBeginOf, replied_begun}
-use Rattle.osgi_tables.proofs.Replying.{decided_same, of_services, replied_refused}
-use Rattle.osgi_tables.specs.Changes.{IsReplyAndChange}
-use Rattle.osgi_tables.specs.Replied.{IsRepliedToAll}
+use Rattle.osgi_tables.proofs.Living.{IsBeginOf, replied_begun}
+use Rattle.osgi_tables.proofs.Replying.{decided_refused, decided_same, of_services, replied_refused}
+use Rattle.osgi_tables.proofs.Shown.{one_shown}
+use Rattle.osgi_tables.specs.Changes.{happened, IsReplyAndChange}
+use Rattle.osgi_tables.specs.Replied.{EachTime, IsAnsweredToAll}
 use Rattle.osgi_tables.specs.declared.change.Change.TheVariants as change
 use Rattle.osgi_tables.specs.declared.tables.Tables.{Tables}
 use Rattle.osgi_reply_life.proofs.Idle.{IsIdle, replied_idle}
 use Rattle.osgi_reply_life.proofs.Conditions.{changed_by, deep_at, not_at, says_nothing, SaysChange, shallow_at}
-use Rattle.osgi_reply_life.proofs.Rows.{changing_at, changing_rest, down_at, row_gone, row_there, state_is, state_not}
+use Rattle.osgi_reply_life.proofs.Rows.{changing_at, down_at, row_gone, row_there, state_is, unresolved_rest}
 
 -- ---- a wish, at a moment
 
@@ -157,39 +158,40 @@ wish tag target transient = record { tag = tag; op = op.WishStart target transie
 
 idle_wish : (target : Target) (transient : Bool) (reply : Reply) → IsIdle (op.WishStart target transient) reply
 idle_wish target transient reply = record {
-  others = of_services (op.WishStart target transient) reply (λ n since. refl) (λ b. refl) (λ b. refl) refl (λ b. refl) refl refl (λ now world same. same);
+  others = of_services (op.WishStart target transient) reply (λ n since. refl) (λ b. refl) (λ b. refl) refl (λ b. refl) refl refl refl (λ l. refl) refl (λ now world same. same);
   services = record { registered = λ n since. refl; taken = λ s owner. refl; given = λ s. refl; got = λ u s. refl; let_go = λ u s. refl; cleaned = refl };
+  none = λ past before after e. refl;
 }
 
-pub replied_wish_missing : (tables : Tables) (target : Target) (transient : Bool) → ((b : BundleId) → ¬ IsTargetRow target tables.bundles.rows b) → IsRepliedToAll (op.WishStart target transient) tables tables (answer.Refused no.NoSuchBundle)
+pub replied_wish_missing : (tables : Tables) (target : Target) (transient : Bool) → ((b : BundleId) → ¬ IsTargetRow target tables.bundles.rows b) → IsAnsweredToAll (op.WishStart target transient) tables (answer.Refused no.NoSuchBundle)
 replied_wish_missing tables target transient none tag =
     replied_refused (wish tag target transient) tables no.NoSuchBundle refl
     (λ now at stood. wish_missing now target transient (λ b is. none b (rows_of_target now tables.bundles stood.bundles target b (row-at now at.told) is)))
 
 module _ (tables : Tables) (target : Target) (transient : Bool) (b : BundleId) (row : BundleKept) (names : IsTargetRow target tables.bundles.rows b) (is : row_at b tables.bundles.rows ≡ Some row) where
-  pub replied_wish_fragment : row.fragment ≡ true → IsRepliedToAll (op.WishStart target transient) tables tables (answer.Refused no.InvalidOperation)
+  pub replied_wish_fragment : row.fragment ≡ true → IsAnsweredToAll (op.WishStart target transient) tables (answer.Refused no.InvalidOperation)
   replied_wish_fragment fragment tag =
       replied_refused (wish tag target transient) tables no.InvalidOperation refl
       (λ now at stood.
       let of = row_there now at.told tables.bundles b row stood.bundles is in
       wish_fragment now at.told target transient b (target_of_rows now tables.bundles stood.bundles target b (row-at now at.told) names) (sym of.fragment ∙ fragment))
 
-  pub replied_wish_changing : (f : Refusal) → row.fragment ≡ false → is_changing_number row.state ≡ true → SaysChange row.by f → IsRepliedToAll (op.WishStart target transient) tables tables (answer.Refused f)
+  pub replied_wish_changing : (f : Refusal) → row.fragment ≡ false → is_changing_number row.state ≡ true → SaysChange row.by f → IsAnsweredToAll (op.WishStart target transient) tables (answer.Refused f)
   replied_wish_changing f whole changing says tag =
       replied_refused (wish tag target transient) tables f (says_nothing row.by f says)
       (λ now at stood.
       let of = row_there now at.told tables.bundles b row stood.bundles is in
       wish_changing now at.told target transient b (target_of_rows now tables.bundles stood.bundles target b (row-at now at.told) names) f (sym of.fragment ∙ whole)
-      (changed_by now at.told b row f of (changing_at of changing) says))
+      (changed_by now b row f of (changing_at of changing) says))
 
-  pub replied_wish_active : row.fragment ≡ false → row.state ≡ ACTIVE → IsRepliedToAll (op.WishStart target transient) tables tables (answer.Active b)
+  pub replied_wish_active : row.fragment ≡ false → row.state ≡ ACTIVE → IsAnsweredToAll (op.WishStart target transient) tables (answer.Active b)
   replied_wish_active whole active tag =
       replied_idle (wish tag target transient) tables (answer.Active b) (idle_wish target transient (answer.Active b))
       (λ now at stood.
       let of = row_there now at.told tables.bundles b row stood.bundles is in
       wish_active now at.told target transient b (target_of_rows now tables.bundles stood.bundles target b (row-at now at.told) names) (sym of.fragment ∙ whole) (state_is Active of active))
 
-  pub replied_wish_go : row.fragment ≡ false → is_changing_number row.state ≡ false → row.state ≢ ACTIVE → IsRepliedToAll (op.WishStart target transient) tables tables (answer.Go b)
+  pub replied_wish_go : row.fragment ≡ false → is_changing_number row.state ≡ false → row.state ≢ ACTIVE → IsAnsweredToAll (op.WishStart target transient) tables (answer.Go b)
   replied_wish_go whole rests down tag =
       replied_idle (wish tag target transient) tables (answer.Go b) (idle_wish target transient (answer.Go b))
       (λ now at stood.
@@ -207,8 +209,9 @@ begin_services b transient reply = record { registered = λ n since. refl; taken
 
 idle_begin : (b : BundleId) (transient : Bool) → IsIdle (op.BeginStart b transient) (answer.Active b)
 idle_begin b transient = record {
-  others = of_services (op.BeginStart b transient) (answer.Active b) (λ n since. refl) (λ c. refl) (λ c. refl) refl (λ c. refl) refl refl (λ now world same. same);
+  others = of_services (op.BeginStart b transient) (answer.Active b) (λ n since. refl) (λ c. refl) (λ c. refl) refl (λ c. refl) refl refl refl (λ l. refl) refl (λ now world same. same);
   services = begin_services b transient (answer.Active b);
+  none = λ past before after e. refl;
 }
 
 begins_start : (b : BundleId) (transient : Bool) (row : ℕ) → IsBeginOf starting (start_of b) b (op.BeginStart b transient) (answer.Begun b row)
@@ -216,41 +219,51 @@ begins_start b transient row = record {
   puts = λ c. refl;
   bundles = record { installed = λ n since. refl; gone = λ c. refl; updated = λ c. refl; brings = refl };
   services = begin_services b transient (answer.Begun b row);
+  keeps = record { heard = refl; hands = record { handed = λ l. refl; counted = refl } };
   opened = refl;
+  no_end = refl;
   leaves = λ now world same. same;
 }
 
 module _ (tables : Tables) (tag : Tag) (b : BundleId) (transient : Bool) where
   refused_begin : (f : Refusal) → is_effective (answer.Refused f) ≡ false → EachTime (begin tag b transient) tables (λ now. IsReply now (op.BeginStart b transient) (answer.Refused f)) →
       IsReplyAndChange (begin tag b transient) tables (answer.Refused f) change.Nothing
-  refused_begin f none due = decided_same (begin tag b transient) tables (answer.Refused f) (replied_refused (begin tag b transient) tables f none due)
+  refused_begin f none due = decided_refused (begin tag b transient) tables f none due
 
   pub decided_begin_missing : row_at b tables.bundles.rows ≡ None → IsReplyAndChange (begin tag b transient) tables (answer.Refused no.NoSuchBundle) change.Nothing
   decided_begin_missing none = refused_begin no.NoSuchBundle refl (λ now at stood. begin_missing now b transient (row_gone now at.told tables.bundles b stood.bundles none))
 
   module _ (row : BundleKept) (is : row_at b tables.bundles.rows ≡ Some row) where
-    pub decided_begin_invalid : (row.fragment ≡ true) ⊎ (row.state ≡ INSTALLED) → IsReplyAndChange (begin tag b transient) tables (answer.Refused no.InvalidOperation) change.Nothing
-    decided_begin_invalid invalid =
+    pub decided_begin_fragment : row.fragment ≡ true → IsReplyAndChange (begin tag b transient) tables (answer.Refused no.InvalidOperation) change.Nothing
+    decided_begin_fragment fragment =
         refused_begin no.InvalidOperation refl
         (λ now at stood.
         let of = row_there now at.told tables.bundles b row stood.bundles is in
-        begin_invalid now at.told b transient of.live (elim invalid [ inl fragment ↦ inl (sym of.fragment ∙ fragment) | inr installed ↦ inr (state_is Unresolved of installed) ]))
+        begin_invalid now at.told b transient of.live (inl (sym of.fragment ∙ fragment)))
+
+    pub decided_begin_unresolved : is_changing_number row.state ≡ false → row.state ≢ ACTIVE → row.state ≢ RESOLVED → IsReplyAndChange (begin tag b transient) tables (answer.Refused no.InvalidOperation) change.Nothing
+    decided_begin_unresolved rests active resolved =
+        refused_begin no.InvalidOperation refl
+        (λ now at stood.
+        let of = row_there now at.told tables.bundles b row stood.bundles is in
+        begin_invalid now at.told b transient of.live (inr (unresolved_rest of rests resolved active)))
 
     pub decided_begin_active : row.fragment ≡ false → row.state ≡ ACTIVE → IsReplyAndChange (begin tag b transient) tables (answer.Active b) change.Nothing
     decided_begin_active whole active =
-        decided_same (begin tag b transient) tables (answer.Active b)
+        decided_same (begin tag b transient) tables (answer.Active b) refl
         (replied_idle (begin tag b transient) tables (answer.Active b) (idle_begin b transient)
         (λ now at stood.
         let of = row_there now at.told tables.bundles b row stood.bundles is in
         begin_active now at.told b transient of.live (sym of.fragment ∙ whole) (state_is Active of active)))
 
-    pub decided_begin_changing : (f : Refusal) → row.fragment ≡ false → row.state ≢ INSTALLED → row.state ≢ ACTIVE → row.state ≢ RESOLVED → SaysChange row.by f → IsReplyAndChange (begin tag b transient) tables (answer.Refused f) change.Nothing
-    decided_begin_changing f whole installed active resolved says =
+    pub decided_begin_changing : (f : Refusal) → row.fragment ≡ false → is_changing_number row.state ≡ true → SaysChange row.by f → IsReplyAndChange (begin tag b transient) tables (answer.Refused f) change.Nothing
+    decided_begin_changing f whole changing says =
         refused_begin f (says_nothing row.by f says)
         (λ now at stood.
         let of = row_there now at.told tables.bundles b row stood.bundles is in
-        begin_changing now at.told b transient of.live f (sym of.fragment ∙ whole) (state_not Unresolved of installed)
-        (changed_by now at.told b row f of (changing_rest of installed resolved active) says))
+        let changes = changing_at of changing in
+        begin_changing now at.told b transient of.live f (sym of.fragment ∙ whole) (λ unresolved. (let bad : true ≡ false = sym changes ∙ ap is_changing unresolved in cc bad))
+        (changed_by now b row f of changes says))
 
     pub decided_begin_deep : row.fragment ≡ false → row.state ≡ RESOLVED → MAX_BRACKETS ≤ length (open_of tables.brackets tag.caller) → IsReplyAndChange (begin tag b transient) tables (answer.Refused no.TooDeep) change.Nothing
     decided_begin_deep whole resolved deep =
@@ -263,11 +276,12 @@ module _ (tables : Tables) (tag : Tag) (b : BundleId) (transient : Bool) where
         IsReplyAndChange (begin tag b transient) tables (answer.Begun b row.row) (change.BeginStart tag b)
     decided_begun whole resolved shallow = record {
       possible = subst (λ o. IsSomeAnd o (λ (r : BundleKept). (r.fragment ≡ false) × (r.state ≡ RESOLVED))) (sym is) (whole, resolved);
-      replied = λ new changed.
-          replied_begun (begin tag b transient) tables new (answer.Begun b row.row) starting (start_of b) b (begins_start b transient row.row)
+      cleans = refl;
+      answered = λ new changed.
+          replied_begun (begin tag b transient) tables new (answer.Begun b row.row) starting (start_of b) b (happened (change.BeginStart tag b) tables.registry tables.bundles) (begins_start b transient row.row)
           (λ now at stood.
           let of = row_there now at.told tables.bundles b row stood.bundles is in
           begin_begun now at.told b transient of.live row.row of.depot_row (sym of.fragment ∙ whole) (state_is Resolved of resolved) (shallow_at (begin tag b transient) tables now at stood shallow))
           (λ now at stood. let of = row_there now at.told tables.bundles b row stood.bundles is in (when-resolved now b (state_is Resolved of resolved)).is_so)
-          changed;
+          (λ now at stood. one_shown 128 now tables at.told stood b row is) changed;
     }

@@ -33,9 +33,11 @@ use Rattle.osgi_ops.specs.declared.state.TheConstants.{ACTIVE}
 use Rattle.osgi_ops.specs.declared.target.Target.{Target}
 use Rattle.osgi_ops.specs.laws.Stages.{row-here}
 use Rattle.osgi_ops.specs.rows.Life.{BeginStopAnswers}
-use Rattle.osgi_tables.proofs.Living.{EachTime, IsBeginOf, replied_begun}
-use Rattle.osgi_tables.proofs.Replying.{decided_same, of_services, replied_refused}
-use Rattle.osgi_tables.specs.Changes.{IsReplyAndChange}
+use Rattle.osgi_tables.proofs.Living.{IsBeginOf, replied_begun}
+use Rattle.osgi_tables.proofs.Replying.{decided_refused, decided_same, of_services}
+use Rattle.osgi_tables.proofs.Shown.{one_shown}
+use Rattle.osgi_tables.specs.Changes.{happened, IsReplyAndChange}
+use Rattle.osgi_tables.specs.Replied.{EachTime}
 use Rattle.osgi_tables.specs.declared.change.Change.TheVariants as change
 use Rattle.osgi_tables.specs.declared.tables.Tables.{Tables}
 use Rattle.osgi_reply_life.proofs.Conditions.{changed_by, deep_at, not_at, says_nothing, SaysChange, shallow_at}
@@ -107,8 +109,9 @@ begin_services target transient reply = record { registered = λ n since. refl; 
 
 idle_stop : (target : Target) (transient : Bool) (b : BundleId) → IsIdle (op.BeginStop target transient) (answer.Idle b)
 idle_stop target transient b = record {
-  others = of_services (op.BeginStop target transient) (answer.Idle b) (λ n since. refl) (λ c. refl) (λ c. refl) refl (λ c. refl) refl refl (λ now world same. same);
+  others = of_services (op.BeginStop target transient) (answer.Idle b) (λ n since. refl) (λ c. refl) (λ c. refl) refl (λ c. refl) refl refl refl (λ l. refl) refl (λ now world same. same);
   services = begin_services target transient (answer.Idle b);
+  none = λ past before after e. refl;
 }
 
 begins_stop : (target : Target) (transient : Bool) (b : BundleId) (row : ℕ) → IsBeginOf stopping (stop_of b) b (op.BeginStop target transient) (answer.Begun b row)
@@ -116,7 +119,9 @@ begins_stop target transient b row = record {
   puts = λ c. refl;
   bundles = record { installed = λ n since. refl; gone = λ c. refl; updated = λ c. refl; brings = refl };
   services = begin_services target transient (answer.Begun b row);
+  keeps = record { heard = refl; hands = record { handed = λ l. refl; counted = refl } };
   opened = refl;
+  no_end = refl;
   leaves = λ now world same. same;
 }
 
@@ -126,7 +131,7 @@ no_system b other own = other (ap (λ (c : BundleId). c.0) own)
 module _ (tables : Tables) (tag : Tag) (target : Target) (transient : Bool) where
   refused_stop : (f : Refusal) → is_effective (answer.Refused f) ≡ false → EachTime (begin_stop tag target transient) tables (λ now. IsReply now (op.BeginStop target transient) (answer.Refused f)) →
       IsReplyAndChange (begin_stop tag target transient) tables (answer.Refused f) change.Nothing
-  refused_stop f none due = decided_same (begin_stop tag target transient) tables (answer.Refused f) (replied_refused (begin_stop tag target transient) tables f none due)
+  refused_stop f none due = decided_refused (begin_stop tag target transient) tables f none due
 
   pub decided_stop_missing : ((b : BundleId) → ¬ IsTargetRow target tables.bundles.rows b) → IsReplyAndChange (begin_stop tag target transient) tables (answer.Refused no.NoSuchBundle) change.Nothing
   decided_stop_missing none = refused_stop no.NoSuchBundle refl (λ now at stood. stop_missing now target transient (λ b is. none b (rows_of_target now tables.bundles stood.bundles target b (row-at now at.told) is)))
@@ -143,11 +148,11 @@ module _ (tables : Tables) (tag : Tag) (target : Target) (transient : Bool) wher
         (λ now at stood.
         let of = row_there now at.told tables.bundles b row stood.bundles is in
         stop_changing now at.told target transient b (target_of_rows now tables.bundles stood.bundles target b (row-at now at.told) names) f (no_system b other)
-        (changed_by now at.told b row f of (changing_at of changing) says))
+        (changed_by now b row f of (changing_at of changing) says))
 
     pub decided_stop_idle : b.0 ≢ 0 → is_changing_number row.state ≡ false → row.state ≢ ACTIVE → IsReplyAndChange (begin_stop tag target transient) tables (answer.Idle b) change.Nothing
     decided_stop_idle other rests down =
-        decided_same (begin_stop tag target transient) tables (answer.Idle b)
+        decided_same (begin_stop tag target transient) tables (answer.Idle b) refl
         (replied_idle (begin_stop tag target transient) tables (answer.Idle b) (idle_stop target transient b)
         (λ now at stood.
         let of = row_there now at.told tables.bundles b row stood.bundles is in
@@ -165,12 +170,13 @@ module _ (tables : Tables) (tag : Tag) (target : Target) (transient : Bool) wher
         IsReplyAndChange (begin_stop tag target transient) tables (answer.Begun b row.row) (change.BeginStop tag b)
     decided_stop_begun other active shallow = record {
       possible = (no_system b other, subst (λ o. IsSomeAnd o (λ (r : BundleKept). r.state ≡ ACTIVE)) (sym is) active);
-      replied = λ new changed.
-          replied_begun (begin_stop tag target transient) tables new (answer.Begun b row.row) stopping (stop_of b) b (begins_stop target transient b row.row)
+      cleans = refl;
+      answered = λ new changed.
+          replied_begun (begin_stop tag target transient) tables new (answer.Begun b row.row) stopping (stop_of b) b (happened (change.BeginStop tag b) tables.registry tables.bundles) (begins_stop target transient b row.row)
           (λ now at stood.
           let of = row_there now at.told tables.bundles b row stood.bundles is in
           stop_begun now at.told target transient b (target_of_rows now tables.bundles stood.bundles target b (row-at now at.told) names) row.row of.depot_row (no_system b other) (state_is Active of active)
           (shallow_at (begin_stop tag target transient) tables now at stood shallow))
           (λ now at stood. let of = row_there now at.told tables.bundles b row stood.bundles is in up-resolved now at.told b (ap is_up (state_is Active of active)))
-          changed;
+          (λ now at stood. one_shown 256 now tables at.told stood b row is) changed;
     }

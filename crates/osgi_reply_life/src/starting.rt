@@ -3,18 +3,18 @@
 ghost use Rattle.std.specs.Prelude.{IfOk};
 ghost use Rattle.osgi_ops.specs.declared.op.Op.TheVariants as op;
 ghost use Rattle.osgi_tables.specs.Changes.{IsReplyAndChange};
-ghost use Rattle.osgi_tables.specs.Replied.{IsRepliedToAll};
+ghost use Rattle.osgi_tables.specs.Replied.{IsAnsweredToAll};
 
-use crate::reading::{is_deep, is_in_change, state_change};
+use crate::reading::{is_deep, state_change};
 use osgi_base::{BundleId, Tag};
-use osgi_ops::{ACTIVE, INSTALLED, Op, RESOLVED, Refusal, Reply, STARTING, Target, is_changing};
+use osgi_ops::{ACTIVE, Op, RESOLVED, Refusal, Reply, STARTING, Target, is_changing};
 use osgi_tables::{Change, Tables};
 use std::alloc::AllocError;
 
 /// Whether the bundle that a target stands for is to be started. Start levels do not change yet, so none is too high, and a
 /// transient wish is answered as any other.
 pub fn wish_start(tables: &Tables, target: &Target, transient: bool) -> Result<Reply, AllocError>
-    ensures replied { IfOk result (IsRepliedToAll (op.WishStart target.now transient) tables.now tables.now) }
+    ensures replied { IfOk result (IsAnsweredToAll (op.WishStart target.now transient) tables.now) }
 {
     let Some(bundle) = tables.bundles.target(target)? else {
         let refusal = Refusal::NoSuchBundle;
@@ -28,7 +28,7 @@ pub fn wish_start(tables: &Tables, target: &Target, transient: bool) -> Result<R
         return Ok(Reply::Refused { refusal });
     }
     if is_changing(row.state) {
-        let refusal = state_change(row.by);
+        let refusal = state_change(row);
         return Ok(Reply::Refused { refusal });
     }
     if row.state == ACTIVE {
@@ -45,15 +45,19 @@ pub fn begin_start(tables: &Tables, tag: Tag, bundle: BundleId, transient: bool)
         let refusal = Refusal::NoSuchBundle;
         return (Reply::Refused { refusal }, Change::Nothing);
     };
-    if row.fragment || row.state == INSTALLED {
+    if row.fragment {
         let refusal = Refusal::InvalidOperation;
+        return (Reply::Refused { refusal }, Change::Nothing);
+    }
+    if is_changing(row.state) {
+        let refusal = state_change(row);
         return (Reply::Refused { refusal }, Change::Nothing);
     }
     if row.state == ACTIVE {
         return (Reply::Active { bundle }, Change::Nothing);
     }
     if row.state != RESOLVED {
-        let refusal = state_change(row.by);
+        let refusal = Refusal::InvalidOperation;
         return (Reply::Refused { refusal }, Change::Nothing);
     }
     if is_deep(&tables.brackets, tag.caller) {
@@ -73,7 +77,7 @@ pub fn end_start(tables: &Tables, tag: Tag, bundle: BundleId, failed: bool) -> (
 {
     let end = Op::EndStart { bundle, failed };
     // Where the bracket is open the bundle is starting, by the same line.
-    if !tables.brackets.is_end(tag, &end) || !is_in_change(&tables.bundles, STARTING, tag, bundle) {
+    if !tables.brackets.is_end(tag, &end) || !tables.bundles.is_in_change(STARTING, tag, bundle) {
         let refusal = Refusal::InvalidOperation;
         return (Reply::Refused { refusal }, Change::Nothing);
     }

@@ -4,7 +4,7 @@ ghost use Rattle.std.specs.Prelude.{IfOk};
 ghost use Rattle.osgi_ops.specs.declared.op.Op.TheVariants as op;
 ghost use Rattle.osgi_tables.specs.Changes.{IsReplyAndChange};
 
-use crate::reading::{is_deep, is_in_change, state_change};
+use crate::reading::{is_deep, state_change};
 use osgi_base::{BundleId, Tag};
 use osgi_ops::{ACTIVE, Op, Refusal, Reply, STOPPING, Target, is_changing};
 use osgi_tables::{Change, Tables};
@@ -31,7 +31,7 @@ pub fn begin_stop(
         return Ok((Reply::Refused { refusal }, Change::Nothing));
     }
     if is_changing(row.state) {
-        let refusal = state_change(row.by);
+        let refusal = state_change(row);
         return Ok((Reply::Refused { refusal }, Change::Nothing));
     }
     if row.state != ACTIVE {
@@ -54,7 +54,7 @@ pub fn end_stop(tables: &Tables, tag: Tag, bundle: BundleId, failed: bool) -> (R
 {
     let end = Op::EndStop { bundle, failed };
     // Where the bracket is open the bundle is stopping, by the same line.
-    if !tables.brackets.is_end(tag, &end) || !is_in_change(&tables.bundles, STOPPING, tag, bundle) {
+    if !tables.brackets.is_end(tag, &end) || !tables.bundles.is_in_change(STOPPING, tag, bundle) {
         let refusal = Refusal::InvalidOperation;
         return (Reply::Refused { refusal }, Change::Nothing);
     }

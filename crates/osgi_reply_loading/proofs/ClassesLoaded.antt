@@ -16,7 +16,7 @@ use Rattle.osgi_ops.specs.declared.reply.Reply.TheVariants as answer
 use Rattle.osgi_ops.specs.rows.Bundles.{is_java_class}
 use Rattle.osgi_tables.proofs.Replying.{at, from_own, of_services, replied_refused, still_tables, unseen}
 use Rattle.osgi_tables.proofs.Wired.{target_open, target_resolved}
-use Rattle.osgi_tables.specs.Replied.{IsRepliedToAll}
+use Rattle.osgi_tables.specs.Replied.{IsAnsweredToAll}
 use Rattle.osgi_tables.specs.declared.tables.Tables.{Tables}
 use Rattle.osgi_wiring.specs.States.{wiring_at}
 use Rattle.osgi_world.specs.declared.wiring.Wiring.{Wiring}
@@ -54,13 +54,13 @@ barred_not W b k class is barred = by (is_some k.revision.host) (wiring_at W.wir
 
 -- ---- the reply
 
-pub load_missing : (tables : Tables) (b : BundleId) (class : List ℕ) → current_revision tables.wirings.world b ≡ None → IsRepliedToAll (op.Load b class) tables tables (answer.Refused NoSuchBundle)
+pub load_missing : (tables : Tables) (b : BundleId) (class : List ℕ) → current_revision tables.wirings.world b ≡ None → IsAnsweredToAll (op.Load b class) tables (answer.Refused NoSuchBundle)
 load_missing tables b class none who =
     replied_refused (record { tag = who; op = op.Load b class }) tables NoSuchBundle refl
     (from_own tables (λ now. IsReply now (op.Load b class) (answer.Refused NoSuchBundle)) (λ now told stood. inl (NoSuchBundle, (refl, dead-at (at now tables) told b none), refl)))
 
 pub load_barred : (tables : Tables) (b : BundleId) (k : Known) (class : List ℕ) → current_revision tables.wirings.world b ≡ Some k → is_barred tables.wirings.world k class ≡ true →
-    IsRepliedToAll (op.Load b class) tables tables (answer.Refused InvalidOperation)
+    IsAnsweredToAll (op.Load b class) tables (answer.Refused InvalidOperation)
 load_barred tables b k class is barred who =
     replied_refused (record { tag = who; op = op.Load b class }) tables InvalidOperation refl
     (from_own tables (λ now. IsReply now (op.Load b class) (answer.Refused InvalidOperation)) (λ now told stood.
@@ -73,7 +73,7 @@ quiet_load : (b : BundleId) (class : List ℕ) (by : Option RevisionId) → Quie
 quiet_load b class by = record { registered = λ n since. refl; taken = λ s owner. refl; given = λ s. refl; got = λ u s. refl; let_go = λ u s. refl; cleaned = refl }
 
 pub load_answered : (tables : Tables) (b : BundleId) (k : Known) (class : List ℕ) (by : Option RevisionId) → current_revision tables.wirings.world b ≡ Some k → is_barred tables.wirings.world k class ≡ false →
-    IsLoadedBy tables.wirings.world k.id class by → IsRepliedToAll (op.Load b class) tables tables (answer.Loaded by)
+    IsLoadedBy tables.wirings.world k.id class by → IsAnsweredToAll (op.Load b class) tables (answer.Loaded by)
 load_answered tables b k class by is barred loaded who =
     let reply = answer.Loaded by in
     unseen (record { tag = who; op = op.Load b class }) tables tables reply
@@ -82,6 +82,6 @@ load_answered tables b k class by is barred loaded who =
       (λ other called. let bad : true ≡ false = sym (live-at (at now tables) told b k is) ∙ called.1 in cc bad),
       inr ((λ other called. barred_not tables.wirings.world b k class is barred called.1), (by, refl, (k, is, loaded))),
     )))
-    (λ now told stood. stood.world)
+    (λ now told stood. stood.world) (λ past before after e. refl)
     (λ now told stood.
-    still_tables now tables (op.Load b class) reply stood (of_services (op.Load b class) reply (λ n since. refl) (λ c. refl) (λ c. refl) refl (λ c. refl) refl refl (λ now world same. same)) (quiet_load b class by))
+    still_tables now tables (op.Load b class) reply stood (of_services (op.Load b class) reply (λ n since. refl) (λ c. refl) (λ c. refl) refl (λ c. refl) refl refl refl (λ l. refl) refl (λ now world same. same)) (quiet_load b class by))

@@ -3,7 +3,7 @@
 ghost use Rattle.std.specs.Prelude.{◌≡◌, None, Some, IfOk};
 ghost use Rattle.osgi_ops.specs.declared.op.Op.TheVariants as op;
 ghost use Rattle.osgi_tables.specs.Asked.{asker_refusal};
-ghost use Rattle.osgi_tables.specs.Replied.{IsRepliedToAll};
+ghost use Rattle.osgi_tables.specs.Replied.{IsAnsweredToAll};
 
 use osgi_base::{BundleId, Text};
 use osgi_loader::is_assignable;
@@ -44,7 +44,7 @@ pub fn find(
     filter: &Option<Filter>,
 ) -> Result<Reply, AllocError>
     requires asker { asker_refusal tables.now.bundles (Some asker) ≡ None }
-    ensures replied { IfOk result (IsRepliedToAll (op.Find asker class.now filter.now) tables.now tables.now) }
+    ensures replied { IfOk result (IsAnsweredToAll (op.Find asker class.now filter.now) tables.now) }
 {
     let wirings = tables.wirings.wirings();
     let in_force = InForce { alloc, wirings };

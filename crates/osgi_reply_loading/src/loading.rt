@@ -3,7 +3,7 @@
 ghost use Rattle.std.specs.Prelude.{◌≡◌, ◌||◌, IfOk, is_none, is_some};
 ghost use Rattle.osgi_ops.specs.declared.op.Op.TheVariants as op;
 ghost use Rattle.osgi_ops.specs.rows.Bundles.{is_java_class};
-ghost use Rattle.osgi_tables.specs.Replied.{IsRepliedToAll};
+ghost use Rattle.osgi_tables.specs.Replied.{IsAnsweredToAll};
 ghost use Rattle.osgi_wiring.specs.States.{wiring_at};
 
 use osgi_base::{BundleId, Text};
@@ -36,7 +36,7 @@ pub fn load(
     bundle: BundleId,
     class: &Text,
 ) -> Result<Reply, AllocError>
-    ensures replied { IfOk result (IsRepliedToAll (op.Load bundle class.now) tables.now tables.now) }
+    ensures replied { IfOk result (IsAnsweredToAll (op.Load bundle class.now) tables.now) }
 {
     let wirings = tables.wirings.wirings();
     let Some(known) = wirings.current(bundle) else {

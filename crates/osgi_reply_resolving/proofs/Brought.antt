@@ -47,8 +47,15 @@ use Rattle.osgi_version.specs.declared.version.Version.{Version}
 use Rattle.osgi_world.specs.Lookups.{IsKnown}
 use Rattle.osgi_world.specs.declared.revision.Revision.{Revision}
 use Rattle.osgi_world.specs.declared.world.World.{World}
+use Rattle.osgi_base.specs.declared.ids.Tag.{Tag}
+use Rattle.osgi_ops.specs.Listening.{of_bundle}
+use Rattle.osgi_sights.specs.Shown.{AreShown}
+use Rattle.osgi_sights.specs.Shown as shown
+use Rattle.osgi_tables.proofs.Happening.{brought_named, shown_after}
+use Rattle.osgi_tables.proofs.Hearing.{heard_still}
+use Rattle.osgi_tables.proofs.Shown.{to_shown}
 use Rattle.osgi_tables.proofs.Replying.{at, brackets_left, from_own, of_services, replied_refused, still_tables, unsaid, unseen}
-use Rattle.osgi_tables.specs.Replied.{HasRoom, IsBrought, IsReplied, IsRepliedToAll, StandsFor}
+use Rattle.osgi_tables.specs.Replied.{HasRoom, IsAnswered, IsAnsweredToAll, IsBrought, StandsFor}
 use Rattle.osgi_tables.specs.Changes.{IsReplyAndChangeToAll}
 use Rattle.osgi_tables.specs.declared.change.Change.TheVariants as change
 use Rattle.osgi_tables.specs.declared.tables.Tables.{Tables}
@@ -63,16 +70,16 @@ known_reply (Some b) id now location count is = let same : b.bundle ≡ id = cc 
 quiet_known : (location : List ℕ) (id : BundleId) (known : Bool) → QuietServices (op.Install location) (answer.Bundle id known)
 quiet_known location id known = record { registered = λ n since. refl; taken = λ s owner. refl; given = λ s. refl; got = λ u s. refl; let_go = λ u s. refl; cleaned = refl }
 
-pub replied_known : (tables : Tables) (location : List ℕ) (id : BundleId) → row_from location tables.bundles.rows ≡ Some id → IsRepliedToAll (op.Install location) tables tables (answer.Bundle id true)
+pub replied_known : (tables : Tables) (location : List ℕ) (id : BundleId) → row_from location tables.bundles.rows ≡ Some id → IsAnsweredToAll (op.Install location) tables (answer.Bundle id true)
 replied_known tables location id is who =
     let reply = answer.Bundle id true in
     unseen (record { tag = who; op = op.Install location }) tables tables reply
     (λ now told stood.
     known_reply (bundle_from now.setting.depot now.before location) id now location (length (installed now.before))
     (sym (table.from_location now.setting.depot now.before now.world tables.bundles location stood.bundles) ∙ is))
-    (λ now told stood. stood.world)
+    (λ now told stood. stood.world) (λ past before after e. refl)
     (λ now told stood.
-    still_tables now tables (op.Install location) reply stood (of_services (op.Install location) reply (λ n since. refl) (λ b. refl) (λ b. refl) refl (λ b. refl) refl refl (λ now world same. same)) (quiet_known location id true))
+    still_tables now tables (op.Install location) reply stood (of_services (op.Install location) reply (λ n since. refl) (λ b. refl) (λ b. refl) refl (λ b. refl) refl refl refl (λ l. refl) refl (λ now world same. same)) (quiet_known location id true))
 
 -- ---- a location that no live bundle has
 
@@ -104,7 +111,7 @@ plain_rows name version rows due refusal (inr (none, inr (room, given))) = absur
 
 -- the depot has no revision there
 pub replied_unread : (tables : Tables) (location : List ℕ) (refusal : Refusal) → row_from location tables.bundles.rows ≡ None → depot_refusal (stored_at tables.depot.rows location) ≡ Some refusal →
-    IsRepliedToAll (op.Install location) tables tables (answer.Refused refusal)
+    IsAnsweredToAll (op.Install location) tables (answer.Refused refusal)
 replied_unread tables location refusal none is who =
     replied_refused (record { tag = who; op = op.Install location }) tables refusal (plain_depot (stored_at tables.depot.rows location) refusal is) (λ now told stood.
     given_new (bundle_from now.setting.depot now.before location) now location (length (installed now.before)) (refuses refusal) (new_location now tables location stood none)
@@ -138,7 +145,7 @@ by_rows now old location revision manifest due v stood is given = inr ((λ other
 -- the table refuses
 pub replied_uninstalled : (tables : Tables) (location : List ℕ) (revision : Revision) (manifest : List ℕ) (due : BundleKept → Type 0) (refusal : Refusal) → row_from location tables.bundles.rows ≡ None →
     stored_at tables.depot.rows location ≡ Some (stored.Read revision manifest) → Gives (install_refusals revision.name revision.version tables.bundles.rows) due (refuses refusal) →
-    IsRepliedToAll (op.Install location) tables tables (answer.Refused refusal)
+    IsAnsweredToAll (op.Install location) tables (answer.Refused refusal)
 replied_uninstalled tables location revision manifest due refusal none is given who =
     replied_refused (record { tag = who; op = op.Install location }) tables refusal (plain_rows revision.name revision.version tables.bundles.rows due refusal given) (λ now told stood.
     let count = length (installed now.before) in
@@ -219,6 +226,7 @@ module _ (old : Tables) (new : TableRows) (after : WiringState) (location : List
       let depot = now.setting.depot in
       let e : Entry = record { tag = now.tag; op = op.Install location; reply = answer.Bundle id false } in
       let r : RevisionId = record { 0 = revisions now.before + 1 } in
+      let heard = heard_still (at now old) old (op.Install location) (answer.Bundle id false) stood refl refl (λ l. refl) refl in
       record {
         depot = stood.depot;
         budget = stood.budget;
@@ -232,14 +240,25 @@ module _ (old : Tables) (new : TableRows) (after : WiringState) (location : List
         world = refl;
         issued = i.brought.issued ∙ ap (λ n. n + 1) stood.issued ∙ sym (revisions-more now.before e refl);
         sound = sound_of after.world after.issued i.brought.holds;
+        listeners = heard.listeners;
+        small = heard.small;
+        handings = heard.handings;
       }
 
-  pub replied_installed : IsRepliedToAll (op.Install location) old (record old { bundles = new; wirings = after }) (answer.Bundle id false)
-  replied_installed who =
-      unseen (record { tag = who; op = op.Install location }) old (record old { bundles = new; wirings = after }) (answer.Bundle id false)
-      (from_own old (λ now. IsReply now (op.Install location) (answer.Bundle id false)) (λ now told stood. installed_due now stood))
-      (from_own old (λ now. Leaves now (op.Install location) (answer.Bundle id false) after.world) (λ now told stood. installed_left now stood))
-      (from_own old (λ now. StandsFor (later now (op.Install location) (answer.Bundle id false) after.world []) (record old { bundles = new; wirings = after })) installed_stands)
+  -- what happens is that it is installed
+  installed_shown : (now : Moment) → IsTold (at now old) → StandsFor (at now old) old → AreShown (shown.bundle 1 id revision.name revision.version ∷ []) (of_bundle 1 old.wirings.world after.world id ∷ [])
+  installed_shown now told stood =
+      let made : BundleKept = new_row id location revision.name revision.version (is_some revision.host) row in
+      let named = brought_named old.wirings.world after.world (record { 0 = revisions now.before + 1 }) made revision (is_new now told stood).no_current (left_world now stood) refl refl in
+      (to_shown 1 id revision.name revision.version (of_bundle 1 old.wirings.world after.world id) (shown_after old.wirings.world after.world id revision.name revision.version named 1), tt)
+
+  pub replied_installed : (who : Tag) → IsAnswered (record { tag = who; op = op.Install location }) old (record old { bundles = new; wirings = after }) (answer.Bundle id false) (shown.bundle 1 id revision.name revision.version ∷ [])
+  replied_installed who = record {
+    due = from_own old (λ now. IsReply now (op.Install location) (answer.Bundle id false)) (λ now told stood. installed_due now stood);
+    left = from_own old (λ now. Leaves now (op.Install location) (answer.Bundle id false) after.world) (λ now told stood. installed_left now stood);
+    happens = from_own old (λ now. AreShown (shown.bundle 1 id revision.name revision.version ∷ []) (of_bundle 1 now.world after.world id ∷ [])) installed_shown;
+    stands = from_own old (λ now. StandsFor (later now (op.Install location) (answer.Bundle id false) after.world []) (record old { bundles = new; wirings = after })) installed_stands;
+  }
 
 -- ---- the bundle that is made
 
@@ -272,14 +291,17 @@ decided_installed tables location row revision manifest made room none stored nu
         revisions = room.revisions;
         fresh = room.fresh made.bundle next;
       };
-      replied = λ new added.
-          subst (λ t. IsReplied (record { tag = who; op = op.Install location }) tables t (answer.Bundle made.bundle false)) (sym added.is)
-          (replied_installed tables added.bundles added.wirings location row revision manifest made.bundle (record {
+      cleans = refl;
+      answered = λ new added.
+          subst (λ t. IsAnswered (record { tag = who; op = op.Install location }) tables t (answer.Bundle made.bundle false) (shown.bundle 1 made.bundle made.name made.version ∷ [])) (sym added.is)
+          (subst
+          (λ (m : BundleKept). IsAnswered (record { tag = who; op = op.Install location }) tables (record tables { bundles = added.bundles; wirings = added.wirings }) (answer.Bundle made.bundle false) (shown.bundle 1 made.bundle m.name m.version ∷ []))
+          (sym is) (replied_installed tables added.bundles added.wirings location row revision manifest made.bundle (record {
             none = none;
             is = stored;
             number = number;
             given = gives_answer conditions due (λ (id : BundleId). id.0 ≡ tables.bundles.issued + 1) made made.bundle given next;
             stands = subst (λ (m : BundleKept). StandsAfter m.location m.name m.version m.fragment m.row made.bundle tables.bundles added.bundles) is added.stands;
             brought = added.known;
-          }) who);
+          }) who));
     }

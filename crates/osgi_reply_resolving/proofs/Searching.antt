@@ -56,11 +56,16 @@ use Rattle.osgi_world.specs.declared.wiring.Wiring.{Wiring}
 use Rattle.osgi_world.specs.declared.world.Known.{Known}
 use Rattle.osgi_world.specs.declared.world.World.{World}
 use Rattle.osgi_reply_resolving.proofs.Brought.{sound_of}
+use Rattle.osgi_base.specs.declared.ids.Tag.{Tag}
+use Rattle.osgi_ops.specs.Listening.{of_bundle}
+use Rattle.osgi_sights.specs.Shown.{AreShown}
+use Rattle.osgi_tables.proofs.Hearing.{heard_still}
+use Rattle.osgi_tables.proofs.Shown.{all_shown}
 use Rattle.osgi_tables.proofs.Replying.{at, brackets_left, bundles_unsaid, from_own, replied_refused, unsaid, unseen}
 use Rattle.osgi_reply_resolving.proofs.Rows.{distinct, IsSteady, listed_same, rows_after}
 use Rattle.osgi_tables.proofs.Wired.{target_open, whole_bundle}
-use Rattle.osgi_tables.specs.Replied.{IsReplied, IsRepliedToAll, StandsFor}
-use Rattle.osgi_tables.specs.Changes.{IsReplyAndChangeToAll, with_resolved}
+use Rattle.osgi_tables.specs.Replied.{IsAnswered, IsAnsweredToAll, StandsFor}
+use Rattle.osgi_tables.specs.Changes.{bundles_shown, IsReplyAndChangeToAll, with_resolved}
 use Rattle.osgi_reply_resolving.specs.computed.Searched.{IsAsked, IsSaid, IsThere, listed}
 use Rattle.osgi_tables.specs.declared.change.Change.{Change}
 use Rattle.osgi_tables.specs.declared.change.Change.TheVariants as change
@@ -147,12 +152,12 @@ searched now told b k v is whole unresolved given =
       ),
     )
 
-pub replied_missing : (tables : Tables) (b : BundleId) → current_revision tables.wirings.world b ≡ None → IsRepliedToAll (op.Resolve b) tables tables (answer.Refused NoSuchBundle)
+pub replied_missing : (tables : Tables) (b : BundleId) → current_revision tables.wirings.world b ≡ None → IsAnsweredToAll (op.Resolve b) tables (answer.Refused NoSuchBundle)
 replied_missing tables b none who =
     replied_refused (record { tag = who; op = op.Resolve b }) tables NoSuchBundle refl
     (from_own tables (λ now. IsReply now (op.Resolve b) (answer.Refused NoSuchBundle)) (λ now told stood. inl (NoSuchBundle, (refl, dead-at (at now tables) told b none), refl)))
 
-pub replied_fragment : (tables : Tables) (b : BundleId) → is_fragment_bundle tables.wirings.world b ≡ true → IsRepliedToAll (op.Resolve b) tables tables (answer.Refused InvalidOperation)
+pub replied_fragment : (tables : Tables) (b : BundleId) → is_fragment_bundle tables.wirings.world b ≡ true → IsAnsweredToAll (op.Resolve b) tables (answer.Refused InvalidOperation)
 replied_fragment tables b is who =
     let k = some_fragment tables.wirings.world b is in
     replied_refused (record { tag = who; op = op.Resolve b }) tables InvalidOperation refl
@@ -162,7 +167,7 @@ replied_fragment tables b is who =
 quiet_resolve : (b : BundleId) (ids : List BundleId) → QuietServices (op.Resolve b) (answer.Resolved ids)
 quiet_resolve b ids = record { registered = λ n since. refl; taken = λ s owner. refl; given = λ s. refl; got = λ u s. refl; let_go = λ u s. refl; cleaned = refl }
 
-pub replied_resolved : (tables : Tables) (b : BundleId) → is_fragment_bundle tables.wirings.world b ≡ false → is_resolved tables.wirings.world b ≡ true → IsRepliedToAll (op.Resolve b) tables tables (answer.Resolved [])
+pub replied_resolved : (tables : Tables) (b : BundleId) → is_fragment_bundle tables.wirings.world b ≡ false → is_resolved tables.wirings.world b ≡ true → IsAnsweredToAll (op.Resolve b) tables (answer.Resolved [])
 replied_resolved tables b whole resolved who =
     let W = tables.wirings.world in
     let k = some_resolved W b resolved in
@@ -173,7 +178,7 @@ replied_resolved tables b whole resolved who =
       (λ other called. live (at now tables) told b k.0 k.1 called.1),
       inr ((λ other called. cc (called.1, whole)), subst (λ t. Gives (unresolved_refusals t (at now tables) b) (AnswersResolve t (at now tables) b) (verdict reply)) (sym resolved) refl),
     )))
-    (from_own tables (λ now. Leaves now (op.Resolve b) reply W) (λ now told stood. subst (λ t. Resolves t (at now tables) b [] W) (sym resolved) refl))
+    (from_own tables (λ now. Leaves now (op.Resolve b) reply W) (λ now told stood. subst (λ t. Resolves t (at now tables) b [] W) (sym resolved) refl)) (λ past before after e. refl)
     (from_own tables (λ now. StandsFor (later now (op.Resolve b) reply W []) tables) (λ now told stood.
     still_resolve (at now tables) tables b resolved stood))
   where
@@ -182,6 +187,7 @@ replied_resolved tables b whole resolved who =
     still_resolve now tables b resolved stood =
         let e : Entry = entry_of now (op.Resolve b) (answer.Resolved []) in
         let quiet : QuietBundles (op.Resolve b) (answer.Resolved []) = record { installed = λ n since. refl; gone = λ c. refl; updated = λ c. refl; brings = refl } in
+        let heard = heard_still now tables (op.Resolve b) (answer.Resolved []) stood refl refl (λ l. refl) refl in
         record {
           depot = stood.depot;
           budget = stood.budget;
@@ -193,6 +199,9 @@ replied_resolved tables b whole resolved who =
           world = refl;
           issued = stood.issued ∙ sym (bundles-quiet now.setting.depot now.before e quiet).revisions;
           sound = subst IsSound (sym stood.world) stood.sound;
+          listeners = heard.listeners;
+          small = heard.small;
+          handings = heard.handings;
         }
 
 -- ---- refusals of the search
@@ -216,7 +225,7 @@ module _ (tables : Tables) (b : BundleId) (root : RevisionId) (kept : IsKeptWorl
       (record { place = q; first = first; requirement = is.0; is = subst (λ (w : World). requirement_at w.known q ≡ Some is.0) (sym world) is.1; namespace_is = refl; name_is = refl })
   said_unmet P cause.Clash said world none is = subst (IsUnmet P) (sym is) none
 
-  pub replied_unresolvable : (c : Cause) (said : Unmet) → IsAnswerTo tables.wirings.world root tables.budget (NoWord c) → IsSaid tables.wirings.world.known c said → IsRepliedToAll (op.Resolve b) tables tables (answer.Refused (Unresolvable said))
+  pub replied_unresolvable : (c : Cause) (said : Unmet) → IsAnswerTo tables.wirings.world root tables.budget (NoWord c) → IsSaid tables.wirings.world.known c said → IsAnsweredToAll (op.Resolve b) tables (answer.Refused (Unresolvable said))
   replied_unresolvable c said a is who =
       let p = problem_of tables.wirings.world b root sound asked tables.budget (NoWord c) a in
       replied_refused (record { tag = who; op = op.Resolve b }) tables (Unresolvable said) refl
@@ -236,7 +245,7 @@ module _ (tables : Tables) (b : BundleId) (root : RevisionId) (kept : IsKeptWorl
         refl,
       ))))
 
-  pub replied_spent : (visited : ℕ) → IsAnswerTo tables.wirings.world root tables.budget (Spent visited) → IsRepliedToAll (op.Resolve b) tables tables (answer.Refused (BudgetSpent visited))
+  pub replied_spent : (visited : ℕ) → IsAnswerTo tables.wirings.world root tables.budget (Spent visited) → IsAnsweredToAll (op.Resolve b) tables (answer.Refused (BudgetSpent visited))
   replied_spent visited a who =
       let p = problem_of tables.wirings.world b root sound asked tables.budget (Spent visited) a in
       replied_refused (record { tag = who; op = op.Resolve b }) tables (BudgetSpent visited) refl
@@ -324,6 +333,7 @@ module _ (tables : Tables) (b : BundleId) (root : RevisionId) (kept : IsKeptWorl
           let ids : List BundleId = listed tables.wirings.world wirings tables.bundles.rows in
           let e : Entry = record { tag = now.tag; op = op.Resolve b; reply = answer.Resolved ids } in
           let quiet : QuietBundles (op.Resolve b) (answer.Resolved ids) = record { installed = λ n since. refl; gone = λ c. refl; updated = λ c. refl; brings = refl } in
+          let heard = heard_still (at now tables) tables (op.Resolve b) (answer.Resolved ids) stood refl refl (λ l. refl) refl in
           record {
             depot = stood.depot;
             budget = stood.budget;
@@ -335,17 +345,24 @@ module _ (tables : Tables) (b : BundleId) (root : RevisionId) (kept : IsKeptWorl
             world = refl;
             issued = issued ∙ stood.issued ∙ sym (bundles-quiet depot now.before e quiet).revisions;
             sound = sound_of after.world after.issued kept_then;
+            listeners = heard.listeners;
+            small = heard.small;
+            handings = heard.handings;
           }
 
-      pub replied_found : IsRepliedToAll (op.Resolve b) tables (record tables { bundles = new; wirings = after }) (answer.Resolved (listed tables.wirings.world wirings tables.bundles.rows))
-      replied_found who =
-          let reply = answer.Resolved (listed tables.wirings.world wirings tables.bundles.rows) in
-          unseen (record { tag = who; op = op.Resolve b }) tables (record tables { bundles = new; wirings = after }) reply
-          (from_own tables (λ now. IsReply now (op.Resolve b) (answer.Resolved (listed tables.wirings.world wirings tables.bundles.rows))) found_due)
-          (from_own tables (λ now. Leaves now (op.Resolve b) (answer.Resolved (listed tables.wirings.world wirings tables.bundles.rows)) after.world) (λ now told stood.
-          subst (λ t. Resolves t (at now tables) b (listed tables.wirings.world wirings tables.bundles.rows) after.world) (sym open_there)
-          (subst (IsResolvedTo tables.wirings.world b) (sym world) resolved_to, ids_are now told stood ∙ ap (newly_resolved (at now tables)) (sym world))))
-          (from_own tables (λ now. StandsFor (later now (op.Resolve b) (answer.Resolved (listed tables.wirings.world wirings tables.bundles.rows)) after.world []) (record tables { bundles = new; wirings = after })) found_stands)
+      pub replied_found : All (λ c. IsSettable c tables.bundles.rows) (listed tables.wirings.world wirings tables.bundles.rows) → (who : Tag) →
+          IsAnswered (record { tag = who; op = op.Resolve b }) tables (record tables { bundles = new; wirings = after }) (answer.Resolved (listed tables.wirings.world wirings tables.bundles.rows))
+          (bundles_shown 32 (listed tables.wirings.world wirings tables.bundles.rows) tables.bundles.rows)
+      replied_found settable who = record {
+        due = from_own tables (λ now. IsReply now (op.Resolve b) (answer.Resolved (listed tables.wirings.world wirings tables.bundles.rows))) found_due;
+        left = from_own tables (λ now. Leaves now (op.Resolve b) (answer.Resolved (listed tables.wirings.world wirings tables.bundles.rows)) after.world) (λ now told stood.
+            subst (λ t. Resolves t (at now tables) b (listed tables.wirings.world wirings tables.bundles.rows) after.world) (sym open_there)
+            (subst (IsResolvedTo tables.wirings.world b) (sym world) resolved_to, ids_are now told stood ∙ ap (newly_resolved (at now tables)) (sym world)));
+        happens = from_own tables
+            (λ now. AreShown (bundles_shown 32 (listed tables.wirings.world wirings tables.bundles.rows) tables.bundles.rows) (map (of_bundle 32 now.world after.world) (listed tables.wirings.world wirings tables.bundles.rows)))
+            (λ now told stood. all_shown 32 (at now tables) tables told stood after.world (ap (λ (w : World). w.known) world) (listed tables.wirings.world wirings tables.bundles.rows) settable);
+        stands = from_own tables (λ now. StandsFor (later now (op.Resolve b) (answer.Resolved (listed tables.wirings.world wirings tables.bundles.rows)) after.world []) (record tables { bundles = new; wirings = after })) found_stands;
+      }
 
 -- ---- what is decided
 
@@ -355,9 +372,12 @@ pub decided_found : (tables : Tables) (b : BundleId) (root : RevisionId) → IsK
     IsReplyAndChangeToAll (op.Resolve b) tables (answer.Resolved (listed tables.wirings.world wirings tables.bundles.rows)) (change.Resolve wirings (listed tables.wirings.world wirings tables.bundles.rows))
 decided_found tables b root kept asked word wirings a settable order who = record {
   possible = record { extends = found_extends tables.wirings.world root tables.budget word wirings a; settable = settable };
-  replied = λ new put.
-      subst (λ t. IsReplied (record { tag = who; op = op.Resolve b }) tables t (answer.Resolved (listed tables.wirings.world wirings tables.bundles.rows))) (sym put.is)
-      (replied_found tables b root kept asked word wirings a order put.bundles put.wirings put.world put.holds put.issued put.rows put.given who);
+  cleans = refl;
+  answered = λ new put.
+      subst
+      (λ t. IsAnswered (record { tag = who; op = op.Resolve b }) tables t (answer.Resolved (listed tables.wirings.world wirings tables.bundles.rows))
+      (bundles_shown 32 (listed tables.wirings.world wirings tables.bundles.rows) tables.bundles.rows)) (sym put.is)
+      (replied_found tables b root kept asked word wirings a order put.bundles put.wirings put.world put.holds put.issued put.rows put.given settable who);
 }
 
 pub found_ok : {E : Type 0} (r : Result (Reply × Change) E) (tables : Tables) (b : BundleId) (root : RevisionId) → IsKeptWorld tables.wirings.world tables.wirings.issued → IsAsked tables.wirings.world b root → (word : List ℕ) (wirings : List Wiring) →

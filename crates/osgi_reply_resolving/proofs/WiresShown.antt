@@ -26,7 +26,7 @@ use Rattle.osgi_world.specs.declared.world.World.{World}
 use Rattle.osgi_legal.specs.Quiet.{QuietServices}
 use Rattle.osgi_legal.proofs.Current.{dead-at, live-at}
 use Rattle.osgi_tables.proofs.Replying.{at, from_own, of_services, replied_refused, still_tables, unseen}
-use Rattle.osgi_tables.specs.Replied.{IsRepliedToAll}
+use Rattle.osgi_tables.specs.Replied.{IsAnsweredToAll}
 use Rattle.osgi_reply_resolving.specs.computed.Searched.{IsCurrent}
 use Rattle.osgi_tables.specs.declared.tables.Tables.{Tables}
 
@@ -85,7 +85,7 @@ rows_none W b r c is =
 
 -- ---- the reply
 
-pub wires_missing : (tables : Tables) (b : BundleId) → current_revision tables.wirings.world b ≡ None → IsRepliedToAll (op.ListWires b) tables tables (answer.Refused NoSuchBundle)
+pub wires_missing : (tables : Tables) (b : BundleId) → current_revision tables.wirings.world b ≡ None → IsAnsweredToAll (op.ListWires b) tables (answer.Refused NoSuchBundle)
 wires_missing tables b none who =
     replied_refused (record { tag = who; op = op.ListWires b }) tables NoSuchBundle refl
     (from_own tables (λ now. IsReply now (op.ListWires b) (answer.Refused NoSuchBundle)) (λ now told stood. inl (NoSuchBundle, (refl, dead-at (at now tables) told b none), refl)))
@@ -94,12 +94,12 @@ quiet_wires : (b : BundleId) (rows fragments : List WireRow) → QuietServices (
 quiet_wires b rows fragments = record { registered = λ n since. refl; taken = λ s owner. refl; given = λ s. refl; got = λ u s. refl; let_go = λ u s. refl; cleaned = refl }
 
 pub wires_listed : (tables : Tables) (b : BundleId) (k : Known) (rows fragments : List WireRow) → current_revision tables.wirings.world b ≡ Some k → AreWireRows tables.wirings.world b rows fragments →
-    IsRepliedToAll (op.ListWires b) tables tables (answer.Wires rows fragments)
+    IsAnsweredToAll (op.ListWires b) tables (answer.Wires rows fragments)
 wires_listed tables b k rows fragments is are who =
     let reply = answer.Wires rows fragments in
     unseen (record { tag = who; op = op.ListWires b }) tables tables reply
     (from_own tables (λ now. IsReply now (op.ListWires b) reply) (λ now told stood.
     inr ((λ other called. let bad : true ≡ false = sym (live-at (at now tables) told b k is) ∙ called.1 in cc bad), (rows, fragments, refl, are))))
-    (λ now told stood. stood.world)
+    (λ now told stood. stood.world) (λ past before after e. refl)
     (λ now told stood.
-    still_tables now tables (op.ListWires b) reply stood (of_services (op.ListWires b) reply (λ n since. refl) (λ c. refl) (λ c. refl) refl (λ c. refl) refl refl (λ now world same. same)) (quiet_wires b rows fragments))
+    still_tables now tables (op.ListWires b) reply stood (of_services (op.ListWires b) reply (λ n since. refl) (λ c. refl) (λ c. refl) refl (λ c. refl) refl refl refl (λ l. refl) refl (λ now world same. same)) (quiet_wires b rows fragments))

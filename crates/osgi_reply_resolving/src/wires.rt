@@ -6,7 +6,7 @@ ghost use Rattle.osgi_ops.specs.WireRows.{AreWireRows, fragment_row, wire_row};
 ghost use Rattle.osgi_ops.specs.declared.op.Op.TheVariants as op;
 ghost use Rattle.osgi_wiring.specs.States.{IsKeptWorld};
 ghost use Rattle.osgi_world.specs.Lookups.{capability_at};
-ghost use Rattle.osgi_tables.specs.Replied.{IsRepliedToAll};
+ghost use Rattle.osgi_tables.specs.Replied.{IsAnsweredToAll};
 ghost use Rattle.osgi_reply_resolving.specs.computed.Searched.{IsCurrent};
 
 use osgi_base::{BundleId, List, RevisionId, Text};
@@ -117,7 +117,7 @@ fn rows(
 
 /// The wires of a bundle, and its fragments.
 pub fn list_wires(alloc: Global, tables: &Tables, bundle: BundleId) -> Result<Reply, AllocError>
-    ensures replied { IfOk result (IsRepliedToAll (op.ListWires bundle) tables.now tables.now) }
+    ensures replied { IfOk result (IsAnsweredToAll (op.ListWires bundle) tables.now) }
 {
     let wirings = tables.wirings.wirings();
     let Some(known) = wirings.current(bundle) else {

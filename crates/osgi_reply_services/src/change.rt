@@ -4,7 +4,6 @@ ghost use Rattle.std.specs.Prelude.{◌≡◌, OnOk, OnErr};
 ghost use Rattle.osgi_reply_services.specs.Changes.{Changes, CanBeMade};
 
 use osgi_base::{BundleId, ServiceId};
-use osgi_model::Attributes;
 use osgi_ops::{Scope, Service};
 use osgi_registry::Registry;
 use std::alloc::AllocError;
@@ -13,30 +12,15 @@ use std::alloc::AllocError;
 pub enum ServiceChange {
     Nothing,
     /// The service is registered with the scope.
-    Insert {
-        service: Service,
-        scope: Scope,
-    },
-    /// These properties are put in place of those that were given for the service.
-    Modify {
-        service: ServiceId,
-        properties: Attributes,
-    },
+    Insert { service: Service, scope: Scope },
+    /// The service, which was made with other properties, is put in place of the live one of its id.
+    Modify { service: Service },
     /// The owner's service is taken out.
-    Remove {
-        owner: BundleId,
-        service: ServiceId,
-    },
+    Remove { owner: BundleId, service: ServiceId },
     /// The user uses the service once more.
-    AddUse {
-        user: BundleId,
-        service: ServiceId,
-    },
+    AddUse { user: BundleId, service: ServiceId },
     /// The user uses the service once less.
-    TakeUse {
-        user: BundleId,
-        service: ServiceId,
-    },
+    TakeUse { user: BundleId, service: ServiceId },
 }
 
 /// Not derived, so that each exit at which one is dropped is a single call, which is cheap to prove.
@@ -48,10 +32,7 @@ impl Drop for ServiceChange {
                 service: _,
                 scope: _,
             } => {}
-            ServiceChange::Modify {
-                service: _,
-                properties: _,
-            } => {}
+            ServiceChange::Modify { service: _ } => {}
             ServiceChange::Remove {
                 owner: _,
                 service: _,
@@ -81,13 +62,8 @@ impl ServiceChange {
                 registry.insert(service, scope)?;
                 Ok(())
             }
-            ServiceChange::Modify {
-                service,
-                properties,
-            } => {
-                if !registry.put_properties(service, properties)? {
-                    unreachable!()
-                }
+            ServiceChange::Modify { service } => {
+                registry.replace(service)?;
                 Ok(())
             }
             ServiceChange::Remove { owner, service } => {

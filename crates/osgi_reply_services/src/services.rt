@@ -64,14 +64,10 @@ pub fn modify(
     if let Some(refusal) = registry.modify_refusal(owner, service, properties)? {
         return Ok((Reply::Refused { refusal }, ServiceChange::Nothing));
     }
-    let properties = properties.copy(alloc)?;
-    Ok((
-        Reply::Done,
-        ServiceChange::Modify {
-            service,
-            properties,
-        },
-    ))
+    let Some(made) = registry.make_modified(service, properties.copy(alloc)?)? else {
+        unreachable!()
+    };
+    Ok((Reply::Done, ServiceChange::Modify { service: made }))
 }
 
 pub fn unregister(

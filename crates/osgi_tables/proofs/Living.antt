@@ -1,8 +1,10 @@
 -- What the tables answer to the begin or the end of a start or a stop, where the reply is due: then they stand for the history with its
 -- entry.
 use Rattle.std.proofs.Common.{◌≡◌, [], ◌∷◌, ◌++◌, ap, refl, sym, subst, ◌∙◌}
-use Rattle.std.specs.Prelude.{◌==◌, if◌then◌else◌, Bool, true, false, length, MatchBool, None, Some}
+use Rattle.std.specs.Prelude.{◌==◌, if◌then◌else◌, Bool, true, false, length, List, MatchBool, None, Some}
+use Rattle.std.specs.Option.{option_map}
 use Rattle.osgi_base.specs.declared.ids.BundleId.{BundleId}
+use Rattle.osgi_base.specs.declared.ids.ListenerId.{ListenerId}
 use Rattle.osgi_base.specs.declared.ids.Tag.{Tag}
 use Rattle.osgi_brackets.specs.Open.{Closes, open_of, Opens}
 use Rattle.osgi_brackets.specs.laws.Following.{closed-after, opened-after}
@@ -10,11 +12,14 @@ use Rattle.osgi_bundle.specs.Rows.{TableRows}
 use Rattle.osgi_bundle.specs.Stands.{Puts, StandsPut}
 use Rattle.osgi_bundle.specs.Stands as bundle
 use Rattle.osgi_legal.specs.Quiet.{QuietBundles, QuietServices}
+use Rattle.osgi_legal.proofs.Listening.{ends_turn}
+use Rattle.osgi_legal.proofs.Owned.{closes-not}
 use Rattle.osgi_legal.proofs.Quiet.{bundles-quiet}
-use Rattle.osgi_ops.specs.Brackets.{brackets_of, Cause, is_own_end, opens, own_closes}
+use Rattle.osgi_ops.specs.Brackets.{brackets, brackets_of, Cause, is_end, is_own_end, opens, own_closes}
 use Rattle.osgi_ops.specs.Bundles.{Phase, put_into}
 use Rattle.osgi_ops.specs.Cleaning.{cleaned_by}
 use Rattle.osgi_ops.specs.Legal.{entry_of, IsAskedAt}
+use Rattle.osgi_ops.specs.Listening.{clears, happenings, heard_by}
 use Rattle.osgi_ops.specs.Moments.{later, Moment}
 use Rattle.osgi_ops.specs.Operations.{IsReply}
 use Rattle.osgi_ops.specs.Resolved.{is_resolved}
@@ -28,14 +33,12 @@ use Rattle.osgi_registry.specs.Rows.{RegistryRows}
 use Rattle.osgi_registry.specs.Stands as registries
 use Rattle.osgi_registry.specs.laws.Standing as registry
 use Rattle.osgi_world.specs.declared.world.World.{World}
-use Rattle.osgi_tables.proofs.Replying.{kept_closes, unsaid, unseen}
-use Rattle.osgi_tables.specs.Changes.{Begins, Cleans, Ends}
-use Rattle.osgi_tables.specs.Replied.{IsReplied, StandsFor}
+use Rattle.osgi_sights.specs.Shown.{AreShown, Shown}
+use Rattle.osgi_tables.proofs.Hearing.{closes_none, HandsNothing, heard_cleaned, heard_kept, HearsAfter, KeepsListeners}
+use Rattle.osgi_tables.proofs.Replying.{kept_closes, unsaid}
+use Rattle.osgi_tables.specs.Changes.{Begins, Cleans, Ends, without_listeners}
+use Rattle.osgi_tables.specs.Replied.{EachTime, IsAnswered, StandsFor}
 use Rattle.osgi_tables.specs.declared.tables.Tables.{Tables}
-
--- what holds at each moment at which it is asked for and that the tables stand for
-abbrev pub EachTime : Asked → Tables → (Moment → Type 0) → Type 0
-EachTime asked tables P = (now : Moment) → IsAskedAt asked now → StandsFor now tables → P now
 
 -- ---- what the tables say of brackets at the moment
 
@@ -66,13 +69,16 @@ pub record IsBeginOf (phase : Phase) (cause : Cause) (b : BundleId) (o : Op) (re
   pub puts : (c : BundleId) → put_into c o reply ≡ (if b.0 == c.0 then Some phase else None)
   pub bundles : QuietBundles o reply
   pub services : QuietServices o reply
+  pub keeps : KeepsListeners o reply
   pub opened : opens o reply ≡ Some cause
+  pub no_end : is_end o ≡ false
   pub leaves : (now : Moment) (world : World) → world ≡ now.world → Leaves now o reply world
 
 begun_stands : (asked : Asked) (old new : Tables) (reply : Reply) (phase : Phase) (cause : Cause) (b : BundleId) → IsBeginOf phase cause b asked.op reply → EachTime asked old (λ now. is_resolved now.world b ≡ true) → (begins : Begins phase cause asked.tag b old new) →
     (now : Moment) → IsAskedAt asked now → StandsFor now old → StandsFor (later now asked.op reply old.wirings.world []) (record old { bundles = begins.bundles; brackets = begins.brackets })
 begun_stands asked old new reply phase cause b is resolved begins now at stood =
     let e : Entry = entry_of now asked.op reply in
+    let heard = heard_kept now old asked.op reply stood is.keeps (closes_none now asked.op (closes-not now.tag asked.op (brackets now.before) is.no_end)) in
     record {
       depot = stood.depot;
       budget = stood.budget;
@@ -82,16 +88,25 @@ begun_stands asked old new reply phase cause b is resolved begins now at stood =
       world = refl;
       issued = stood.issued ∙ sym (bundles-quiet now.setting.depot now.before e is.bundles).revisions;
       sound = subst IsSound (sym stood.world) stood.sound;
+      listeners = heard.listeners;
+      small = heard.small;
+      handings = heard.handings;
     }
 
--- where its reply is due and the bundle is resolved, it is replied to so
-pub replied_begun : (asked : Asked) (old new : Tables) (reply : Reply) (phase : Phase) (cause : Cause) (b : BundleId) → IsBeginOf phase cause b asked.op reply → EachTime asked old (λ now. IsReply now asked.op reply) →
-    EachTime asked old (λ now. is_resolved now.world b ≡ true) → Begins phase cause asked.tag b old new → IsReplied asked old new reply
-replied_begun asked old new reply phase cause b is due resolved begins =
-    subst (λ (t : Tables). IsReplied asked old t reply) (sym begins.is)
-    (unseen asked old (record old { bundles = begins.bundles; brackets = begins.brackets }) reply due
-    (λ now at stood. is.leaves now old.wirings.world stood.world)
-    (begun_stands asked old new reply phase cause b is resolved begins))
+-- this happens at the operation with this reply, which leaves the world
+abbrev pub HappensStill : Asked → Tables → Reply → List Shown → Type 0
+HappensStill asked old reply happened = EachTime asked old (λ now. AreShown happened (happenings now.before now.world old.wirings.world (entry_of now asked.op reply) asked.op reply))
+
+-- where its reply is due, the bundle is resolved and this happens, it is answered so
+pub replied_begun : (asked : Asked) (old new : Tables) (reply : Reply) (phase : Phase) (cause : Cause) (b : BundleId) (happened : List Shown) → IsBeginOf phase cause b asked.op reply → EachTime asked old (λ now. IsReply now asked.op reply) →
+    EachTime asked old (λ now. is_resolved now.world b ≡ true) → HappensStill asked old reply happened → Begins phase cause asked.tag b old new → IsAnswered asked old new reply happened
+replied_begun asked old new reply phase cause b happened is due resolved happens begins =
+    subst (λ (t : Tables). IsAnswered asked old t reply happened) (sym begins.is) (record {
+      due = due;
+      left = λ now at stood. is.leaves now old.wirings.world stood.world;
+      happens = happens;
+      stands = begun_stands asked old new reply phase cause b is resolved begins;
+    })
 
 -- ---- an end
 
@@ -100,6 +115,9 @@ pub record IsEndOf (phase : Phase) (cleaned : Bool) (b : BundleId) (o : Op) (rep
   pub puts : (c : BundleId) → put_into c o reply ≡ (if b.0 == c.0 then Some phase else None)
   pub bundles : QuietBundles o reply
   pub cleans : MatchBool cleaned (cleaned_by o reply ≡ Some b) (QuietServices o reply)
+  pub hears : heard_by o reply ≡ option_map clears (cleaned_by o reply)
+  pub hands : HandsNothing o reply
+  pub no_turn : (l : ListenerId) → ends_turn l o ≡ false
   pub opened : opens o reply ≡ None
   pub leaves : (now : Moment) (world : World) → world ≡ now.world → Leaves now o reply world
 
@@ -109,11 +127,21 @@ services_after now o reply true b old new stood says cleans = cleans now.before 
 services_after now o reply false b old new stood says same =
     subst (registries.StandsFor (now.before ++ entry_of now o reply ∷ [])) (sym same) (registry.stands_quiet now.before old (entry_of now o reply) stood (unsaid (entry_of now o reply) says))
 
+abbrev ended_tables : {phase : Phase} {cleaned : Bool} {tag : Tag} {b : BundleId} {old new : Tables} → Ends phase cleaned tag b old new → Tables
+ended_tables {phase} {cleaned} {tag} {b} {old} {new} ends = record old { registry = ends.registry; bundles = ends.bundles; brackets = ends.brackets; listeners = without_listeners cleaned b old.listeners }
+
+-- the listeners after it: those of the bundle go, if it is cleaned
+heard_after : (now : Moment) (tables : Tables) (o : Op) (reply : Reply) (cleaned : Bool) (b : BundleId) → StandsFor now tables → MatchBool cleaned (cleaned_by o reply ≡ Some b) (QuietServices o reply) → heard_by o reply ≡ option_map clears (cleaned_by o reply) →
+    HandsNothing o reply → ((l : ListenerId) → ends_turn l o ≡ false) → HearsAfter now o reply (without_listeners cleaned b tables.listeners) tables.handings_left
+heard_after now tables o reply true b stood says hears hands no_turn = heard_cleaned now tables o reply b stood says hands
+heard_after now tables o reply false b stood says hears hands no_turn = heard_kept now tables o reply stood (record { heard = hears ∙ ap (option_map clears) says.cleaned; hands = hands }) (λ l closed. no_turn l)
+
 ended_stands : (asked : Asked) (old new : Tables) (reply : Reply) (phase : Phase) (cleaned : Bool) (b : BundleId) → IsEndOf phase cleaned b asked.op reply → own_closes asked.tag asked.op (open_of old.brackets asked.tag.caller) ≡ true →
     EachTime asked old (λ now. is_resolved now.world b ≡ true) → (ends : Ends phase cleaned asked.tag b old new) →
-    (now : Moment) → IsAskedAt asked now → StandsFor now old → StandsFor (later now asked.op reply old.wirings.world []) (record old { registry = ends.registry; bundles = ends.bundles; brackets = ends.brackets })
+    (now : Moment) → IsAskedAt asked now → StandsFor now old → StandsFor (later now asked.op reply old.wirings.world []) (ended_tables ends)
 ended_stands asked old new reply phase cleaned b is own resolved ends now at stood =
     let e : Entry = entry_of now asked.op reply in
+    let heard = heard_after now old asked.op reply cleaned b stood is.cleans is.hears is.hands is.no_turn in
     record {
       depot = stood.depot;
       budget = stood.budget;
@@ -124,13 +152,19 @@ ended_stands asked old new reply phase cleaned b is own resolved ends now at sto
       world = refl;
       issued = stood.issued ∙ sym (bundles-quiet now.setting.depot now.before e is.bundles).revisions;
       sound = subst IsSound (sym stood.world) stood.sound;
+      listeners = heard.listeners;
+      small = heard.small;
+      handings = heard.handings;
     }
 
--- where its reply is due and it is the end of its caller's innermost bracket, it is replied to so
-pub replied_ended : (asked : Asked) (old new : Tables) (reply : Reply) (phase : Phase) (cleaned : Bool) (b : BundleId) → IsEndOf phase cleaned b asked.op reply → own_closes asked.tag asked.op (open_of old.brackets asked.tag.caller) ≡ true →
-    EachTime asked old (λ now. IsReply now asked.op reply) → EachTime asked old (λ now. is_resolved now.world b ≡ true) → Ends phase cleaned asked.tag b old new → IsReplied asked old new reply
-replied_ended asked old new reply phase cleaned b is own due resolved ends =
-    subst (λ (t : Tables). IsReplied asked old t reply) (sym ends.is)
-    (unseen asked old (record old { registry = ends.registry; bundles = ends.bundles; brackets = ends.brackets }) reply due
-    (λ now at stood. is.leaves now old.wirings.world stood.world)
-    (ended_stands asked old new reply phase cleaned b is own resolved ends))
+-- where its reply is due, it is the end of its caller's innermost bracket and this happens, it is answered so
+pub replied_ended : (asked : Asked) (old new : Tables) (reply : Reply) (phase : Phase) (cleaned : Bool) (b : BundleId) (happened : List Shown) → IsEndOf phase cleaned b asked.op reply →
+    own_closes asked.tag asked.op (open_of old.brackets asked.tag.caller) ≡ true → EachTime asked old (λ now. IsReply now asked.op reply) → EachTime asked old (λ now. is_resolved now.world b ≡ true) → HappensStill asked old reply happened →
+    Ends phase cleaned asked.tag b old new → IsAnswered asked old new reply happened
+replied_ended asked old new reply phase cleaned b happened is own due resolved happens ends =
+    subst (λ (t : Tables). IsAnswered asked old t reply happened) (sym ends.is) (record {
+      due = due;
+      left = λ now at stood. is.leaves now old.wirings.world stood.world;
+      happens = happens;
+      stands = ended_stands asked old new reply phase cleaned b is own resolved ends;
+    })

@@ -3,6 +3,7 @@ use Rattle.std.proofs.Common.{◌≡◌, ℕ, List, [], ◌∷◌, ◌++◌, ap,
 use Rattle.std.specs.Prelude.{true, false, None, Result, Ok, Err, IfOk, OnErr}
 use Rattle.osgi_base.specs.Verdict.{Gives}
 use Rattle.osgi_base.specs.declared.ids.BundleId.{BundleId}
+use Rattle.osgi_base.specs.declared.ids.ListenerId.{ListenerId}
 use Rattle.osgi_brackets.specs.Open.{HoldsSame, open_of}
 use Rattle.osgi_brackets.specs.Open as callers
 use Rattle.osgi_brackets.specs.declared.brackets.Brackets.{Brackets}
@@ -15,11 +16,13 @@ use Rattle.osgi_legal.specs.Quiet.{QuietBundles, QuietPhases, QuietServices}
 use Rattle.osgi_legal.proofs.Askers.{asker-passes}
 use Rattle.osgi_legal.proofs.Owned.{closes-not, closes-own}
 use Rattle.osgi_legal.proofs.Quiet.{bundles-quiet, refused-quiet, refused_end_quiet}
-use Rattle.osgi_legal.proofs.Stage.{none-seen-now}
+use Rattle.osgi_listeners.specs.Rows.{Listening}
 use Rattle.osgi_ops.specs.Brackets.{brackets, closes, is_end, opens, own_closes}
 use Rattle.osgi_ops.specs.Bundles.{brings_revision, installed_by, is_uninstall, put_into, updated_to}
+use Rattle.osgi_ops.specs.Cleaning.{cleaned_by}
 use Rattle.osgi_ops.specs.Conditions.{asker_of}
 use Rattle.osgi_ops.specs.Legal.{entry_of, IsAskedAt, IsTold}
+use Rattle.osgi_ops.specs.Listening.{handed_by, Happening, happenings, heard_by, is_handed}
 use Rattle.osgi_ops.specs.Moments.{later, Moment}
 use Rattle.osgi_ops.specs.Operations.{Answers, IsReply, own_conditions}
 use Rattle.osgi_ops.specs.Replies.{is_effective, verdict}
@@ -37,32 +40,37 @@ use Rattle.osgi_ops.specs.laws.Stages.{row-here}
 use Rattle.osgi_registry.specs.Rows.{RegistryRows}
 use Rattle.osgi_registry.specs.Stands as registries
 use Rattle.osgi_registry.specs.laws.Standing as registry
+use Rattle.osgi_sights.specs.Shown.{AreShown, Shown}
 use Rattle.osgi_wiring.specs.States.{WiringState}
 use Rattle.osgi_world.specs.declared.world.World.{World}
 use Rattle.osgi_tables.proofs.Asking.{here_asks, passed_by}
+use Rattle.osgi_tables.proofs.Hearing.{closes_none, heard_kept, KeepsListeners, quiet_keeps}
 use Rattle.osgi_tables.specs.Asked.{asker_here, asker_refusal}
-use Rattle.osgi_tables.specs.Replied.{IsReplied, IsRepliedToAll, IsSame, StandsFor, StandsStill}
+use Rattle.osgi_tables.specs.Replied.{EachTime, IsAnswered, IsAnsweredToAll, IsSame, StandsFor, StandsStill}
 use Rattle.osgi_tables.specs.Changes.{IsReplyAndChange, IsReplyAndChangeToAll}
 use Rattle.osgi_tables.specs.declared.change.Change.{Change}
 use Rattle.osgi_tables.specs.declared.change.Change.TheVariants as change
 use Rattle.osgi_tables.specs.declared.tables.Tables.{Tables}
 
--- what the operation with this reply says is of services at most; it is no end, and leaves the world
+-- what the operation with this reply says is of services at most, and of what happens to them; it is no end, and leaves the world
 pub record IsOfServices (o : Op) (reply : Reply) : Type 0 where
   pub bundles : QuietBundles o reply
   pub phases : QuietPhases o reply
   pub opened : opens o reply ≡ None
   pub no_end : is_end o ≡ false
+  pub keeps : KeepsListeners o reply
   pub leaves : (now : Moment) (world : World) → world ≡ now.world → Leaves now o reply world
 
 -- where no view of bundles, phases and brackets mentions the operation
 pub of_services : (o : Op) (reply : Reply) → ((n : ℕ) (since : List Entry) → installed_by n o reply since ≡ []) → ((b : BundleId) → is_uninstall b o reply ≡ false) → ((b : BundleId) → updated_to b o reply ≡ None) → brings_revision o reply ≡ false →
-    ((b : BundleId) → put_into b o reply ≡ None) → opens o reply ≡ None → is_end o ≡ false → ((now : Moment) (world : World) → world ≡ now.world → Leaves now o reply world) → IsOfServices o reply
-of_services o reply installs gone updated brings phases opened no_end leaves = record {
+    ((b : BundleId) → put_into b o reply ≡ None) → opens o reply ≡ None → is_end o ≡ false → heard_by o reply ≡ None → ((l : ListenerId) → handed_by l o reply ≡ []) → is_handed o reply ≡ false →
+    ((now : Moment) (world : World) → world ≡ now.world → Leaves now o reply world) → IsOfServices o reply
+of_services o reply installs gone updated brings phases opened no_end heard handed counted leaves = record {
   bundles = record { installed = installs; gone = gone; updated = updated; brings = brings };
   phases = phases;
   opened = opened;
   no_end = no_end;
+  keeps = record { heard = heard; hands = record { handed = handed; counted = counted } };
   leaves = leaves;
 }
 
@@ -76,15 +84,17 @@ from_own old P prove now asked stood =
     subst (λ (w : World). P (record now { world = w })) stood.world
     (prove now (subst (λ (w : World). IsTold (record now { world = w })) (sym stood.world) asked.told) (subst (λ (w : World). StandsFor (record now { world = w }) old) (sym stood.world) stood))
 
--- ---- what is seen: nothing, while no listener is there
+-- ---- where nothing happens
 
-pub unseen : (asked : Asked) (old new : Tables) (reply : Reply) → ((now : Moment) → IsAskedAt asked now → StandsFor now old → IsReply now asked.op reply) → ((now : Moment) → IsAskedAt asked now → StandsFor now old → Leaves now asked.op reply new.wirings.world) →
-    ((now : Moment) → IsAskedAt asked now → StandsFor now old → StandsFor (later now asked.op reply new.wirings.world []) new) → IsReplied asked old new reply
-unseen asked old new reply due left stands = record {
-  sights = [];
+pub none_shown : (happens : List Happening) → happens ≡ [] → AreShown [] happens
+none_shown happens none = subst (AreShown []) (sym none) tt
+
+pub unseen : (asked : Asked) (old new : Tables) (reply : Reply) → EachTime asked old (λ now. IsReply now asked.op reply) → EachTime asked old (λ now. Leaves now asked.op reply new.wirings.world) →
+    ((past : List Entry) (before after : World) (e : Entry) → happenings past before after e asked.op reply ≡ []) → EachTime asked old (λ now. StandsFor (later now asked.op reply new.wirings.world []) new) → IsAnswered asked old new reply []
+unseen asked old new reply due left none stands = record {
   due = due;
   left = left;
-  seen = λ now told stood. none-seen-now now told.told asked.op reply new.wirings.world;
+  happens = λ now told stood. let e : Entry = entry_of now asked.op reply in none_shown (happenings now.before now.world new.wirings.world e asked.op reply) (none now.before now.world new.wirings.world e);
   stands = stands;
 }
 
@@ -109,11 +119,12 @@ pub brackets_left : (now : Moment) (o : Op) (reply : Reply) (kept : Brackets) �
 brackets_left now o reply kept stood opened no_end = brackets_unsaid now o reply kept stood opened (closes-not now.tag o (brackets now.before) no_end)
 
 -- the tables after an entry that changes no more than the registry
-still_by : (now : Moment) (tables : Tables) (o : Op) (reply : Reply) (services : RegistryRows) → StandsFor now tables → QuietBundles o reply → QuietPhases o reply → opens o reply ≡ None → closes now.tag o (brackets now.before) ≡ false →
+still_by : (now : Moment) (tables : Tables) (o : Op) (reply : Reply) (services : RegistryRows) → StandsFor now tables → QuietBundles o reply → QuietPhases o reply → KeepsListeners o reply → opens o reply ≡ None → closes now.tag o (brackets now.before) ≡ false →
     registries.StandsFor (now.before ++ entry_of now o reply ∷ []) services → StandsFor (later now o reply tables.wirings.world []) (with_services services tables)
-still_by now tables o reply services stood quiet phases opened stays stands =
+still_by now tables o reply services stood quiet phases keeps opened stays stands =
     let e : Entry = entry_of now o reply in
     let depot = now.setting.depot in
+    let heard = heard_kept now tables o reply stood keeps (closes_none now o stays) in
     record {
       depot = stood.depot;
       budget = stood.budget;
@@ -125,11 +136,14 @@ still_by now tables o reply services stood quiet phases opened stays stands =
       world = refl;
       issued = stood.issued ∙ sym (bundles-quiet depot now.before e quiet).revisions;
       sound = subst IsSound (sym stood.world) stood.sound;
+      listeners = heard.listeners;
+      small = heard.small;
+      handings = heard.handings;
     }
 
 pub still_world : (now : Moment) (tables : Tables) (o : Op) (reply : Reply) (services : RegistryRows) → StandsFor now tables → IsOfServices o reply → registries.StandsFor (now.before ++ entry_of now o reply ∷ []) services →
     StandsFor (later now o reply tables.wirings.world []) (with_services services tables)
-still_world now tables o reply services stood quiet stands = still_by now tables o reply services stood quiet.bundles quiet.phases quiet.opened (closes-not now.tag o (brackets now.before) quiet.no_end) stands
+still_world now tables o reply services stood quiet stands = still_by now tables o reply services stood quiet.bundles quiet.phases quiet.keeps quiet.opened (closes-not now.tag o (brackets now.before) quiet.no_end) stands
 
 pub unsaid : (e : Entry) → QuietServices e.op e.reply → registry.IsQuiet e
 unsaid e quiet = record { registers = quiet.registered; takes = quiet.taken; gives = quiet.given; gets = quiet.got; ungets = quiet.let_go; cleans = quiet.cleaned }
@@ -141,18 +155,21 @@ still_tables now tables o reply stood quiet silent = still_world now tables o re
 -- ---- operations on services
 
 -- what is due to who may ask is replied, where no more than the registry changes
-pub replied_by : (asked : Asked) (old : Tables) (new : RegistryRows) (reply : Reply) → is_here asked.op ≡ true → IsOfServices asked.op reply → asker_refusal old.bundles (asker_here asked.op) ≡ None →
+pub replied_by : (asked : Asked) (old : Tables) (new : RegistryRows) (reply : Reply) (happened : List Shown) → is_here asked.op ≡ true → IsOfServices asked.op reply → asker_refusal old.bundles (asker_here asked.op) ≡ None →
     ((now : Moment) → IsAskedAt asked now → MayAsk now (asker_of asked.op) → StandsFor now old → Gives (own_conditions now asked.op) (Answers now asked.op) (verdict reply)) →
-    registries.StandsAfter asked.op reply old.registry new → IsReplied asked old (with_services new old) reply
-replied_by asked old new reply here quiet none due stands =
+    EachTime asked old (λ now. (before after : World) → AreShown happened (happenings now.before before after (entry_of now asked.op reply) asked.op reply)) →
+    registries.StandsAfter asked.op reply old.registry new → IsAnswered asked old (with_services new old) reply happened
+replied_by asked old new reply happened here quiet none due happens stands =
     let may : (now : Moment) → IsTold now → StandsFor now old → MayAsk now (asker_of asked.op) =
     λ now told stood. subst (MayAsk now) (here_asks asked.op here) (passed_by now old.bundles (asker_here asked.op) told stood.bundles none) in
-    unseen asked old (with_services new old) reply
-    (λ now told stood.
-    row-here now asked.op reply here
-    (asker-passes now (asker_of asked.op) (own_conditions now asked.op) (Answers now asked.op) (verdict reply) (may now told.told stood) (due now told (may now told.told stood) stood)))
-    (λ now told stood. quiet.leaves now old.wirings.world stood.world)
-    (λ now told stood. still_world now old asked.op reply new stood quiet (stands now.before now.tag stood.services))
+    record {
+      due = λ now told stood.
+          row-here now asked.op reply here
+          (asker-passes now (asker_of asked.op) (own_conditions now asked.op) (Answers now asked.op) (verdict reply) (may now told.told stood) (due now told (may now told.told stood) stood));
+      left = λ now told stood. quiet.leaves now old.wirings.world stood.world;
+      happens = λ now told stood. happens now told stood now.world old.wirings.world;
+      stands = λ now told stood. still_world now old asked.op reply new stood quiet (stands now.before now.tag stood.services);
+    }
 
 -- ---- refusals
 
@@ -169,25 +186,32 @@ refused-leaves now o f world same = same
 still_refused : (now : Moment) (tables : Tables) (o : Op) (refusal : Refusal) → is_effective (answer.Refused refusal) ≡ false → IsReply now o (answer.Refused refusal) → StandsFor now tables → StandsFor (later now o (answer.Refused refusal) tables.wirings.world []) tables
 still_refused now tables o refusal none due stood =
     let quiet = refused-quiet o refusal none in
-    still_by now tables o (answer.Refused refusal) tables.registry stood quiet.bundles quiet.phases quiet.opened (refused_end_quiet now o refusal due none)
+    still_by now tables o (answer.Refused refusal) tables.registry stood quiet.bundles quiet.phases (quiet_keeps o (answer.Refused refusal) quiet.listeners) quiet.opened (refused_end_quiet now o refusal due none)
     (registry.stands_quiet now.before tables.registry (entry_of now o (answer.Refused refusal)) stood.services (unsaid (entry_of now o (answer.Refused refusal)) quiet.services))
 
-pub replied_refused : (asked : Asked) (tables : Tables) (refusal : Refusal) → is_effective (answer.Refused refusal) ≡ false → ((now : Moment) → IsAskedAt asked now → StandsFor now tables → IsReply now asked.op (answer.Refused refusal)) →
-    IsReplied asked tables tables (answer.Refused refusal)
+pub replied_refused : (asked : Asked) (tables : Tables) (refusal : Refusal) → is_effective (answer.Refused refusal) ≡ false → EachTime asked tables (λ now. IsReply now asked.op (answer.Refused refusal)) →
+    IsAnswered asked tables tables (answer.Refused refusal) []
 replied_refused asked tables refusal none due =
     unseen asked tables tables (answer.Refused refusal) due
     (λ now told stood. refused-leaves now asked.op refusal tables.wirings.world stood.world)
+    (refused-quiet asked.op refusal none).listeners.happens
     (λ now told stood. still_refused now tables asked.op refusal none (due now told stood) stood)
 
 -- ---- what is decided
 
--- the reply changes nothing
-pub decided_same : (asked : Asked) (tables : Tables) (reply : Reply) → IsReplied asked tables tables reply → IsReplyAndChange asked tables reply change.Nothing
-decided_same asked tables reply replied = record { possible = tt; replied = λ new same. subst (λ t. IsReplied asked tables t reply) (sym same) replied }
+-- the reply changes nothing, and cleans no bundle
+pub decided_same : (asked : Asked) (tables : Tables) (reply : Reply) → cleaned_by asked.op reply ≡ None → IsAnswered asked tables tables reply [] → IsReplyAndChange asked tables reply change.Nothing
+decided_same asked tables reply cleans answered = record { possible = tt; cleans = cleans; answered = λ new same. subst (λ t. IsAnswered asked tables t reply []) (sym same) answered }
+
+-- nor does a refusal, unless a section failed
+pub decided_refused : (asked : Asked) (tables : Tables) (refusal : Refusal) → is_effective (answer.Refused refusal) ≡ false → EachTime asked tables (λ now. IsReply now asked.op (answer.Refused refusal)) →
+    IsReplyAndChange asked tables (answer.Refused refusal) change.Nothing
+decided_refused asked tables refusal none due =
+    decided_same asked tables (answer.Refused refusal) (refused-quiet asked.op refusal none).services.cleaned (replied_refused asked tables refusal none due)
 
 -- it is the same whatever the tag
-pub decided_all : (o : Op) (tables : Tables) (reply : Reply) → IsRepliedToAll o tables tables reply → IsReplyAndChangeToAll o tables reply change.Nothing
-decided_all o tables reply replied who = decided_same (record { tag = who; op = o }) tables reply (replied who)
+pub decided_all : (o : Op) (tables : Tables) (reply : Reply) → cleaned_by o reply ≡ None → IsAnsweredToAll o tables reply → IsReplyAndChangeToAll o tables reply change.Nothing
+decided_all o tables reply cleans answered who = decided_same (record { tag = who; op = o }) tables reply cleans (answered who)
 
 -- what is decided for the tag that asks is decided for who asks
 pub decided_own : (asked : Asked) (o : Op) (tables : Tables) (reply : Reply) (c : Change) → asked.op ≡ o → IsReplyAndChange (record { tag = asked.tag; op = o }) tables reply c → IsReplyAndChange asked tables reply c
@@ -199,9 +223,10 @@ decided_asked asked o tables reply c is decided = decided_own asked o tables rep
 
 -- ---- what functions answer
 
-pub unchanging : (asked : Asked) (o : Op) (tables : Tables) (x : Reply × Change) (reply : Reply) → (x.0 ≡ reply) × (x.1 ≡ change.Nothing) → asked.op ≡ o → IsRepliedToAll o tables tables reply → IsReplyAndChange asked tables x.0 x.1
-unchanging asked o tables x reply same is replied =
-    subst (λ y. IsReplyAndChange asked tables y x.1) (sym same.0) (subst (IsReplyAndChange asked tables reply) (sym same.1) (decided_asked asked o tables reply change.Nothing is (decided_all o tables reply replied)))
+pub unchanging : (asked : Asked) (o : Op) (tables : Tables) (x : Reply × Change) (reply : Reply) → (x.0 ≡ reply) × (x.1 ≡ change.Nothing) → asked.op ≡ o → cleaned_by o reply ≡ None → IsAnsweredToAll o tables reply → IsReplyAndChange asked tables x.0 x.1
+unchanging asked o tables x reply same is cleans answered =
+    subst (λ y. IsReplyAndChange asked tables y x.1) (sym same.0)
+    (subst (IsReplyAndChange asked tables reply) (sym same.1) (decided_asked asked o tables reply change.Nothing is (decided_all o tables reply cleans answered)))
 
 pub own_ok : {E : Type 0} (r : Result (Reply × Change) E) (asked : Asked) (o : Op) (tables : Tables) → asked.op ≡ o → IfOk r (λ x. IsReplyAndChange (record { tag = asked.tag; op = o }) tables x.0 x.1) → IfOk r (λ x. IsReplyAndChange asked tables x.0 x.1)
 own_ok (Ok x) asked o tables is decided = decided_own asked o tables x.0 x.1 is decided
@@ -214,6 +239,10 @@ asked_ok (Err e) asked o tables is decided = tt
 -- tables that are the same stand for what they did
 pub still_same : (old new : Tables) → new ≡ old → StandsStill old new
 still_same old new same = λ now stood. subst (StandsFor now) (sym same) stood
+
+-- so do those where registry and listeners are the same
+pub still_uncleaned : (tables : Tables) (services : RegistryRows) (l : Listening) → (services ≡ tables.registry) × (l ≡ tables.listeners) → StandsStill tables (record tables { registry = services; listeners = l })
+still_uncleaned tables services l same = still_same tables (record tables { registry = services; listeners = l }) (λ i. record tables { registry = same.0 i; listeners = same.1 i })
 
 -- what holds, holds where a call fails
 pub on_err : {T E : Type 0} (r : Result T E) {P : Type 0} → P → OnErr r P
@@ -232,6 +261,9 @@ stays_same tables rows after same is = λ now stood. record {
   world = is.world ∙ stood.world;
   issued = is.issued ∙ stood.issued;
   sound = stood.sound;
+  listeners = stood.listeners;
+  small = stood.small;
+  handings = stood.handings;
 }
 
 -- where each caller has the brackets that it had
@@ -245,4 +277,7 @@ stays_open tables kept same = λ now stood. record {
   world = stood.world;
   issued = stood.issued;
   sound = stood.sound;
+  listeners = stood.listeners;
+  small = stood.small;
+  handings = stood.handings;
 }

@@ -1,32 +1,41 @@
 -- Changes of the tables: which can be made, and what they make of them.
-use Rattle.std.specs.Prelude.{◌≡◌, ◌+◌, ◌-◌, ◌^◌, ◌<◌, Bool, true, MatchBool, List, [], ◌∷◌, None, All}
+use Rattle.std.specs.Prelude.{ℕ, ◌≡◌, ◌==◌, ◌+◌, ◌-◌, ◌^◌, ◌<◌, if◌then◌else◌, not, Bool, true, false, MatchBool, List, [], ◌∷◌, ◌++◌, Option, None, Some, All, filter, map}
+use Rattle.std.specs.List.{filter_map}
+use Rattle.std.specs.Option.{option_map, option_to_list}
 use Rattle.osgi_base.specs.declared.ids.BundleId.{BundleId}
 use Rattle.osgi_base.specs.declared.ids.Tag.{Tag}
 use Rattle.osgi_brackets.specs.Open.{Closes, Opens}
 use Rattle.osgi_brackets.specs.declared.brackets.Brackets.{Brackets}
 use Rattle.osgi_bundle.specs.Rows.{IsInChange, IsSettable, IsStartable, IsStoppable, IsTwin, new_row, TableRows, with_state}
+use Rattle.osgi_bundle.specs.Rows as table
 use Rattle.osgi_bundle.specs.Stands.{StandsAfter, StandsPut, started_phase}
 use Rattle.osgi_bundle.specs.declared.kept.BundleKept.{BundleKept}
+use Rattle.osgi_listeners.specs.Rows.{Listening}
+use Rattle.osgi_listeners.specs.Rows as listening
 use Rattle.osgi_ops.specs.Brackets.{Cause}
 use Rattle.osgi_ops.specs.Brackets as bracket
 use Rattle.osgi_ops.specs.Bundles.{idle, Phase, starting, stopping}
+use Rattle.osgi_ops.specs.Cleaning.{cleaned_by}
 use Rattle.osgi_ops.specs.Resolved.{current_revision}
 use Rattle.osgi_ops.specs.declared.asked.Asked.{Asked}
 use Rattle.osgi_ops.specs.declared.op.Op.{Op}
 use Rattle.osgi_ops.specs.declared.refusal.Refusal.{Refusal}
 use Rattle.osgi_ops.specs.declared.reply.Reply.{Reply}
 use Rattle.osgi_ops.specs.declared.state.TheConstants.{RESOLVED, STARTING, STOPPING}
-use Rattle.osgi_registry.specs.Rows.{RegistryRows}
+use Rattle.osgi_registry.specs.Rows.{is_owned, LiveService, RegistryRows, row_at, services_in}
 use Rattle.osgi_registry.specs.Stands.{StandsCleaned}
 use Rattle.osgi_wiring.specs.States.{IsKeptWorld, MayExtend, WiringState, with_wirings}
 use Rattle.osgi_world.specs.declared.revision.Revision.{Revision}
 use Rattle.osgi_world.specs.declared.wiring.Wiring.{Wiring}
-use Rattle.osgi_tables.specs.Replied.{IsBrought, IsReplied}
+use Rattle.osgi_tables.specs.Replied.{IsAnswered, IsBrought}
 use Rattle.osgi_tables.specs.declared.change.Change.{Change}
 use Rattle.osgi_tables.specs.declared.change.Change.TheVariants.{BeginStart, BeginStop, EndStart, EndStop, Install, Nothing, Resolve, Services}
 use Rattle.osgi_tables.specs.declared.tables.Tables.{Tables}
 use Rattle.osgi_reply_services.specs.Changes as services
 use Rattle.osgi_reply_services.specs.declared.change.ServiceChange.{ServiceChange}
+use Rattle.osgi_reply_services.specs.declared.change.ServiceChange.TheVariants as service
+use Rattle.osgi_sights.specs.Shown.{Shown}
+use Rattle.osgi_sights.specs.Shown as shown
 
 -- the rows where these bundles are resolved
 abbrev pub with_resolved : List BundleId → List BundleKept → List BundleKept
@@ -94,7 +103,13 @@ pub record Begins (phase : Phase) (cause : Cause) (tag : Tag) (bundle : BundleId
 abbrev pub Cleans : Bool → BundleId → RegistryRows → RegistryRows → Type 0
 Cleans cleaned bundle old new = MatchBool cleaned (StandsCleaned bundle old new) (new ≡ old)
 
--- the bundle is put into the phase, its services and uses are let go if it is cleaned, and the innermost bracket of the tag's caller is closed
+-- so are its listeners; open turns stay
+abbrev pub without_listeners : Bool → BundleId → Listening → Listening
+without_listeners true bundle l = record { rows = filter (λ row. not (listening.is_owned bundle row)) l.rows; turns = l.turns; issued = l.issued }
+without_listeners false bundle l = l
+
+-- the bundle is put into the phase, its services, uses and listeners are let go if it is cleaned, and the innermost bracket of the tag's
+-- caller is closed
 pub record Ends (phase : Phase) (cleaned : Bool) (tag : Tag) (bundle : BundleId) (old new : Tables) : Type 0 where
   pub registry : RegistryRows
   pub bundles : TableRows
@@ -102,7 +117,7 @@ pub record Ends (phase : Phase) (cleaned : Bool) (tag : Tag) (bundle : BundleId)
   pub cleans : Cleans cleaned bundle old.registry registry
   pub put : StandsPut phase tag bundle old.bundles bundles
   pub closed : Closes old.brackets brackets tag.caller
-  pub is : new ≡ record old { registry = registry; bundles = bundles; brackets = brackets }
+  pub is : new ≡ record old { registry = registry; bundles = bundles; brackets = brackets; listeners = without_listeners cleaned bundle old.listeners }
 
 -- and then these are the tables
 abbrev pub Changes : Change → Tables → Tables → Type 0
@@ -115,10 +130,50 @@ Changes (EndStart tag bundle failed) old new = Ends (started_phase failed) faile
 Changes (BeginStop tag bundle) old new = Begins stopping (bracket.stopping bundle) tag bundle old new
 Changes (EndStop tag bundle failed) old new = Ends idle true tag bundle old new
 
--- the reply and the change are decided: the change can be made, and once it is made, what was asked for is replied to so
+-- ---- what happens as it is made
+
+-- the bundle comes to this, as its row shows it
+abbrev pub shown_at : ℕ → List BundleKept → BundleId → Option Shown
+shown_at code rows b = option_map (λ (row : BundleKept). shown.bundle code b row.name row.version) (table.row_at b rows)
+
+abbrev pub bundles_shown : ℕ → List BundleId → List BundleKept → List Shown
+bundles_shown code ids rows = filter_map (shown_at code rows) ids
+
+-- the bundle's services go
+abbrev pub leaving : BundleId → RegistryRows → List Shown
+leaving b registry = map (shown.service 4) (services_in (filter (is_owned b) registry.rows))
+
+-- a service comes, is changed, or goes
+abbrev pub services_shown : ServiceChange → RegistryRows → List Shown
+services_shown (service.Insert made scope) registry = shown.service 1 made ∷ []
+services_shown (service.Modify made) registry = map (λ (row : LiveService). shown.modified row.service made) (option_to_list (row_at made.service registry.rows))
+services_shown (service.Remove owner id) registry = map (λ (row : LiveService). shown.service 4 row.service) (option_to_list (row_at id registry.rows))
+services_shown change registry = []
+
+abbrev pub happened : Change → RegistryRows → TableRows → List Shown
+happened Nothing registry bundles = []
+happened (Services change) registry bundles = services_shown change registry
+happened (Install made revision) registry bundles = shown.bundle 1 made.bundle made.name made.version ∷ []
+happened (Resolve added resolved) registry bundles = bundles_shown 32 resolved bundles.rows
+happened (BeginStart tag bundle) registry bundles = bundles_shown 128 (bundle ∷ []) bundles.rows
+happened (EndStart tag bundle true) registry bundles =
+    bundles_shown 256 (bundle ∷ []) bundles.rows ++ leaving bundle registry ++ bundles_shown 4 (bundle ∷ []) bundles.rows
+happened (EndStart tag bundle false) registry bundles = bundles_shown 2 (bundle ∷ []) bundles.rows
+happened (BeginStop tag bundle) registry bundles = bundles_shown 256 (bundle ∷ []) bundles.rows
+happened (EndStop tag bundle failed) registry bundles = leaving bundle registry ++ bundles_shown 4 (bundle ∷ []) bundles.rows
+
+-- the bundle that it cleans
+abbrev pub cleaned_in : Change → Option BundleId
+cleaned_in (EndStart tag bundle failed) = if failed then Some bundle else None
+cleaned_in (EndStop tag bundle failed) = Some bundle
+cleaned_in change = None
+
+-- the reply and the change are decided: the change can be made, and once it is made, what was asked for is answered so, and this is what
+-- happens
 pub record IsReplyAndChange (asked : Asked) (tables : Tables) (reply : Reply) (change : Change) : Type 0 where
   pub possible : CanBeMade change tables
-  pub replied : (new : Tables) → Changes change tables new → IsReplied asked tables new reply
+  pub cleans : cleaned_by asked.op reply ≡ cleaned_in change
+  pub answered : (new : Tables) → Changes change tables new → IsAnswered asked tables new reply (happened change tables.registry tables.bundles)
 
 -- it is the same whatever the tag
 abbrev pub IsReplyAndChangeToAll : Op → Tables → Reply → Change → Type 0

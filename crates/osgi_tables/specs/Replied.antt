@@ -1,12 +1,14 @@
 -- What an operation does to the tables, and answers by them.
-use Rattle.std.specs.Prelude.{◌≡◌, ◌<◌, ◌+◌, ◌-◌, ◌^◌, true, List, None}
+use Rattle.std.specs.Prelude.{ℕ, ◌≡◌, ◌<◌, ◌+◌, ◌-◌, ◌^◌, true, List, [], None, length}
 use Rattle.osgi_base.specs.declared.ids.BundleId.{BundleId}
 use Rattle.osgi_base.specs.declared.ids.Tag.{Tag}
 use Rattle.osgi_brackets.specs.Open as callers
 use Rattle.osgi_bundle.specs.Stands as table
+use Rattle.osgi_listeners.specs.Stands as hearing
+use Rattle.osgi_listeners.specs.Stands.{AreSmall}
 use Rattle.osgi_ops.specs.Bundles.{revisions}
 use Rattle.osgi_ops.specs.Legal.{entry_of, IsAskedAt}
-use Rattle.osgi_ops.specs.Listening.{AreSights}
+use Rattle.osgi_ops.specs.Listening.{AreSights, handings, happenings}
 use Rattle.osgi_ops.specs.Moments.{later, Moment, Sight}
 use Rattle.osgi_ops.specs.Operations.{IsReply}
 use Rattle.osgi_ops.specs.Resolved.{current_revision}
@@ -19,6 +21,7 @@ use Rattle.osgi_registry.specs.Stands as registry
 use Rattle.osgi_wiring.specs.States.{BecomesKnown, IsKeptWorld, WiringState}
 use Rattle.osgi_world.specs.declared.revision.Revision.{Revision}
 use Rattle.osgi_reply_services.specs.Served as served
+use Rattle.osgi_sights.specs.Shown.{AreShown, Shown}
 use Rattle.osgi_tables.specs.declared.tables.Tables.{Tables}
 
 -- table by table the tables are those of the moment's history
@@ -32,19 +35,38 @@ pub record StandsFor (now : Moment) (tables : Tables) : Type 0 where
   -- as many ids of revisions were given as revisions were brought, and the wirings in force keep all rules
   pub issued : tables.wirings.issued ≡ revisions now.before
   pub sound : IsSound now.world
+  -- each live listener has still to be handed what it saw and was not handed, and so many hands may still hand something
+  pub listeners : hearing.StandsFor now.sights now.before tables.listeners
+  pub small : AreSmall now.sights
+  pub handings : tables.handings_left ≡ now.setting.bounds.handings - handings now.before
 
--- at each moment at which it is asked for and that the tables stood for the reply is due, the world is left as it may be and these are what
--- listeners see, and then the tables stand for the next
-pub record IsReplied (asked : Asked) (old new : Tables) (reply : Reply) : Type 0 where
-  pub sights : List Sight
-  pub due : (now : Moment) → IsAskedAt asked now → StandsFor now old → IsReply now asked.op reply
-  pub left : (now : Moment) → IsAskedAt asked now → StandsFor now old → Leaves now asked.op reply new.wirings.world
-  pub seen : (now : Moment) → IsAskedAt asked now → StandsFor now old → AreSights now.before now.world new.wirings.world (entry_of now asked.op reply) sights
-  pub stands : (now : Moment) → IsAskedAt asked now → StandsFor now old → StandsFor (later now asked.op reply new.wirings.world sights) new
+-- so it is at each moment at which it is asked for and that the tables stand for
+abbrev pub EachTime : Asked → Tables → (Moment → Type 0) → Type 0
+EachTime asked tables P = (now : Moment) → IsAskedAt asked now → StandsFor now tables → P now
 
--- it is the same whatever the tag
-abbrev pub IsRepliedToAll : Op → Tables → Tables → Reply → Type 0
-IsRepliedToAll op old new reply = (tag : Tag) → IsReplied (record { tag = tag; op = op }) old new reply
+-- at each such moment the reply is due, the world is left as it may be, and this is what happens; and then the tables stand for the next
+-- moment, as if nobody had seen what happened
+pub record IsAnswered (asked : Asked) (old new : Tables) (reply : Reply) (happened : List Shown) : Type 0 where
+  pub due : EachTime asked old (λ now. IsReply now asked.op reply)
+  pub left : EachTime asked old (λ now. Leaves now asked.op reply new.wirings.world)
+  pub happens : EachTime asked old (λ now. AreShown happened (happenings now.before now.world new.wirings.world (entry_of now asked.op reply) asked.op reply))
+  pub stands : EachTime asked old (λ now. StandsFor (later now asked.op reply new.wirings.world []) new)
+
+-- nothing happens and the tables stay, and it is the same whatever the tag
+abbrev pub IsAnsweredToAll : Op → Tables → Reply → Type 0
+IsAnsweredToAll op tables reply = (tag : Tag) → IsAnswered (record { tag = tag; op = op }) tables tables reply []
+
+-- so it is at each moment of a history of so many entries at which it is asked for and that the tables stand for
+abbrev pub EachTimeAt : ℕ → Asked → Tables → (Moment → Type 0) → Type 0
+EachTimeAt entries asked tables P = (now : Moment) → IsAskedAt asked now → length now.before ≡ entries → StandsFor now tables → P now
+
+-- at each such moment the reply is due, the world is left as it may be and these are what listeners see, and then the tables stand for the
+-- next
+pub record IsReplied (entries : ℕ) (asked : Asked) (old new : Tables) (reply : Reply) (sights : List Sight) : Type 0 where
+  pub due : EachTimeAt entries asked old (λ now. IsReply now asked.op reply)
+  pub left : EachTimeAt entries asked old (λ now. Leaves now asked.op reply new.wirings.world)
+  pub seen : EachTimeAt entries asked old (λ now. AreSights now.before now.world new.wirings.world (entry_of now asked.op reply) sights)
+  pub stands : EachTimeAt entries asked old (λ now. StandsFor (later now asked.op reply new.wirings.world sights) new)
 
 -- the registry has room, ids of bundles and of revisions are left to be given, and the next bundle has no current revision. One
 -- more than the budget can be counted

@@ -37,7 +37,8 @@ pub enum Change {
         tag: Tag,
         bundle: BundleId,
     },
-    /// The start that the line of the tag began ends. Where it failed, the bundle's services and uses go.
+    /// The start that the line of the tag began ends. Where it failed, the bundle's services, uses and
+    /// listeners go.
     EndStart {
         tag: Tag,
         bundle: BundleId,
@@ -48,7 +49,7 @@ pub enum Change {
         tag: Tag,
         bundle: BundleId,
     },
-    /// The stop that the line of the tag began ends, and the bundle's services and uses go.
+    /// The stop that the line of the tag began ends, and the bundle's services, uses and listeners go.
     EndStop {
         tag: Tag,
         bundle: BundleId,
@@ -88,7 +89,7 @@ impl Drop for Change {
 
 impl Change {
     /// Makes the change. If memory runs out, the tables stand for what they did.
-    pub fn commit(self, tables: &mut Tables) -> Result<(), AllocError>
+    pub(crate) fn commit(self, tables: &mut Tables) -> Result<(), AllocError>
         requires possible { CanBeMade self tables.old }
         ensures changed { OnOk result (Changes self tables.old tables.new) }
         ensures unchanged { OnErr result (StandsStill tables.old tables.new) }

@@ -3,7 +3,9 @@
 
 mod askers;
 mod change;
+mod happenings;
 mod life;
+mod making;
 mod tables;
 
 pub use askers::asker_refusal;

@@ -6,12 +6,13 @@ ghost use Rattle.osgi_bundle.specs.Stands.{started_phase};
 ghost use Rattle.osgi_ops.specs.Brackets.{starting as start_of, stopping as stop_of};
 ghost use Rattle.osgi_ops.specs.Bundles.{idle, starting, stopping};
 ghost use Rattle.osgi_ops.specs.declared.state.TheConstants.{STARTING, STOPPING};
-ghost use Rattle.osgi_tables.specs.Changes.{Begins, Cleans, Ends};
+ghost use Rattle.osgi_tables.specs.Changes.{Begins, Cleans, Ends, without_listeners};
 ghost use Rattle.osgi_tables.specs.Replied.{StandsStill};
 
 use crate::tables::Tables;
 use osgi_base::{BundleId, Tag};
 use osgi_brackets::BracketKind;
+use osgi_listeners::Listeners;
 use osgi_registry::Registry;
 use std::alloc::AllocError;
 
@@ -38,7 +39,7 @@ impl Tables {
         ensures ended { OnOk result (Ends (started_phase failed) failed tag bundle self.old self.new) }
         ensures unchanged { OnErr result (StandsStill self.old self.new) }
     {
-        clean(&mut self.registry, bundle, failed)?;
+        clean(&mut self.registry, &mut self.listeners, bundle, failed)?;
         let _ = self.bundles.end_start(tag, bundle, failed);
         self.brackets.pop(tag.caller);
         Ok(())
@@ -66,20 +67,27 @@ impl Tables {
         ensures ended { OnOk result (Ends idle true tag bundle self.old self.new) }
         ensures unchanged { OnErr result (StandsStill self.old self.new) }
     {
-        self.registry.release(bundle)?;
+        clean(&mut self.registry, &mut self.listeners, bundle, true)?;
         let _ = self.bundles.end_stop(tag, bundle, failed);
         self.brackets.pop(tag.caller);
         Ok(())
     }
 }
 
-/// The bundle's services and uses go, if it is to be cleaned.
-fn clean(registry: &mut Registry, bundle: BundleId, cleaned: bool) -> Result<(), AllocError>
+/// The bundle's services, uses and listeners go, if it is to be cleaned.
+fn clean(
+    registry: &mut Registry,
+    listeners: &mut Listeners,
+    bundle: BundleId,
+    cleaned: bool,
+) -> Result<(), AllocError>
     ensures cleans { OnOk result (Cleans cleaned bundle registry.old registry.new) }
-    ensures unchanged { OnErr result (registry.new ≡ registry.old) }
+    ensures listeners { OnOk result (listeners.new ≡ without_listeners cleaned bundle listeners.old) }
+    ensures unchanged { OnErr result ((registry.new ≡ registry.old) × (listeners.new ≡ listeners.old)) }
 {
     if cleaned {
         registry.release(bundle)?;
+        listeners.remove_all(bundle);
     }
     Ok(())
 }

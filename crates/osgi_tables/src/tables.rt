@@ -2,12 +2,14 @@
 
 use osgi_brackets::Brackets;
 use osgi_bundle::{IndexedDepot, Table};
+use osgi_listeners::Listeners;
 use osgi_ops::Depot;
 use osgi_registry::Registry;
 use osgi_resolver::IndexedWirings;
 
 /// The depot and the limit on the effort of a resolve, which never change; the services that are live, the bundles, the
-/// wirings in force, and the starts and stops that callers have begun and not ended.
+/// wirings in force, the starts and stops that callers have begun and not ended, the live listeners with the events that wait
+/// for them, and how many hands may still hand one.
 pub struct Tables {
     pub depot: IndexedDepot,
     pub budget: u64,
@@ -15,6 +17,8 @@ pub struct Tables {
     pub bundles: Table,
     pub wirings: IndexedWirings,
     pub brackets: Brackets,
+    pub listeners: Listeners,
+    pub handings_left: u64,
 }
 
 /// Not derived, so that each exit at which one is dropped is a single call, which is cheap to prove.
@@ -27,6 +31,8 @@ impl Drop for Tables {
             bundles: _,
             wirings: _,
             brackets: _,
+            listeners: _,
+            handings_left: _,
         } = self;
     }
 }
@@ -45,6 +51,8 @@ impl Tables {
             bundles: _,
             wirings: _,
             brackets: _,
+            listeners: _,
+            handings_left: _,
         } = self;
         depot.into_depot()
     }

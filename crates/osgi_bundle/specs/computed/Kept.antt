@@ -1,5 +1,5 @@
 -- What is true of the table's fields between calls.
-use Rattle.std.specs.Prelude.{ℕ, ◌≡◌, false, cond, List, Option, None, Some, IsSome, find, slice_get}
+use Rattle.std.specs.Prelude.{ℕ, ◌≡◌, false, cond, List, Option, None, Some, All, IsSome, find, slice_get}
 use Rattle.std.specs.BTreeMap.{BTreeMap, get}
 use Rattle.std.specs.Option.{option_map, option_or}
 use Rattle.std.specs.Ordering.{eq_by_cmp, is_lt, on, then_cmp}
@@ -7,7 +7,7 @@ use Rattle.std.specs.declared.cmp.Ordering.{Ordering}
 use Rattle.std.proofs.Common.{lit≤}
 use Rattle.osgi_base.specs.computed.Texts.{text_cmp}
 use Rattle.osgi_base.specs.declared.ids.BundleId.{BundleId}
-use Rattle.osgi_bundle.specs.Rows.{AreApart, AreInOrder, TableRows}
+use Rattle.osgi_bundle.specs.Rows.{AreApart, AreInOrder, IsBegun, TableRows}
 use Rattle.osgi_bundle.specs.declared.directory.BundleName.{BundleName}
 use Rattle.osgi_bundle.specs.declared.directory.Directory.{Directory}
 use Rattle.osgi_bundle.specs.declared.kept.BundleKept.{BundleKept}
@@ -67,8 +67,10 @@ AddsFirst {K} cmp old new key bundle = (k : K) → get cmp new k ≡ option_or (
 abbrev pub HoldsSame : {K : Type 0} → (K → K → Ordering) → BTreeMap K BundleId → BTreeMap K BundleId → Type 0
 HoldsSame {K} cmp old new = (k : K) → get cmp new k ≡ get cmp old k
 
--- the rows are in order, no two have the same name and version, and the directory is theirs
+-- the rows are in order, no two have the same name and version, of each that is starting or stopping it is kept whose line began that, and
+-- the directory is theirs
 pub record IsKept (table : TableRows) (directory : Directory) : Type 0 where
   pub in_order : AreInOrder table
   pub apart : AreApart table.rows
+  pub begun : All IsBegun table.rows
   pub index : IsDirectoryOf directory table.rows

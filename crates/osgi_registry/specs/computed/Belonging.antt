@@ -1,12 +1,13 @@
 -- Which services belong to which bundle, and the index that keeps them.
 use Rattle.std.specs.Prelude.{ℕ, ◌≡◌, ◌==◌, ◌&&◌, ◌||◌, Bool, true, false, List, [], All, map, if◌then◌else◌}
-use Rattle.std.specs.List.{list_any}
+use Rattle.std.specs.List.{filter_map, list_any}
 use Rattle.std.specs.BTreeMap.{BTreeMap, get, is_at}
 use Rattle.std.specs.BTreeSet.{BTreeSet}
-use Rattle.std.specs.Option.{option_map_or}
+use Rattle.std.specs.Option.{option_map, option_map_or}
 use Rattle.std.specs.Ordering.{nat_cmp}
 use Rattle.osgi_base.specs.declared.ids.BundleId.{BundleId}
 use Rattle.osgi_base.specs.declared.ids.ServiceId.{ServiceId}
+use Rattle.osgi_ops.specs.declared.service.Service.{Service}
 use Rattle.osgi_registry.specs.Rows.{is_owned, LiveService, row_at, service_number}
 
 -- the services of each bundle, by their numbers
@@ -52,3 +53,7 @@ owns bundle rows service = option_map_or (is_owned bundle) (row_at service rows)
 -- each service that concerns the bundle is one of these
 abbrev pub AreAmong : BundleId → List ServiceId → List LiveService → Type 0
 AreAmong bundle services rows = All (λ row. concerns bundle row ≡ true → list_any (is_at (nat_cmp (service_number row))) (map (λ (service : ServiceId). service.0) services) ≡ true) rows
+
+-- the services of these ids that are live
+abbrev pub live_among : List LiveService → List ServiceId → List Service
+live_among rows ids = filter_map (λ id. option_map (λ row. row.service) (row_at id rows)) ids

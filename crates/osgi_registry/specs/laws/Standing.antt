@@ -48,7 +48,8 @@ filter_by true false row r rows list same is are = absurd (cc same)
 filter_by false true row r rows list same is are = absurd (cc same)
 filter_by false false row r rows list same is are = are
 
-rows_filter : (p : LiveService → Bool) (q : Registered → Bool) → ((row : LiveService) (r : Registered) → IsRowOf row r → p row ≡ q r) → (rows : List LiveService) (list : List Registered) → AreRowsOf rows list → AreRowsOf (filter p rows) (filter q list)
+-- those that pass, where both tests say the same
+pub rows_filter : (p : LiveService → Bool) (q : Registered → Bool) → ((row : LiveService) (r : Registered) → IsRowOf row r → p row ≡ q r) → (rows : List LiveService) (list : List Registered) → AreRowsOf rows list → AreRowsOf (filter p rows) (filter q list)
 rows_filter p q each [] [] are = tt
 rows_filter p q each [] (r ∷ list) are = absurd are
 rows_filter p q each (row ∷ rows) [] are = absurd are

@@ -1,5 +1,5 @@
 -- What a resolve is about decides what it answers.
-use Rattle.std.proofs.Common.{List, [], subst, sym, ◌∙◌}
+use Rattle.std.proofs.Common.{List, [], subst, sym, ◌∙◌, refl}
 use Rattle.osgi_base.specs.declared.ids.BundleId.{BundleId}
 use Rattle.osgi_tables.proofs.Replying.{decided_all}
 use Rattle.osgi_reply_resolving.proofs.Searching.{replied_fragment, replied_missing, replied_resolved}
@@ -12,14 +12,14 @@ use Rattle.osgi_reply_resolving.proofs.resolving.resolve.Goals as goal
 
 pub returns-in-Missing-clause-decided : goal.returns-in-Missing-clause-decided
 returns-in-Missing-clause-decided c =
-    decided_all (op.Resolve c.args.bundle) c.args.tables.now (answer.Refused NoSuchBundle) (replied_missing c.args.tables.now c.args.bundle (rw c.wirings.ensures.wirings at c.in-Missing.ensures.target))
+    decided_all (op.Resolve c.args.bundle) c.args.tables.now (answer.Refused NoSuchBundle) refl (replied_missing c.args.tables.now c.args.bundle (rw c.wirings.ensures.wirings at c.in-Missing.ensures.target))
 
 pub returns-in-Fragment-clause-decided : goal.returns-in-Fragment-clause-decided
 returns-in-Fragment-clause-decided c =
-    decided_all (op.Resolve c.args.bundle) c.args.tables.now (answer.Refused InvalidOperation) (replied_fragment c.args.tables.now c.args.bundle (rw c.wirings.ensures.wirings at c.in-Fragment.ensures.target))
+    decided_all (op.Resolve c.args.bundle) c.args.tables.now (answer.Refused InvalidOperation) refl (replied_fragment c.args.tables.now c.args.bundle (rw c.wirings.ensures.wirings at c.in-Fragment.ensures.target))
 
 pub returns-in-Resolved-clause-decided : goal.returns-in-Resolved-clause-decided
 returns-in-Resolved-clause-decided c =
     subst (λ (l : List BundleId). IsReplyAndChangeToAll (op.Resolve c.args.bundle) c.args.tables.now (answer.Resolved l) change.Nothing) (sym (c.from-added.ensures ∙ c.new.ensures.items))
-    (decided_all (op.Resolve c.args.bundle) c.args.tables.now (answer.Resolved [])
+    (decided_all (op.Resolve c.args.bundle) c.args.tables.now (answer.Resolved []) refl
     (replied_resolved c.args.tables.now c.args.bundle (rw c.wirings.ensures.wirings at c.in-Resolved.ensures.target.0) (rw c.wirings.ensures.wirings at c.in-Resolved.ensures.target.1)))

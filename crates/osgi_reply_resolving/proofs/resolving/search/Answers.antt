@@ -1,5 +1,5 @@
 -- Each answer of the resolver is what the rules say.
-use Rattle.std.proofs.Common.{ap}
+use Rattle.std.proofs.Common.{ap, refl}
 use Rattle.osgi_reply_resolving.proofs.Brought.{sound_of}
 use Rattle.osgi_tables.proofs.Replying.{decided_all}
 use Rattle.osgi_reply_resolving.proofs.Searching.{asked_unresolved, cause_there, found_ok, replied_spent, replied_unresolvable}
@@ -31,14 +31,14 @@ returns-in-NoWord-clause-decided c =
     let same = c.resolve.ensures.unchanged in
     let a : IsAnswerTo t.wirings.world c.args.root t.budget (NoWord c.in-NoWord.cause) = rw c.in-NoWord.is at c.in_ok-added.ensures.answer in
     let said : IsSaid t.wirings.world.known c.in-NoWord.cause c.in_ok-cause-in-NoWord.cause = rw (c.wirings-in-NoWord.ensures.wirings, same) at c.in_ok-cause-in-NoWord.ensures.said in
-    decided_all (op.Resolve c.args.bundle) t (answer.Refused (Unresolvable c.in_ok-cause-in-NoWord.cause))
+    decided_all (op.Resolve c.args.bundle) t (answer.Refused (Unresolvable c.in_ok-cause-in-NoWord.cause)) refl
     (replied_unresolvable t c.args.bundle c.args.root c.requires.holds c.requires.asked c.in-NoWord.cause c.in_ok-cause-in-NoWord.cause a said)
 
 pub returns-clause-decided : goal.returns-clause-decided
 returns-clause-decided c =
     let t : Tables = c.args.tables.now in
     let a : IsAnswerTo t.wirings.world c.args.root t.budget (Spent c.in-Spent.visited) = rw c.in-Spent.is at c.in_ok-added.ensures.answer in
-    decided_all (op.Resolve c.args.bundle) t (answer.Refused (BudgetSpent c.in-Spent.visited)) (replied_spent t c.args.bundle c.args.root c.requires.holds c.requires.asked c.in-Spent.visited a)
+    decided_all (op.Resolve c.args.bundle) t (answer.Refused (BudgetSpent c.in-Spent.visited)) refl (replied_spent t c.args.bundle c.args.root c.requires.holds c.requires.asked c.in-Spent.visited a)
 
 pub returns-clause-unchanged : goal.returns-clause-unchanged
 returns-clause-unchanged c = ap (λ (s : WiringState). record c.args.tables.now { wirings = s }) c.resolve.ensures.unchanged

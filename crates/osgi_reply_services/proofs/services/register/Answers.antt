@@ -12,7 +12,7 @@ returns-in-Ok c = record {
   decided =
       decided_registered c.args.owner c.args.classes.now c.args.object.now c.args.scope c.args.properties.now c.args.registry.now c.in-Ok.made c.in-Singleton.is
       (rw (c.in-Ok.is, c.in_ok-copy-3.ensures.same) at c.in_ok-made.ensures.refusal)
-      (rw (c.in-Ok.is, c.in_ok-copy.ensures.same, c.in_ok-copy-2.ensures.same, c.in_ok-copy-3.ensures.same) at c.in_ok-made.ensures.made) c.requires.ids (rw c.in-Ok.is at c.in_ok-made.ensures.room);
+      (rw (c.in-Ok.is, c.in_ok-copy.ensures.same, c.in_ok-copy-2.ensures.same, c.in_ok-copy-3.ensures.same) at c.in_ok-made.ensures.made) c.requires.ids (rw c.in-Ok.is at c.in_ok-made.ensures.room) c.in_ok-made.ensures.in_order;
 }
 
 pub returns-in-Err : goal.returns-in-Err

@@ -15,4 +15,4 @@ invariant_of-self-2 c =
     subst (λ k. bundle_under name_cmp bundle_name k old.rows ≡ None) c.requires.named (ap (λ t. bundle_under name_cmp bundle_name c.args.key t.rows) c.self.view_is ∙ c.requires.fresh) in
     let names = subst (λ k. AddsFirst name_cmp c.self.inside.directory.names c.add.new.self.names k c.args.row.bundle) c.requires.named c.in_ok-add.ensures.names in
     subst (λ (t : TableRows). IsKept t c.add.new.self) (λ i. record { rows = sym rows i; issued = sym next i })
-    (kept_push old c.args.row c.self.inside.directory c.add.new.self c.self.invariant next none c.in_ok-add.ensures.locations names)
+    (kept_push old c.args.row c.self.inside.directory c.add.new.self c.self.invariant next none c.requires.begun c.in_ok-add.ensures.locations names)

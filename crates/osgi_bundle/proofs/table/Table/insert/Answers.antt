@@ -6,6 +6,7 @@ use Rattle.osgi_bundle.specs.computed.Kept.{bundle_under, name_cmp, bundle_name}
 use Rattle.osgi_bundle.specs.declared.kept.BundleKept.{BundleKept}
 use Rattle.osgi_bundle.specs.laws.Standing.{stands_installed}
 use Rattle.osgi_bundle.proofs.Finding.{free_name}
+use Rattle.osgi_bundle.proofs.Made.{new_begun}
 use Rattle.osgi_bundle.proofs.table.Table.insert.Goals as goal
 
 pub add-requires : goal.add-requires
@@ -15,6 +16,7 @@ add-requires c = record {
   fresh =
       subst (λ k. bundle_under name_cmp bundle_name k c.args.self.now.rows ≡ None) (sym c.in_ok-key.ensures.same)
       (free_name c.args.made.name c.args.made.version c.args.self.now.rows c.requires.apart);
+  begun = new_begun c.args.made c.requires.is_new;
 }
 
 pub returns-clause-stands : goal.returns-clause-stands

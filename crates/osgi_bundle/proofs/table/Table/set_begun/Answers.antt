@@ -1,5 +1,5 @@
 -- The row of the bundle has the state and the tag, and all that is true of the fields stays so.
-use Rattle.std.proofs.Common.{◌≡◌, ap, List, set, subst, sym, ◌∙◌}
+use Rattle.std.proofs.Common.{◌≡◌, ap, List, refl, set, subst, sym, ◌∙◌}
 use Rattle.std.specs.Prelude.{None, Some, slice_get}
 use Rattle.osgi_bundle.specs.Rows.{row_at, TableRows, with_begun}
 use Rattle.osgi_bundle.specs.computed.Kept.{IsKept}
@@ -19,7 +19,7 @@ pub invariant_of-self : goal.invariant_of-self
 invariant_of-self c =
     subst (λ (rows : List BundleKept). IsKept (record { rows = rows; issued = c.self.inside.issued }) c.self.inside.directory) (sym (written c))
     (kept_with_changed c.args.bundle (λ (row : BundleKept). record row { state = c.args.state; by = Some c.args.tag }) (leaves_begun c.args.state c.args.tag) (record { rows = c.self.inside.rows.items; issued = c.self.inside.issued }) c.self.inside.directory
-    c.self.invariant)
+    (λ row changing. refl) c.self.invariant)
 
 pub returns-clause-rows : goal.returns-clause-rows
 returns-clause-rows c = written c ∙ ap (λ (t : TableRows). with_begun c.args.bundle c.args.state c.args.tag t.rows) c.self.view_is

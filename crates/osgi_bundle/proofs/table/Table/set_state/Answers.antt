@@ -5,7 +5,7 @@ use Rattle.osgi_bundle.specs.Rows.{row_at, TableRows, with_state}
 use Rattle.osgi_bundle.specs.computed.Kept.{IsKept}
 use Rattle.osgi_bundle.specs.declared.kept.BundleKept.{BundleKept}
 use Rattle.osgi_bundle.proofs.Finding.{ids_rise}
-use Rattle.osgi_bundle.proofs.States.{kept_with_changed, leaves_set, set_found}
+use Rattle.osgi_bundle.proofs.States.{kept_with_changed, leaves_set, set_found, settled_begun}
 use Rattle.osgi_bundle.proofs.table.Table.set_state.Goals as goal
 
 written : (c : goal.After-self-1) → set c.self.inside.rows.items c.in-Some.place (record c.index_mut-row.result.now { state = c.args.state }) ≡ with_state c.args.bundle c.args.state c.self.inside.rows.items
@@ -19,7 +19,7 @@ pub invariant_of-self : goal.invariant_of-self
 invariant_of-self c =
     subst (λ (rows : List BundleKept). IsKept (record { rows = rows; issued = c.self.inside.issued }) c.self.inside.directory) (sym (written c))
     (kept_with_changed c.args.bundle (λ (row : BundleKept). record row { state = c.args.state }) (leaves_set c.args.state) (record { rows = c.self.inside.rows.items; issued = c.self.inside.issued }) c.self.inside.directory
-    c.self.invariant)
+    (settled_begun c.args.state c.requires.settled) c.self.invariant)
 
 pub returns-clause-rows : goal.returns-clause-rows
 returns-clause-rows c = written c ∙ ap (λ (t : TableRows). with_state c.args.bundle c.args.state t.rows) c.self.view_is

@@ -2,7 +2,8 @@
 use Rattle.std.proofs.Common.{◌≡◌, ap, sym, ◌∙◌, nat_eq}
 use Rattle.std.specs.Prelude.{None, Some}
 use Rattle.std.specs.Map.{lookup, values_of}
-use Rattle.osgi_registry.proofs.Changed.{change_none, kept_set, rows_set}
+use Rattle.osgi_registry.proofs.Changed.{kept_set, rows_set}
+use Rattle.osgi_registry.specs.laws.Changing.{change_none}
 use Rattle.osgi_registry.proofs.Covered.{covered_forgotten, covered_set, found_none}
 use Rattle.osgi_registry.proofs.Current.{current_kept}
 use Rattle.osgi_registry.proofs.Entries.{found_under, row_absent}

@@ -1,20 +1,19 @@
 -- The bundle is in its phase and cleaned if it is to be, and the bracket is closed.
-use Rattle.std.proofs.Common.{ap, refl}
-use Rattle.osgi_registry.specs.Rows.{RegistryRows}
-use Rattle.osgi_tables.proofs.Replying.{on_err, still_same, with_services}
+use Rattle.std.proofs.Common.{ap}
+use Rattle.osgi_listeners.specs.Rows.{Listening}
+use Rattle.osgi_tables.proofs.Replying.{on_err, still_uncleaned}
 use Rattle.osgi_tables.proofs.tables.Tables.end_stop.Goals as goal
 
-pub returns-in_err-release-clause-unchanged : goal.returns-in_err-release-clause-unchanged
-returns-in_err-release-clause-unchanged c =
-    on_err c.from_residual.result (still_same c.args.self.now (with_services c.release.new.self c.args.self.now) (ap (λ (r : RegistryRows). with_services r c.args.self.now) c.in_err-release.ensures.unchanged))
+pub returns-in_err-clean-clause-unchanged : goal.returns-in_err-clean-clause-unchanged
+returns-in_err-clean-clause-unchanged c = on_err c.from_residual.result (still_uncleaned c.args.self.now c.clean.new.registry c.clean.new.listeners c.in_err-clean.ensures.unchanged)
 
 pub returns-clause-ended : goal.returns-clause-ended
 returns-clause-ended c = record {
-  registry = c.release.new.self;
+  registry = c.clean.new.registry;
   bundles = c.end_stop.new.self;
   brackets = c.pop.new.self;
-  cleans = c.in_ok-release.ensures.stands;
+  cleans = c.in_ok-clean.ensures.cleans;
   put = c.end_stop.ensures.stands c.requires.possible;
   closed = c.pop.ensures.closed;
-  is = refl;
+  is = ap (λ (l : Listening). record c.args.self.now { registry = c.clean.new.registry; bundles = c.end_stop.new.self; brackets = c.pop.new.self; listeners = l }) c.in_ok-clean.ensures.listeners;
 }

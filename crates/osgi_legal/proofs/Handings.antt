@@ -1,0 +1,199 @@
+-- How many events a legal history hands: each by a Hand, and no more than the session's limit.
+use Rattle.std.proofs.Common.{◌≡◌, ◌⊎◌, inl, inr, ◌+◌, ◌<◌, ◌≤◌, ℕ, Bool, true, false, List, [], ◌∷◌, ◌++◌, length, length-append, refl, sym, ap, ◌∙◌, subst, arith}
+use Rattle.std.specs.Prelude.{cond, All, count_by, filter, Option, None, Some, IsSomeAnd}
+use Rattle.std.proofs.lemmas.Bool.{cases_lt}
+use Rattle.std.proofs.lemmas.List.Elements.{All-head, All-nil, All-push, All-tail, filter-append}
+use Rattle.std.proofs.lemmas.List.Sums.{length-filter}
+use Rattle.osgi_base.specs.declared.ids.BundleId.{BundleId}
+use Rattle.osgi_ops.specs.Bundles.{Bundle, bundle_from, is_active, row_of}
+use Rattle.osgi_ops.specs.Conditions.{is_above, state_of}
+use Rattle.osgi_ops.specs.Jobs.{jobs, Queued}
+use Rattle.osgi_ops.specs.Legal.{AreAllowed, IsAllowed}
+use Rattle.osgi_ops.specs.Listening.{handings, is_handed}
+use Rattle.osgi_ops.specs.Moments.{entries_in, Moment, moment, Told}
+use Rattle.osgi_ops.specs.Operations.{Answers, conditions, IsReply}
+use Rattle.osgi_ops.specs.Replies.{is_accepted}
+use Rattle.osgi_ops.specs.Resolved.{is_resolved}
+use Rattle.osgi_ops.specs.Resolving.{AnswersResolve}
+use Rattle.osgi_ops.specs.Services.{live_at, Registered}
+use Rattle.osgi_ops.specs.Settings.{Setting}
+use Rattle.osgi_ops.specs.Stages.{is_here}
+use Rattle.osgi_ops.specs.declared.entry.Entry.{Entry}
+use Rattle.osgi_ops.specs.declared.op.Op.{Op}
+use Rattle.osgi_ops.specs.declared.op.Op.TheVariants as op
+use Rattle.osgi_ops.specs.declared.refusal.Refusal.{Refusal}
+use Rattle.osgi_ops.specs.declared.refusal.Refusal.TheVariants.{HandingsSpent, InvalidOperation}
+use Rattle.osgi_ops.specs.declared.reply.Reply.{Reply}
+use Rattle.osgi_ops.specs.declared.reply.Reply.TheVariants as answer
+use Rattle.osgi_ops.specs.laws.Along.{holds}
+use Rattle.osgi_ops.specs.rows.Bundles.{installs}
+use Rattle.osgi_ops.specs.rows.Events.{IsHanding, IsNothing}
+use Rattle.osgi_ops.specs.rows.Jobs.{taken}
+use Rattle.osgi_legal.proofs.Accepted.{accepted, NoneHolds}
+use Rattle.osgi_legal.proofs.Early.{due-early}
+use Rattle.osgi_legal.proofs.Owned.{entries-last}
+use Rattle.osgi_legal.proofs.Windows.{refused-is}
+
+-- the reply hands an event to a listener
+abbrev pub is_handing : Reply → Bool
+is_handing (answer.Handed listener kind owner row name event) = true
+is_handing _ = false
+
+got : (at : Option Registered) (y : Reply) → IsSomeAnd at (λ r. y ≡ answer.Object r.object) → is_handing y ≡ false
+got None y a = absurd a
+got (Some r) y a = ap is_handing a
+
+installed-so : (known : Option Bundle) (earlier : ℕ) → is_handing (installs known earlier) ≡ false
+installed-so None earlier = refl
+installed-so (Some b) earlier = refl
+
+resolved-so : (resolved : Bool) (now : Moment) (b : BundleId) (y : Reply) → AnswersResolve resolved now b y → is_handing y ≡ false
+resolved-so true now b y a = ap is_handing a
+resolved-so false now b y a = ap is_handing a.2
+
+taken-so : (now : Moment) (queue : List Queued) → is_handing (taken now queue) ≡ false
+taken-so now [] = refl
+taken-so now (oldest ∷ rest) = refl
+
+start-so : (active above : Bool) (b : BundleId) (goes : Reply) → is_handing goes ≡ false → is_handing (cond active (answer.Active b) (cond above (answer.Kept b) goes)) ≡ false
+start-so true above b goes none = refl
+start-so false true b goes none = refl
+start-so false false b goes none = none
+
+stop-so : (active : Bool) (b : BundleId) (row : ℕ) → is_handing (cond active (answer.Begun b row) (answer.Idle b)) ≡ false
+stop-so true b row = refl
+stop-so false b row = refl
+
+hand-same : (y : Reply) → is_handing y ≡ is_handed op.Hand y
+hand-same (answer.Handed listener kind owner row name event) = refl
+hand-same y = refl
+
+-- of the operations that have come, Hand alone has an answer that hands one
+answers-same : (now : Moment) (o : Op) (y : Reply) → is_here o ≡ true → Answers now o y → is_handing y ≡ is_handed o y
+answers-same now (op.Register owner classes object scope properties) y h a = ap is_handing a
+answers-same now (op.Modify owner service properties) y h a = ap is_handing a
+answers-same now (op.Unregister owner service) y h a = ap is_handing a
+answers-same now (op.Find asker class filter) y h a = ap is_handing a.1
+answers-same now (op.FindAll asker class filter) y h a = ap is_handing a.1
+answers-same now (op.Get user service) y h a = got (live_at service now.before) y a
+answers-same now (op.Unget user service) y h a = ap is_handing a
+answers-same now (op.Install location) y h a = ap is_handing a ∙ installed-so (bundle_from now.setting.depot now.before location) _
+answers-same now (op.Resolve bundle) y h a = resolved-so (is_resolved now.world bundle) now bundle y a
+answers-same now op.TakeJob y h a = ap is_handing a ∙ taken-so now (jobs now.before)
+answers-same now (op.Load bundle class) y h a = ap is_handing a.1
+answers-same now op.ListBundles y h a = ap is_handing a
+answers-same now op.ListServices y h a = ap is_handing a
+answers-same now (op.ListWires bundle) y h a = ap is_handing a.2
+answers-same now (op.AddListener owner name kind filter) y h a = ap is_handing a
+answers-same now (op.RemoveListener owner name) y h a = ap is_handing a
+answers-same now op.Hand y h a = hand-same y
+answers-same now (op.EndHand listener) y h a = ap is_handing a
+answers-same now op.EndJob y h a = ap is_handing a
+answers-same now (op.Print owner text) y h a = ap is_handing a
+answers-same now (op.Fail owner text) y h a = ap is_handing a
+answers-same now (op.WishStart target transient) y h a = ap is_handing a.2 ∙ start-so (is_active (state_of now a.0)) (is_above now a.0) a.0 (answer.Go a.0) refl
+answers-same now (op.BeginStart bundle transient) y h a =
+    ap is_handing a ∙ start-so (is_active (state_of now bundle)) (is_above now bundle) bundle (answer.Begun bundle (row_of now.setting.depot now.before bundle)) refl
+answers-same now (op.EndStart bundle failed) y h a = ap is_handing a
+answers-same now (op.BeginStop target transient) y h a = ap is_handing a.2 ∙ stop-so (is_active (state_of now a.0)) a.0 (row_of now.setting.depot now.before a.0)
+answers-same now (op.EndStop bundle failed) y h a = ap is_handing a
+answers-same now o y h a = absurd (cc h)
+
+refused-unhanded : (o : Op) (f : Refusal) → is_handed o (answer.Refused f) ≡ false
+refused-unhanded op.Hand f = refl
+refused-unhanded o f = refl
+
+-- so a reply that is due hands an event where it is a Hand's that does
+pub due-handed : (now : Moment) (o : Op) (y : Reply) → IsReply now o y → is_handing y ≡ is_handed o y
+due-handed now o y r = by (is_accepted y) refl
+  where
+    refused : (f : Refusal) → y ≡ answer.Refused f → is_handing y ≡ is_handed o y
+    refused f is = ap is_handing is ∙ sym (ap (is_handed o) is ∙ refused-unhanded o f)
+
+    by : (k : Bool) → is_accepted y ≡ k → is_handing y ≡ is_handed o y
+    by true e = elim (due-early now o y r) [
+      | inl here ↦ answers-same now o y here (accepted now o y r e).1
+      | inr is ↦ refused InvalidOperation is
+    ]
+    by false e = let f = refused-is y e in refused f.0 f.1
+
+-- of every legal history: whatever hands an event is a Hand
+pub hands-alone : (setting : Setting) (told : List Told) → AreAllowed setting told → All (λ (e : Entry). is_handing e.reply ≡ is_handed e.op e.reply) (entries_in told)
+hands-alone setting told legal =
+    holds (IsAllowed setting) (λ l. All IsSame (entries_in l)) (All-nil IsSame)
+    (λ front x before same a.
+    subst (All IsSame) (sym (entries-last front x))
+    (All-push IsSame (entries_in front) x.entry same (due-handed (moment setting front x.entry.tag) x.entry.op x.entry.reply a.replied)))
+    told legal
+  where
+    IsSame : Entry → Type 0
+    IsSame e = is_handing e.reply ≡ is_handed e.op e.reply
+
+filter-same : {X : Type 0} (p q : X → Bool) (xs : List X) → All (λ x. p x ≡ q x) xs → filter p xs ≡ filter q xs
+filter-same p q [] same = refl
+filter-same {X} p q (x ∷ xs) same =
+    let rest : filter p xs ≡ filter q xs = filter-same p q xs (All-tail (λ y. p y ≡ q y) x xs same) in
+    let here : p x ≡ q x = All-head (λ y. p y ≡ q y) x xs same in λ i. cond (here i) (x ∷ rest i) (rest i)
+
+-- so as many events were handed as replies say so
+pub handings-told : (setting : Setting) (told : List Told) → AreAllowed setting told → count_by (λ (e : Entry). is_handing e.reply) (entries_in told) ≡ handings (entries_in told)
+handings-told setting told legal =
+    sym (length-filter (λ (e : Entry). is_handing e.reply) (entries_in told))
+    ∙ ap (λ (l : List Entry). length l) (filter-same (λ (e : Entry). is_handing e.reply) (λ (e : Entry). is_handed e.op e.reply) (entries_in told) (hands-alone setting told legal))
+
+-- ---- the limit
+
+handed-is : (o : Op) (y : Reply) → is_handed o y ≡ true → (o ≡ op.Hand) × (is_accepted y ≡ true)
+handed-is op.Hand (answer.Handed listener kind owner row name event) e = (refl, refl)
+handed-is op.Hand y e = absurd (cc e)
+handed-is o y e = absurd (cc e)
+
+-- an event is handed only while fewer were than may be
+pub hand-within : (now : Moment) (y : Reply) → IsReply now op.Hand y → is_handed op.Hand y ≡ true → handings now.before < now.setting.bounds.handings
+hand-within now y r e = by (accepted now op.Hand y r (handed-is op.Hand y e).1)
+  where
+    by : NoneHolds (conditions now op.Hand) × (IsHanding now y ⊎ IsNothing now y) → handings now.before < now.setting.bounds.handings
+    by (none, inl handing) = elim (cases_lt (handings now.before) now.setting.bounds.handings) [
+      | inl below ↦ below
+      | inr spent ↦ absurd (none.1.0 HandingsSpent (refl, ((handing.listener, handing.spot, handing.earliest.ready), spent)))
+    ]
+    by (none, inr nothing) = absurd (let bad : true ≡ false = sym e ∙ ap (is_handed op.Hand) nothing.is in cc bad)
+
+-- one more entry hands one at most
+abbrev one_where : Bool → ℕ
+one_where k = cond k 1 0
+
+handings-push : (h : List Entry) (e : Entry) → handings (h ++ e ∷ []) ≡ handings h + one_where (is_handed e.op e.reply)
+handings-push h e =
+    ap (λ (l : List Entry). length l) (filter-append hands h (e ∷ [])) ∙ length-append (filter hands h) (filter hands (e ∷ []))
+    ∙ ap (λ n. handings h + n) (one (is_handed e.op e.reply))
+  where
+    hands : Entry → Bool
+    hands x = is_handed x.op x.reply
+
+    one : (k : Bool) → length (cond k (e ∷ []) []) ≡ one_where k
+    one true = refl
+    one false = refl
+
+-- of every legal history: no more events are handed than may be
+pub handings-within : (setting : Setting) (told : List Told) → AreAllowed setting told → handings (entries_in told) ≤ setting.bounds.handings
+handings-within setting told legal =
+    holds (IsAllowed setting) (λ l. handings (entries_in l) ≤ setting.bounds.handings) (omega arith)
+    (λ front x before within a. more front x within a (is_handed x.entry.op x.entry.reply) refl)
+    told legal
+  where
+    more : (front : List Told) (x : Told) → handings (entries_in front) ≤ setting.bounds.handings → IsAllowed setting front x → (k : Bool) → is_handed x.entry.op x.entry.reply ≡ k → handings (entries_in (front ++ x ∷ [])) ≤ setting.bounds.handings
+    more front x within a k e =
+        let is : handings (entries_in (front ++ x ∷ [])) ≡ handings (entries_in front) + one_where k =
+        ap handings (entries-last front x) ∙ handings-push (entries_in front) x.entry ∙ ap (λ c. handings (entries_in front) + one_where c) e in
+        subst (λ n. n ≤ setting.bounds.handings) (sym is) (by k e)
+      where
+        m : Moment
+        m = moment setting front x.entry.tag
+
+        by : (k : Bool) → is_handed x.entry.op x.entry.reply ≡ k → handings (entries_in front) + one_where k ≤ setting.bounds.handings
+        by true e =
+            let hand : x.entry.op ≡ op.Hand = (handed-is x.entry.op x.entry.reply e).0 in
+            let below = hand-within m x.entry.reply (subst (λ o. IsReply m o x.entry.reply) hand a.replied) (subst (λ o. is_handed o x.entry.reply ≡ true) hand e) in
+            omega (arith, below)
+        by false e = omega (arith, within)

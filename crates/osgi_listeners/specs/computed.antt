@@ -1,0 +1,4 @@
+-- What private functions and proofs cite. No public promise cites these.
+pub mod Kept
+pub mod Kinds
+pub mod Tournaments

@@ -1,0 +1,3 @@
+-- What private functions and proofs cite. No public promise cites these.
+pub mod Asking
+pub mod Telling
