@@ -1,5 +1,5 @@
 """Random rows of cases_machine and cases_registry with the answers that plain scans give, and the files that they
-stand in. Rows of cases_machine are of services alone, or of bundles that start and stop besides.
+stand in. Rows of cases_machine are of services alone, of bundles that start and stop besides, or of listeners too.
 
 What is answered is written here a second time, by the rules of docs/FRAMEWORK.md alone: a history is a list of calls, and
 what is live, used and found is searched in that whole list each time. Nothing is taken from the program's own output.
@@ -97,11 +97,16 @@ class History:
 
     # ---- calls
 
+    def happened(self, *happenings):
+        """What happened by the last call, in order: here nobody listens."""
+
     def register(self, owner, classes, text, properties):
         if has_twins(properties):
             raise Refused("14 BadProperties")
         self.calls.append(("register", owner, classes, text, properties))
-        return len(self.registered())
+        service = len(self.registered())
+        self.happened(("service", 1, service))
+        return service
 
     def change(self, owner, service):
         if not self.is_live(service):
@@ -113,11 +118,14 @@ class History:
         self.change(owner, service)
         if has_twins(properties):
             raise Refused("14 BadProperties")
+        before = self.properties(service)
         self.calls.append(("modify", service, properties))
+        self.happened(("modified", before, service))
 
     def unregister(self, owner, service):
         self.change(owner, service)
         self.calls.append(("unregister", service))
+        self.happened(("service", 4, service))
 
     def get(self, user, service):
         if not self.is_live(service):
@@ -230,14 +238,13 @@ class Rows:
         """What is answered to a bundle that is not the system bundle: here there is none."""
         return lambda: refuse("1 NoSuchBundle")
 
-    def record(self, tag, bundle, command, kind, asker, answer, unwritten=""):
-        """Adds a row of the machine, and its entry unless the history is full. Behind a reply that is no refusal stands what the
-        console does not write of it; of one that a bundle is to be started it writes nothing, so nothing is shown in the history."""
+    def record(self, tag, bundle, command, kind, asker, answer):
+        """Adds a row of the machine, and its entry unless the history is full."""
         if len(self.entries) == self.limit:
             return self.rows.append((f"{tag} {bundle} {command}", "refused 18 HistoryFull, not recorded"))
         reply = reply_of(answer)
-        self.entries.append(f"{tag} {asker} {kind}: {'' if reply.startswith('go ') else reply}")
-        self.rows.append((f"{tag} {bundle} {command}", reply if reply.startswith("refused") else reply + unwritten))
+        self.entries.append(f"{tag} {asker} {kind}: {reply}")
+        self.rows.append((f"{tag} {bundle} {command}", reply))
 
     def register(self, bundle):
         classes, text, properties = classes_of(self.random), f"x{self.random.below(9)}", properties_of(self.random)
@@ -313,6 +320,7 @@ class Rows:
 
 BUNDLES = 3  # the ids from 1 on, each of which is one more than its location and its row
 CALLERS = 2
+BRACKETS = 64  # of one caller
 
 
 class Life(History):
@@ -323,11 +331,13 @@ class Life(History):
 
     def begun_by(self, bundle):
         """The tag of the bundle's last begin, as a refusal writes it."""
-        caller, command = next(call[1:3] for call in reversed(self.calls) if call[0] == "open" and call[3] == bundle)
+        begins = [call for call in self.calls if call[0] == "open" and call[3] == bundle and call[4] != "handing"]
+        caller, command = begins[-1][1:3]
         return f"{caller} {command}"
 
     def brackets(self, caller):
-        """The open brackets of a caller, the innermost last: the command, the bundle, and the state that it is in meanwhile."""
+        """The open brackets of a caller, the innermost last: the command, the bundle, and the state that it is in meanwhile; or the
+        command, the listener, and that it is handing."""
         opened = []
         for call in self.calls:
             if call[:2] == ("open", caller):
@@ -353,6 +363,7 @@ class Life(History):
     def install(self, bundle):
         if self.state(bundle) == "none":
             self.put(bundle, "installed")
+            self.happened(("bundle", 1, bundle))
         return f"bundle {bundle}"
 
     def resolve(self, bundle):
@@ -360,12 +371,25 @@ class Life(History):
         if self.state(bundle) != "installed":
             return "resolved none"
         self.put(bundle, "resolved")
+        self.happened(("bundle", 32, bundle))
         return f"resolved {bundle}"
 
+    def open(self, caller, command, about, state):
+        if len(self.brackets(caller)) == BRACKETS:
+            raise Refused("16 TooDeep")
+        self.calls.append(("open", caller, command, about, state))
+
+    def close(self, caller, command, about, state):
+        """Closes the innermost bracket of the caller, which has to be this one."""
+        if self.brackets(caller)[-1:] != [(command, about, state)]:
+            raise Refused("2 InvalidOperation")
+        self.calls.append(("close", caller))
+
     def begin(self, caller, command, bundle, state):
+        self.open(caller, command, bundle, state)
         self.put(bundle, state)
-        self.calls.append(("open", caller, command, bundle, state))
-        return f"{state} {bundle}"
+        self.happened(("bundle", 128 if state == "starting" else 256, bundle))
+        return f"{state} {bundle}, row {bundle - 1}"
 
     def wish_start(self, bundle):
         self.there(bundle)
@@ -388,13 +412,15 @@ class Life(History):
 
     def end(self, caller, command, bundle, state, failed):
         """The end of a start or a stop, as which state says. What ends in any other state than active is cleaned."""
-        if self.brackets(caller)[-1:] != [(command, bundle, state)]:
-            raise Refused("2 InvalidOperation")
-        self.calls.append(("close", caller))
-        is_active = state == "starting" and not failed
-        self.put(bundle, "active" if is_active else "resolved")
-        if not is_active:
-            self.release(bundle)
+        self.close(caller, command, bundle, state)
+        if state == "starting" and not failed:
+            self.put(bundle, "active")
+            self.happened(("bundle", 2, bundle))
+        else:
+            self.put(bundle, "resolved")
+            stopping = [("bundle", 256, bundle)] if state == "starting" else []
+            gone = [("service", 4, service) for service in self.release(bundle)]
+            self.happened(*stopping, *gone, ("bundle", 4, bundle))
         if failed:
             raise Refused("11 ActivatorError")
         return f"{'started' if state == 'starting' else 'stopped'} {bundle}"
@@ -403,10 +429,13 @@ class Life(History):
 class LifeRows(Rows):
     """Random rows of a machine with bundles, and their answers."""
 
-    def __init__(self, seed, limit):
+    def __init__(self, seed, limit, history=None, handings=None):
         super().__init__(seed, limit)
-        self.history = Life()
-        self.rows = [(f"core_of {limit} {BUNDLES}", "begun")]
+        self.history = history or Life()
+        self.rows = [(f"core_of {limit} {BUNDLES}" if handings is None else f"core_of {limit} {BUNDLES} {handings}", "begun")]
+        self.prepare()
+
+    def prepare(self):
         for bundle in range(1, BUNDLES + 1):
             self.ask(0, f"install {bundle - 1}", "install", lambda b=bundle: self.history.install(b))
         for bundle in range(1, BUNDLES):
@@ -420,9 +449,9 @@ class LifeRows(Rows):
             return answer()
         return asked
 
-    def ask(self, bundle, command, kind, answer, tag=None, unwritten=""):
+    def ask(self, bundle, command, kind, answer, tag=None):
         """Adds a row of an operation that no bundle asks for."""
-        self.record(tag or f"{self.random.below(CALLERS)}.{len(self.rows)}", bundle, command, kind, 0, answer, unwritten)
+        self.record(tag or f"{self.random.below(CALLERS)}.{len(self.rows)}", bundle, command, kind, 0, answer)
 
     def find(self, bundle):
         """No bundle exports a package of these classes, so that each finds its own services alone."""
@@ -457,20 +486,18 @@ class LifeRows(Rows):
 
     def begin_start(self):
         bundle, (tag, caller, command) = self.bundle(), self.tag()
-        unwritten = f", row {bundle - 1}" if self.history.state(bundle) == "resolved" else ""
-        self.ask(bundle, "direct BeginStart", "beginstart", lambda: self.history.begin_start(caller, command, bundle), tag, unwritten)
+        self.ask(bundle, "direct BeginStart", "beginstart", lambda: self.history.begin_start(caller, command, bundle), tag)
 
     def begin_stop(self):
         bundle, (tag, caller, command) = self.bundle(), self.tag()
-        unwritten = f", row {bundle - 1}" if self.history.state(bundle) == "active" else ""
-        self.ask(0, f"stop {bundle}", "beginstop", lambda: self.history.begin_stop(caller, command, bundle), tag, unwritten)
+        self.ask(0, f"stop {bundle}", "beginstop", lambda: self.history.begin_stop(caller, command, bundle), tag)
 
     def end(self):
         """An end, mostly of the innermost bracket of its caller."""
         bundle, (tag, caller, command) = self.bundle(), self.tag()
         state = self.random.one_of(["starting", "stopping"])
         opened = self.history.brackets(caller)
-        if opened and self.random.below(4) != 0:
+        if opened and opened[-1][2] != "handing" and self.random.below(4) != 0:
             command, bundle, state = opened[-1]
             tag = f"{caller}.{command}"
         failed = self.random.below(3) == 0
@@ -480,7 +507,8 @@ class LifeRows(Rows):
 
     def bundles(self):
         numbers = {"installed": 2, "resolved": 4, "starting": 8, "stopping": 16, "active": 32}
-        rows = [f"bundle {b} {numbers[self.history.state(b)]} 1 {b - 1} 1.0.0" for b in range(1, BUNDLES + 1)]
+        there = [b for b in range(1, BUNDLES + 1) if self.history.state(b) != "none"]
+        rows = [f"bundle {b} {numbers[self.history.state(b)]} 1 {b - 1} 1.0.0" for b in there]
         self.ask(0, "bundles", "bundles", lambda: "; ".join(["bundle 0 32 0 system.bundle 1.0.0", *rows]))
 
     def step(self):
@@ -491,6 +519,178 @@ class LifeRows(Rows):
         kinds = [(1, self.resolve), (1, self.wish_start), (6, self.begin_start), (4, self.begin_stop), (8, self.end), (1, self.bundles)]
         return self.random.one_of([call for times, call in kinds for _ in range(times)])()
 
+
+# ---- rows of listeners
+
+class Listening(Life):
+    """Calls of listeners besides, and of hands. What a listener sees is a call too: of one event the lower listeners come first."""
+
+    def __init__(self, handings):
+        super().__init__()
+        self.handings = handings
+
+    # ---- scans
+
+    def added(self):
+        return [call[1:] for call in self.calls if call[0] == "listen"]
+
+    def listeners(self):
+        """The live listeners by rising id, each with its owner, its name, its kind and what its filter asks."""
+        added = enumerate(self.added(), 1)
+        return {listener: row for listener, row in added if ("unlisten", listener) not in self.calls}
+
+    def named(self, owner, name):
+        return [listener for listener, row in self.listeners().items() if row[:2] == (owner, name)]
+
+    def due(self, listener):
+        """The events that the listener sees, each after the number of the call by which it does."""
+        return [(place, call[2]) for place, call in enumerate(self.calls) if call[:2] == ("see", listener)]
+
+    def handed(self, listener):
+        return [call[2] for call in self.calls if call[:2] == ("hand", listener)]
+
+    def waiting(self, listener):
+        return self.due(listener)[len(self.handed(listener)):]
+
+    def turn(self, listener):
+        """The tag of the hand that the listener is in, if it is in one."""
+        tags = [f"{caller}.{opened[0]}" for caller in range(CALLERS) for opened in self.brackets(caller) if opened[1:] == (listener, "handing")]
+        return tags[0] if tags else None
+
+    # ---- calls
+
+    def sees(self, owner, kind, matches, happening):
+        """The event that a listener sees of what happened, if it sees one. No bundle exports a package of the services' classes."""
+        what, code, about = happening
+        if what == "bundle":
+            attributes = {"event.type": code, "bundle.id": about, "bundle.name": str(about - 1)}
+            return f"bundle {code} {about}" if kind == "bundle" and matches(attributes) else None
+        if kind != "all" and (kind, owner) != ("service", self.owner(about)):
+            return None
+        is_matched = matches(self.properties(about))
+        if what == "modified":
+            code = 2 if is_matched else 8
+            is_matched = is_matched or matches(happening[1])
+        return f"service {code} {about}" if is_matched else None
+
+    def happened(self, *happenings):
+        for happening in happenings:
+            for listener, (owner, _, kind, matches) in self.listeners().items():
+                event = self.sees(owner, kind, matches, happening)
+                if event is not None:
+                    self.calls.append(("see", listener, event))
+
+    def release(self, bundle):
+        self.calls += [("unlisten", listener) for listener, row in self.listeners().items() if row[0] == bundle]
+        return super().release(bundle)
+
+    def listen(self, owner, name, kind, matches):
+        if self.named(owner, name):
+            raise Refused("2 InvalidOperation")
+        self.calls.append(("listen", owner, name, kind, matches))
+        return f"listener {len(self.added())}"
+
+    def unlisten(self, owner, name):
+        named = self.named(owner, name)
+        self.calls += [("unlisten", listener) for listener in named]
+        return f"unlisten {str(named != []).lower()}"
+
+    def hand(self, caller, command):
+        waiting = {listener: self.waiting(listener)[0] for listener in self.listeners() if self.waiting(listener)}
+        turns = {listener: self.turn(listener) for listener in waiting}
+        ready = [(event, listener) for listener, event in waiting.items() if turns[listener] is None]
+        if not ready:
+            return "nothing" + "".join(f", {listener} by {tag}" for listener, tag in turns.items())
+        (_, event), listener = min(ready)
+        is_spent = self.handings == len([call for call in self.calls if call[0] == "hand"])
+        if is_spent and len(self.brackets(caller)) < BRACKETS:
+            raise Refused("19 HandingsSpent")
+        self.open(caller, command, listener, "handing")
+        self.calls.append(("hand", listener, event))
+        owner, name, kind, _ = self.listeners()[listener]
+        return f"event {listener} {event}, on {name} {kind.capitalize()} of {owner}, row {max(owner - 1, 0)}"
+
+    def end_hand(self, caller, command, listener):
+        self.close(caller, command, listener, "handing")
+        return "done"
+
+
+def bundle_filter_of(random):
+    """The text of a filter that is asked of bundles' events, and what it asks of their attributes."""
+    number = random.below(4)
+    return random.one_of([
+        ("", lambda a: True),
+        ("", lambda a: True),
+        (f" (bundle.id={number})", lambda a: a["bundle.id"] == number),
+        (f" (Bundle.Name={number})", lambda a: a["bundle.name"] == str(number)),
+        (" (event.type>=32)", lambda a: a["event.type"] >= 32),
+        (" (&(BUNDLE.VERSION>=1)(!(event.type=2)))", lambda a: a["event.type"] != 2),
+        (" (|(bundle.version>=1.0.1)(service.id=*))", lambda a: False),
+    ])
+
+
+class ListeningRows(LifeRows):
+    """Random rows of a machine with bundles and listeners, and their answers."""
+
+    def __init__(self, seed, limit, handings):
+        super().__init__(seed, limit, Listening(handings), handings)
+
+    def prepare(self):
+        for _ in range(4):
+            self.listen()
+        super().prepare()
+
+    def service(self):
+        """A live one, mostly."""
+        live = self.history.live()
+        return self.random.one_of(live) if live and self.random.below(5) != 0 else super().service()
+
+    def listen(self):
+        bundle, name = self.asker(), self.random.one_of("abc")
+        kind = self.random.one_of(["service", "all", "all", "bundle", "bundle", "framework"])
+        text, matches = bundle_filter_of(self.random) if kind in ("bundle", "framework") else filter_of(self.random)
+        answer = self.asked_by(bundle, lambda: self.history.listen(bundle, name, kind, matches))
+        self.record(self.tag()[0], bundle, f"direct AddListener {name} {kind}{text}", "addlistener", bundle, answer)
+
+    def unlisten(self):
+        bundle, name = self.asker(), self.random.one_of("abc")
+        answer = self.asked_by(bundle, lambda: self.history.unlisten(bundle, name))
+        self.record(self.tag()[0], bundle, f"direct RemoveListener {name}", "removelistener", bundle, answer)
+
+    def hand(self):
+        tag, caller, command = self.tag()
+        self.ask(self.bundle(), "direct Hand", "hand", lambda: self.history.hand(caller, command), tag)
+
+    def end_hand(self, caller, command, listener):
+        tag = f"{caller}.{command}"
+        self.ask(0, f"direct EndHand {listener}", "endhand", lambda: self.history.end_hand(caller, command, listener), tag)
+
+    def end(self):
+        """An end, mostly of the innermost bracket of its caller."""
+        _, caller, command = self.tag()
+        opened = self.history.brackets(caller)
+        if self.random.below(6) == 0:
+            self.end_hand(caller, command, 1 + self.random.below(6))
+        elif opened and opened[-1][2] == "handing":
+            self.end_hand(caller, *opened[-1][:2])
+        else:
+            super().end()
+
+    def step(self):
+        if self.random.below(5) < 2:
+            kinds = [(6, self.register), (9, self.modify), (3, self.unregister), (1, self.get), (1, self.find)]
+            return self.random.one_of([call for times, call in kinds for _ in range(times)])(self.asker())
+        kinds = [(1, self.resolve), (8, self.begin_start), (3, self.begin_stop), (1, self.bundles), (3, self.listen), (1, self.unlisten),
+                 (9, self.hand), (14, self.end)]
+        return self.random.one_of([call for times, call in kinds for _ in range(times)])()
+
+    def end_of_history(self):
+        super().end_of_history()
+        for listener in range(1, len(self.history.added()) + 2):
+            self.rows.append((f"handed {listener}", "; ".join(self.history.handed(listener)) or "none"))
+
+
+# ---- rows of as many brackets as there may be
 
 def deep_rows(most):
     """Rows of a machine on which a caller begins as many starts, one within another, as it may."""
@@ -512,7 +712,13 @@ def deep_rows(most):
         (f"0.5 0 stop {last}", f"idle {last}"),
         ("0.5 0 direct BeginStart", "active 0"),
         ("0.5 0 direct TakeJob", "no job"),
+        ("0.5 0 direct Hand", "nothing"),
+        ("0.5 0 direct AddListener l bundle (event.type=128)", "listener 1"),
         (f"1.6 {last} direct BeginStart", f"starting {last}, row {last - 1}"),
+        ("0.6 0 direct Hand", "refused 16 TooDeep"),
+        ("1.6 0 direct Hand", f"event 1 bundle 128 {last}, on l Bundle of 0, row 0"),
+        ("0.6 0 direct Hand", "nothing"),
+        ("1.6 0 direct EndHand 1", "done"),
         (f"1.6 {last} direct EndStart", f"started {last}"),
         (f"0.7 {last} direct BeginStart", f"active {last}"),
         (f"0.7 0 stop {last}", "refused 16 TooDeep"),
@@ -524,6 +730,44 @@ def deep_rows(most):
         (f"0.8 {last} direct EndStop", f"stopped {last}"),
         (f"0.9 {most} direct BeginStart", f"starting {most}, row {most - 1}"),
         (f"0.10 {last} direct BeginStart", "refused 16 TooDeep"),
+        ("0.10 0 direct Hand", "refused 16 TooDeep"),
+    ]
+
+
+def nested_hands(most, handings):
+    """Rows of a machine on which a caller is handed an event as often, one hand within another, as it may. One more listener sees it."""
+    rows = [(f"core_of 1000 0 {handings}", "begun")]
+    rows += [(f"0.1 0 direct AddListener l{n} all", f"listener {n}") for n in range(1, most + 2)]
+    rows += [('0.2 0 register a.A "x"', "service 1")]
+    return rows + [("0.3 0 direct Hand", f"event {n} service 1 1, on l{n} All of 0, row 0") for n in range(1, most + 1)]
+
+
+def deep_hand_rows(most):
+    """Rows of machines on which a caller has as many hands open as it may, and more may be handed, or may not."""
+    last = most + 1
+    return nested_hands(most, most + 2) + [
+        ("0.4 0 direct Hand", "refused 16 TooDeep"),
+        # Another caller has brackets of its own, and where nothing is to be handed nothing is refused.
+        ("1.5 0 direct Hand", f"event {last} service 1 1, on l{last} All of 0, row 0"),
+        ("0.6 0 direct Hand", "nothing"),
+        ("0.7 0 modify 1", "modified 1"),
+        ("0.8 0 direct Hand", "nothing" + "".join(f", {n} by 0.3" for n in range(1, last)) + f", {last} by 1.5"),
+        (f"1.5 0 direct EndHand {last}", "done"),
+        ("0.9 0 direct Hand", "refused 16 TooDeep"),
+        # With one bracket less there is room for another.
+        (f"0.3 0 direct EndHand {most}", "done"),
+        ("0.10 0 direct Hand", f"event {most} service 2 1, on l{most} All of 0, row 0"),
+        ("0.11 0 direct Hand", "refused 16 TooDeep"),
+        ("1.11 0 direct Hand", "refused 19 HandingsSpent"),
+        (f"0.12 0 direct RemoveListener l{last}", "unlisten true"),
+        ("0.13 0 direct Hand", "nothing" + "".join(f", {n} by 0.3" for n in range(1, most))),
+    ] + nested_hands(most, most) + [
+        ("0.4 0 direct Hand", "refused 16 TooDeep"),
+        ("1.5 0 direct Hand", "refused 19 HandingsSpent"),
+        (f"0.3 0 direct EndHand {most}", "done"),
+        ("0.6 0 direct Hand", "refused 19 HandingsSpent"),
+        (f"0.7 0 direct RemoveListener l{last}", "unlisten true"),
+        ("0.8 0 direct Hand", "nothing"),
     ]
 
 
@@ -557,6 +801,14 @@ def machine_rows(seed, calls, limit):
 
 def life_rows(seed, calls, limit):
     rows = LifeRows(seed, limit)
+    for _ in range(calls):
+        rows.step()
+    rows.end_of_history()
+    return rows.rows
+
+
+def listening_rows(seed, calls, limit, handings):
+    rows = ListeningRows(seed, limit, handings)
     for _ in range(calls):
         rows.step()
     rows.end_of_history()

@@ -3,16 +3,22 @@
 What is answered is written here a second time, by the rules of docs/FRAMEWORK.md alone, for bundles that need nothing of each
 other: each imports the framework's package, so that it sees classes of that package as all others do, and sees no other package.
 Commands of the console and statements of scripts are tuples of a word and its arguments; a service is named by its id in a
-command, and by a variable in a statement. Nothing is taken from the program's own output.
+command, and by a variable in a statement. A filter of a listener is None, or whether an attribute is to have a value, with its name
+and the value. Nothing is taken from the program's own output.
 """
 FRAMEWORK = "org.osgi.framework"
 MAX_BRACKETS = 64
 MISSING = "none.such"  # a package that nobody exports
 STATES = {"installed": 2, "resolved": 4, "starting": 8, "stopping": 16, "active": 32}
+UP = ["starting", "stopping", "active"]
 
 
 class Refused(Exception):
     """A plan was refused, or a section was told to fail."""
+
+
+class Spent(Exception):
+    """No more events may be handed: the line is cut, and no other line is run."""
 
 
 class Bundle:
@@ -30,30 +36,60 @@ class Service:
     def ranking(self):
         return self.properties.get("service.ranking", 0)
 
+    def is_open_to(self, asker):
+        """Whether owner and asker have the packages of its classes from the same bundle."""
+        return self.owner == asker or all(it.startswith(f"{FRAMEWORK}.") for it in self.classes)
+
+    def attributes(self, number):
+        """What filters of listeners see of it now."""
+        own = {"objectClass": self.classes, "service.id": number, "service.bundleid": self.owner, "service.scope": "singleton"}
+        return {**self.properties, **own}
+
+
+class Listener:
+    def __init__(self, owner, name, kind, asked):
+        self.owner, self.name, self.kind, self.asked = owner, name, kind, asked
+
+    def passes(self, attributes):
+        """Whether its filter matches; of a list one element has to be the value."""
+        if self.asked is None:
+            return True
+        is_wanted, name, value = self.asked
+        has = attributes.get(name)
+        return (value in has if isinstance(has, list) else value == has) == is_wanted
+
 
 class Session:
-    """The lines of one session. Bundle 0 is the system bundle."""
+    """The lines of one session, which may hand so many events to listeners. Bundle 0 is the system bundle."""
 
-    def __init__(self, bundles):
+    def __init__(self, bundles, handings):
         self.bundles = {0: Bundle("system.bundle", (1, 0, 0), {}, False, False, []), **bundles}
         self.states = {0: "active"}
         self.begun = {}  # the number of the line that last began a start or a stop of a bundle
         self.services = {}  # those that are live, by their ids
         self.registered = 0
         self.uses = {}  # by user and service
+        self.listeners = {}  # those that are live, by their ids
+        self.added = 0
+        self.waiting = []  # what is still to be handed, the earliest first: a listener, an event, and its service or 0
+        self.turns = []  # the listeners that are being handed an event
+        self.handings = handings
         self.depth = 0
         self.number = 0
         self.written = []
-        self.is_troubled = False
+        self.is_troubled = self.is_spent = False
 
     # ---- what is written
 
     def tell(self, text):
         self.written.append("  " * self.depth + text)
 
-    def refuse(self, text):
+    def tell_refusal(self, text):
         self.tell(f"refused {text}")
         self.is_troubled = True
+
+    def refuse(self, text):
+        self.tell_refusal(text)
         raise Refused
 
     def refuse_where(self, is_so, text):
@@ -63,8 +99,10 @@ class Session:
     # ---- bundles
 
     def install(self, bundle):
+        is_new = bundle not in self.states
         self.states.setdefault(bundle, "installed")
         self.tell(f"bundle {bundle}")
+        self.happen(*[self.of_bundle(1, bundle)] * is_new)
 
     def named(self, target):
         """The bundle that an id or a name stands for: of one name the highest version. There has to be one."""
@@ -83,6 +121,7 @@ class Session:
         self.refuse_where(self.bundles[bundle].is_missing, f"9 Unresolvable NoCandidate osgi.wiring.package {MISSING}")
         self.states[bundle] = "resolved"
         self.tell(f"resolved {bundle}")
+        self.happen(self.of_bundle(32, bundle))
 
     def start(self, target):
         bundle = self.named(target)
@@ -91,12 +130,18 @@ class Session:
         if self.states[bundle] == "active":
             return self.tell(f"active {bundle}")
         self.resolve(bundle)
-        has_failed = self.between(bundle, "starting", "start")
+        self.settled(bundle)  # a listener may have started it, and more
+        if self.states[bundle] == "active":
+            return self.tell(f"active {bundle}")
+        has_failed = self.between(bundle, "starting", "start", 128)
         self.states[bundle] = "resolved" if has_failed else "active"
-        if has_failed:
-            self.clean(bundle)
-            self.refuse("11 ActivatorError")
-        self.tell(f"started {bundle}")
+        if not has_failed:
+            self.tell(f"started {bundle}")
+            return self.happen(self.of_bundle(2, bundle))
+        gone = self.clean(bundle)
+        self.tell_refusal("11 ActivatorError")
+        self.happen(self.of_bundle(256, bundle), *gone, self.of_bundle(4, bundle))
+        raise Refused
 
     def stop(self, target):
         bundle = self.named(target)
@@ -104,32 +149,38 @@ class Session:
         self.settled(bundle)
         if self.states[bundle] != "active":
             return self.tell(f"idle {bundle}")
-        has_failed = self.between(bundle, "stopping", "stop")
+        has_failed = self.between(bundle, "stopping", "stop", 256)
         self.states[bundle] = "resolved"
-        self.clean(bundle)
-        self.refuse_where(has_failed, "11 ActivatorError")
-        self.tell(f"stopped {bundle}")
+        gone = self.clean(bundle)
+        if has_failed:
+            self.tell_refusal("11 ActivatorError")
+        else:
+            self.tell(f"stopped {bundle}")
+        self.happen(*gone, self.of_bundle(4, bundle))
+        if has_failed:
+            raise Refused
 
-    def between(self, bundle, state, section):
-        """Runs the section of a start or of a stop, and says whether it failed."""
+    def between(self, bundle, state, section, code):
+        """Begins a start or a stop, runs its section, and says whether that failed."""
         self.refuse_where(self.depth == MAX_BRACKETS, "16 TooDeep")
         self.tell(f"{state} {bundle}")
         self.states[bundle], self.begun[bundle] = state, self.number
         self.depth += 1
-        try:
-            held = {}
-            for word, *words in self.bundles[bundle].sections.get(section, []):
-                self.do_statement(bundle, held, word, words)
-        except Refused:
-            return True
-        finally:
-            self.depth -= 1
-        return False
+        self.happen(self.of_bundle(code, bundle))
+        has_failed = self.run_section(bundle, section, {})
+        self.depth -= 1
+        return has_failed
 
     def clean(self, bundle):
-        for service in [it for it, row in self.services.items() if row.owner == bundle]:
-            self.remove(service)
+        """Takes out what a bundle has at run time, and gives back what happens to its services, by rising id."""
+        owned = [it for it, row in sorted(self.services.items()) if row.owner == bundle]
+        gone = [self.of_service(it, (4, self.services[it].attributes(it))) for it in owned]
+        for it in owned:
+            self.remove(it)
         self.uses = {pair: count for pair, count in self.uses.items() if pair[0] != bundle}
+        for it in [it for it, row in self.listeners.items() if row.owner == bundle]:
+            self.remove_listener(it)
+        return gone
 
     def load(self, bundle, name):
         self.refuse_where(name.startswith("java."), "2 InvalidOperation")
@@ -146,9 +197,11 @@ class Session:
     def register(self, owner, classes, text, properties):
         self.refuse_where(are_twins(properties), "14 BadProperties")
         self.registered += 1
-        self.services[self.registered] = Service(owner, classes, text, properties)
-        self.tell(f"service {self.registered}")
-        return self.registered
+        number = self.registered
+        self.services[number] = Service(owner, classes, text, properties)
+        self.tell(f"service {number}")
+        self.happen(self.of_service(number, (1, self.services[number].attributes(number))))
+        return number
 
     def owned(self, owner, service):
         self.refuse_where(service not in self.services, "13 NoSuchService")
@@ -157,13 +210,18 @@ class Session:
     def modify(self, owner, service, properties):
         self.owned(owner, service)
         self.refuse_where(are_twins(properties), "14 BadProperties")
-        self.services[service].properties = properties
+        row = self.services[service]
+        old = row.attributes(service)
+        row.properties = properties
         self.tell(f"modified {service}")
+        self.happen(self.of_service(service, (2, row.attributes(service)), (8, old)))
 
     def unregister(self, owner, service):
         self.owned(owner, service)
+        gone = self.of_service(service, (4, self.services[service].attributes(service)))
         self.remove(service)
         self.tell(f"unregistered {service}")
+        self.happen(gone)
 
     def remove(self, service):
         del self.services[service]
@@ -176,9 +234,7 @@ class Session:
         return sorted(ids, key=lambda it: (-self.services[it].ranking(), it))
 
     def find(self, asker, name, size):
-        def is_open(row):
-            return row.owner == asker or all(it.startswith(f"{FRAMEWORK}.") for it in row.classes)
-        found = self.found(name, size, is_open)[:1]
+        found = self.found(name, size, lambda row: row.is_open_to(asker))[:1]
         self.tell(f"found {found[0] if found else 'none'}")
         return found[0] if found else 0
 
@@ -201,7 +257,77 @@ class Session:
         if not self.services:
             self.tell("none")
 
+    # ---- listeners and events
+
+    def listen(self, owner, name, kind, asked):
+        self.refuse_where(any((row.owner, row.name) == (owner, name) for row in self.listeners.values()), "2 InvalidOperation")
+        self.added += 1
+        self.listeners[self.added] = Listener(owner, name, kind, asked)
+        self.tell(f"listener {self.added}")
+
+    def unlisten(self, owner, name):
+        ids = [it for it, row in self.listeners.items() if (row.owner, row.name) == (owner, name)]
+        for it in ids:
+            self.remove_listener(it)
+        self.tell(f"unlisten {'true' if ids else 'false'}")
+
+    def remove_listener(self, listener):
+        del self.listeners[listener]
+        self.waiting = [it for it in self.waiting if it[0] != listener]
+
+    def of_service(self, service, *seen):
+        """What happens to a service: who may see it, and as which code it is seen, the first whose attributes pass."""
+        row = self.services[service]
+
+        def may_see(listener):
+            return listener.kind == "all" or listener.kind == "service" and row.is_open_to(listener.owner)
+        return may_see, [(f"service {code} {service}", attributes) for code, attributes in seen], service
+
+    def of_bundle(self, code, bundle):
+        row = self.bundles[bundle]
+        attributes = {"event.type": code, "bundle.id": bundle, "bundle.name": row.name, "bundle.version": row.version}
+        return lambda listener: listener.kind == "bundle", [(f"bundle {code} {bundle}", attributes)], 0
+
+    def happen(self, *happenings):
+        """What happens at one entry, in order: it is decided now who sees it, and then handed."""
+        for may_see, events, service in happenings:
+            for it, row in sorted(self.listeners.items()):
+                seen = [event for event, attributes in events if row.passes(attributes)]
+                if may_see(row) and seen:
+                    self.waiting.append((it, seen[0], service))
+        self.drain()
+
+    def drain(self):
+        """Hands what waits to listeners that are in no turn, one event after another."""
+        while ready := [it for it in self.waiting if it[0] not in self.turns]:
+            if self.depth == MAX_BRACKETS:
+                return self.tell_refusal("16 TooDeep")
+            if self.handings == 0:
+                self.tell_refusal("19 HandingsSpent")
+                raise Spent
+            self.hand(*ready[0])
+
+    def hand(self, listener, event, service):
+        self.waiting.remove((listener, event, service))
+        self.handings -= 1
+        self.tell(f"event {listener} {event}")
+        self.turns.append(listener)
+        self.depth += 1
+        row = self.listeners[listener]
+        self.run_section(row.owner, f"on {row.name}", {"event": service})
+        self.depth -= 1
+        self.turns.remove(listener)
+
     # ---- commands and statements
+
+    def run_section(self, bundle, section, held):
+        """Runs the statements of a section, if there is one, and says whether it failed."""
+        try:
+            for word, *words in self.bundles[bundle].sections.get(section, []):
+                self.do_statement(bundle, held, word, words)
+        except Refused:
+            return True
+        return False
 
     def do(self, owner, word, words):
         """What both the console and scripts have."""
@@ -214,12 +340,16 @@ class Session:
             self.refuse("2 InvalidOperation")  # an operation that has not come
 
     def do_statement(self, owner, held, word, words):
+        is_asking = word not in ("start", "stop", "load")
+        self.refuse_where(is_asking and self.states[owner] not in UP, "2 InvalidOperation")
         if word in ("register", "find"):
             held[words[0]] = {"register": self.register, "find": self.find}[word](owner, *words[1:])
         elif word in ("modify", "unregister", "get", "unget"):
             self.do(owner, word, [held.get(words[0], 0), *words[1:]])
         elif word == "load":
             self.load(owner, *words)
+        elif word in ("listen", "unlisten"):
+            {"listen": self.listen, "unlisten": self.unlisten}[word](owner, *words)
         elif word == "print":
             self.tell(*words)
         elif word == "fail":
@@ -247,13 +377,24 @@ class Session:
         """Runs lines: a tuple for each, or None where it is no command and no empty line."""
         for self.number, line in enumerate(lines, 1):
             if line is None:
-                self.tell("syntax")
+                self.written.append("syntax")
                 self.is_troubled = True
-                continue
-            try:
+            else:
+                self.run_line(line)
+
+    def run_line(self, line):
+        try:
+            if not self.is_spent:
                 self.do_command(line[0], line[1:])
-            except Refused:
-                pass
+        except Refused:
+            pass
+        except Spent:
+            self.is_spent = True
+        if self.is_spent:
+            self.written.append("full")
+
+    def status(self):
+        return 7 if self.is_spent else 1 if self.is_troubled else 0
 
 
 def are_twins(properties):

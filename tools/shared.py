@@ -8,6 +8,7 @@ import sys
 
 OSGI = os.path.join(os.path.dirname(os.path.dirname(os.path.realpath(__file__))), "osgi")
 MOST = 1_000_000_000  # the greatest budget
+MOST_HANDINGS = 1_000_000
 
 
 def end_quietly(main):
@@ -27,11 +28,20 @@ def end_quietly(main):
     sys.exit(status)
 
 
+def number(text, most, what):
+    if not re.fullmatch("[0-9]{1,10}", text) or not 1 <= int(text) <= most:
+        raise argparse.ArgumentTypeError(f"the {what} is a number from 1 to {most}")
+    return int(text)
+
+
 def budget(text):
     """The limit on the effort of a resolve, of the word of `--budget`."""
-    if not re.fullmatch("[0-9]{1,10}", text) or not 1 <= int(text) <= MOST:
-        raise argparse.ArgumentTypeError(f"the budget is a number from 1 to {MOST}")
-    return int(text)
+    return number(text, MOST, "budget")
+
+
+def handings(text):
+    """The limit on the events that are handed in a session, of the word of `--handings`."""
+    return number(text, MOST_HANDINGS, "limit on handed events")
 
 
 def refuse_jars(parser, paths):

@@ -1,52 +1,14 @@
 //! Calls of the live listeners.
 
 use crate::kept::Kept;
+use crate::words::{code, kind_of, number, small, tag_of};
 use cases_text::{number_of, put, split_at, split_word, text_of};
-use osgi_base::{BundleId, ListenerId, Tag};
+use osgi_base::{BundleId, ListenerId};
+use osgi_filter::parse;
 use osgi_listeners::Sight;
+use osgi_model::Filter;
 use osgi_ops::{Event, Kind};
 use std::alloc::{AllocError, Global};
-
-/// The number that a word writes; 0 where it writes none.
-fn number(word: &str) -> u64 {
-    number_of(word).unwrap_or(0)
-}
-
-fn small(word: &str) -> u32 {
-    u32::try_from(number(word)).unwrap_or(u32::MAX)
-}
-
-fn code(word: &str) -> u8 {
-    u8::try_from(number(word)).unwrap_or(u8::MAX)
-}
-
-/// The kinds by their words.
-const KINDS: [(&str, Kind); 4] = [
-    ("service", Kind::Service),
-    ("all", Kind::All),
-    ("bundle", Kind::Bundle),
-    ("framework", Kind::Framework),
-];
-
-/// The kind of a word; that of the framework's events for any other.
-fn kind_of(word: &str) -> Kind {
-    for (name, kind) in KINDS {
-        if name == word {
-            return kind;
-        }
-    }
-    Kind::Framework
-}
-
-fn tag_of<'a>(text: &'a str) -> (Tag, &'a str) {
-    let (caller, rest) = split_word(text);
-    let (command, rest) = split_word(rest);
-    let tag = Tag {
-        caller: small(caller),
-        command: small(command),
-    };
-    (tag, rest)
-}
 
 fn ids_of(alloc: Global, words: &str) -> Result<Vec<u32>, AllocError> {
     let mut ids = Vec::new(alloc);
@@ -75,11 +37,18 @@ fn sights_of(alloc: Global, words: &str) -> Result<Vec<Sight>, AllocError> {
     Ok(sights)
 }
 
+/// The filter that a text writes; none where it writes none.
+fn filter_of(alloc: Global, text: &str) -> Result<Option<Filter>, AllocError> {
+    Ok(parse(alloc, text.as_bytes())?.ok())
+}
+
 fn add(alloc: Global, out: &mut String, kept: &mut Kept, text: &str) -> Result<(), AllocError> {
     let (owner, rest) = split_word(text);
-    let (name, kind) = split_word(rest);
+    let (name, rest) = split_word(rest);
+    let (kind, filter) = split_word(rest);
     let name = text_of(alloc, name)?;
-    kept.add(out, BundleId(small(owner)), name, kind_of(kind))
+    let filter = filter_of(alloc, filter)?;
+    kept.add(out, BundleId(small(owner)), name, kind_of(kind), filter)
 }
 
 fn fill(alloc: Global, out: &mut String, kept: &mut Kept, count: u32) -> Result<(), AllocError> {
@@ -88,7 +57,7 @@ fn fill(alloc: Global, out: &mut String, kept: &mut Kept, count: u32) -> Result<
         let name = format!(in alloc; "{number}")?;
         let name = text_of(alloc, name.as_str())?;
         answer.clear();
-        kept.add(&mut answer, BundleId(9), name, Kind::Framework)?;
+        kept.add(&mut answer, BundleId(9), name, Kind::Framework, None)?;
     }
     put(out, answer.as_str())
 }
@@ -133,6 +102,8 @@ fn add_change(
         remove(alloc, out, kept, rest)
     } else if word == "remove_all" {
         kept.remove_all(out, BundleId(small(rest)))
+    } else if word == "reserve" {
+        kept.reserve(out, number(rest))
     } else if word == "see" {
         see(alloc, out, kept, rest)
     } else if word == "post" {
@@ -146,6 +117,45 @@ fn add_change(
     }
 }
 
+/// The bundle whose listeners go; none where no number stands for it.
+fn bundle_if_any(word: &str) -> Option<BundleId> {
+    number_of(word).map(|number| BundleId(u32::try_from(number).unwrap_or(u32::MAX)))
+}
+
+fn seen(alloc: Global, out: &mut String, kept: &Kept, text: &str) -> Result<(), AllocError> {
+    let (removed, words) = split_word(text);
+    kept.seen(alloc, out, words, bundle_if_any(removed))
+}
+
+/// Adds what a call answers that asks before a change.
+fn add_question(
+    alloc: Global,
+    out: &mut String,
+    kept: &mut Kept,
+    word: &str,
+    rest: &str,
+) -> Result<(), AllocError> {
+    let (owner, name) = split_word(rest);
+    let owner = BundleId(small(owner));
+    if word == "ready" {
+        kept.ready(out)
+    } else if word == "next" {
+        kept.next(out)
+    } else if word == "busy" {
+        kept.busy(out)
+    } else if word == "next_id" {
+        kept.next_id(out)
+    } else if word == "has" {
+        kept.has(out, owner, &text_of(alloc, name)?)
+    } else if word == "refusal" {
+        kept.add_refusal(out, owner, &text_of(alloc, name)?)
+    } else if word == "seen" {
+        seen(alloc, out, kept, rest)
+    } else {
+        add_change(alloc, out, kept, word, rest)
+    }
+}
+
 /// Adds what a call answers.
 fn add_call(
     alloc: Global,
@@ -154,11 +164,7 @@ fn add_call(
     call: &str,
 ) -> Result<(), AllocError> {
     let (word, rest) = split_word(call);
-    if word == "ready" {
-        kept.ready(out)
-    } else if word == "next" {
-        kept.next(out)
-    } else if word == "count" {
+    if word == "count" {
         kept.count(out)
     } else if word == "at" {
         kept.at(out, number(rest) as usize)
@@ -169,7 +175,7 @@ fn add_call(
     } else if word == "kind" {
         kept.of_kind(out, kind_of(rest))
     } else {
-        add_change(alloc, out, kept, word, rest)
+        add_question(alloc, out, kept, word, rest)
     }
 }
 

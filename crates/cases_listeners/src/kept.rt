@@ -2,10 +2,14 @@
 
 ghost use Rattle.std.specs.Prelude.{◌+◌, ◌≤◌};
 
-use crate::shown::{put_hand, put_handed, put_ids, put_refusal, put_row, put_truth};
+use crate::seeing::seen;
+use crate::shown::{
+    put_busy, put_hand, put_handed, put_ids, put_refusal, put_row, put_sights, put_truth,
+};
 use cases_text::{put, put_shown};
 use osgi_base::{BundleId, ListenerId, Tag, Text};
 use osgi_listeners::{ENTRY_PLACES, Listeners, Sight, are_in_order};
+use osgi_model::Filter;
 use osgi_ops::{Event, Kind};
 use std::alloc::{AllocError, Global};
 
@@ -31,12 +35,13 @@ impl Kept {
         owner: BundleId,
         name: Text,
         kind: Kind,
+        filter: Option<Filter>,
     ) -> Result<(), AllocError> {
         let Some(left) = self.left.checked_sub(1) else {
             return put(out, "no ids left");
         };
         self.left = left;
-        match self.listeners.add(owner, name, kind, None)? {
+        match self.listeners.add(owner, name, kind, filter)? {
             Ok(id) => put_shown(out, &id.0),
             Err(refusal) => put_refusal(out, &refusal),
         }
@@ -54,6 +59,11 @@ impl Kept {
 
     pub fn remove_all(&mut self, out: &mut String, owner: BundleId) -> Result<(), AllocError> {
         self.listeners.remove_all(owner);
+        put(out, "ok")
+    }
+
+    pub fn reserve(&mut self, out: &mut String, events: u64) -> Result<(), AllocError> {
+        self.listeners.reserve(events)?;
         put(out, "ok")
     }
 
@@ -92,6 +102,46 @@ impl Kept {
             }
         })?;
         put(out, "ok")
+    }
+
+    pub fn seen(
+        &self,
+        alloc: Global,
+        out: &mut String,
+        words: &str,
+        removed: Option<BundleId>,
+    ) -> Result<(), AllocError> {
+        let sights = seen(alloc, &self.listeners, words, removed)?;
+        put_sights(out, &sights)
+    }
+
+    pub fn has(&self, out: &mut String, owner: BundleId, name: &Text) -> Result<(), AllocError> {
+        put_truth(out, self.listeners.has(owner, name))
+    }
+
+    pub fn add_refusal(
+        &self,
+        out: &mut String,
+        owner: BundleId,
+        name: &Text,
+    ) -> Result<(), AllocError> {
+        match self.listeners.add_refusal(owner, name) {
+            Some(refusal) => put_refusal(out, &refusal),
+            None => put(out, "none"),
+        }
+    }
+
+    pub fn next_id(&self, out: &mut String) -> Result<(), AllocError> {
+        if self.left == 0 {
+            return put(out, "no ids left");
+        }
+        put_shown(out, &self.listeners.next_id().0)
+    }
+
+    pub fn busy(&self, out: &mut String) -> Result<(), AllocError> {
+        let busy = self.listeners.busy()?;
+        put(out, "busy")?;
+        put_busy(out, busy.items())
     }
 
     pub fn ready(&self, out: &mut String) -> Result<(), AllocError> {

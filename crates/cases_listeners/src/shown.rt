@@ -2,7 +2,7 @@
 
 use cases_text::{put, put_shown, put_text};
 use osgi_base::ListenerId;
-use osgi_listeners::{HandAnswer, ListenerRow};
+use osgi_listeners::{HandAnswer, ListenerRow, Sight};
 use osgi_ops::{Busy, Event, Refusal};
 use std::alloc::AllocError;
 
@@ -45,14 +45,21 @@ pub fn put_handed(out: &mut String, listener: ListenerId, event: Event) -> Resul
     put_shown(out, &code_of(event))
 }
 
-fn put_busy(out: &mut String, busy: &Busy) -> Result<(), AllocError> {
+fn put_turn(out: &mut String, turn: &Busy) -> Result<(), AllocError> {
     put(out, " (")?;
-    put_shown(out, &busy.listener.0)?;
+    put_shown(out, &turn.listener.0)?;
     put(out, " by ")?;
-    put_shown(out, &busy.tag.caller)?;
+    put_shown(out, &turn.tag.caller)?;
     put(out, " ")?;
-    put_shown(out, &busy.tag.command)?;
+    put_shown(out, &turn.tag.command)?;
     put(out, ")")
+}
+
+pub fn put_busy(out: &mut String, busy: &[Busy]) -> Result<(), AllocError> {
+    for turn in busy {
+        put_turn(out, turn)?;
+    }
+    Ok(())
 }
 
 pub fn put_hand(out: &mut String, answer: &HandAnswer) -> Result<(), AllocError> {
@@ -60,10 +67,7 @@ pub fn put_hand(out: &mut String, answer: &HandAnswer) -> Result<(), AllocError>
         HandAnswer::Handed { listener, event } => put_handed(out, *listener, *event),
         HandAnswer::Nothing { busy } => {
             put(out, "nothing")?;
-            for turn in busy.items() {
-                put_busy(out, turn)?;
-            }
-            Ok(())
+            put_busy(out, busy.items())
         }
     }
 }
@@ -74,4 +78,35 @@ pub fn put_row(out: &mut String, row: &ListenerRow) -> Result<(), AllocError> {
     put_shown(out, &row.owner.0)?;
     put(out, " ")?;
     put_text(out, &row.name)
+}
+
+/// The id of the service or of the bundle that an event is of.
+fn subject_of(event: Event) -> Option<u64> {
+    match event {
+        Event::Service { service, .. } => Some(service.0),
+        Event::Bundle { bundle, .. } => Some(u64::from(bundle.0)),
+        Event::Framework { .. } => None,
+    }
+}
+
+fn put_sight(out: &mut String, sight: &Sight) -> Result<(), AllocError> {
+    put_shown(out, &sight.place)?;
+    put(out, ":")?;
+    put_shown(out, &sight.listener.0)?;
+    put(out, ":")?;
+    put_shown(out, &code_of(sight.event))?;
+    if let Some(id) = subject_of(sight.event) {
+        put(out, "/")?;
+        put_shown(out, &id)?;
+    }
+    Ok(())
+}
+
+pub fn put_sights(out: &mut String, sights: &[Sight]) -> Result<(), AllocError> {
+    put(out, "seen")?;
+    for sight in sights {
+        put(out, " ")?;
+        put_sight(out, sight)?;
+    }
+    Ok(())
 }

@@ -1,5 +1,6 @@
 //! Operations that the framework has, and that no command of the console is.
 
+use crate::listening::listening;
 use cases_text::{split_word, text_of};
 use osgi_base::{BundleId, Text};
 use osgi_ops::{Op, Target};
@@ -50,6 +51,9 @@ fn wordy(name: &str, bundle: BundleId, text: Text) -> Option<Op> {
 /// The operation that a text asks for, about the bundle.
 pub fn direct(alloc: Global, text: &str, bundle: BundleId) -> Result<Option<Op>, AllocError> {
     let (name, rest) = split_word(text);
+    if let Some(op) = listening(alloc, name, rest, bundle)? {
+        return Ok(Some(op));
+    }
     match plain(name, rest, bundle) {
         Some(op) => Ok(Some(op)),
         None => Ok(wordy(name, bundle, text_of(alloc, rest)?)),

@@ -1,15 +1,13 @@
 //! Operations that the framework does not have yet, which no command of the console says.
 
 use cases_text::text_of;
-use osgi_base::{BundleId, List, ListenerId, Text};
-use osgi_ops::{Kind, Op, Scope};
+use osgi_base::{BundleId, List, Text};
+use osgi_ops::{Op, Scope};
 use std::alloc::{AllocError, Global};
 
 /// Operations that have neither a text nor a list.
 #[derive(Clone, Copy)]
 enum Plain {
-    Hand,
-    EndHand,
     EndJob,
     Uninstall,
     DropWirings,
@@ -24,15 +22,11 @@ enum Plain {
 /// Operations that have a text.
 #[derive(Clone, Copy)]
 enum Wordy {
-    AddListener,
-    RemoveListener,
     QueueJob,
     Update,
 }
 
-const PLAIN: [(&str, Plain); 11] = [
-    ("Hand", Plain::Hand),
-    ("EndHand", Plain::EndHand),
+const PLAIN: [(&str, Plain); 9] = [
     ("EndJob", Plain::EndJob),
     ("Uninstall", Plain::Uninstall),
     ("DropWirings", Plain::DropWirings),
@@ -44,12 +38,7 @@ const PLAIN: [(&str, Plain); 11] = [
     ("SetBundleLevel", Plain::SetBundleLevel),
 ];
 
-const WORDY: [(&str, Wordy); 4] = [
-    ("AddListener", Wordy::AddListener),
-    ("RemoveListener", Wordy::RemoveListener),
-    ("QueueJob", Wordy::QueueJob),
-    ("Update", Wordy::Update),
-];
+const WORDY: [(&str, Wordy); 2] = [("QueueJob", Wordy::QueueJob), ("Update", Wordy::Update)];
 
 fn plain_named(name: &str) -> Option<Plain> {
     for (word, plain) in &PLAIN {
@@ -71,10 +60,6 @@ fn wordy_named(name: &str) -> Option<Wordy> {
 
 fn plain_op(plain: Plain, bundle: BundleId) -> Op {
     match plain {
-        Plain::Hand => Op::Hand,
-        Plain::EndHand => Op::EndHand {
-            listener: ListenerId(1),
-        },
         Plain::EndJob => Op::EndJob,
         Plain::Uninstall => Op::Uninstall { bundle },
         Plain::DropWirings => Op::DropWirings,
@@ -89,13 +74,6 @@ fn plain_op(plain: Plain, bundle: BundleId) -> Op {
 
 fn wordy_op(wordy: Wordy, owner: BundleId, text: Text) -> Op {
     match wordy {
-        Wordy::AddListener => Op::AddListener {
-            owner,
-            name: text,
-            kind: Kind::Bundle,
-            filter: None,
-        },
-        Wordy::RemoveListener => Op::RemoveListener { owner, name: text },
         Wordy::QueueJob => Op::QueueJob { owner, name: text },
         Wordy::Update => Op::Update {
             bundle: owner,

@@ -1,8 +1,10 @@
 //! What the machine answers, and its history.
 
-use cases_operations::{add_checked, add_shown, are_shown_alike, entry_of};
+use crate::hands::{add_nothing, add_section};
+use crate::listening::numbered;
+use cases_operations::{add_checked, are_shown_alike, entry_of};
 use cases_text::{complain, put, put_shown};
-use osgi_base::Tag;
+use osgi_base::{BundleId, Tag};
 use osgi_core::Core;
 use osgi_ops::{Entry, Op, Reply};
 use std::alloc::{AllocError, Global};
@@ -26,10 +28,20 @@ fn is_last(alloc: Global, entries: &[Entry], entry: &Entry) -> Result<bool, Allo
     }
 }
 
+/// Adds that a hand has ended.
+fn add_ended(out: &mut String, op: &Op) -> Result<(), AllocError> {
+    match op {
+        Op::EndHand { .. } => put(out, "done"),
+        _ => Ok(()),
+    }
+}
+
 /// Adds an answer that the console writes nothing of.
-fn add_unwritten(out: &mut String, reply: &Reply) -> Result<(), AllocError> {
-    match reply {
+fn add_unwritten(out: &mut String, entry: &Entry) -> Result<(), AllocError> {
+    match &entry.reply {
         Reply::NoJob => put(out, "no job"),
+        Reply::Nothing { busy } => add_nothing(out, busy.items()),
+        Reply::Done => add_ended(out, &entry.op),
         Reply::Go { bundle } => {
             put(out, "go ")?;
             put_shown(out, &bundle.0)
@@ -43,13 +55,20 @@ fn add_unwritten(out: &mut String, reply: &Reply) -> Result<(), AllocError> {
     }
 }
 
-/// Adds the depot's row whose script is to run, which the console does not write.
+/// Adds what is to run, which the console does not write: the depot's row that has the script, and of a listener the section.
 fn add_row(out: &mut String, reply: &Reply) -> Result<(), AllocError> {
     match reply {
         Reply::Begun { row, .. } => {
             put(out, ", row ")?;
             put_shown(out, row)
         }
+        Reply::Handed {
+            kind,
+            owner,
+            row,
+            name,
+            ..
+        } => add_section(out, name, *kind, *owner, *row),
         _ => Ok(()),
     }
 }
@@ -61,7 +80,7 @@ fn add_answered(alloc: Global, out: &mut String, entry: &Entry) -> Result<(), Al
     if out.len() > start {
         return add_row(out, &entry.reply);
     }
-    add_unwritten(out, &entry.reply)
+    add_unwritten(out, entry)
 }
 
 /// Adds an entry, and whether it is the last of the history.
@@ -88,6 +107,25 @@ pub fn add_recorded(
     add_compared(alloc, out, core, &entry)
 }
 
+/// Adds so many listeners of the bundle that are told of the framework, named by the numbers from 0 on, and adds what the machine
+/// answers to the last.
+pub fn add_filled(
+    alloc: Global,
+    out: &mut String,
+    core: &mut Core,
+    tag: Tag,
+    owner: BundleId,
+    count: u32,
+) -> Result<(), AllocError> {
+    let mut answer = String::new(alloc);
+    for number in 0..count {
+        answer.clear();
+        let op = numbered(alloc, owner, number)?;
+        add_recorded(alloc, &mut answer, core, tag, op)?;
+    }
+    put(out, answer.as_str())
+}
+
 /// The kind of an operation, and the bundle that asked for it where it names one.
 fn kind(op: &Op) -> (&'static str, u32) {
     match op {
@@ -98,6 +136,10 @@ fn kind(op: &Op) -> (&'static str, u32) {
         Op::FindAll { asker, .. } => ("findall", asker.0),
         Op::Get { user, .. } => ("get", user.0),
         Op::Unget { user, .. } => ("unget", user.0),
+        Op::AddListener { owner, .. } => ("addlistener", owner.0),
+        Op::RemoveListener { owner, .. } => ("removelistener", owner.0),
+        Op::Hand => ("hand", 0),
+        Op::EndHand { .. } => ("endhand", 0),
         Op::Print { owner, .. } => ("print", owner.0),
         Op::Fail { owner, .. } => ("fail", owner.0),
         Op::Install { .. } => ("install", 0),
@@ -137,7 +179,7 @@ fn add_kind(out: &mut String, op: &Op) -> Result<(), AllocError> {
 fn add_entry(alloc: Global, out: &mut String, entry: &Entry) -> Result<(), AllocError> {
     add_tag(out, entry.tag)?;
     add_kind(out, &entry.op)?;
-    add_shown(alloc, out, entry)
+    add_answered(alloc, out, entry)
 }
 
 /// Adds the entries of a history.

@@ -5,13 +5,16 @@
 //! | Row | Asks for |
 //! |---|---|
 //! | `core ENTRIES [LOCATION [FILE]]` | a new machine whose history has room for so many entries, and whose depot has a bundle at the location, if one is given, of that name and version 1.0.0, with the file, if one is given; where `fragment` stands in its place, a fragment |
-//! | `core_of ENTRIES COUNT` | the same, where the depot has so many bundles, at the locations `0`, `1` and so on, each of the name of its location |
+//! | `core_of ENTRIES COUNT [HANDINGS]` | the same, where the depot has so many bundles, at the locations `0`, `1` and so on, each of the name of its location; it hands so many events at most, or a million |
 //! | `CALLER.NUMBER BUNDLE COMMAND` | what the machine answers to the first operation of a command of the console, asked by the bundle in that line |
 //! | `CALLER.NUMBER BUNDLE direct TakeJob`, `.. BeginStart [-t]`, `.. EndStart [failed]`, `.. EndStop [failed]`, `.. Load CLASS`, `.. Print TEXT`, `.. Fail TEXT` | the same of an operation that no command of the console is, about the bundle |
+//! | `CALLER.NUMBER BUNDLE direct AddListener NAME KIND [FILTER]`, `.. RemoveListener NAME`, `.. Hand`, `.. EndHand LISTENER` | the same; KIND is `service`, `all`, `bundle` or `framework` |
+//! | `CALLER.NUMBER BUNDLE fill COUNT` | the same of so many listeners of the bundle that are added one after another, named by the numbers from 0 on and told of the framework; the last answer |
 //! | `CALLER.NUMBER BUNDLE direct WishStart NAME`, `.. BeginStop NAME` | the same about the bundle of that name |
 //! | `CALLER.NUMBER BUNDLE later NAME` | the same of an operation about the bundle, by its name, that the framework does not have yet |
 //! | `CALLER.NUMBER BUNDLE later_with_text NAME` | the same where the operation has a text or a list |
 //! | `entries` | the machine's history |
+//! | `handed LISTENER` | the events that were handed to the listener, as a plain scan of the history finds them |
 //! | `line NAME` | what the console writes of a refusal |
 //! | `refusal NAME`, `many NAME`, `join`, `limits` | numbers and names of refusals, a line that joins, the standard limits |
 //!
@@ -20,7 +23,9 @@
 
 mod depot;
 mod direct;
+mod hands;
 mod later;
+mod listening;
 mod machine;
 mod names;
 mod refusals;

@@ -2,37 +2,38 @@
 
 use crate::depot::{depot_of, numbered_depot};
 use crate::direct::direct;
+use crate::hands::add_handed;
 use crate::later::{later, later_with_text};
-use crate::machine::{add_history, add_recorded};
+use crate::machine::{add_filled, add_history, add_recorded};
 use crate::names::{add_join, add_limits, add_many};
 use crate::refusals::{Form, add_refusal};
 use cases_operations::asked::asked;
 use cases_operations::{number, split_bundle};
 use cases_text::{put, split_word};
-use osgi_base::{BundleId, Tag};
+use osgi_base::{BundleId, ListenerId, Tag};
 use osgi_core::Core;
 use osgi_ops::{Depot, Limits, Op};
 use std::alloc::{AllocError, Global};
 use std::mem;
 
-/// Limits with room for so many entries, a million at most.
-fn limited(entries: u32) -> Limits {
+/// Limits with room for so many entries, and for so many events that are handed; a million of each at most.
+fn limited(entries: u32, handings: u32) -> Limits {
     Limits {
         budget: 0,
-        handings: 0,
+        handings: u64::from(handings).min(1_000_000),
         entries: u64::from(entries).min(1_000_000),
     }
 }
 
-/// A new machine with room for so many entries, and this depot.
+/// A new machine with these limits, and this depot.
 fn begin(
     alloc: Global,
     out: &mut String,
     core: &mut Core,
-    entries: &str,
+    limits: Limits,
     depot: Depot,
 ) -> Result<(), AllocError> {
-    let next = Core::new(alloc, limited(number(entries)), depot)?;
+    let next = Core::new(alloc, limits, depot)?;
     let _ = mem::replace(core, next).into_parts();
     put(out, "begun")
 }
@@ -67,7 +68,7 @@ fn op_of(
     }
 }
 
-/// Asks for the operation that a row says after its tag.
+/// Asks for the operation that a row says after its tag, or for as many listeners as it says.
 fn ask_tagged(
     alloc: Global,
     out: &mut String,
@@ -76,6 +77,10 @@ fn ask_tagged(
     text: &str,
 ) -> Result<(), AllocError> {
     let (bundle, command) = split_bundle(text);
+    let (word, count) = split_word(command);
+    if word == "fill" {
+        return add_filled(alloc, out, core, tag, bundle, number(count));
+    }
     match op_of(alloc, bundle, command)? {
         Ok(op) => add_recorded(alloc, out, core, tag, op),
         Err(why) => put(out, why),
@@ -106,18 +111,27 @@ pub fn add_answer(
     let (word, rest) = split_word(row);
     if word == "core" {
         let (entries, location) = split_word(rest);
-        begin(alloc, out, core, entries, depot_of(alloc, location)?)
-    } else if word == "core_of" {
-        let (entries, count) = split_word(rest);
         begin(
             alloc,
             out,
             core,
-            entries,
+            limited(number(entries), u32::MAX),
+            depot_of(alloc, location)?,
+        )
+    } else if word == "core_of" {
+        let (entries, rest) = split_word(rest);
+        let (count, handings) = split_word(rest);
+        begin(
+            alloc,
+            out,
+            core,
+            limited(number(entries), number(handings)),
             numbered_depot(alloc, number(count))?,
         )
     } else if word == "entries" {
         add_history(alloc, out, core.entries())
+    } else if word == "handed" {
+        add_handed(alloc, out, core, ListenerId(number(rest)))
     } else if word == "refusal" {
         add_refusal(alloc, out, rest, Form::Name)
     } else if word == "line" {

@@ -1,8 +1,8 @@
 //! The replies of cases.
 
-use crate::words::{bundles, level, number_at};
-use osgi_base::{BundleId, List, ServiceId};
-use osgi_ops::{Refusal, Reply};
+use crate::words::{bundles, last_text, level, number_at};
+use osgi_base::{BundleId, List, ListenerId, ServiceId};
+use osgi_ops::{Event, Kind, Refusal, Reply};
 use std::alloc::{AllocError, Global};
 
 #[derive(Clone, Copy)]
@@ -10,6 +10,9 @@ enum Word {
     Service,
     Done,
     Best,
+    Handed,
+    Nothing,
+    Bundle,
     Resolved,
     Go,
     Active,
@@ -25,12 +28,18 @@ enum Word {
     NoJob,
     Refused,
     SectionFailed,
+    TooDeep,
+    HistoryFull,
+    HandingsSpent,
 }
 
-const WORDS: [Word; 18] = [
+const WORDS: [Word; 24] = [
     Word::Service,
     Word::Done,
     Word::Best,
+    Word::Handed,
+    Word::Nothing,
+    Word::Bundle,
     Word::Resolved,
     Word::Go,
     Word::Active,
@@ -46,6 +55,9 @@ const WORDS: [Word; 18] = [
     Word::NoJob,
     Word::Refused,
     Word::SectionFailed,
+    Word::TooDeep,
+    Word::HistoryFull,
+    Word::HandingsSpent,
 ];
 
 impl Word {
@@ -54,6 +66,9 @@ impl Word {
             Word::Service => "Service",
             Word::Done => "Done",
             Word::Best => "Best",
+            Word::Handed => "Handed",
+            Word::Nothing => "Nothing",
+            Word::Bundle => "Bundle",
             Word::Resolved => "Resolved",
             Word::Go => "Go",
             Word::Active => "Active",
@@ -69,6 +84,9 @@ impl Word {
             Word::NoJob => "NoJob",
             Word::Refused => "Refused",
             Word::SectionFailed => "SectionFailed",
+            Word::TooDeep => "TooDeep",
+            Word::HistoryFull => "HistoryFull",
+            Word::HandingsSpent => "HandingsSpent",
         }
     }
 }
@@ -97,6 +115,10 @@ fn by_numbers(word: Word, first: u32, second: u32) -> Option<Reply> {
         Word::Best => Some(Reply::Best {
             service: service_if_any(first),
         }),
+        Word::Bundle => Some(Reply::Bundle {
+            bundle,
+            known: false,
+        }),
         Word::Go => Some(Reply::Go { bundle }),
         Word::Active => Some(Reply::Active { bundle }),
         Word::Kept => Some(Reply::Kept { bundle }),
@@ -112,14 +134,39 @@ fn by_numbers(word: Word, first: u32, second: u32) -> Option<Reply> {
         Word::Leveled => Some(Reply::Leveled { value: first == 1 }),
         Word::Up => Some(Reply::Up { bundle }),
         Word::NoJob => Some(Reply::NoJob),
-        Word::Refused => Some(Reply::Refused {
-            refusal: Refusal::InvalidOperation,
-        }),
-        Word::SectionFailed => Some(Reply::Refused {
-            refusal: Refusal::ActivatorError,
-        }),
         _ => None,
     }
+}
+
+fn refusal_of(word: Word) -> Option<Refusal> {
+    match word {
+        Word::Refused => Some(Refusal::InvalidOperation),
+        Word::SectionFailed => Some(Refusal::ActivatorError),
+        Word::TooDeep => Some(Refusal::TooDeep),
+        Word::HistoryFull => Some(Refusal::HistoryFull),
+        Word::HandingsSpent => Some(Refusal::HandingsSpent),
+        _ => None,
+    }
+}
+
+/// An event of the service of a number; one of the framework for 0.
+fn event_of(number: u32) -> Event {
+    match service_if_any(number) {
+        Some(service) => Event::Service { code: 1, service },
+        None => Event::Framework { code: 1 },
+    }
+}
+
+/// An event that is handed: the listener, the bundle of the script, its row, the service, and the section's name.
+fn handed(alloc: Global, answer: &str) -> Result<Reply, AllocError> {
+    Ok(Reply::Handed {
+        listener: ListenerId(number_at(answer, 1)),
+        kind: Kind::All,
+        owner: BundleId(number_at(answer, 2)),
+        row: number_at(answer, 3),
+        name: last_text(alloc, answer)?,
+        event: event_of(number_at(answer, 4)),
+    })
 }
 
 /// A reply with a list of bundles.
@@ -129,6 +176,9 @@ fn by_list(
     bundles: List<BundleId>,
 ) -> Result<Option<Reply>, AllocError> {
     match word {
+        Word::Nothing => Ok(Some(Reply::Nothing {
+            busy: List::new(alloc)?,
+        })),
         Word::Resolved => Ok(Some(Reply::Resolved { added: bundles })),
         Word::Closure => Ok(Some(Reply::Closure {
             all: List::new(alloc)?,
@@ -146,6 +196,12 @@ pub fn reply_of(alloc: Global, answer: &str) -> Result<Option<Reply>, AllocError
     let Some(word) = word_named(word) else {
         return Ok(None);
     };
+    if let Some(refusal) = refusal_of(word) {
+        return Ok(Some(Reply::Refused { refusal }));
+    }
+    if let Word::Handed = word {
+        return Ok(Some(handed(alloc, answer)?));
+    }
     match by_numbers(word, number_at(answer, 1), number_at(answer, 2)) {
         Some(reply) => Ok(Some(reply)),
         None => by_list(alloc, word, bundles(alloc, answer)?),

@@ -1,18 +1,19 @@
-//! Commands as a runner runs them, by a caller that is answered as a case says, and counts the sections that begin.
+//! Commands and drains as a runner runs them, by a caller that is answered as a case says, and counts the sections that begin.
 
-ghost use Rattle.std.specs.Prelude.{◌≡◌, false};
-ghost use Rattle.std.specs.Bool.{OnFalse};
+ghost use Rattle.std.specs.Prelude.{◌≡◌};
+ghost use Rattle.std.specs.Bool.{OnTrue};
 ghost use Rattle.osgi_runner.specs.Calls.{says_full, says_spent};
 ghost use Rattle.cases_plans.specs.declared.runs.TheConstants.{MAX_CALLS};
 
 use crate::commands::command_of;
 use crate::replies::reply_of;
+use crate::scripts::scripts;
 use crate::shown::add_op;
 use cases_text::{put, put_shown, split_at};
-use osgi_base::{List, Tag, Text};
-use osgi_ops::{Entry, Op, Refusal, Reply, Section};
+use osgi_base::Tag;
+use osgi_ops::{Entry, Op, Refusal, Reply};
 use osgi_runner::{Caller, Ended, Runner};
-use osgi_session::{Content, Line, Part, Script, Scripts, Statement};
+use osgi_session::{Content, Line};
 use std::alloc::{AllocError, Global};
 
 /// The most calls of a case.
@@ -24,20 +25,39 @@ struct Answered {
     alloc: Global,
     replies: Vec<Reply>,
     entries: Vec<Entry>,
+    is_full: bool,
     sections: u32,
 }
 
-/// Whether a reply cuts a command.
-fn cuts(reply: &Reply) -> bool
-    ensures full { OnFalse result (says_full reply.now ≡ false) }
-    ensures spent { OnFalse result (says_spent reply.now ≡ false) }
+/// Whether a reply says that the history is full.
+fn says_full(reply: &Reply) -> bool
+    ensures full { result ≡ says_full reply.now }
 {
     matches!(
         reply,
         Reply::Refused {
-            refusal: Refusal::HistoryFull | Refusal::HandingsSpent,
+            refusal: Refusal::HistoryFull
         }
     )
+}
+
+/// Whether a reply says that enough was handed.
+fn says_spent(reply: &Reply) -> bool
+    ensures spent { result ≡ says_spent reply.now }
+{
+    matches!(
+        reply,
+        Reply::Refused {
+            refusal: Refusal::HandingsSpent
+        }
+    )
+}
+
+/// Whether an operation may be refused since enough was handed.
+fn is_hand(op: &Op) -> bool
+    ensures hand { OnTrue result (op.now ≡ Op.Hand) }
+{
+    matches!(op, Op::Hand)
 }
 
 impl Caller for Answered {
@@ -45,18 +65,19 @@ impl Caller for Answered {
 
     ghost limit = { λ _. MAX_CALLS };
 
-    ghost full = { λ _. false };
+    ghost full = { λ caller. caller.is_full };
 
     ghost number = { λ _. 0 };
 
     fn call(&mut self, command: u32, op: Op) -> Result<Reply, AllocError> {
-        if self.entries.len() >= MAX_CALLS {
-            return Err(AllocError);
-        }
         let Some(reply) = self.replies.pop() else {
             return Err(AllocError);
         };
-        if cuts(&reply) {
+        if says_full(&reply) {
+            self.is_full = true;
+            return Ok(reply);
+        }
+        if self.entries.len() >= MAX_CALLS || says_spent(&reply) && !is_hand(&op) {
             return Err(AllocError);
         }
         let kept = reply.copy(self.alloc)?;
@@ -72,33 +93,6 @@ impl Caller for Answered {
     fn section(&mut self) {
         self.sections = self.sections.saturating_add(1);
     }
-}
-
-/// A section with these statements.
-fn part(alloc: Global, section: Section, statement: Statement) -> Result<Part, AllocError> {
-    let mut statements = List::new(alloc)?;
-    statements.push(statement)?;
-    Ok(Part {
-        section,
-        statements,
-    })
-}
-
-/// The scripts of the rows: one without sections, one that starts a bundle as its own starts, and one that fails as it stops.
-fn scripts(alloc: Global) -> Result<Scripts, AllocError> {
-    let name = Text::of(alloc, b"b")?;
-    let mut starting = List::new(alloc)?;
-    starting.push(part(alloc, Section::Start, Statement::Start { name })?)?;
-    let text = Text::of(alloc, b"no")?;
-    let mut failing = List::new(alloc)?;
-    failing.push(part(alloc, Section::Stop, Statement::Fail { text })?)?;
-    let mut rows = List::new(alloc)?;
-    rows.push(Script {
-        sections: List::new(alloc)?,
-    })?;
-    rows.push(Script { sections: starting })?;
-    rows.push(Script { sections: failing })?;
-    Ok(Scripts { rows })
 }
 
 /// The replies that a case writes, the last one first, up to one that is none.
@@ -122,6 +116,31 @@ fn add_calls(out: &mut String, caller: &Answered) -> Result<(), AllocError> {
     put(out, " sections")
 }
 
+/// A caller that is answered by the replies that a case writes.
+fn caller_of(alloc: Global, written: &str) -> Result<Answered, AllocError> {
+    Ok(Answered {
+        alloc,
+        replies: replies(alloc, written)?,
+        entries: Vec::new(alloc),
+        is_full: false,
+        sections: 0,
+    })
+}
+
+/// Adds what was called, and how it ended.
+fn add_ended(
+    out: &mut String,
+    caller: &Answered,
+    ended: Result<Ended, AllocError>,
+) -> Result<(), AllocError> {
+    add_calls(out, caller)?;
+    match ended {
+        Ok(Ended::Done) => put(out, "; done"),
+        Ok(Ended::Cut) => put(out, "; cut"),
+        Err(AllocError) => put(out, "; no more replies"),
+    }
+}
+
 /// Adds what a run of a command comes to, by the replies that are said.
 pub fn add_run(alloc: Global, out: &mut String, case: &str) -> Result<(), AllocError> {
     let (said, written) = split_at(case, " | ");
@@ -134,17 +153,20 @@ pub fn add_run(alloc: Global, out: &mut String, case: &str) -> Result<(), AllocE
         content: Content::Run(command),
     };
     let scripts = scripts(alloc)?;
-    let mut caller = Answered {
-        alloc,
-        replies: replies(alloc, written)?,
-        entries: Vec::new(alloc),
-        sections: 0,
-    };
+    let mut caller = caller_of(alloc, written)?;
     let ended = Runner::alone(alloc, &mut caller, &scripts).command(&line);
-    add_calls(out, &caller)?;
-    match ended {
-        Ok(Ended::Done) => put(out, "; done"),
-        Ok(Ended::Cut) => put(out, "; cut"),
-        Err(AllocError) => put(out, "; no more replies"),
-    }
+    add_ended(out, &caller, ended)
+}
+
+/// Adds what a drain comes to, by the replies that are said.
+pub fn add_drain(alloc: Global, out: &mut String, written: &str) -> Result<(), AllocError> {
+    let line = Line {
+        number: 7,
+        lane: 0,
+        content: Content::Empty,
+    };
+    let scripts = scripts(alloc)?;
+    let mut caller = caller_of(alloc, written)?;
+    let ended = Runner::alone(alloc, &mut caller, &scripts).drain(&line);
+    add_ended(out, &caller, ended)
 }

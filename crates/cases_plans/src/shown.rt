@@ -55,7 +55,7 @@ fn target_of(target: &Target) -> u32 {
     }
 }
 
-/// The bundle of an operation, its first one, or its level.
+/// The bundle of an operation, its first one, its listener, or its level.
 fn first_number(op: &Op) -> Option<u32> {
     match op {
         Op::Register { owner, .. }
@@ -66,6 +66,7 @@ fn first_number(op: &Op) -> Option<u32> {
         | Op::QueueJob { owner, .. }
         | Op::Print { owner, .. }
         | Op::Fail { owner, .. } => Some(owner.0),
+        Op::EndHand { listener } => Some(listener.0),
         Op::Find { asker, .. } | Op::FindAll { asker, .. } => Some(asker.0),
         Op::Get { user, .. } | Op::Unget { user, .. } => Some(user.0),
         Op::WishStart { target, .. } | Op::BeginStop { target, .. } => Some(target_of(target)),

@@ -28,7 +28,12 @@ fn go_on(
             Some(reply) => Ok(Some(plan.next(Last::Reply { reply }))),
             None => Ok(None),
         },
-        Next::Drain => Ok(Some(plan.next(Last::Drained))),
+        Next::Drain => {
+            if answer != "drained" {
+                return Ok(None);
+            }
+            Ok(Some(plan.next(Last::Drained)))
+        }
         Next::Run { .. } => Ok(Some(plan.next(Last::Ran {
             failed: answer == "failed",
         }))),

@@ -39,6 +39,7 @@ fn run(alloc: Global, out: &mut String, case: Case) -> Result<(), AllocError> {
         input,
         reads,
         writes,
+        folders,
         ..
     } = case;
     let mut source = MemorySource::new(input, reads);
@@ -49,7 +50,7 @@ fn run(alloc: Global, out: &mut String, case: Case) -> Result<(), AllocError> {
         words.as_slice(),
         &mut source,
         &mut sink,
-        &mut MemoryShelf::new(Vec::new(alloc), Vec::new(alloc)),
+        &mut MemoryShelf::new(folders, Vec::new(alloc)),
         &OpenGate,
     );
     put_ends(out, finished.status, &mut source, &sink)?;

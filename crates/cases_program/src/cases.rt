@@ -1,7 +1,8 @@
 //! Cases: what the program is run on, read from their lines.
 
+use crate::bundles::bundle;
 use cases_text::bytes_of;
-use osgi_base::Text;
+use osgi_base::{Folder, Text};
 use std::alloc::{AllocError, Global};
 
 /// What the program is run on.
@@ -13,6 +14,8 @@ pub struct Case {
     /// The numbers of the reads that fail, and of the writes and flushes, counted from 1.
     pub reads: Vec<u64>,
     pub writes: Vec<u64>,
+    /// The folders that the shelf has, with their locations.
+    pub folders: Vec<(Text, Folder)>,
     times: u64,
 }
 
@@ -34,13 +37,14 @@ impl Case {
         Ok(Some(case))
     }
 
-    /// The word `run`, and no call that fails.
+    /// The word `run`, an empty shelf, and no call that fails.
     fn plain(alloc: Global) -> Result<Case, AllocError> {
         Ok(Case {
             words: words_of(alloc, "run")?,
             input: Vec::new(alloc),
             reads: Vec::new(alloc),
             writes: Vec::new(alloc),
+            folders: Vec::new(alloc),
             times: 1,
         })
     }
@@ -54,6 +58,8 @@ impl Case {
             self.reads = numbers_of(alloc, rest)?;
         } else if name == "writes" {
             self.writes = numbers_of(alloc, rest)?;
+        } else if name == "bundle" {
+            self.folders.push(bundle(alloc, rest)?)?;
         } else if name == "times" {
             self.times = rest.parse::<u64>().unwrap_or(0);
         } else {

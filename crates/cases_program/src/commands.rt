@@ -27,7 +27,7 @@ pub fn put_command(alloc: Global, out: &mut String, command: &Command) -> Result
         Command::Unget { service } => put_service(out, "unget", *service),
         Command::Start { target, transient } => put_life(out, "start", target, *transient),
         Command::Stop { target, transient } => put_life(out, "stop", target, *transient),
-        Command::Install { location } => put_install(out, location),
+        Command::Install { location } => put_word(out, "install", location),
         Command::Resolve { bundle } => put_bundle(out, "resolve", *bundle),
         Command::Wires { bundle } => put_bundle(out, "wires", *bundle),
         Command::Bundles => out.push_str("bundles"),
@@ -44,6 +44,7 @@ fn asker(op: &Op) -> Option<BundleId> {
         }
         Op::Find { asker, .. } | Op::FindAll { asker, .. } => Some(*asker),
         Op::Get { user, .. } | Op::Unget { user, .. } => Some(*user),
+        Op::AddListener { owner, .. } => Some(*owner),
         _ => None,
     }
 }
@@ -71,11 +72,14 @@ pub fn put_op(alloc: Global, out: &mut String, op: &Op) -> Result<(), AllocError
         Op::Unget { service, .. } => put_service(out, "unget", *service),
         Op::WishStart { target, transient } => put_life(out, "wishstart", target, *transient),
         Op::BeginStop { target, transient } => put_life(out, "beginstop", target, *transient),
-        Op::Install { location } => put_install(out, location),
+        Op::Install { location } => put_word(out, "install", location),
         Op::Resolve { bundle } => put_bundle(out, "resolve", *bundle),
         Op::ListWires { bundle } => put_bundle(out, "wires", *bundle),
         Op::ListBundles => out.push_str("bundles"),
         Op::ListServices => out.push_str("services"),
+        Op::AddListener { name, .. } => put_word(out, "listen", name),
+        Op::Hand => out.push_str("hand"),
+        Op::EndHand { listener } => write!(out, "endhand {}", listener.0),
         Op::TakeJob => out.push_str("takejob"),
         _ => out.push_str("another"),
     }
@@ -104,9 +108,10 @@ fn put_life(
     }
 }
 
-fn put_install(out: &mut String, location: &Text) -> Result<(), AllocError> {
-    out.push_str("install ")?;
-    put_bytes(out, location.bytes())
+/// Appends a word, and a text after it.
+fn put_word(out: &mut String, word: &str, text: &Text) -> Result<(), AllocError> {
+    write!(out, "{word} ")?;
+    put_bytes(out, text.bytes())
 }
 
 fn put_register(

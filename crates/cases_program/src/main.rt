@@ -4,10 +4,11 @@
 //! printed as it is. A case is a whole input, in which `\n`, `\r`, `\t` and `\xHH` stand for bytes, and `\` before any other byte
 //! for that byte. Before the input may stand, each in brackets and with a space after it,
 //!
-//!     [words WORD ..]   the words of the command line, in place of `run`; '' is the empty word
-//!     [reads N ..]      the numbers of the reads that fail, counted from 1
-//!     [writes N ..]     the numbers of the writes and flushes that fail, counted together from 1
-//!     [times N]         the input is so often what stands there
+//!     [words WORD ..]       the words of the command line, in place of `run`; '' is the empty word
+//!     [reads N ..]          the numbers of the reads that fail, counted from 1
+//!     [writes N ..]         the numbers of the writes and flushes that fail, counted together from 1
+//!     [bundle NAME SCRIPT]  a bundle that the shelf has at the location NAME, with this script as its activator
+//!     [times N]             the input is so often what stands there
 //!
 //! An answer is `STATUS "WRITTEN" .. | LINE; LINE .. | ENTRY; ENTRY ..`, or ends in `no session`. The text that was written is
 //! followed by `flushed`, where all of it was, or by how far it was, by the faults that the ends counted, where there are any,
@@ -17,6 +18,7 @@
 #![tactic(auto)]
 
 mod answers;
+mod bundles;
 mod cases;
 mod commands;
 mod escapes;

@@ -3,7 +3,7 @@
 use crate::commands::put_classes;
 use crate::escapes::{put_bytes, put_quoted};
 use osgi_base::{BundleId, ServiceId};
-use osgi_ops::{BundleRow, Reply, ServiceRow};
+use osgi_ops::{BundleRow, Busy, Reply, ServiceRow};
 use std::alloc::{AllocError, Global};
 use std::fmt::Write;
 
@@ -35,6 +35,9 @@ pub fn put_reply(alloc: Global, out: &mut String, reply: &Reply) -> Result<(), A
         ),
         Reply::Bundles { rows } => put_bundles(alloc, out, rows.items()),
         Reply::ServiceRows { rows } => put_rows(out, rows.items()),
+        Reply::Listener { listener } => write!(out, "listener {}", listener.0),
+        Reply::Handed { listener, .. } => write!(out, "handed {}", listener.0),
+        Reply::Nothing { busy } => put_nothing(out, busy.items()),
         Reply::NoJob => out.push_str("nojob"),
         Reply::Refused { refusal } => write!(
             out,
@@ -44,6 +47,15 @@ pub fn put_reply(alloc: Global, out: &mut String, reply: &Reply) -> Result<(), A
         ),
         _ => out.push_str("another"),
     }
+}
+
+/// Appends that nothing was handed, and the listeners that are busy.
+fn put_nothing(out: &mut String, busy: &[Busy]) -> Result<(), AllocError> {
+    out.push_str("nothing")?;
+    for one in busy {
+        write!(out, " {}", one.listener.0)?;
+    }
+    Ok(())
 }
 
 fn put_services(out: &mut String, services: &[ServiceId]) -> Result<(), AllocError> {

@@ -10,7 +10,7 @@ use Rattle.osgi_brackets.specs.Open as callers
 use Rattle.osgi_bundle.specs.Stands as bundle
 use Rattle.osgi_bundle.specs.Stands.{StandsForNone}
 use Rattle.osgi_core.specs.Sound.{IsSoundlyTold, IsTrulyUnresolvable}
-use Rattle.osgi_legal.proofs.Legal.{sights-last, world-last}
+use Rattle.osgi_legal.proofs.Legal.{handed-is-prefix, sights-last, world-last}
 use Rattle.osgi_legal.proofs.Owned.{entries-last}
 use Rattle.osgi_legal.proofs.ToldOnce.{told-once}
 use Rattle.osgi_ops.specs.Legal.{IsAllowed, IsAllowedNow, IsAskedAt, IsStep, IsTold}
@@ -72,7 +72,7 @@ kept_none setting tables depot budget services bundles brackets listeners handin
     record {
       told = record {
         replayed = record { told = []; tells = refl; ends = sym world; allowed = tt };
-        sound = record { worlds = All-push IsSound [] first_world (All-nil IsSound) (subst IsSound world sound); unresolvable = tt };
+        sound = record { worlds = All-push IsSound [] first_world (All-nil IsSound) (subst IsSound world sound); unresolvable = tt; handed = λ listener. ([], refl) };
       };
       stands = λ tag. record {
         depot = depot;
@@ -114,7 +114,7 @@ told_push : (setting : Setting) (history : List Entry) (before after : World) (t
 told_push setting history before after tag o reply sights soundly allowed sound =
     let told = soundly.replayed.told in
     let t : Told = record { entry = record { tag = tag; op = o; reply = reply }; world = after; sights = sights } in
-    let here : IsAllowedNow (moment setting told tag) o reply after sights =
+    let here : IsAllowed setting told t =
     subst (λ (h : List Entry). IsAllowedNow (record { setting = setting; before = h; world = world_after told; sights = sights_in told; tag = tag }) o reply after sights) (sym soundly.replayed.tells)
     (subst (λ (w : World). IsAllowedNow (record { setting = setting; before = history; world = w; sights = sights_in told; tag = tag }) o reply after sights) (sym soundly.replayed.ends) allowed) in
     record {
@@ -132,6 +132,7 @@ told_push setting history before after tag o reply sights soundly allowed sound 
               truly (moment setting told tag) b cause (subst (λ r. IsReply (moment setting told tag) (op.Resolve b) r) said (subst (λ p. IsReply (moment setting told tag) p reply) is here.replied)),
           tt,
         );
+        handed = handed-is-prefix setting (told ++ t ∷ []) (AllAlong-join (IsAllowed setting) [] told (t ∷ []) soundly.replayed.allowed (here, tt));
       };
     }
 
@@ -219,6 +220,10 @@ stays_kept limits history after old new kept still is =
 abbrev pub seen : Limits → List Entry → Tables → Machine
 seen limits history tables = record { setting = setting_of limits tables.depot; entries = history; world = tables.wirings.world }
 
+-- it has room for an entry, so the fields have
+pub room_seen : (limits : Limits) (history : List Entry) (tables : Tables) (machine : Machine) → seen limits history tables ≡ machine → length machine.entries < machine.setting.bounds.entries → length history < limits.entries
+room_seen limits history tables machine is room = subst (λ (m : Machine). length m.entries < m.setting.bounds.entries) (sym is) room
+
 pub stays_same : (limits : Limits) (history after : List Entry) (old new : Tables) → IsKept (setting_of limits old.depot) history old → StandsStill old new → after ≡ history →
     seen limits after new ≡ seen limits history old
 stays_same limits history after old new kept still is =
@@ -236,19 +241,18 @@ recorded_kept limits history after old new tag o reply sights kept room replied 
     (subst (λ (h : List Entry). IsKept (setting_of limits old.depot) h new) (sym is) (kept_push (setting_of limits old.depot) history old new tag o reply sights kept room replied))
 
 -- whatever is said of what listeners saw, it is what the machine's telling says of it
-step_by : (limits : Limits) (history : List Entry) (tables : Tables) (kept : IsKept (setting_of limits tables.depot) history tables) (tag : Tag) (after : List Entry) (world : World) (o : Op) (reply : Reply) →
-    IsStep (next kept tag) after world o reply → (sights : List Seen) → AreSightsOf (seen limits history tables) sights → IsStep (moment_of (seen limits history tables) tag sights) after world o reply
-step_by limits history tables kept tag after world o reply step sights those =
-    let same : sights_in kept.told.replayed.told ≡ sights = ap sights_in (told-once (setting_of limits tables.depot) history tables.wirings.world tables.wirings.world kept.told.replayed those.0) ∙ those.1 in
-    subst (λ (s : List Seen). IsStep (moment_of (seen limits history tables) tag s) after world o reply) same step
+pub recorded_allowed : (limits : Limits) (history : List Entry) (old new : Tables) (tag : Tag) (o : Op) (reply : Reply) (sights : List Sight) → IsKept (setting_of limits old.depot) history old → length history < limits.entries → IsReplied (length history) (record { tag = tag; op = o }) old new reply sights →
+    (those : List Seen) → AreSightsOf (seen limits history old) those → IsAllowedNow (moment_of (seen limits history old) tag those) o reply new.wirings.world sights
+recorded_allowed limits history old new tag o reply sights kept room replied those are =
+    let same : sights_in kept.told.replayed.told ≡ those = ap sights_in (told-once (setting_of limits old.depot) history old.wirings.world old.wirings.world kept.told.replayed are.0) ∙ are.1 in
+    subst (λ (s : List Seen). IsAllowedNow (moment_of (seen limits history old) tag s) o reply new.wirings.world sights) same (allowed (setting_of limits old.depot) history old new tag o reply sights kept room replied)
 
-pub recorded_step : (limits : Limits) (history after : List Entry) (old new : Tables) (tag : Tag) (o : Op) (reply : Reply) (sights : List Sight) → IsKept (setting_of limits old.depot) history old → length history < limits.entries → IsReplied (length history) (record { tag = tag; op = o }) old new reply sights →
-    after ≡ history ++ record { tag = tag; op = o; reply = reply } ∷ [] → (sights : List Seen) → AreSightsOf (seen limits history old) sights → IsStep (moment_of (seen limits history old) tag sights) after new.wirings.world o reply
-recorded_step limits history after old new tag o reply sights kept room replied is =
-    step_by limits history old kept tag after new.wirings.world o reply (record {
-      full = λ full. absurd (omega (arith, room, full));
-      room = λ below. (sights, allowed (setting_of limits old.depot) history old new tag o reply sights kept room replied, is);
-    })
+-- ---- the step of a call
+
+-- an allowed operation that was recorded is a step
+pub told_step : (machine : Machine) (after : List Entry) (world : World) (tag : Tag) (o : Op) (reply : Reply) (sights : List Sight) → length machine.entries < machine.setting.bounds.entries → after ≡ machine.entries ++ record { tag = tag; op = o; reply = reply } ∷ [] →
+    ((those : List Seen) → AreSightsOf machine those → IsAllowedNow (moment_of machine tag those) o reply world sights) → (those : List Seen) → AreSightsOf machine those → IsStep (moment_of machine tag those) after world o reply
+told_step machine after world tag o reply sights room recorded allowed those are = record { full = λ full. absurd (omega (arith, room, full)); room = λ below. (sights, allowed those are, recorded) }
 
 -- a full history refuses, and nothing changes
 pub full_step : (machine : Machine) (tag : Tag) (o : Op) → machine.setting.bounds.entries ≤ length machine.entries → (sights : List Seen) → AreSightsOf machine sights →

@@ -1,3 +1,5 @@
 -- Lemmas on the machine.
+pub mod Hands
 pub mod Keeping
+pub mod Replaying
 pub mod Room

@@ -1,13 +1,15 @@
 -- The room that the tables of a history within its limit have.
 use Rattle.std.proofs.Common.{◌<◌, ◌≤◌, ◌+◌, ℕ, List, [], ◌∷◌, length, length-append, ap, arith, ◌∙◌}
-use Rattle.std.specs.Prelude.{All, false}
+use Rattle.std.specs.Prelude.{All, false, None, Option, Some}
 use Rattle.std.proofs.lemmas.List.Sums.{count_by-le-length, length-filter}
 use Rattle.osgi_legal.proofs.Current.{fresh-at}
 use Rattle.osgi_listeners.specs.Sights.{IsOfEarlier}
 use Rattle.osgi_listeners.specs.laws.Handing.{waits-of-earlier}
 use Rattle.osgi_listeners.specs.laws.Premises.{past-at}
 use Rattle.osgi_ops.specs.Bundles.{brings_revision, installed, installed_after, installed_by, revisions}
+use Rattle.osgi_ops.specs.Along.{carry}
 use Rattle.osgi_ops.specs.Legal.{IsTold}
+use Rattle.osgi_ops.specs.Listening.{adds, clears, heard_by, Hearing, hearing, HearingChange, lets_go, with_heard}
 use Rattle.osgi_ops.specs.Moments.{Moment}
 use Rattle.osgi_ops.specs.Resolved.{current_revision}
 use Rattle.osgi_ops.specs.declared.entry.Entry.{Entry}
@@ -41,6 +43,21 @@ revisions-le-length : (history : List Entry) → revisions history ≤ length hi
 revisions-le-length history =
     omega (arith, length-filter (λ (e : Entry). brings_revision e.op e.reply) history, count_by-le-length (λ (e : Entry). brings_revision e.op e.reply) history)
 
+-- ---- nor listeners added
+
+heard_few : (before : Hearing) (change : Option HearingChange) → (with_heard change before).count ≤ before.count + 1
+heard_few before None = omega arith
+heard_few before (Some (adds owner name kind given)) = omega arith
+heard_few before (Some (lets_go owner name)) = omega arith
+heard_few before (Some (clears owner)) = omega arith
+
+heard_after : (before : Hearing) (history : List Entry) → (carry (λ h (e : Entry). with_heard (heard_by e.op e.reply) h) before history).count ≤ before.count + length history
+heard_after before [] = omega arith
+heard_after before (e ∷ rest) = omega (arith, heard_few before (heard_by e.op e.reply), heard_after (with_heard (heard_by e.op e.reply) before) rest)
+
+heard-le-length : (history : List Entry) → (hearing history).count ≤ length history
+heard-le-length history = omega (arith, heard_after (record { count = 0; live = [] }) history)
+
 -- ---- the room
 
 pub has_room : (now : Moment) (tables : Tables) → IsTold now → StandsFor now tables → length now.before < MAX_ENTRIES → now.setting.bounds.budget ≤ MAX_BUDGET → HasRoom tables
@@ -51,6 +68,7 @@ has_room now tables told stands short least = record {
   };
   bundles = omega (arith, short, stands.bundles.issued, length-installed now.before);
   revisions = omega (arith, short, stands.issued, revisions-le-length now.before);
+  listeners = omega (arith, short, stands.listeners.issued, heard-le-length now.before);
   fresh = λ b next. ap (λ (w : World). current_revision w b) stands.world ∙ fresh-at now told b (omega (arith, next, stands.bundles.issued));
   budget = omega (arith, least, stands.budget);
 }

@@ -1,8 +1,10 @@
 //! What a history says, read off its entries by plain scans.
 #![tactic(auto)]
 
+mod handings;
 mod scans;
 mod states;
 
+pub use handings::handed;
 pub use scans::{live, uses};
 pub use states::state;

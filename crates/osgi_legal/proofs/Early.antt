@@ -1,13 +1,12 @@
 -- What an entry of a legal history says while these operations have not come: each is of an operation that has come, or is refused as an
--- invalid operation. So none updates or uninstalls a bundle, sets a level, begins a walk or a refresh, or adds a listener or a job; and
--- since there is no listener and no job, none is cleared, handed to or taken.
+-- invalid operation. So none updates or uninstalls a bundle, sets a level, begins a walk or a refresh, or queues a job; and since there is
+-- no job, none is cleared or taken.
 use Rattle.std.proofs.Common.{◌≡◌, ◌+◌, ◌⊎◌, inl, inr, ℕ, length, Bool, true, false, List, [], ◌∷◌, refl, sym, ap, ◌∙◌, subst}
 use Rattle.std.specs.Prelude.{All, Option, None, Some}
 use Rattle.std.specs.List.{cons_option, filter_map, last_or}
 use Rattle.std.specs.Option.{option_map}
 use Rattle.std.proofs.lemmas.List.Elements.{All-append, All-cons, All-head, All-nil, All-push, All-tail, All-weaker}
 use Rattle.osgi_base.specs.declared.ids.BundleId.{BundleId}
-use Rattle.osgi_base.specs.declared.ids.ListenerId.{ListenerId}
 use Rattle.osgi_legal.specs.Quiet.{QuietRefresh}
 use Rattle.osgi_ops.specs.Along.{carry, latest}
 use Rattle.osgi_ops.specs.Bundles.{Installed, installed_after, installed_by, is_uninstall, updated_to}
@@ -16,7 +15,6 @@ use Rattle.osgi_ops.specs.Jobs as queue
 use Rattle.osgi_ops.specs.Jobs.{jobs, Queued, queued_by, with_jobs}
 use Rattle.osgi_ops.specs.Legal.{AreAllowed, IsAllowed}
 use Rattle.osgi_ops.specs.Levels.{leveled, moved_to, Refresh, refresh_by, Walk, walk_by}
-use Rattle.osgi_ops.specs.Listening.{clears, handed_by, heard_by, is_handed, with_heard}
 use Rattle.osgi_ops.specs.Moments.{entries_in, Moment, moment, Told}
 use Rattle.osgi_ops.specs.Operations.{IsReply}
 use Rattle.osgi_ops.specs.Settings.{Setting}
@@ -29,7 +27,6 @@ use Rattle.osgi_ops.specs.declared.reply.Reply.{Reply}
 use Rattle.osgi_ops.specs.declared.reply.Reply.TheVariants as answer
 use Rattle.osgi_ops.specs.laws.Along.{holds}
 use Rattle.osgi_ops.specs.laws.Stages.{late-refused}
-use Rattle.osgi_legal.proofs.Listening.{no_hearing}
 use Rattle.osgi_legal.proofs.Owned.{entries-last}
 use Rattle.osgi_legal.proofs.Quiet.{refused-quiet}
 
@@ -65,25 +62,18 @@ since-all P (e ∷ since) n all =
 
 -- ---- what has come says nothing of these
 
--- the operation with its reply changes no level, begins no walk and no refresh, hands nothing, and uninstalls and updates no bundle; where
--- there is no listener it leaves none, and where there is no job it leaves none
+-- the operation with its reply changes no level, begins no walk and no refresh, and uninstalls and updates no bundle; where there is no job
+-- it leaves none
 pub record IsCalm (o : Op) (y : Reply) : Type 0 where
   pub level : (b : BundleId) → leveled b o y ≡ None
   pub moved : moved_to o y ≡ None
   pub walk : (before : Option Walk) (e : Entry) → walk_by before e o y ≡ before
   pub refresh : QuietRefresh o y
-  pub heard : with_heard (heard_by o y) no_hearing ≡ no_hearing
-  pub handed : (l : ListenerId) → handed_by l o y ≡ []
-  pub counted : is_handed o y ≡ false
   pub jobs : with_jobs (queued_by o y) [] ≡ []
   pub gone : (b : BundleId) → is_uninstall b o y ≡ false
   pub updated : (b : BundleId) → updated_to b o y ≡ None
 
--- a clean up finds no listener and no job
-cleared-hearing : (cleaned : Option BundleId) → with_heard (option_map clears cleaned) no_hearing ≡ no_hearing
-cleared-hearing None = refl
-cleared-hearing (Some b) = refl
-
+-- a clean up finds no job
 cleared-jobs : (cleaned : Option BundleId) → with_jobs (option_map queue.clears cleaned) [] ≡ []
 cleared-jobs None = refl
 cleared-jobs (Some b) = refl
@@ -98,9 +88,6 @@ here-calm o y here = record {
   moved = moved o here;
   walk = λ before e. walks o before e here;
   refresh = λ before e. refreshes o before e here;
-  heard = heard o here;
-  handed = λ l. handed o l here;
-  counted = counted o here;
   jobs = queued o here;
   gone = λ b. gone o b here;
   updated = λ b. updated o b here;
@@ -124,21 +111,6 @@ here-calm o y here = record {
     refreshes op.DropWirings before e h = absurd (cc h)
     refreshes op.EndRefresh before e h = absurd (cc h)
     refreshes o before e h = refl
-
-    heard : (o : Op) → is_here o ≡ true → with_heard (heard_by o y) no_hearing ≡ no_hearing
-    heard (op.AddListener owner name kind filter) h = absurd (cc h)
-    heard (op.RemoveListener owner name) h = absurd (cc h)
-    heard (op.EndStart bundle failed) h = cleared-hearing (cleaned_by (op.EndStart bundle failed) y)
-    heard (op.EndStop bundle failed) h = cleared-hearing (cleaned_by (op.EndStop bundle failed) y)
-    heard o h = refl
-
-    handed : (o : Op) (l : ListenerId) → is_here o ≡ true → handed_by l o y ≡ []
-    handed op.Hand l h = absurd (cc h)
-    handed o l h = refl
-
-    counted : (o : Op) → is_here o ≡ true → is_handed o y ≡ false
-    counted op.Hand h = absurd (cc h)
-    counted o h = refl
 
     queued : (o : Op) → is_here o ≡ true → with_jobs (queued_by o y) [] ≡ []
     queued (op.QueueJob owner name) h = absurd (cc h)
@@ -164,9 +136,6 @@ invalid-calm o =
       moved = q.levels.moved;
       walk = q.levels.walk;
       refresh = q.refresh;
-      heard = ap (λ c. with_heard c no_hearing) q.listeners.heard;
-      handed = q.listeners.handed;
-      counted = q.listeners.counted;
       jobs = ap (λ c. with_jobs c []) q.jobs;
       gone = q.bundles.gone;
       updated = q.bundles.updated;

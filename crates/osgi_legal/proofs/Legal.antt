@@ -252,3 +252,12 @@ made-handed {setting} front rest m listener =
 -- what holds at the moment behind each legal telling holds at each moment of a legal history
 pub at-told : (Holds : Moment → Type 0) → ((setting : Setting) (told : List Told) (tag : Tag) → AreAllowed setting told → Holds (moment setting told tag)) → (now : Moment) → IsTold now → Holds now
 at-told Holds each now t = subst Holds (moment-is now t) (each now.setting t.told now.tag t.allowed)
+
+-- so at each such moment what a listener was handed is a beginning of what it saw
+pub handed-at : (now : Moment) → IsTold now → (listener : ListenerId) → IsPrefix (handed_in listener now.before) (map event_at (spots_of listener now.sights))
+handed-at now t listener =
+    at-told (λ m. IsPrefix (handed_in listener m.before) (map event_at (spots_of listener m.sights)))
+    (λ setting told tag legal.
+    subst (λ l. IsPrefix l (map event_at (spots_of listener (sights_in told)))) (sym (handed-flat listener told))
+    (subst (IsPrefix (handed listener told)) (due-spots listener told ∙ ap (map event_at) (sym (spots-flat listener told))) (handed-is-prefix setting told legal listener)))
+    now t

@@ -33,7 +33,6 @@ pub mod Targets
 pub mod Tidy
 pub mod ToldOnce
 pub mod Turns
-pub mod Unhanded
 pub mod Up
 pub mod Verdicts
 pub mod Windows

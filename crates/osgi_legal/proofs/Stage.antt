@@ -1,47 +1,34 @@
--- What holds while these operations have not come: no walk over levels and no refresh is open, no listener is live, no job is queued, each
--- bundle stays and keeps its revision and its level, and each open bracket is for a start or a stop of a bundle. Each fact holds at each
--- moment of a legal history.
-use Rattle.std.proofs.Common.{◌≡◌, inl, Bool, true, false, List, [], ◌∷◌, ◌++◌, length, refl, sym, ap, ◌∙◌, subst, arith}
-use Rattle.std.specs.Prelude.{◌==◌, not, cond, nat_lt, ℕ, All, Contains, filter, find, IsSomeAnd, MatchBool, Option, None, Some, unwrap_or}
+-- What holds while these operations have not come: no walk over levels and no refresh is open, no job is queued, each bundle stays and
+-- keeps its revision and its level, and no open bracket is for a job. Each fact holds at each moment of a legal history.
+use Rattle.std.proofs.Common.{◌≡◌, inl, Bool, true, false, List, [], ◌∷◌, refl, sym, ap, ◌∙◌, subst}
+use Rattle.std.specs.Prelude.{◌==◌, not, cond, nat_lt, ℕ, All, filter, IsSomeAnd, MatchBool, Option, None, Some, unwrap_or}
 use Rattle.std.specs.Option.{option_map_or}
 use Rattle.std.proofs.lemmas.Bool.{and_right}
-use Rattle.std.proofs.lemmas.List.Elements.{All-contains, All-head, All-nil, All-tail, All-weaker}
+use Rattle.std.proofs.lemmas.List.Elements.{All-head, All-tail, All-weaker}
 use Rattle.std.proofs.lemmas.List.Folds.{list_any_none}
 use Rattle.osgi_base.specs.declared.ids.BundleId.{BundleId}
-use Rattle.osgi_base.specs.declared.ids.ListenerId.{ListenerId}
 use Rattle.osgi_legal.specs.Askers.{MayAsk}
 use Rattle.osgi_ops.specs.Brackets.{brackets}
 use Rattle.osgi_ops.specs.Bundles as bundles
 use Rattle.osgi_ops.specs.Bundles.{Active, Installed, installed, is_there, is_active, is_uninstall, source, system, updated_to}
 use Rattle.osgi_ops.specs.Conditions.{is_above, is_kept, lesser, refreshing_where, state_of}
 use Rattle.osgi_ops.specs.Jobs.{jobs}
-use Rattle.osgi_ops.specs.Legal.{AreAllowed, entry_of, IsAllowed, IsTold}
+use Rattle.osgi_ops.specs.Legal.{IsTold}
 use Rattle.osgi_ops.specs.Levels.{active_level, level_of, leveled, moved_to, Refresh, refresh, refresh_by, Walk, walk, walk_by}
-use Rattle.osgi_ops.specs.Listening.{AreSights, heard_by, Hearing, hearing, is_listener, IsSight, listeners, with_heard}
-use Rattle.osgi_ops.specs.Moments.{Moment, moment, seen_after, Sight, sights_in, Told}
+use Rattle.osgi_ops.specs.Moments.{Moment}
 use Rattle.osgi_ops.specs.Operations.{IsReply, IsRow}
-use Rattle.osgi_ops.specs.Settings.{Setting}
 use Rattle.osgi_ops.specs.Stages.{is_here}
 use Rattle.osgi_ops.specs.declared.entry.Entry.{Entry}
-use Rattle.osgi_ops.specs.declared.event.Event.{Event}
-use Rattle.osgi_ops.specs.declared.kind.Kind.{Kind}
 use Rattle.osgi_ops.specs.declared.op.Op.{Op}
 use Rattle.osgi_ops.specs.declared.op.Op.TheVariants as op
 use Rattle.osgi_ops.specs.declared.refusal.Refusal.{Refusal}
 use Rattle.osgi_ops.specs.declared.refusal.Refusal.TheVariants as no
 use Rattle.osgi_ops.specs.declared.refusal.Refusal.TheVariants.{InvalidOperation}
-use Rattle.osgi_ops.specs.declared.reply.Reply.{Reply}
 use Rattle.osgi_ops.specs.declared.reply.Reply.TheVariants as answer
-use Rattle.osgi_world.specs.declared.world.World.{World}
-use Rattle.osgi_ops.specs.laws.Along.{holds}
 use Rattle.osgi_ops.specs.laws.Stages.{row-here}
-use Rattle.osgi_legal.proofs.Handings.{is_handing}
 use Rattle.osgi_legal.proofs.Early.{all-early, carry-still, early-calm, IsCalm, IsEarly, latest-none, none-queued, since-all}
-use Rattle.osgi_legal.proofs.Legal.{at-told, sights-last, Told-of}
-use Rattle.osgi_legal.proofs.Listening.{no_hearing}
-use Rattle.osgi_legal.proofs.Opened.{AreOfBundles, hand-ends-none, job-ends-none, opened-so}
-use Rattle.osgi_legal.proofs.Sights.{sights-once}
-use Rattle.osgi_legal.proofs.Unhanded.{all-unhanded}
+use Rattle.osgi_legal.proofs.Legal.{at-told}
+use Rattle.osgi_legal.proofs.Opened.{AreNotOfJobs, job-ends-none, opened-so}
 
 -- ---- entries
 
@@ -49,7 +36,7 @@ use Rattle.osgi_legal.proofs.Unhanded.{all-unhanded}
 pub early-at : (now : Moment) → IsTold now → All IsEarly now.before
 early-at now t = at-told (λ m. All IsEarly m.before) (λ setting told tag legal. all-early setting told legal) now t
 
--- No entry changes a level, begins a walk or a refresh, hands an event, or uninstalls or updates a bundle.
+-- No entry changes a level, begins a walk or a refresh, or uninstalls or updates a bundle.
 pub calm-at : (now : Moment) → IsTold now → All (λ (e : Entry). IsCalm e.op e.reply) now.before
 calm-at now t = All-weaker IsEarly (λ (e : Entry). IsCalm e.op e.reply) early-calm now.before (early-at now t)
 
@@ -58,9 +45,9 @@ each P says now t = All-weaker (λ (e : Entry). IsCalm e.op e.reply) P says now.
 
 -- ---- brackets
 
--- Each open bracket is for a start or a stop of a bundle.
-pub opened-at : (now : Moment) → IsTold now → AreOfBundles (brackets now.before)
-opened-at now t = at-told (λ m. AreOfBundles (brackets m.before)) (λ setting told tag legal. opened-so setting told legal) now t
+-- No open bracket is for a job.
+pub opened-at : (now : Moment) → IsTold now → AreNotOfJobs (brackets now.before)
+opened-at now t = at-told (λ m. AreNotOfJobs (brackets m.before)) (λ setting told tag legal. opened-so setting told legal) now t
 
 -- ---- what is refused
 
@@ -68,12 +55,7 @@ opened-at now t = at-told (λ m. AreOfBundles (brackets m.before)) (λ setting t
 pub late-due : (now : Moment) (o : Op) → is_here o ≡ false → IsReply now o (answer.Refused InvalidOperation)
 late-due now o late = subst (λ k. MatchBool k (IsRow now o (answer.Refused InvalidOperation)) (answer.Refused InvalidOperation ≡ answer.Refused InvalidOperation)) (sym late) refl
 
--- So is the end of a hand,
-pub hand-end-due : (now : Moment) → IsTold now → (listener : ListenerId) → IsReply now (op.EndHand listener) (answer.Refused InvalidOperation)
-hand-end-due now t listener =
-    row-here now (op.EndHand listener) (answer.Refused InvalidOperation) refl (inl (InvalidOperation, (refl, hand-ends-none now.tag listener (brackets now.before) (opened-at now t)), refl))
-
--- and the end of a job.
+-- So is the end of a job.
 pub job-end-due : (now : Moment) → IsTold now → IsReply now op.EndJob (answer.Refused InvalidOperation)
 job-end-due now t = row-here now op.EndJob (answer.Refused InvalidOperation) refl (inl (InvalidOperation, (refl, job-ends-none now.tag (brackets now.before) (opened-at now t)), refl))
 
@@ -117,15 +99,7 @@ never-above now t b =
 pub never-kept : (now : Moment) → IsTold now → (b : BundleId) → is_kept now b ≡ false
 never-kept now t b = and_right (not (is_active (state_of now b))) (is_above now b) (never-above now t b)
 
--- ---- listeners and jobs
-
--- No listener was added.
-pub no-hearing : (now : Moment) → IsTold now → hearing now.before ≡ record { count = 0; live = [] }
-no-hearing now t = carry-still (λ (s : Hearing) (e : Entry). with_heard (heard_by e.op e.reply) s) no_hearing now.before (each (λ e. with_heard (heard_by e.op e.reply) no_hearing ≡ no_hearing) (λ e c. c.heard) now t)
-
--- No listener is live.
-pub no-listeners : (now : Moment) → IsTold now → listeners now.before ≡ []
-no-listeners now t = ap (λ (s : Hearing). s.live) (no-hearing now t)
+-- ---- jobs
 
 -- No job is queued.
 pub no-jobs : (now : Moment) → IsTold now → jobs now.before ≡ []
@@ -180,44 +154,3 @@ system-active now = refl
 -- The system bundle may ask, at every moment.
 pub system-passes : (now : Moment) → MayAsk now (Some system)
 system-passes now = (refl, refl)
-
--- ---- what is seen
-
-not-seen : (past : List Entry) (before after : World) (e : Entry) (s : Sight) → listeners past ≡ [] → IsSight past before after e s → ⊥
-not-seen past before after e s none i = (let found : None ≡ Some i.listener = sym (ap (find (is_listener s.listener)) none) ∙ i.is in cc found)
-
--- Nothing is seen of any entry.
-pub none-seen-now : (now : Moment) → IsTold now → (o : Op) (y : Reply) (world : World) → AreSights now.before now.world world (entry_of now o y) []
-none-seen-now now t o y world = record {
-  only = All-nil (IsSight now.before now.world world (entry_of now o y));
-  every = λ s i. absurd (not-seen now.before now.world world (entry_of now o y) s (no-listeners now t) i);
-  in_order = λ i j d less below. absurd (omega arith);
-}
-
--- What is seen of an entry is nothing.
-pub seen-none : (now : Moment) → IsTold now → (o : Op) (y : Reply) (world : World) (sights : List Sight) → AreSights now.before now.world world (entry_of now o y) sights → sights ≡ []
-seen-none now t o y world sights a = sights-once now.before now.world world (entry_of now o y) sights [] a (none-seen-now now t o y world)
-
--- Nothing was seen in a legal history.
-pub none-seen-in : (setting : Setting) (told : List Told) → AreAllowed setting told → sights_in told ≡ []
-none-seen-in setting told legal =
-    holds (IsAllowed setting) (λ l. sights_in l ≡ []) refl
-    (λ front x before none a.
-    let empty : x.sights ≡ [] = seen-none (moment setting front x.entry.tag) (Told-of setting front x.entry.tag before) x.entry.op x.entry.reply x.world x.sights a.seen in
-    sights-last front x ∙ (λ i. none i ++ seen_after (length front) (empty i)))
-    told legal
-
--- Nothing was seen.
-pub no-sights : (now : Moment) → IsTold now → now.sights ≡ []
-no-sights now t = at-told (λ m. m.sights ≡ []) (λ setting told tag legal. none-seen-in setting told legal) now t
-
--- No reply hands an event.
-pub none-handed : (now : Moment) → IsTold now → All (λ (e : Entry). is_handing e.reply ≡ false) now.before
-none-handed now t = at-told (λ m. All (λ (e : Entry). is_handing e.reply ≡ false) m.before) (λ setting told tag legal. all-unhanded setting told legal) now t
-
--- So none is `Handed`, whatever it would hand to whom.
-pub never-handed : (now : Moment) → IsTold now → (e : Entry) → Contains now.before e → (listener : ListenerId) (kind : Kind) (owner : BundleId) (row : ℕ) (name : List ℕ) (event : Event) →
-    e.reply ≡ answer.Handed listener kind owner row name event → ⊥
-never-handed now t e i listener kind owner row name event is =
-    let none : is_handing e.reply ≡ false = All-contains (λ (x : Entry). is_handing x.reply ≡ false) now.before e (none-handed now t) i in
-    (let bad : true ≡ false = sym (ap is_handing is) ∙ none in cc bad)

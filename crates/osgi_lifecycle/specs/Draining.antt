@@ -1,8 +1,6 @@
 -- After which replies events are handed, as the code keeps it.
-use Rattle.std.specs.Prelude.{◌&&◌, Bool, true, false}
+use Rattle.std.specs.Prelude.{Bool, true, false}
 use Rattle.osgi_ops.specs.Replies.{is_accepted, is_effective}
-use Rattle.osgi_ops.specs.Stages.{is_here}
-use Rattle.osgi_ops.specs.declared.op.Op.TheVariants.{Hand}
 use Rattle.osgi_ops.specs.declared.reply.Reply.{Reply}
 use Rattle.osgi_ops.specs.declared.reply.Reply.TheVariants.{Begun}
 use Rattle.osgi_lifecycle.specs.declared.stirring.Stirring.{Stirring}
@@ -12,11 +10,8 @@ abbrev pub has_begun : Reply → Bool
 has_begun (Begun bundle row) = true
 has_begun _ = false
 
-abbrev pub stirred_by : Stirring → Reply → Bool
-stirred_by stirring.Never reply = false
-stirred_by stirring.Accepted reply = is_accepted reply
-stirred_by stirring.Begun reply = has_begun reply
-stirred_by stirring.Effective reply = is_effective reply
-
 abbrev pub drained_by : Stirring → Reply → Bool
-drained_by kept reply = is_here Hand && stirred_by kept reply
+drained_by stirring.Never reply = false
+drained_by stirring.Accepted reply = is_accepted reply
+drained_by stirring.Begun reply = has_begun reply
+drained_by stirring.Effective reply = is_effective reply

@@ -1,10 +1,11 @@
 //! After which operations events are handed.
 
 ghost use Rattle.std.specs.Prelude.{◌≡◌};
-ghost use Rattle.osgi_lifecycle.specs.Draining.{drained_by, stirred_by};
+ghost use Rattle.osgi_lifecycle.specs.Draining.{drained_by, has_begun};
+ghost use Rattle.osgi_ops.specs.Replies.{is_effective};
 ghost use Rattle.osgi_session.specs.Plans.{stirs};
 
-use osgi_ops::{Op, Reply};
+use osgi_ops::{Op, Refusal, Reply};
 
 /// What of an operation is kept while its reply is awaited: after which replies something may wait to be handed to a listener.
 #[derive(Clone, Copy)]
@@ -18,9 +19,26 @@ pub enum Stirring {
     Effective,
 }
 
+/// Whether a start or a stop began.
+fn has_begun(reply: &Reply) -> bool
+    ensures begun { result ≡ has_begun reply.now }
+{
+    matches!(reply, Reply::Begun { .. })
+}
+
+/// Whether the operation did its work: it was accepted, or refused because a section failed.
+fn is_effective(reply: &Reply) -> bool
+    ensures effective { result ≡ is_effective reply.now }
+{
+    match reply {
+        Reply::Refused { refusal } => matches!(refusal, Refusal::ActivatorError),
+        _ => true,
+    }
+}
+
 impl Stirring {
     pub fn of(op: &Op) -> Stirring
-        ensures stirs { stirred_by result ≡ stirs op.now }
+        ensures stirs { drained_by result ≡ stirs op.now }
     {
         match op {
             Op::Register { .. }
@@ -39,10 +57,15 @@ impl Stirring {
         }
     }
 
-    /// Whether events are handed after the reply. The framework hands none yet.
-    pub fn is_drained(self, _reply: &Reply) -> bool
-        ensures drained { result ≡ drained_by self _reply.now }
+    /// Whether events are handed after the reply.
+    pub fn is_drained(self, reply: &Reply) -> bool
+        ensures drained { result ≡ drained_by self reply.now }
     {
-        false
+        match self {
+            Stirring::Never => false,
+            Stirring::Accepted => !reply.is_refusal(),
+            Stirring::Begun => has_begun(reply),
+            Stirring::Effective => is_effective(reply),
+        }
     }
 }

@@ -14,7 +14,7 @@ use Rattle.std.proofs.lemmas.Bool.{cases_eq, cases_lt, eq-eqb, ne_eqb}
 use Rattle.std.proofs.lemmas.List.{get_or-map, length-map, length-set, same_lists, get_or_default}
 use Rattle.osgi_base.specs.declared.ids.ListenerId.{ListenerId}
 use Rattle.osgi_base.specs.declared.ids.Tag.{Tag}
-use Rattle.osgi_listeners.specs.Rows.{AreInOrder, AreListeners, change, id_of, is_in_turn, is_listener, IsInPlace, listener_of, listeners_in, Listening, Row, row_at}
+use Rattle.osgi_listeners.specs.Rows.{AreInOrder, AreListeners, AreRising, change, id_of, is_in_turn, is_listener, IsInPlace, listener_of, listeners_in, Listening, Row, row_at}
 use Rattle.osgi_listeners.specs.computed.Kept.{AreFirsts, first_place, IsAbsent, IsPlaceOf, open_place}
 use Rattle.osgi_listeners.specs.computed.Tournaments.{none, number_at}
 use Rattle.osgi_listeners.specs.laws.Ids.{apart, ids_do_not_fall, Rise}
@@ -125,13 +125,14 @@ place_by : (f : Row → Row) (row : Row) → IsInPlace (f row) → IsInPlace row
 place_by f row changed kept true = changed
 place_by f row changed kept false = kept
 
-pub in_order_change : (listener : ListenerId) (f : Row → Row) → ((row : Row) → listener_of (f row) ≡ listener_of row) → (l : Listening) (turns : List (ℕ × Tag)) → ((row : Row) → id_of row ≡ listener.0 → Contains l.rows row → IsInPlace row → IsInPlace (f row)) → AreInOrder l →
+pub in_order_change : (listener : ListenerId) (f : Row → Row) → ((row : Row) → listener_of (f row) ≡ listener_of row) → (l : Listening) (turns : List (ℕ × Tag)) → ((row : Row) → id_of row ≡ listener.0 → Contains l.rows row → IsInPlace row → IsInPlace (f row)) → AreRising turns → AreInOrder l →
     AreInOrder (record { rows = change listener f l.rows; turns = turns; issued = l.issued })
-in_order_change listener f keeps l turns places order = record {
+in_order_change listener f keeps l turns places rising order = record {
   listeners = subst (λ ls. AreListeners ls l.issued) (sym (listeners_in-change listener f keeps l.rows)) order.listeners;
   waiting = λ k d within.
       let inside : k < length l.rows = subst (λ n. k < n) (length-change listener f l.rows) within in
       subst IsInPlace (sym (get_or-change listener f l.rows k d inside)) (at (get_or l.rows k d) (k, inside, get_or_default l.rows k (get_or l.rows k d) d inside) (order.waiting k d inside));
+  turns = rising;
 }
   where
     at : (row : Row) → Contains l.rows row → IsInPlace row → IsInPlace (cond (is_listener listener row) (f row) row)

@@ -1,121 +1,94 @@
--- How many sights are each row's listener's, counted one after another, and the room for as many.
-use Rattle.std.proofs.Common.{◌≡◌, ◌≢◌, ◌⊎◌, inl, inr, ◌+◌, ◌<◌, ◌≤◌, ℕ, suc, List, [], ◌∷◌, ◌++◌, length, map, replicate, set, take, get_or, refl, sym, ap, ◌∙◌, subst, arith, get_or-set_other, get_or-set_same, add-one}
-use Rattle.std.specs.Prelude.{◌==◌, Bool, true, false, cond}
-use Rattle.std.proofs.lemmas.Bool.{cases_eq, eq-eqb, ne_eqb}
-use Rattle.std.proofs.lemmas.List.{get_or_default, get_or-map, length-append, length-map, length-set, length-take, map-append, same_lists}
+-- Room at the slots of the listeners that are counted, made for one after another.
+use Rattle.std.proofs.Common.{◌≡◌, ◌≢◌, ◌⊎◌, inl, inr, ◌<◌, ◌≤◌, ℕ, List, [], ◌∷◌, ◌++◌, length, map, set, get_or, ap, sym, subst, refl, ◌∙◌, arith, get_or-set_other, get_or-set_same}
+use Rattle.std.specs.Prelude.{◌==◌, Bool, true, false, cond, Some, All, count_by, filter, unwrap_or}
+use Rattle.std.specs.BTreeMap.{BTreeMap, get, is_at}
+use Rattle.std.specs.List.Sorted.{IsStrictlyIncreasing}
+use Rattle.std.specs.Map.{count_at, lookup}
+use Rattle.std.specs.Ordering.{nat_cmp}
+use Rattle.std.proofs.lemmas.Bool.{cases_eq, eqb-true}
+use Rattle.std.proofs.lemmas.List.{length-map, length-set}
+use Rattle.std.proofs.lemmas.List.Elements.{All-head, All-push, All-tail, All-weaker}
+use Rattle.std.proofs.lemmas.List.Sums.{length-filter}
 use Rattle.osgi_base.specs.declared.ids.ListenerId.{ListenerId}
-use Rattle.osgi_listeners.specs.Rows.{bare, id_of, Row}
+use Rattle.osgi_listeners.specs.Rows.{AreRoomierRows, id_of, listeners_in, number_of, Row}
 use Rattle.osgi_listeners.specs.Sights.{HasRoomFor, sight_of, sights_by, sights_of}
-use Rattle.osgi_listeners.specs.computed.Kept.{IsAbsent, IsPlaceOf}
-use Rattle.osgi_listeners.specs.declared.sight.Sight as declared
+use Rattle.osgi_listeners.specs.computed.Kept.{IsPlaceOf}
+use Rattle.osgi_listeners.specs.declared.row.ListenerRow.{ListenerRow}
+use Rattle.osgi_listeners.specs.declared.sight.Sight.{Sight}
 use Rattle.osgi_listeners.specs.laws.Ids.{apart, Rise}
-use Rattle.osgi_listeners.specs.laws.Items.{filter-push, take-more}
-use Rattle.osgi_listeners.proofs.Loops.{same_length}
-use Rattle.osgi_listeners.proofs.Orders.{any_of, length-filter_le}
-use Rattle.osgi_listeners.proofs.Posting.{bare_at}
+use Rattle.osgi_listeners.specs.laws.Items.{filter-mapped}
+use Rattle.osgi_listeners.specs.laws.Room.{same_but_room}
+use Rattle.osgi_listeners.specs.laws.Turns.{at-is}
+use Rattle.osgi_listeners.proofs.Orders.{same_listeners}
 use Rattle.osgi_ops.specs.Listening.{is_sight_of}
-use Rattle.osgi_ops.specs.Moments.{Sight}
 
--- how many of the sights are the row's listener's
-abbrev pub count_at : List Sight → Row → ℕ
-count_at sights row = length (sights_by row.listener.listener sights)
+-- ---- room as it is counted
 
-pub counts_none : (rows : List Row) → replicate (length rows) 0 ≡ map (count_at []) rows
-counts_none [] = refl
-counts_none (row ∷ rest) = ap (λ l. 0 ∷ l) (counts_none rest)
+-- where this is the row of the listener it has room for so many events more
+abbrev pub HasRoomAt : ℕ → ℕ → Row → Type 0
+HasRoomAt id events row = id_of row ≡ id → events ≤ row.room
 
-pub count_low : (sights : List Sight) (rows : List Row) (at : ℕ) → at < length rows → get_or (map (count_at sights) rows) at 0 ≤ length sights
-count_low sights rows at within =
-    let d = any_of rows at within in
-    let is = get_or-map (count_at sights) rows at d 0 within in
-    let low = length-filter_le (is_sight_of (get_or rows at d).listener.listener) sights in
-    omega (arith, is, low)
+-- so it is for each that is counted
+abbrev pub AreReserved : List (ℕ × ℕ) → List Row → Type 0
+AreReserved counts rows = All (λ (count : ℕ × ℕ). All (HasRoomAt count.0 count.1) rows) counts
 
-count_more : (front : List Sight) (s : Sight) (row : Row) (k : Bool) → (s.listener.0 == id_of row) ≡ k → count_at (front ++ s ∷ []) row ≡ count_at front row + cond k 1 0
-count_more front s row k is =
-    ap (λ (l : List Sight). length l) (filter-push (is_sight_of row.listener.listener) front s k is) ∙ length-append (sights_by row.listener.listener front) (cond k (s ∷ []) []) ∙ ap (λ n. count_at front row + n) (by k)
+-- the row in the place of the listener has the room, and no other row is the listener's
+pub room_there : (rows : List Row) (at : ℕ) (row : Row) (listener : ListenerId) (events : ℕ) → Rise rows → IsPlaceOf listener rows at → events ≤ row.room → All (HasRoomAt listener.0 events) (set rows at row)
+room_there rows at row listener events rise place enough i d within mine = by (cases_eq i at)
   where
-    by : (t : Bool) → length (cond t (s ∷ []) []) ≡ cond t 1 0
-    by true = refl
-    by false = refl
+    by : (i ≡ at) ⊎ (i ≢ at) → events ≤ (get_or (set rows at row) i d).room
+    by (inl same) =
+        let here = ap (λ (r : Row). r.room) (ap (λ n. get_or (set rows at row) n d) same ∙ get_or-set_same rows at row d place.within) in
+        omega (arith, here, enough)
+    by (inr differ) =
+        let inside : i < length rows = subst (λ n. i < n) (length-set rows at row) within in
+        let other : id_of (get_or rows i d) ≡ listener.0 = ap id_of (sym (get_or-set_other rows at i row d differ)) ∙ mine in
+        absurd (apart rows rise i at d inside place.within differ (other ∙ sym (place.is d)))
 
-count_here : (front : List Sight) (s : Sight) (row : Row) → id_of row ≡ s.listener.0 → count_at (front ++ s ∷ []) row ≡ count_at front row + 1
-count_here front s row same = count_more front s row true (eq-eqb s.listener.0 (id_of row) (sym same))
-
-count_elsewhere : (front : List Sight) (s : Sight) (row : Row) → ¬ (id_of row ≡ s.listener.0) → count_at (front ++ s ∷ []) row ≡ count_at front row
-count_elsewhere front s row differ = count_more front s row false (ne_eqb s.listener.0 (id_of row) (λ same. differ (sym same))) ∙ (let same : count_at front row + 0 ≡ count_at front row = omega arith in same)
-
--- a sight of a listener that is not live counts for none
-pub counts_absent : (front : List Sight) (s : Sight) (rows : List Row) → IsAbsent s.listener rows → map (count_at front) rows ≡ map (count_at (front ++ s ∷ [])) rows
-counts_absent front s [] absent = refl
-counts_absent front s (row ∷ rest) absent = λ i. sym (count_elsewhere front s row (absent 0 row (omega arith))) i ∷ counts_absent front s rest (λ k d within. absent (suc k) d (omega (arith, within))) i
-
--- one of a live listener counts at its place
-pub counts_there : (front : List Sight) (s : Sight) (rows : List Row) (at : ℕ) → Rise rows → IsPlaceOf s.listener rows at →
-    set (map (count_at front) rows) at (get_or (map (count_at front) rows) at 0 + 1) ≡ map (count_at (front ++ s ∷ [])) rows
-counts_there front s rows at rise place =
-    same_lists _ _ (length-set (map (count_at front) rows) at (get_or (map (count_at front) rows) at 0 + 1) ∙ length-map rows (count_at front) ∙ sym (length-map rows (count_at (front ++ s ∷ []))))
-    (λ k d within. each k d (subst (λ n. k < n) (length-set (map (count_at front) rows) at (get_or (map (count_at front) rows) at 0 + 1) ∙ length-map rows (count_at front)) within) (cases_eq k at))
+-- what had room still has it where there is more room, and so has what was made room for last
+pub reserved_next : (counts : List (ℕ × ℕ)) (count : ℕ × ℕ) (old new : List Row) → AreRoomierRows old new → AreReserved counts old → All (HasRoomAt count.0 count.1) new → AreReserved (counts ++ count ∷ []) new
+reserved_next counts count old new roomier had has =
+    All-push (λ (c : ℕ × ℕ). All (HasRoomAt c.0 c.1) new) counts count (All-weaker (λ (c : ℕ × ℕ). All (HasRoomAt c.0 c.1) old) (λ (c : ℕ × ℕ). All (HasRoomAt c.0 c.1) new) still counts had) has
   where
-    each : (k d : ℕ) → k < length rows → (k ≡ at) ⊎ (k ≢ at) → get_or (set (map (count_at front) rows) at (get_or (map (count_at front) rows) at 0 + 1)) k d ≡ get_or (map (count_at (front ++ s ∷ [])) rows) k d
-    each k d inside (inl same) =
-        let r = any_of rows k inside in
-        let within : at < length (map (count_at front) rows) = subst (λ n. at < n) (sym (length-map rows (count_at front))) place.within in
-        ap (λ n. get_or (set (map (count_at front) rows) at (get_or (map (count_at front) rows) at 0 + 1)) n d) same
-        ∙ get_or-set_same (map (count_at front) rows) at (get_or (map (count_at front) rows) at 0 + 1) d within
-        ∙ ap (λ n. n + 1) (get_or-map (count_at front) rows at r 0 place.within)
-        ∙ sym (count_here front s (get_or rows at r) (place.is r))
-        ∙ sym (get_or-map (count_at (front ++ s ∷ [])) rows at r d place.within)
-        ∙ ap (λ n. get_or (map (count_at (front ++ s ∷ [])) rows) n d) (sym same)
-    each k d inside (inr differ) =
-        let r = any_of rows k inside in
-        get_or-set_other (map (count_at front) rows) at k (get_or (map (count_at front) rows) at 0 + 1) d differ
-        ∙ get_or-map (count_at front) rows k r d inside
-        ∙ sym (count_elsewhere front s (get_or rows k r) (λ e. apart rows rise k at r inside place.within differ (e ∙ sym (place.is r))))
-        ∙ sym (get_or-map (count_at (front ++ s ∷ [])) rows k r d inside)
+    still : (c : ℕ × ℕ) → All (HasRoomAt c.0 c.1) old → All (HasRoomAt c.0 c.1) new
+    still c room i d within mine =
+        let inside : i < length old = subst (λ n. i < n) roomier.count within in
+        let more = roomier.each i d inside in
+        let enough = room i d inside (ap id_of (sym more.same) ∙ mine) in
+        let kept = more.room in
+        omega (arith, enough, kept)
 
--- ---- the loop over the sights, with its counts
+pub rising_still : (old new : List Row) → AreRoomierRows old new → IsStrictlyIncreasing (map number_of (listeners_in old)) → IsStrictlyIncreasing (map number_of (listeners_in new))
+rising_still old new roomier = subst (λ (ls : List ListenerRow). IsStrictlyIncreasing (map number_of ls)) (sym (same_listeners old new (same_but_room old new roomier)))
 
-module _ (sights : List declared.Sight) (i : ℕ) (d : declared.Sight) (within : i < length sights) (rows : List Row) (counts : List ℕ) (counted : counts ≡ map (count_at (sights_of (take i sights))) rows) where
-  s : declared.Sight
-  s = get_or sights i d
+row_reserved : (counts : List (ℕ × ℕ)) (row : Row) → All (λ (count : ℕ × ℕ). HasRoomAt count.0 count.1 row) counts → unwrap_or (lookup (is_at (nat_cmp (id_of row))) counts) 0 ≤ row.room
+row_reserved [] row has = omega arith
+row_reserved (count ∷ rest) row has = by (is_at (nat_cmp (id_of row)) count.0) refl (row_reserved rest row (All-tail has_room count rest has))
+  where
+    has_room : ℕ × ℕ → Type 0
+    has_room c = HasRoomAt c.0 c.1 row
 
-  next : sights_of (take (i + 1) sights) ≡ sights_of (take i sights) ++ sight_of (get_or sights i d) ∷ []
-  next = ap (λ n. sights_of (take n sights)) (add-one i) ∙ ap sights_of (take-more sights i d within) ∙ map-append sight_of (take i sights) (get_or sights i d ∷ [])
+    by : (here : Bool) → is_at (nat_cmp (id_of row)) count.0 ≡ here → unwrap_or (lookup (is_at (nat_cmp (id_of row))) rest) 0 ≤ row.room → unwrap_or (cond here (Some count.1) (lookup (is_at (nat_cmp (id_of row))) rest)) 0 ≤ row.room
+    by true is later = All-head has_room count rest has (eqb-true (id_of row) count.0 (sym (at-is (id_of row) count.0) ∙ is))
+    by false is later = later
 
-  pub counted_absent : IsAbsent (get_or sights i d).listener rows → counts ≡ map (count_at (sights_of (take (i + 1) sights))) rows
-  counted_absent absent = counted ∙ counts_absent (sights_of (take i sights)) (sight_of (get_or sights i d)) rows absent ∙ ap (λ (l : List Sight). map (count_at l) rows) (sym next)
+-- each row has room for as many as are counted for its listener
+pub counts_reserved : (counts : List (ℕ × ℕ)) (rows : List Row) → AreReserved counts rows → All (λ (row : Row). unwrap_or (lookup (is_at (nat_cmp (id_of row))) counts) 0 ≤ row.room) rows
+counts_reserved counts rows has i d within = row_reserved counts (get_or rows i d) (λ k count counted. has k count counted i d within)
 
-  module _ (at now : ℕ) (read : now ≡ get_or counts at now) (place : IsPlaceOf (get_or sights i d).listener rows at) where
-    is : now ≡ get_or (map (count_at (sights_of (take i sights))) rows) at 0
-    is =
-        read
-        ∙ ap (λ (l : List ℕ). get_or l at now) counted
-        ∙ get_or_default (map (count_at (sights_of (take i sights))) rows) at now 0 (subst (λ n. at < n) (sym (length-map rows (count_at (sights_of (take i sights))))) place.within)
+-- ---- room for the sights
 
-    pub counted_low : now ≤ i
-    counted_low =
-        let low = count_low (sights_of (take i sights)) rows at place.within in
-        let length : length (sights_of (take i sights)) ≡ length (take i sights) = length-map (take i sights) sight_of in
-        let few = length-take i sights in
-        let same = is in
-        omega (arith, low, length, few, same)
+own_sights : (listener : ListenerId) (sights : List Sight) → length (sights_by listener (sights_of sights)) ≡ count_by (λ (s : Sight). s.listener.0 == listener.0) sights
+own_sights listener sights =
+    let own : Sight → Bool = λ (s : Sight). s.listener.0 == listener.0 in
+    ap length (filter-mapped sight_of (is_sight_of listener) own (λ s. refl) sights) ∙ length-map (filter own sights) sight_of ∙ length-filter own sights
 
-    pub counted_more : Rise rows → set counts at (now + 1) ≡ map (count_at (sights_of (take (i + 1) sights))) rows
-    counted_more rise =
-        (λ j. set (counted j) at (is j + 1))
-        ∙ counts_there (sights_of (take i sights)) (sight_of (get_or sights i d)) rows at rise place
-        ∙ ap (λ (l : List Sight). map (count_at l) rows) (sym next)
-
--- ---- room by the counts
-
--- where the room that was made at each row is its count, there is room for the sights
-pub room_for : (sights : List Sight) (counts : List ℕ) (old new : List Row) → map bare new ≡ map bare old → counts ≡ map (count_at sights) old →
-    ((i : ℕ) (d : Row) → i < length new → get_or counts i 0 ≤ (get_or new i d).room) → HasRoomFor sights new
-room_for sights counts old new same counted room i d within =
-    let inside : i < length old = subst (λ n. i < n) (same_length old new same) within in
-    let mine : (get_or new i d).listener.listener ≡ (get_or old i d).listener.listener = ap (λ (r : Row). r.listener.listener) (bare_at old new same i d inside) in
-    let count : get_or counts i 0 ≡ count_at sights (get_or old i d) = ap (λ (l : List ℕ). get_or l i 0) counted ∙ get_or-map (count_at sights) old i d 0 inside in
-    let here : length (sights_by (get_or new i d).listener.listener sights) ≡ count_at sights (get_or old i d) = ap (λ (l : ListenerId). length (sights_by l sights)) mine in
+-- where the sights are counted, there is room for them
+pub room_for : (sights : List Sight) (counts : BTreeMap ℕ ℕ) (rows : List Row) → ((id : ℕ) → count_at (get nat_cmp counts) id ≡ count_by (λ (s : Sight). s.listener.0 == id) sights) →
+    All (λ (row : Row). count_at (get nat_cmp counts) (id_of row) ≤ row.room) rows → HasRoomFor (sights_of sights) rows
+room_for sights counts rows counted room i d within =
+    let row = get_or rows i d in
+    let own = own_sights row.listener.listener sights in
+    let many = counted (id_of row) in
     let enough = room i d within in
-    omega (arith, count, here, enough)
+    omega (arith, own, many, enough)

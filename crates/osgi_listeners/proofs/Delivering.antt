@@ -9,6 +9,7 @@ use Rattle.osgi_listeners.specs.Rows.{Accepts, change, id_of, is_listener, Row, 
 use Rattle.osgi_listeners.specs.Sights.{HasRoomFor, IsOfEarlier, place_in, sight_of, sights_by, sights_of, told_all, waiting_at}
 use Rattle.osgi_listeners.specs.declared.row.Waiting.{Waiting}
 use Rattle.osgi_listeners.specs.declared.sight.Sight as declared
+use Rattle.osgi_listeners.specs.declared.sight.TheConstants.{ENTRY_PLACES}
 use Rattle.osgi_listeners.specs.laws.Items.{all-in, before-middle, eq-turn, filter-push, in-all, map-twice, split-at, take-more}
 use Rattle.osgi_ops.specs.Listening.{ComesBefore, is_sight_of}
 use Rattle.osgi_ops.specs.Moments.{Sight}
@@ -75,7 +76,7 @@ module _ (entry : ℕ) (front rest : List Sight) (s : Sight) (rows : List Row) (
       let old = in-all (IsOfEarlier entry) rows row earlier there in (
         omega (arith, enough, fewer),
         All-append (λ (w : Waiting). w.place < place_in entry s.place) row.waiting (map (waiting_at entry) (sights_by row.listener.listener front))
-            (all-in (λ (w : Waiting). w.place < place_in entry s.place) row.waiting (λ w i. (let low = in-all (λ (v : Waiting). v.place < entry * 4294967296) row.waiting w old i in omega (arith, low))))
+            (all-in (λ (w : Waiting). w.place < place_in entry s.place) row.waiting (λ w i. (let low = in-all (λ (v : Waiting). v.place < entry * ENTRY_PLACES) row.waiting w old i in omega (arith, low))))
             (all-in (λ (w : Waiting). w.place < place_in entry s.place) (map (waiting_at entry) (sights_by row.listener.listener front)) (λ w i.
             (let r = In-map (waiting_at entry) (sights_by row.listener.listener front) w i in
             let k = In-filter (is_sight_of row.listener.listener) front r.0 r.1 in

@@ -12,7 +12,7 @@ use Rattle.std.proofs.lemmas.List.Folds.{list_any_none, list_any-from_Any}
 use Rattle.std.proofs.lemmas.List.Quantifiers.{all_pairs_push}
 use Rattle.osgi_base.specs.declared.ids.ListenerId.{ListenerId}
 use Rattle.osgi_base.specs.declared.ids.Tag.{Tag}
-use Rattle.osgi_listeners.specs.Rows.{AreInPlace, change, ComesFirst, id_of, is_in_turn, is_listener, is_open, IsEarliest, IsInPlace, IsLater, listener_of, Listening, Row, row_at, tag_of, told, without_first}
+use Rattle.osgi_listeners.specs.Rows.{AreInPlace, AreRising, change, ComesFirst, id_of, is_in_turn, is_listener, is_open, IsEarliest, IsInPlace, IsLater, listener_of, Listening, Row, row_at, tag_of, told, without_first}
 use Rattle.osgi_listeners.specs.computed.Kept.{first_in, first_place, IsAbsent, IsKept, IsPlaceOf, open_place}
 use Rattle.osgi_listeners.specs.computed.Tournaments.{AreNone, IsFirstLeast, none, number_at}
 use Rattle.osgi_listeners.specs.declared.kind_index.KindIndex.{KindIndex}
@@ -37,6 +37,11 @@ closed_by false (w ∷ rest) places is = let low = places.fit 0 w (omega arith) 
 free_by : (t : Bool) (number : ℕ) → cond t none number < none → t ≡ false
 free_by true number low = absurd (omega (arith, low))
 free_by false number low = refl
+
+waits_by : (t : Bool) (waiting : List Waiting) → cond t none (first_in waiting) < none → slice_get waiting 0 ≡ None → ⊥
+waits_by true waiting low absent = omega (arith, low)
+waits_by false [] low absent = omega (arith, low)
+waits_by false (w ∷ rest) low absent = cc absent
 
 first_is : (waiting : List Waiting) (next : Waiting) → slice_get waiting 0 ≡ Some next → first_in waiting ≡ next.place
 first_is [] next is = absurd (cc is)
@@ -68,6 +73,9 @@ module _ (l : Listening) (numbers : List ℕ) {index : KindIndex} (kept : IsKept
 
     is_open_there : (d : Row) → is_open l.turns (get_or l.rows at d) ≡ true
     is_open_there d = open_by (is_in_turn l.turns (get_or l.rows at d)) (get_or l.rows at d).waiting (open_number d)
+
+    pub waits_there : (row : Row) → row ≡ get_or l.rows at row → slice_get row.waiting 0 ≡ None → ⊥
+    waits_there row is absent = waits_by (is_in_turn l.turns (get_or l.rows at row)) (get_or l.rows at row).waiting (open_number row) (ap (λ (r : Row). slice_get r.waiting 0) (sym is) ∙ absent)
 
     pub earliest : (row : Row) (next : Waiting) → row ≡ get_or l.rows at row → slice_get row.waiting 0 ≡ Some next → IsEarliest l row next
     earliest row next is first = record {
@@ -148,10 +156,10 @@ in_turn_same turns turns' row same = ap is_some same
 
 module _ (l : Listening) (numbers : List ℕ) (listener : ListenerId) (at number : ℕ) (f : Row → Row) (turns : List (ℕ × Tag)) {index : KindIndex} (kept : IsKept l numbers index) (place : IsPlaceOf listener l.rows at)
     (keeps : (row : Row) → (f row).listener ≡ row.listener) (places : (row : Row) → id_of row ≡ listener.0 → Contains l.rows row → IsInPlace row → IsInPlace (f row))
-    (is : (d : Row) → number ≡ open_place turns (f (get_or l.rows at d))) (others : (q : ℕ) → q ≢ listener.0 → tag_of q turns ≡ tag_of q l.turns) where
+    (is : (d : Row) → number ≡ open_place turns (f (get_or l.rows at d))) (rising : AreRising turns) (others : (q : ℕ) → q ≢ listener.0 → tag_of q turns ≡ tag_of q l.turns) where
   pub kept_change : IsKept (record { rows = change listener f l.rows; turns = turns; issued = l.issued }) (set numbers at number) index
   kept_change = record {
-    in_order = in_order_change listener f keeps l turns places kept.in_order;
+    in_order = in_order_change listener f keeps l turns places rising kept.in_order;
     size = length-set numbers at number ∙ kept.size;
     firsts = firsts_change listener f numbers l.turns turns l.rows at number (ids_rise l.rows kept.in_order.listeners.rising) few place is (λ row differ. in_turn_same l.turns turns row (others (id_of row) differ)) kept.firsts;
     by_kind = by_kind_same l.rows (change listener f l.rows) (listeners_in-change listener f keeps l.rows) kept.by_kind;
@@ -162,9 +170,9 @@ module _ (l : Listening) (numbers : List ℕ) (listener : ListenerId) (at number
 
 -- ---- only the turns change
 
-pub kept_turns : {index : KindIndex} (l : Listening) (turns : List (ℕ × Tag)) (numbers : List ℕ) → All (λ row. is_in_turn turns row ≡ is_in_turn l.turns row) l.rows → IsKept l numbers index → IsKept (record { rows = l.rows; turns = turns; issued = l.issued }) numbers index
-kept_turns l turns numbers same kept = record {
-  in_order = record { listeners = kept.in_order.listeners; waiting = kept.in_order.waiting };
+pub kept_turns : {index : KindIndex} (l : Listening) (turns : List (ℕ × Tag)) (numbers : List ℕ) → AreRising turns → All (λ row. is_in_turn turns row ≡ is_in_turn l.turns row) l.rows → IsKept l numbers index → IsKept (record { rows = l.rows; turns = turns; issued = l.issued }) numbers index
+kept_turns l turns numbers rising same kept = record {
+  in_order = record { listeners = kept.in_order.listeners; waiting = kept.in_order.waiting; turns = rising };
   size = kept.size;
   firsts = firsts_turns numbers l.turns turns l.rows same kept.firsts;
   by_kind = kept.by_kind;
@@ -179,29 +187,29 @@ change_nothing listener (row ∷ rest) = λ i. by (is_listener listener row) i �
     by false = refl
 
 -- the turn of a live listener ends
-module _ (l : Listening) (numbers : List ℕ) (listener : ListenerId) (turns : List (ℕ × Tag)) {index : KindIndex} (kept : IsKept l numbers index) (ended : tag_of listener.0 turns ≡ None) (others : (q : ℕ) → q ≢ listener.0 → tag_of q turns ≡ tag_of q l.turns) where
+module _ (l : Listening) (numbers : List ℕ) (listener : ListenerId) (turns : List (ℕ × Tag)) {index : KindIndex} (kept : IsKept l numbers index) (rising : AreRising turns) (ended : tag_of listener.0 turns ≡ None) (others : (q : ℕ) → q ≢ listener.0 → tag_of q turns ≡ tag_of q l.turns) where
   open_place_ended : (row : Row) → id_of row ≡ listener.0 → open_place turns row ≡ first_place row
   open_place_ended row same = ap (λ t. cond t none (first_place row)) (ap is_some (ap (λ q. tag_of q turns) same ∙ ended))
 
   pub kept_ended : (at number : ℕ) → IsPlaceOf listener l.rows at → ((d : Row) → number ≡ first_place (get_or l.rows at d)) → IsKept (record { rows = l.rows; turns = turns; issued = l.issued }) (set numbers at number) index
   kept_ended at number place is =
       subst (λ (rows : List Row). IsKept (record { rows = rows; turns = turns; issued = l.issued }) (set numbers at number) index) (change_nothing listener l.rows)
-      (kept_change l numbers listener at number (λ row. row) turns kept place (λ row. refl) (λ row same there places. places) (λ d. is d ∙ sym (open_place_ended (get_or l.rows at d) (place.is d))) others)
+      (kept_change l numbers listener at number (λ row. row) turns kept place (λ row. refl) (λ row same there places. places) (λ d. is d ∙ sym (open_place_ended (get_or l.rows at d) (place.is d))) rising others)
 
   -- or of one that is not live any more
   pub kept_ended_absent : IsAbsent listener l.rows → IsKept (record { rows = l.rows; turns = turns; issued = l.issued }) numbers index
-  kept_ended_absent absent = kept_turns l turns numbers (λ k d within. in_turn_same l.turns turns (get_or l.rows k d) (others (id_of (get_or l.rows k d)) (absent k d within))) kept
+  kept_ended_absent absent = kept_turns l turns numbers rising (λ k d within. in_turn_same l.turns turns (get_or l.rows k d) (others (id_of (get_or l.rows k d)) (absent k d within))) kept
 
 -- an event is handed
-pub kept_handed : {index : KindIndex} (l : Listening) (numbers : List ℕ) (listener : ListenerId) (at : ℕ) (tag : Tag) (turns : List (ℕ × Tag)) → IsKept l numbers index → IsPlaceOf listener l.rows at → tag_of listener.0 turns ≡ Some tag → ((q : ℕ) → q ≢ listener.0 → tag_of q turns ≡ tag_of q l.turns) →
+pub kept_handed : {index : KindIndex} (l : Listening) (numbers : List ℕ) (listener : ListenerId) (at : ℕ) (tag : Tag) (turns : List (ℕ × Tag)) → IsKept l numbers index → IsPlaceOf listener l.rows at → AreRising turns → tag_of listener.0 turns ≡ Some tag → ((q : ℕ) → q ≢ listener.0 → tag_of q turns ≡ tag_of q l.turns) →
     IsKept (record { rows = change listener without_first l.rows; turns = turns; issued = l.issued }) (set numbers at none) index
-kept_handed l numbers listener at tag turns kept place begun others =
+kept_handed l numbers listener at tag turns kept place rising begun others =
     kept_change l numbers listener at none without_first turns kept place (λ row. refl) (λ row same there places. first_out_in_place row places)
-    (λ d. sym (ap (λ t. cond t none (first_place (without_first (get_or l.rows at d)))) (ap is_some (ap (λ q. tag_of q turns) (place.is d) ∙ begun)))) others
+    (λ d. sym (ap (λ t. cond t none (first_place (without_first (get_or l.rows at d)))) (ap is_some (ap (λ q. tag_of q turns) (place.is d) ∙ begun)))) rising others
 
 -- an event is put behind those that wait
 pub kept_told : {index : KindIndex} (l : Listening) (numbers : List ℕ) (listener : ListenerId) (at number : ℕ) (w : Waiting) → IsKept l numbers index → IsPlaceOf listener l.rows at → w.place < none → IfSome (row_at listener l.rows) (IsLater w.place) → ((d : Row) → number ≡ open_place l.turns (told w (get_or l.rows at d))) →
     IsKept (record { rows = change listener (told w) l.rows; turns = l.turns; issued = l.issued }) (set numbers at number) index
 kept_told l numbers listener at number w kept place low later is =
     kept_change l numbers listener at number (told w) l.turns kept place (λ row. refl)
-    (λ row same there places. told_in_place w row low (said_of l.rows (ids_rise l.rows kept.in_order.listeners.rising) listener (IsLater w.place) row there same later) places) is (λ q differ. refl)
+    (λ row same there places. told_in_place w row low (said_of l.rows (ids_rise l.rows kept.in_order.listeners.rising) listener (IsLater w.place) row there same later) places) is kept.in_order.turns (λ q differ. refl)

@@ -33,6 +33,7 @@ kept_none numbers index size are_none unlisted = record {
       few = omega arith;
     };
     waiting = λ k d within. absurd (omega (arith, within));
+    turns = tt;
   };
   size = size;
   firsts = record {
@@ -128,6 +129,7 @@ module _ (l : Listening) (added : ListenerRow) (numbers : List ℕ) (next : numb
     in_order = record {
       listeners = subst (λ ls'. AreListeners ls' (l.issued + 1)) (sym added_last) pushed;
       waiting = All-push IsInPlace l.rows (new_row added) kept.in_order.waiting (record { rising = λ i j d before within. absurd (omega (arith, within)); fit = λ k d within. absurd (omega (arith, within)) });
+      turns = kept.in_order.turns;
     };
     size = kept.size;
     firsts = record {
@@ -176,6 +178,7 @@ pub order_filter : (keeps : ListenerRow → Bool) (l : Listening) → AreInOrder
 order_filter keeps l order = record {
   listeners = subst (λ ls. AreListeners ls l.issued) (sym (listeners_in-filter keeps l.rows)) (listeners-filter keeps (listeners_in l.rows) l.issued order.listeners);
   waiting = All-filter (λ (row : Row). keeps row.listener) IsInPlace l.rows order.waiting;
+  turns = order.turns;
 }
 
 pub fewer : (keeps : ListenerRow → Bool) (rows : List Row) → length (filter (λ (row : Row). keeps row.listener) rows) ≤ length rows
@@ -187,23 +190,24 @@ listeners_in-bare : (rows : List Row) → listeners_in (map bare rows) ≡ liste
 listeners_in-bare [] = refl
 listeners_in-bare (row ∷ rest) = ap (λ ls. row.listener ∷ ls) (listeners_in-bare rest)
 
+pub same_listeners : (old new : List Row) → map bare new ≡ map bare old → listeners_in new ≡ listeners_in old
+same_listeners old new same = sym (listeners_in-bare new) ∙ ap listeners_in same ∙ listeners_in-bare old
+
 pub kept_bare : {index : KindIndex} (l : Listening) (rows : List Row) (numbers : List ℕ) → map bare rows ≡ map bare l.rows → IsKept l numbers index → IsKept (record { rows = rows; turns = l.turns; issued = l.issued }) numbers index
 kept_bare l rows numbers same kept = record {
   in_order = record {
-    listeners = subst (λ ls. AreListeners ls l.issued) (sym same_listeners) kept.in_order.listeners;
+    listeners = subst (λ ls. AreListeners ls l.issued) (sym (same_listeners l.rows rows same)) kept.in_order.listeners;
     waiting = λ k d within. subst IsInPlace (at k d within) (kept.in_order.waiting k d (inside k within));
+    turns = kept.in_order.turns;
   };
   size = kept.size;
   firsts = record {
     at = λ k d within. kept.firsts.at k d (inside k within) ∙ ap (open_place l.turns) (at k d within);
     past = λ k beyond. kept.firsts.past k (subst (λ n. n ≤ k) long beyond);
   };
-  by_kind = by_kind_same l.rows rows same_listeners kept.by_kind;
+  by_kind = by_kind_same l.rows rows (same_listeners l.rows rows same) kept.by_kind;
 }
   where
-    same_listeners : listeners_in rows ≡ listeners_in l.rows
-    same_listeners = sym (listeners_in-bare rows) ∙ ap listeners_in same ∙ listeners_in-bare l.rows
-
     long : length rows ≡ length l.rows
     long = sym (length-map rows bare) ∙ ap length same ∙ length-map l.rows bare
 

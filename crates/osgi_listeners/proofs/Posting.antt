@@ -1,14 +1,14 @@
 -- The loop of a post: what is answered for each listener is put behind what waits for it.
-use Rattle.std.proofs.Common.{◌≡◌, ◌≢◌, ◌⊎◌, inl, inr, ◌+◌, ◌<◌, ◌≤◌, ℕ, List, length, map, get_or, ap, sym, subst, refl, ◌∙◌, arith}
+use Rattle.std.proofs.Common.{◌≡◌, ◌≢◌, ◌⊎◌, inl, inr, ◌+◌, ◌<◌, ◌≤◌, ℕ, List, length, get_or, ap, sym, subst, refl, ◌∙◌, arith}
 use Rattle.std.specs.Prelude.{Option, None, Some, All, IfSome, slice_get, unwrap_or}
 use Rattle.std.proofs.lemmas.Bool.{cases_eq}
 use Rattle.std.proofs.lemmas.List.{get_or-map, get_or_default, length-map}
 use Rattle.osgi_base.specs.declared.ids.ListenerId.{ListenerId}
-use Rattle.osgi_listeners.specs.Rows.{ArePosted, AreRoomier, bare, change, HasRoom, IsLater, IsPosted, listener_of, listeners_in, Listening, Row, row_at, told, told_if}
+use Rattle.osgi_listeners.specs.Rows.{ArePosted, AreRoomier, AreRoomierRows, bare, change, HasRoom, IsLater, IsPosted, listener_of, listeners_in, Listening, Row, row_at, told, told_if}
 use Rattle.osgi_listeners.specs.computed.Kept.{IsPlaceOf}
 use Rattle.osgi_listeners.proofs.Changes.{changed_elsewhere, get_or-change, get_or-change_at, listeners_in-change, row_found}
 use Rattle.osgi_listeners.specs.laws.Ids.{apart, Rise}
-use Rattle.osgi_listeners.proofs.Loops.{same_length}
+use Rattle.osgi_listeners.specs.laws.Room.{room_kept}
 use Rattle.osgi_listeners.proofs.Orders.{any_of}
 use Rattle.osgi_listeners.specs.declared.row.ListenerRow.{ListenerRow}
 use Rattle.std.proofs.lemmas.Option.{unwrap_or-slice_get}
@@ -113,19 +113,15 @@ room_told : (place : ℕ) (answer : Option Event) (row : Row) → row.room ≤ (
 room_told place None row = omega arith
 room_told place (Some event) row = omega arith
 
-pub bare_at : (old new : List Row) → map bare new ≡ map bare old → (i : ℕ) (d : Row) → i < length old → bare (get_or new i d) ≡ bare (get_or old i d)
-bare_at old new same i d within =
-    sym (get_or-map bare new i d d (subst (λ n. i < n) (sym (same_length old new same)) within)) ∙ ap (λ rs. get_or rs i d) same ∙ get_or-map bare old i d d within
-
 module _ (place : ℕ) (Sees : ListenerId → Option Event → Type 0) (old before now : Listening) (at : ℕ) (roomier : AreRoomier old before) (all : length before.rows ≤ at) (posted : IsPostedTo place Sees before now at) where
   pub posted_all : ArePosted place Sees old.rows now.rows
-  posted_all = record { count = long before.rows now.rows posted.same ∙ same_length old.rows before.rows roomier.same; each = each }
+  posted_all = record { count = long before.rows now.rows posted.same ∙ roomier.rows.count; each = each }
     where
       each : (i : ℕ) (d : Row) → i < length old.rows → IsPosted place Sees (get_or old.rows i d) (get_or now.rows i d)
       each i d within =
-          let inside : i < length before.rows = subst (λ n. i < n) (sym (same_length old.rows before.rows roomier.same)) within in
+          let inside : i < length before.rows = subst (λ n. i < n) (sym roomier.rows.count) within in
           let done = posted.done i d (omega (arith, inside, all)) inside in
-          let same : bare (get_or before.rows i d) ≡ bare (get_or old.rows i d) = bare_at old.rows before.rows roomier.same i d within in
+          let same : bare (get_or before.rows i d) ≡ bare (get_or old.rows i d) = (roomier.rows.each i d within).same in
           record {
             answer = done.0;
             seen = subst (λ (r : Row). Sees r.listener.listener done.0) same done.1;
@@ -136,7 +132,7 @@ module _ (place : ℕ) (Sees : ListenerId → Option Event → Type 0) (old befo
   room_all events has i d within =
       let inside : i < length before.rows = subst (λ n. i < n) (long before.rows now.rows posted.same) within in
       let done = posted.done i d (omega (arith, inside, all)) inside in
-      let was = roomier.room (events + 1) has i d inside in
+      let was = room_kept old.rows before.rows roomier.rows (events + 1) has i d inside in
       let less = room_told place done.0 (get_or before.rows i d) in
       let is = ap (λ (r : Row). r.room) done.2 in
       omega (arith, was, less, is)
@@ -148,7 +144,7 @@ module _ (place : ℕ) (Sees : ListenerId → Option Event → Type 0) (old befo
   issued_all = posted.issued ∙ roomier.issued
 
 -- what waits is as before, where only room was made
-pub later_still : (place : ℕ) (old new : List Row) → map bare new ≡ map bare old → All (IsLater place) old → All (IsLater place) new
-later_still place old new same later i d within =
-    let inside : i < length old = subst (λ n. i < n) (same_length old new same) within in
-    subst (IsLater place) (sym (bare_at old new same i d inside)) (later i d inside)
+pub later_still : (place : ℕ) (old new : List Row) → AreRoomierRows old new → All (IsLater place) old → All (IsLater place) new
+later_still place old new roomier later i d within =
+    let inside : i < length old = subst (λ n. i < n) roomier.count within in
+    subst (IsLater place) (sym (roomier.each i d inside).same) (later i d inside)

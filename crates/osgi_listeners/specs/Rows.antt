@@ -12,13 +12,13 @@ use Rattle.osgi_base.specs.declared.ids.ListenerId.{ListenerId}
 use Rattle.osgi_base.specs.declared.ids.Tag.{Tag}
 use Rattle.osgi_listeners.specs.declared.answer.HandAnswer.{HandAnswer}
 use Rattle.osgi_listeners.specs.declared.answer.HandAnswer.TheVariants.{Handed, Nothing}
-use Rattle.osgi_listeners.specs.declared.listeners.TheConstants.{MAX_LISTENERS}
 use Rattle.osgi_listeners.specs.declared.row.ListenerRow.{ListenerRow}
 use Rattle.osgi_listeners.specs.declared.row.Waiting.{Waiting}
 use Rattle.osgi_ops.specs.declared.event.Busy.{Busy}
 use Rattle.osgi_ops.specs.declared.event.Event.{Event}
 use Rattle.osgi_ops.specs.declared.kind.Kind.{Kind}
 use Rattle.osgi_ops.specs.declared.kind.Kind.TheVariants.{Service, All as AllServices, Bundle, Framework}
+use Rattle.osgi_ops.specs.declared.limits.TheConstants.{MAX_LISTENERS}
 use Rattle.osgi_ops.specs.declared.refusal.Many.TheVariants.{Listeners}
 use Rattle.osgi_ops.specs.declared.refusal.Refusal.{Refusal}
 use Rattle.osgi_ops.specs.declared.refusal.Refusal.TheVariants.{InvalidOperation, TooMany}
@@ -114,9 +114,20 @@ pub record AreInPlace (waiting : List Waiting) : Type 0 where
 abbrev pub IsInPlace : Row → Type 0
 IsInPlace row = AreInPlace row.waiting
 
+-- the ids of the turns rise, all of them above n
+abbrev pub RiseFrom : ℕ → List (ℕ × Tag) → Type 0
+RiseFrom n [] = Unit {0}
+RiseFrom n (turn ∷ rest) = (n < turn.0) × RiseFrom turn.0 rest
+
+-- the turns stand by rising id, so no listener has two
+abbrev pub AreRising : List (ℕ × Tag) → Type 0
+AreRising [] = Unit {0}
+AreRising (turn ∷ rest) = RiseFrom turn.0 rest
+
 pub record AreInOrder (l : Listening) : Type 0 where
   pub listeners : AreListeners (listeners_in l.rows) l.issued
   pub waiting : All IsInPlace l.rows
+  pub turns : AreRising l.turns
 
 -- ---- room
 
@@ -133,10 +144,14 @@ pub record IsRoomier (old new : Row) : Type 0 where
   pub same : bare new ≡ bare old
   pub room : old.room ≤ new.room
 
--- the same but for room, of which no listener has less
+-- so it is for each listener
+pub record AreRoomierRows (old new : List Row) : Type 0 where
+  pub count : length new ≡ length old
+  pub each : (i : ℕ) (d : Row) → i < length old → IsRoomier (slice_index_or old i d) (slice_index_or new i d)
+
+-- and nothing else has changed
 pub record AreRoomier (old new : Listening) : Type 0 where
-  pub same : map bare new.rows ≡ map bare old.rows
-  pub room : (events : ℕ) → HasRoom events old.rows → HasRoom events new.rows
+  pub rows : AreRoomierRows old.rows new.rows
   pub turns : new.turns ≡ old.turns
   pub issued : new.issued ≡ old.issued
 
@@ -156,14 +171,14 @@ has_waiting row = nat_lt 0 (length row.waiting)
 abbrev pub is_open : List (ℕ × Tag) → Row → Bool
 is_open turns row = not (is_in_turn turns row) && has_waiting row
 
--- a live listener in a turn with events that wait, of an open turn
+-- the open turn is one of a live listener for which events wait
 abbrev pub is_busy : List Row → (ℕ × Tag) → Bool
 is_busy rows turn = option_map_or has_waiting (row_at (record { 0 = turn.0 }) rows) false
 
 abbrev pub busy_of : (ℕ × Tag) → Busy
 busy_of turn = record { listener = record { 0 = turn.0 }; tag = turn.1 }
 
--- the live listeners in a turn with events that wait, rising
+-- the live listeners that are in a turn and for which events wait, with the tags of their turns
 abbrev pub busy_in : Listening → List Busy
 busy_in l = map busy_of (filter (is_busy l.rows) l.turns)
 

@@ -1,9 +1,10 @@
--- What listeners see of an entry, and the rows that it is put behind.
+-- What listeners see of an entry, and the rows where that waits behind what waited.
 use Rattle.std.specs.Prelude.{ℕ, ◌+◌, ◌-◌, ◌*◌, ◌<◌, ◌≤◌, List, ◌++◌, All, filter, length, map}
 use Rattle.osgi_base.specs.declared.ids.ListenerId.{ListenerId}
 use Rattle.osgi_listeners.specs.Rows.{Row}
 use Rattle.osgi_listeners.specs.declared.row.Waiting.{Waiting}
 use Rattle.osgi_listeners.specs.declared.sight.Sight as declared
+use Rattle.osgi_listeners.specs.declared.sight.TheConstants.{ENTRY_PLACES}
 use Rattle.osgi_ops.specs.Listening.{is_sight_of}
 use Rattle.osgi_ops.specs.Moments.{Sight}
 
@@ -18,9 +19,9 @@ sights_of sights = map sight_of sights
 abbrev pub sights_by : ListenerId → List Sight → List Sight
 sights_by listener sights = filter (is_sight_of listener) sights
 
--- the place in the history of what stands at this place of the entry before which so many stand
+-- the place in the history of the happening at this place of its entry, where so many entries stand before that one
 abbrev pub place_in : ℕ → ℕ → ℕ
-place_in entry place = entry * 4294967296 + place
+place_in entry place = entry * ENTRY_PLACES + place
 
 abbrev pub waiting_at : ℕ → Sight → Waiting
 waiting_at entry s = record { place = place_in entry s.place; event = s.event }
@@ -37,4 +38,4 @@ HasRoomFor sights rows = All (λ row. length (sights_by row.listener.listener si
 
 -- all that waits at the row is of entries before this one
 abbrev pub IsOfEarlier : ℕ → Row → Type 0
-IsOfEarlier entry row = All (λ (w : Waiting). w.place < entry * 4294967296) row.waiting
+IsOfEarlier entry row = All (λ (w : Waiting). w.place < entry * ENTRY_PLACES) row.waiting

@@ -4,10 +4,11 @@ use Rattle.std.specs.List.{list_any}
 use Rattle.std.specs.Option.{option_map}
 use Rattle.osgi_base.specs.declared.ids.ListenerId.{ListenerId}
 use Rattle.osgi_base.specs.declared.ids.Tag.{Tag}
-use Rattle.osgi_listeners.specs.Rows.{bare, Listening, Row, tag_of}
+use Rattle.osgi_listeners.specs.Rows.{AreRising, bare, Listening, Row, tag_of}
 use Rattle.osgi_listeners.specs.Sights.{place_in}
 use Rattle.osgi_listeners.specs.declared.row.ListenerRow.{ListenerRow}
 use Rattle.osgi_listeners.specs.declared.row.Waiting.{Waiting}
+use Rattle.osgi_listeners.specs.declared.sight.TheConstants.{ENTRY_PLACES}
 use Rattle.osgi_ops.specs.Brackets.{Bracket, brackets}
 use Rattle.osgi_ops.specs.Listening.{Added, handed_by, handed_in, heard_by, hearing, is_seen_by, is_turn_of, listeners}
 use Rattle.osgi_ops.specs.Moments.{Seen}
@@ -45,16 +46,6 @@ tag_in b = b.tag
 abbrev pub turn_of : ℕ → List Bracket → Option Tag
 turn_of listener opened = option_map tag_in (find (is_turn (record { 0 = listener })) opened)
 
--- the keys rise, all of them above n
-abbrev pub RiseFrom : ℕ → List (ℕ × Tag) → Type 0
-RiseFrom n [] = Unit {0}
-RiseFrom n (turn ∷ rest) = (n < turn.0) × RiseFrom turn.0 rest
-
--- the turns stand by rising id, so no listener has two
-abbrev pub AreRising : List (ℕ × Tag) → Type 0
-AreRising [] = Unit {0}
-AreRising (turn ∷ rest) = RiseFrom turn.0 rest
-
 -- row by row the live listeners of the history with what waits for them, its open turns, and as many ids as it added listeners
 pub record StandsFor (sights : List Seen) (history : List Entry) (l : Listening) : Type 0 where
   pub rows : map bare l.rows ≡ map (row_of sights history) (listeners history)
@@ -90,6 +81,6 @@ AreTurnsApart (b ∷ outer) = ((listener : ListenerId) → is_turn listener b �
 abbrev pub ArePast : List Seen → List Entry → Type 0
 ArePast sights history = All (λ (s : Seen). s.entry < length history) sights
 
--- and has fewer happenings than 2 to the power of 32. No history says so: whoever keeps the listeners has to carry it
+-- each place among the happenings of an entry is one that an entry has. No history says so: whoever keeps the listeners has to carry it
 abbrev pub AreSmall : List Seen → Type 0
-AreSmall sights = All (λ (s : Seen). s.place < 4294967296) sights
+AreSmall sights = All (λ (s : Seen). s.place < ENTRY_PLACES) sights

@@ -5,6 +5,7 @@ pub mod Handing
 pub mod Ids
 pub mod Items
 pub mod Premises
+pub mod Room
 pub mod Standing
 pub mod Turns
 pub mod Waiting

@@ -2,6 +2,7 @@
 #![tactic(auto)]
 
 mod answer;
+mod counts;
 mod kind_index;
 mod listeners;
 mod row;
@@ -11,6 +12,6 @@ mod slots;
 mod tournament;
 
 pub use answer::HandAnswer;
-pub use listeners::{Listeners, MAX_LISTENERS};
+pub use listeners::Listeners;
 pub use row::{ListenerRow, Waiting};
 pub use sight::{ENTRY_PLACES, Sight, are_in_order};

@@ -5,28 +5,25 @@ ghost use Rattle.std.specs.List.{list_any};
 ghost use Rattle.std.specs.Option.{option_copied, option_map};
 ghost use Rattle.std.specs.Result.{result_err};
 ghost use Rattle.osgi_ops.specs.Listening.{ComesBefore};
-ghost use Rattle.osgi_listeners.specs.Rows.{Accepts, add_refusal, AnswersHand, AreInOrder, ArePosted, AreRoomier, change, end_refusal, HasRoom, ids_of, is_kind, is_named, is_open, is_owned, IsHanded, IsLater, listener_of, listeners_in, new_row, no_listeners, number_of, row_at, rows_after, told, turns_after, without_turn};
+ghost use Rattle.osgi_listeners.specs.Rows.{Accepts, add_refusal, AnswersHand, AreInOrder, ArePosted, AreRoomier, busy_in, change, end_refusal, HasRoom, ids_of, is_kind, is_named, is_open, is_owned, IsHanded, IsLater, listener_of, listeners_in, new_row, no_listeners, number_of, row_at, rows_after, told, turns_after, without_turn};
 ghost use Rattle.osgi_listeners.specs.Sights.{HasRoomFor, IsOfEarlier, sights_of, told_all};
 
 use crate::answer::HandAnswer;
+use crate::counts::{counts_of, reserve_counts};
 use crate::kind_index::KindIndex;
 use crate::row::{ListenerRow, Waiting};
 use crate::sight::{ENTRY_PLACES, Sight};
 use crate::slot::Slot;
 use crate::slots::{
-    are_later, busy_of, counts_of, open_place, owned_ids, place_of, reserve_counts, reserve_each,
-    set_firsts, slot_of,
+    are_later, busy_of, open_place, owned_ids, place_of, reserve_each, set_firsts, slot_of,
 };
 use crate::tournament::{NO_NUMBER, Tournament};
 use osgi_base::{BundleId, List, ListenerId, Tag, Text};
 use osgi_model::Filter;
-use osgi_ops::{Event, Kind, Many, Refusal};
+use osgi_ops::{Busy, Event, Kind, MAX_LISTENERS, Many, Refusal};
 use std::alloc::{AllocError, Global};
 use std::collections::BTreeMap;
 use std::marker::Model;
-
-/// How many listeners may be live.
-pub const MAX_LISTENERS: usize = 4_096;
 
 /// The live listeners by rising id, each with the events that wait for it, and the open turns.
 ///
@@ -122,15 +119,39 @@ impl Listeners {
     /// The ids of the listeners of a kind, rising.
     pub fn of_kind(&self, kind: Kind) -> &[ListenerId]
         ensures of_kind { result.now ≡ ids_of (filter (is_kind kind) self.now.rows) }
+        ensures in_order { AreInOrder self.now }
     {
         self.by_kind.ids(kind)
     }
 
     /// Whether the owner has a live listener of this name.
-    fn has(&self, owner: BundleId, name: &Text) -> bool
+    pub fn has(&self, owner: BundleId, name: &Text) -> bool
         ensures has { result ≡ list_any (is_named owner name.now) self.now.rows }
     {
         self.slots.iter().any(|slot| slot.is_named(owner, name))
+    }
+
+    /// The id of the next listener that is added.
+    pub fn next_id(&self) -> ListenerId
+        requires ids_left { self.now.issued < 4294967295 }
+        ensures id { result.0 ≡ self.now.issued + 1 }
+    {
+        ListenerId(self.issued + 1)
+    }
+
+    /// Why no listener of this name is added for the owner, if there is a reason.
+    pub fn add_refusal(&self, owner: BundleId, name: &Text) -> Option<Refusal>
+        ensures refusal { result ≡ add_refusal owner name.now self.now.rows }
+    {
+        if self.has(owner, name) {
+            return Some(Refusal::InvalidOperation);
+        }
+        if self.slots.len() >= MAX_LISTENERS {
+            return Some(Refusal::TooMany {
+                kind: Many::Listeners,
+            });
+        }
+        None
     }
 
     /// Adds a listener under the next id.
@@ -150,34 +171,18 @@ impl Listeners {
         ensures refused { IfOk result (λ answer. OnErr answer (self.new ≡ self.old)) }
         ensures unchanged { OnErr result (self.new ≡ self.old) }
     {
-        let listener = ListenerId(self.issued + 1);
-        let row = ListenerRow {
+        if let Some(refusal) = self.add_refusal(owner, &name) {
+            return Ok(Err(refusal));
+        }
+        let listener = self.next_id();
+        self.push(ListenerRow {
             listener,
             owner,
             name,
             kind,
             filter,
-        };
-        if let Some(refusal) = self.refusal_of(&row) {
-            return Ok(Err(refusal));
-        }
-        self.push(row)?;
+        })?;
         Ok(Ok(listener))
-    }
-
-    /// Why the listener is not added, if there is a reason.
-    fn refusal_of(&self, row: &ListenerRow) -> Option<Refusal>
-        ensures refusal { result ≡ add_refusal row.now.owner row.now.name self.now.rows }
-    {
-        if self.has(row.owner, &row.name) {
-            return Some(Refusal::InvalidOperation);
-        }
-        if self.slots.len() >= MAX_LISTENERS {
-            return Some(Refusal::TooMany {
-                kind: Many::Listeners,
-            });
-        }
-        None
     }
 
     /// Adds a listener under the next id.
@@ -251,12 +256,12 @@ impl Listeners {
     }
 
     /// Makes room at each live listener for as many events more as sights name it. If memory runs out, nothing has changed but
-    /// room.
+    /// room. The cost is that of the sights: it does not go over the other listeners, and without sights it takes no memory.
     pub fn reserve_for(&mut self, sights: &[Sight]) -> Result<(), AllocError>
         ensures roomier { AreRoomier self.old self.new }
         ensures room { OnOk result (HasRoomFor (sights_of sights.now) self.new.rows) }
     {
-        let counts = counts_of(self.alloc, &self.slots, sights)?;
+        let counts = counts_of(self.alloc, sights)?;
         reserve_counts(&mut self.slots, &counts)
     }
 
@@ -296,7 +301,8 @@ impl Listeners {
     }
 
     /// Puts an event behind those that wait for each live listener that sees one: what `sees` answers for it. The place is
-    /// above those of all events that wait. If memory runs out, no event is put anywhere.
+    /// above those of all events that wait, and below the greatest number of 64 bits, which stands for no place. If memory runs out,
+    /// no event is put anywhere.
     pub fn post<F: Fn(ListenerId) -> Option<Event> + Drop>(
         &mut self,
         place: u64,
@@ -323,6 +329,15 @@ impl Listeners {
         Ok(())
     }
 
+    /// The live listeners that are in a turn and for which events wait, with the tags of their turns, by rising id.
+    pub fn busy(&self) -> Result<List<Busy>, AllocError>
+        ensures busy { IfOk result (λ busy. busy ≡ busy_in self.now) }
+        ensures in_order { AreInOrder self.now }
+    {
+        let busy = busy_of(self.alloc, &self.slots, &self.turns)?;
+        Ok(List::from(busy))
+    }
+
     /// Whether a hand would hand an event.
     pub fn ready(&self) -> bool
         ensures ready { result ≡ list_any (is_open self.now.turns) self.now.rows }
@@ -333,6 +348,7 @@ impl Listeners {
     /// What a hand would hand, and to whom.
     pub fn next(&self) -> Option<(ListenerId, Event)>
         ensures next { MatchOption result (All (λ row. is_open self.now.turns row ≡ false) self.now.rows) (λ next. IsHanded self.now next.0 next.1) }
+        ensures in_order { AreInOrder self.now }
     {
         let at = match self.firsts.first() {
             Some(at) => at,
@@ -349,16 +365,15 @@ impl Listeners {
     /// id, which is in a turn from then on.
     pub fn hand(&mut self, tag: Tag) -> Result<HandAnswer, AllocError>
         ensures answer { IfOk result (AnswersHand self.old) }
+        ensures in_order { AreInOrder self.old }
         ensures rows { IfOk result (λ answer. self.new.rows ≡ rows_after answer self.old.rows) }
         ensures turns { IfOk result (λ answer. self.new.turns ≡ turns_after tag answer self.old.turns) }
         ensures issued { self.new.issued ≡ self.old.issued }
         ensures unchanged { OnErr result (self.new ≡ self.old) }
     {
         let Some(at) = self.firsts.first() else {
-            let busy = busy_of(self.alloc, &self.slots, &self.turns)?;
-            return Ok(HandAnswer::Nothing {
-                busy: List::from(busy),
-            });
+            let busy = self.busy()?;
+            return Ok(HandAnswer::Nothing { busy });
         };
         let listener = self.slots[at].listener().listener;
         self.turns.insert(listener.0, tag)?;

@@ -3,12 +3,10 @@
 ghost use Rattle.std.specs.Prelude.{◌≡◌, ℕ, ◌+◌, ◌<◌, ◌≤◌, ◌↔◌, false, length, filter, map, All, IfOk, OnOk, IsOk, IsTrue, MatchOption, slice_index_or};
 ghost use Rattle.std.specs.List.Sorted.{IsStrictlyIncreasing};
 ghost use Rattle.std.specs.Option.{option_copied, option_map_or};
-ghost use Rattle.osgi_listeners.specs.Rows.{bare, busy_of, HasRoom, has_waiting, ids_of, is_busy, is_live, is_owned, IsLater, listeners_in, number_of, Row, row_at};
-ghost use Rattle.osgi_listeners.specs.Sights.{sights_by, sights_of};
+ghost use Rattle.osgi_listeners.specs.Rows.{AreRoomierRows, busy_of, HasRoom, has_waiting, ids_of, is_busy, is_live, is_owned, IsLater, listeners_in, number_of, Row, row_at};
 ghost use Rattle.osgi_listeners.specs.computed.Kept.{AreFirsts, IsAbsent, IsPlaceOf, open_place};
 ghost use Rattle.osgi_listeners.specs.computed.Tournaments.{none, number_at};
 
-use crate::sight::Sight;
 use crate::slot::Slot;
 use crate::tournament::{NO_NUMBER, Tournament};
 use osgi_base::{BundleId, ListenerId, Tag};
@@ -146,40 +144,12 @@ pub fn are_later(slots: &[Slot], place: u64) -> bool
 
 /// Makes room at each slot for so many events more.
 pub fn reserve_each(slots: &mut [Slot], events: usize) -> Result<(), AllocError>
-    ensures same { map bare slots.new ≡ map bare slots.old }
+    ensures roomier { AreRoomierRows slots.old slots.new }
     ensures room { OnOk result (HasRoom events slots.new) }
-    ensures roomier { (events : ℕ) → HasRoom events slots.old → HasRoom events slots.new }
     ensures enough { HasRoom events slots.old → IsOk result }
 {
     for slot in slots.iter_mut() {
         slot.reserve(events)?;
-    }
-    Ok(())
-}
-
-/// For each slot how many of the sights are its listener's.
-pub fn counts_of(alloc: Global, slots: &[Slot], sights: &[Sight]) -> Result<Vec<usize>, AllocError>
-    requires rising { IsStrictlyIncreasing (map number_of (listeners_in slots.now)) }
-    ensures counts { IfOk result (λ counts. counts.items ≡ map (λ row. length (sights_by row.listener.listener (sights_of sights.now))) slots.now) }
-{
-    let mut counts = vec![in alloc; 0usize; slots.len()]?;
-    for sight in sights {
-        if let Some(at) = place_of(slots, sight.listener) {
-            counts[at] += 1;
-        }
-    }
-    Ok(counts)
-}
-
-/// Makes room at each slot for as many events more as stands at its place.
-pub fn reserve_counts(slots: &mut [Slot], counts: &[usize]) -> Result<(), AllocError>
-    requires one_each { length counts.now ≡ length slots.old }
-    ensures same { map bare slots.new ≡ map bare slots.old }
-    ensures roomier { (events : ℕ) → HasRoom events slots.old → HasRoom events slots.new }
-    ensures room { OnOk result ((i : ℕ) (d : Row) → i < length slots.new → slice_index_or counts.now i 0 ≤ (slice_index_or slots.new i d).room) }
-{
-    for at in 0..slots.len() {
-        slots[at].reserve(counts[at])?;
     }
     Ok(())
 }

@@ -3,12 +3,9 @@ use Rattle.std.specs.Prelude.{Bool, true, false}
 use Rattle.osgi_ops.specs.declared.op.Op.{Op}
 use Rattle.osgi_ops.specs.declared.op.Op.TheVariants as op
 
--- The ends of hands and of jobs are here before what opens these: while none is open, their own conditions refuse them. So is TakeJob, which
--- finds no job while none can be queued
+-- The end of a job is here before what opens it: while none is open, its own conditions refuse it. So is TakeJob, which finds no job while
+-- none can be queued
 abbrev pub is_here : Op → Bool
-is_here (op.AddListener owner name kind filter) = false
-is_here (op.RemoveListener owner name) = false
-is_here op.Hand = false
 is_here (op.QueueJob owner name) = false
 is_here (op.Update bundle location) = false
 is_here (op.Uninstall bundle) = false

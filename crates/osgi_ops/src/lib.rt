@@ -23,8 +23,8 @@ pub use entry::Entry;
 pub use event::{Busy, Event};
 pub use kind::Kind;
 pub use limits::{
-    Limits, MAX_BRACKETS, MAX_BUDGET, MAX_BUNDLES, MAX_ENTRIES, MAX_HANDINGS, MAX_LOCATIONS,
-    MAX_SERVICES,
+    Limits, MAX_BRACKETS, MAX_BUDGET, MAX_BUNDLES, MAX_ENTRIES, MAX_HANDINGS, MAX_LISTENERS,
+    MAX_LOCATIONS, MAX_SERVICES,
 };
 pub use op::Op;
 pub use refusal::{Many, Refusal, Unmet};

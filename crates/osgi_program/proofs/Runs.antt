@@ -1,8 +1,9 @@
 -- Lines that run one after another.
-use Rattle.std.proofs.Common.{◌≡◌, ℕ, inl, inr, List, [], ◌∷◌, ◌++◌, ap, sym, subst, ◌∙◌, refl, append_assoc}
-use Rattle.std.specs.Prelude.{true, false}
+use Rattle.std.proofs.Common.{◌≡◌, ℕ, inl, inr, List, [], ◌∷◌, ◌++◌, length, ap, sym, subst, ◌∙◌, refl, append_assoc}
+use Rattle.std.specs.Prelude.{Bool, true, false}
+use Rattle.std.proofs.lemmas.Bool.{eqb-true}
 use Rattle.osgi_ops.specs.declared.entry.Entry.{Entry}
-use Rattle.osgi_program.specs.computed.Running.{RunsLine, RunsLines, Unspent}
+use Rattle.osgi_program.specs.computed.Running.{IsSpentOrFull, RunsLine, RunsLines, Unspent}
 use Rattle.osgi_program.specs.declared.runner.Ran.{Ran}
 use Rattle.osgi_program.specs.declared.runner.Ran.TheVariants as ran
 use Rattle.osgi_runs.proofs.Plain.{cut-there, idle-more, ran-more}
@@ -28,17 +29,25 @@ one_more script limit front line before middle after so_far (inl idle) =
 one_more script limit front line before middle after so_far (inr (more, is, runs)) =
     record { made = so_far.made ++ more; is = joined before middle after so_far.made more so_far.is is; lane = ran-more front line so_far.made more so_far.lane runs }
 
-cut_lane : (script : Sections) (lines front : List Line) (line : Line) (rest : List Line) (made more : List Entry) → lines ≡ front ++ line ∷ rest → Lane script Never 0 false (commands_in front) made →
-    IsCutRunOf script 0 line false more → Lane script Unspent 0 true (commands_in lines) (made ++ more)
-cut_lane script lines front line rest made more is lane was_cut =
-    subst (λ (l : List Line). Lane script Unspent 0 true (commands_in l) (made ++ more)) (sym is) (cut-there front line rest false made more lane was_cut refl)
+cut_lane : (script : Sections) (lawful : Bool → Type 0) (lines front : List Line) (line : Line) (rest : List Line) (spent : Bool) (made more : List Entry) → lines ≡ front ++ line ∷ rest →
+    Lane script Never 0 false (commands_in front) made → IsCutRunOf script 0 line spent more → lawful spent → Lane script lawful 0 true (commands_in lines) (made ++ more)
+cut_lane script lawful lines front line rest spent made more is lane was_cut allowed =
+    subst (λ (l : List Line). Lane script lawful 0 true (commands_in l) (made ++ more)) (sym is) (cut-there front line rest spent made more lane was_cut allowed)
 
 -- a line whose run was cut, with those that were never begun
 pub cut_line : (how : Ran) (script : Sections) (limit : ℕ) (lines front : List Line) (line : Line) (rest : List Line) (before middle after : List Entry) → lines ≡ front ++ line ∷ rest →
     SoFar script front before middle → (how ≡ ran.All → ⊥) → RunsLine how script limit line middle after → RunsLines how script limit lines before after
 cut_line how script limit lines front line rest before middle after is so_far other (inl idle) = absurd (other idle.1)
 cut_line ran.All script limit lines front line rest before middle after is so_far other (inr one) = absurd (other refl)
-cut_line ran.Full script limit lines front line rest before middle after is so_far other (inr (more, added, full, was_cut)) =
-    (so_far.made ++ more, joined before middle after so_far.made more so_far.is added, full, cut_lane script lines front line rest so_far.made more is so_far.lane was_cut)
+cut_line ran.Cut script limit lines front line rest before middle after is so_far other (inr (inl (more, added, was_cut))) = (
+  so_far.made ++ more,
+  joined before middle after so_far.made more so_far.is added,
+  cut_lane script (IsSpentOrFull limit after) lines front line rest true so_far.made more is so_far.lane was_cut (inl refl),
+)
+cut_line ran.Cut script limit lines front line rest before middle after is so_far other (inr (inr (full, (more, added, was_cut)))) = (
+  so_far.made ++ more,
+  joined before middle after so_far.made more so_far.is added,
+  cut_lane script (IsSpentOrFull limit after) lines front line rest false so_far.made more is so_far.lane was_cut (inr (eqb-true (length after) limit full)),
+)
 cut_line ran.Starved script limit lines front line rest before middle after is so_far other (inr (more, added, was_cut)) =
-    (so_far.made ++ more, joined before middle after so_far.made more so_far.is added, cut_lane script lines front line rest so_far.made more is so_far.lane was_cut)
+    (so_far.made ++ more, joined before middle after so_far.made more so_far.is added, cut_lane script Unspent lines front line rest false so_far.made more is so_far.lane was_cut refl)

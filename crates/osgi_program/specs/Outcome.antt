@@ -9,22 +9,35 @@ use Rattle.osgi_session.specs.Scripts.{sections_of}
 use Rattle.osgi_session.specs.Sessions.{IsWhole}
 use Rattle.osgi_ops.specs.Settings.{Bounds}
 use Rattle.osgi_ops.specs.declared.entry.Entry.{Entry}
+use Rattle.osgi_ops.specs.declared.op.Op.{Op}
+use Rattle.osgi_ops.specs.declared.op.Op.TheVariants.{Hand}
+use Rattle.osgi_ops.specs.declared.refusal.Refusal.TheVariants.{HandingsSpent}
 use Rattle.osgi_session.specs.declared.line.Content.{Content}
 use Rattle.osgi_session.specs.declared.line.Content.TheVariants.{Bad}
 use Rattle.osgi_session.specs.declared.line.Line.{Line}
 use Rattle.osgi_ops.specs.declared.reply.Reply.{Reply}
-use Rattle.osgi_ops.specs.declared.reply.Reply.TheVariants.{Handed}
+use Rattle.osgi_ops.specs.declared.reply.Reply.TheVariants.{Handed, Refused}
 use Rattle.osgi_console.specs.Console.{AreLinesOf}
 use Rattle.osgi_core.specs.Sound.{IsSoundTelling}
+use Rattle.osgi_runs.specs.Handed.{AllHanded}
 use Rattle.osgi_depot.specs.Depots.{AreScriptsOf, IsDepotOf}
 use Rattle.osgi_outside.specs.Shelves.{ShelfRow}
 use Rattle.osgi_program.specs.declared.session.Session.{Session}
-use Rattle.osgi_program.specs.declared.session.TheConstants.{MAX_INPUT, DONE, TROUBLED, FAULTY_WORDS, READ_FAILED, INPUT_TOO_LONG, HISTORY_FULL}
+use Rattle.osgi_program.specs.declared.session.TheConstants.{MAX_INPUT, DONE, TROUBLED, FAULTY_WORDS, READ_FAILED, INPUT_TOO_LONG, CUT}
 
 -- the reply hands an event to a listener
 abbrev pub is_handing : Reply → Bool
 is_handing (Handed listener kind owner row name event) = true
 is_handing _ = false
+
+-- a Hand is refused since enough was handed
+abbrev pub is_spent : Op → Reply → Bool
+is_spent Hand (Refused HandingsSpent) = true
+is_spent _ _ = false
+
+-- statuses of a run in which no line was cut
+abbrev pub IsDoneStatus : ℕ → Type 0
+IsDoneStatus status = (status ≡ DONE) ⊎ (status ≡ TROUBLED)
 
 -- what a shelf did while a session was made: the folders that it exposes, if it does, and its counts of faults before and after
 pub record Shelved : Type 0 where
@@ -35,7 +48,8 @@ pub record Shelved : Type 0 where
 -- `input` is what the source had left, if the source exposes it, and within the limit. The session's lines are all lines of the
 -- input; its depot is what these lines name, as the shelf told it, and its scripts are those of the depot's rows; its history replays from the empty framework, and is what these
 -- lines make under the limits; after every step of it, as it replays, the wirings in force are consistent, and each bundle that it
--- refuses as unresolvable is so
+-- refuses as unresolvable is so; what each listener was handed is a beginning of what is due to it, and where no line was cut, it
+-- is all of that for each listener that is live in the end
 pub record IsSession (bounds : Bounds) (status : ℕ) (left : Option (List ℕ)) (shelf : Shelved) (session : Session) : Type 0 where
   pub input : List ℕ
   pub all : IfSome left (λ bytes. input ≡ bytes)
@@ -45,6 +59,7 @@ pub record IsSession (bounds : Bounds) (status : ℕ) (left : Option (List ℕ))
   pub scripts : AreScriptsOf shelf.told session.depot.rows session.scripts.rows
   pub legal : Legal (record { bounds = bounds; depot = session.depot.rows }) session.entries
   pub sound : IsSoundTelling legal.1.told
+  pub handed : IsDoneStatus status → AllHanded legal.1.told
   pub whole : IsWhole (sections_of session.scripts) bounds.entries status session.lines session.entries
   pub full : All (IsFullWhereCut (sections_of session.scripts) 0 session.entries) session.lines
   pub handings : session.handings ≡ count_by (λ e. is_handing e.reply) session.entries
@@ -60,7 +75,7 @@ is_troubled lines entries = list_any (λ line. is_bad line.content) lines || lis
 -- the status of a session whose text was written
 abbrev pub status_of : Session → ℕ
 status_of session =
-    if list_any (is_full session.entries) session.lines then HISTORY_FULL
+    if list_any (is_full session.entries) session.lines then CUT
     else (if is_troubled session.lines session.entries then TROUBLED else DONE)
 
 abbrev pub text_of : Session → List ℕ
@@ -78,7 +93,13 @@ pub record IsPartlyWritten (before after : Option (List ℕ)) (session : Session
 
 -- statuses of a run whose text was written
 abbrev pub IsWrittenStatus : ℕ → Type 0
-IsWrittenStatus status = (status ≡ DONE) ⊎ (status ≡ TROUBLED) ⊎ (status ≡ HISTORY_FULL)
+IsWrittenStatus status = (status ≡ DONE) ⊎ (status ≡ TROUBLED) ⊎ (status ≡ CUT)
+
+-- why a line was cut: the history is as long as it may be; or as many events were handed as may be, and a Hand was refused for that
+abbrev pub IsAtLimit : Bounds → Session → Type 0
+IsAtLimit bounds session =
+    (length session.entries ≡ bounds.entries) ⊎
+    ((list_any (λ e. is_spent e.op e.reply) session.entries ≡ true) × (session.handings ≡ bounds.handings))
 
 -- statuses of a run that never has a session
 abbrev pub IsBareStatus : ℕ → Type 0

@@ -1,3 +1,4 @@
 -- What private functions and proofs cite. No public promise cites these.
 pub mod Ended
+pub mod Options
 pub mod Running

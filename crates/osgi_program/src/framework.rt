@@ -1,29 +1,49 @@
 //! The top call: words and an input in, a text and a session out.
 
 ghost use Rattle.std.specs.Prelude.{◌≡◌, ◌≤◌, ◌<◌, ◌↔◌, ◌⊎◌, [], ℕ, length, None, Some, IfSome, OnSome, IsSomeAnd, IfOk, IsTrue};
-ghost use Rattle.std.specs.List.{list_any};
+ghost use Rattle.std.specs.List.{count_by, list_any};
 ghost use Rattle.osgi_ops.specs.Replies.{is_refusal};
-ghost use Rattle.osgi_ops.specs.Settings.{bounds_of, standard_bounds};
+ghost use Rattle.osgi_ops.specs.Settings.{Bounds, bounds_of};
 ghost use Rattle.osgi_outside.specs.Causes.{Rose};
-ghost use Rattle.osgi_program.specs.Outcome.{is_bad, is_troubled, status_of, IsSession, IsWritten, IsPartlyWritten, IsWrittenStatus, IsBareStatus};
-ghost use Rattle.osgi_program.specs.Words.{AsksRun, run_bounds};
-ghost use Rattle.osgi_program.specs.computed.Ended.{IsRun, status_by};
+ghost use Rattle.osgi_program.specs.Outcome.{is_bad, is_troubled, status_of, IsAtLimit, IsSession, IsWritten, IsPartlyWritten, IsWrittenStatus, IsBareStatus};
+ghost use Rattle.osgi_program.specs.Words.{AsksRun};
+ghost use Rattle.osgi_program.specs.computed.Ended.{hands, IsRun, status_by};
 
 use crate::runner::{Ran, run_lines};
 use crate::session::{
-    DONE, FAULTY_WORDS, Finished, HISTORY_FULL, INPUT_TOO_LONG, MAX_INPUT, NO_MEMORY, READ_FAILED,
-    Session, TROUBLED, WRITE_FAILED,
+    CUT, DONE, FAULTY_WORDS, Finished, INPUT_TOO_LONG, MAX_INPUT, NO_MEMORY, READ_FAILED, Session,
+    TROUBLED, WRITE_FAILED,
 };
-use crate::words::{run_budget, run_limits};
+use crate::words::run_limits;
 use osgi_base::Text;
 use osgi_console::{parse, render};
 use osgi_core::Core;
 use osgi_depot::read_depot;
-use osgi_ops::{Entry, Limits};
+use osgi_ops::{Entry, Limits, Reply};
 use osgi_outside::{Gate, Input, Shelf, Sink, Source, read_all, write_all};
 use osgi_session::{Content, Line};
 use std::alloc::{AllocError, Global};
 use std::marker::Brand;
+
+#[tactic(auto, unfolding(crate::specs::computed::Ended::hands))]
+fn hands(entry: &Entry) -> bool
+    ensures handing { result ≡ hands entry.now }
+{
+    matches!(entry.reply, Reply::Handed { .. })
+}
+
+/// How many entries handed an event to a listener.
+fn handings(entries: &[Entry]) -> u64
+    ensures count { result ≡ count_by hands entries.now }
+{
+    let mut count = 0;
+    for entry in entries {
+        if hands(entry) {
+            count += 1;
+        }
+    }
+    count
+}
 
 /// Reads the folders that the lines of an input name, and runs the lines on a new machine.
 fn run_input<F: Shelf>(
@@ -44,9 +64,9 @@ fn run_input<F: Shelf>(
     let (ran, core) = run_lines::<Brand>(alloc, core, &scripts, lines.items());
     let (depot, entries) = core.into_parts();
     let session = Session {
+        handings: handings(entries.items()),
         lines,
         entries,
-        handings: 0,
         depot,
         scripts,
     };
@@ -71,8 +91,8 @@ fn has_refusal(entries: &[Entry]) -> bool
 fn status_by(ran: Ran, session: &Session) -> u8
     ensures status { result ≡ status_by ran session.now }
 {
-    if ran == Ran::Full {
-        HISTORY_FULL
+    if ran == Ran::Cut {
+        CUT
     } else if has_bad(session.lines.items()) || has_refusal(session.entries.items()) {
         TROUBLED
     } else {
@@ -107,9 +127,10 @@ fn write_session<K: Sink>(alloc: Global, ran: Ran, session: &Session, sink: &mut
 /// The whole of the program: reads the words and the input, runs its lines, and writes what they answer.
 ///
 /// The words are the command line without the program's name; they have to be `run`, and may give a limit on the effort of each
-/// resolve, by `--budget B` or `--budget=B`. The status and
-/// the session that are answered are explained at `Finished`. Before the first line runs, the folder of each location that an
-/// `install` or an `update` line names is read from the shelf, once. Runtime and gate are not used yet.
+/// resolve, by `--budget B` or `--budget=B`, and one on how many events are handed to listeners, by `--handings E` or
+/// `--handings=E`, in any order and each at most once. The status and the session that are answered are explained at `Finished`.
+/// Before the first line runs, the folder of each location that an `install` or an `update` line names is read from the shelf,
+/// once. Runtime and gate are not used yet.
 pub fn framework_main<R, S: Source, K: Sink, F: Shelf, G: Gate>(
     rt: &R,
     alloc: Global,
@@ -119,15 +140,15 @@ pub fn framework_main<R, S: Source, K: Sink, F: Shelf, G: Gate>(
     shelf: &mut F,
     gate: &G,
 ) -> Finished
-    ensures range { result.status ≤ HISTORY_FULL }
-    ensures faulty_words { (result.status ≡ FAULTY_WORDS) ↔ ¬ ((budget : ℕ) × AsksRun words.now budget) }
-    ensures good_words { (result.status ≡ FAULTY_WORDS) ⊎ ((budget : ℕ) × AsksRun words.now budget) }
+    ensures range { result.status ≤ CUT }
+    ensures faulty_words { (result.status ≡ FAULTY_WORDS) ↔ ¬ ((bounds : Bounds) × AsksRun words.now bounds) }
+    ensures good_words { (result.status ≡ FAULTY_WORDS) ⊎ ((bounds : Bounds) × AsksRun words.now bounds) }
     ensures untouched { result.status ≡ FAULTY_WORDS → (source.new ≡ source.old) × (sink.new ≡ sink.old) }
     ensures unread { IsBareStatus result.status → shelf.new ≡ shelf.old }
 
     // What was read, run and recorded, whatever came of the writing.
-    ensures session { (budget : ℕ) → AsksRun words.now budget →
-        IfSome result.session (IsSession (run_bounds budget) result.status (S.left source.old)
+    ensures session { (bounds : Bounds) → AsksRun words.now bounds →
+        IfSome result.session (IsSession bounds result.status (S.left source.old)
         (record { told = F.told shelf.old; before = F.faults shelf.old; after = F.faults shelf.new })) }
     ensures told { F.told shelf.new ≡ F.told shelf.old }
     ensures shelf_faults { F.faults shelf.old ≤ F.faults shelf.new }
@@ -152,16 +173,15 @@ pub fn framework_main<R, S: Source, K: Sink, F: Shelf, G: Gate>(
         IsSomeAnd result.session (IsWritten (K.written sink.old) (K.written sink.new) (K.flushed sink.new)) }
     ensures status_by_session { IsWrittenStatus result.status →
         IsSomeAnd result.session (λ session. result.status ≡ status_of session) }
-    ensures history_full { result.status ≡ HISTORY_FULL →
-        IsSomeAnd result.session (λ session. length session.entries ≡ standard_bounds.entries) }
-    ensures complete { ((budget : ℕ) × AsksRun words.now budget) →
+    ensures cut { (bounds : Bounds) → AsksRun words.now bounds → result.status ≡ CUT → IsSomeAnd result.session (IsAtLimit bounds) }
+    ensures complete { (bounds : Bounds) → AsksRun words.now bounds →
         ¬ Rose (S.faults source.old) (S.faults source.new) →
         ¬ Rose (K.faults sink.old) (K.faults sink.new) →
         IsSomeAnd (S.left source.old) (λ bytes. length bytes ≤ MAX_INPUT) →
-        IfSome result.session (λ session. length session.entries < standard_bounds.entries) →
+        IfSome result.session (λ session. ¬ IsAtLimit bounds session) →
         (result.status ≡ DONE) ⊎ (result.status ≡ TROUBLED) ⊎ (result.status ≡ NO_MEMORY) }
 {
-    let Some(budget) = run_budget(words) else {
+    let Some(limits) = run_limits(words) else {
         return Finished::bare(FAULTY_WORDS);
     };
     let input = match read_all(alloc, source, MAX_INPUT) {
@@ -170,7 +190,7 @@ pub fn framework_main<R, S: Source, K: Sink, F: Shelf, G: Gate>(
         Ok(Input::Failed) => return Finished::bare(READ_FAILED),
         Err(_) => return Finished::bare(NO_MEMORY),
     };
-    match run_input(alloc, run_limits(budget), input.bytes(), shelf) {
+    match run_input(alloc, limits, input.bytes(), shelf) {
         Ok((ran, session)) => {
             let status = write_session(alloc, ran, &session, sink);
             Finished {

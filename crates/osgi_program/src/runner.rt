@@ -19,8 +19,8 @@ use std::alloc::{AllocError, Global};
 pub enum Ran {
     /// To the end.
     All,
-    /// To a line whose command found the history full.
-    Full,
+    /// To a line whose command was cut: the history was full, or enough was handed.
+    Cut,
     /// To a line for which memory ran out.
     Starved,
 }
@@ -46,11 +46,9 @@ fn run_command<U: Under>(alloc: Global, alone: &mut Alone<U>, scripts: &Scripts,
     requires command { has_command line.now.content ≡ true }
     ensures command { RunsCommand result (sections_of scripts.now) U.setting.bounds.entries line.now alone.old.core.entries alone.new.core.entries }
 {
-    let ended = run_alone(alloc, alone, scripts, line);
-    let _ = alone.core.world();
-    match ended {
+    match run_alone(alloc, alone, scripts, line) {
         Ok(Ended::Done) => Ran::All,
-        Ok(Ended::Cut) => Ran::Full,
+        Ok(Ended::Cut) => Ran::Cut,
         Err(AllocError) => Ran::Starved,
     }
 }

@@ -46,8 +46,8 @@ pub const NO_MEMORY: u8 = 5;
 
 pub(crate) const INPUT_TOO_LONG: u8 = 6;
 
-/// A line found the history full.
-pub(crate) const HISTORY_FULL: u8 = 7;
+/// A line found the history full, or enough handed.
+pub(crate) const CUT: u8 = 7;
 
 /// A line is outside the grammar, or a reply is a refusal.
 pub(crate) const TROUBLED: u8 = 1;
@@ -58,8 +58,9 @@ pub(crate) const DONE: u8 = 0;
 pub struct Finished {
     /// The first of these that holds. 2: the words do not ask for a run; nothing was read. 3: a read
     /// failed. 6: the input has more than 1,048,576 bytes. 4: a write or a flush failed. 7: a line with a
-    /// command found the history full. 1: a line is outside the grammar, or a reply is a refusal. 0:
-    /// otherwise. And 5 in place of any but 2: memory ran out, and nothing was written.
+    /// command found the history full, or an event to hand where enough were handed. 1: a line is outside
+    /// the grammar, or a reply is a refusal. 0: otherwise. And 5 in place of any but 2: memory ran out, and
+    /// nothing was written.
     pub status: u8,
     /// None on 2, 3 and 6, and where memory ran out before the framework was made.
     pub session: Option<Session>,

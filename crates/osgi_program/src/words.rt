@@ -1,69 +1,160 @@
 //! The words of the command line.
 
-ghost use Rattle.std.specs.Prelude.{◌≡◌, ◌≢◌, ◌≤◌, ℕ, IfSome, Some, List, [], ◌++◌, codes, MatchOption};
-ghost use Rattle.osgi_ops.specs.Settings.{bounds_of};
-ghost use Rattle.osgi_ops.specs.declared.limits.TheConstants.{MAX_BUDGET};
-ghost use Rattle.osgi_program.specs.Words.{AreOptions, AsksRun, IsBudget, run_bounds};
+ghost use Rattle.std.specs.Prelude.{◌≡◌, ◌≢◌, ◌≤◌, ◌<◌, ℕ, IfSome, IsSomeAnd, None, Some, List, [], ◌++◌, codes, length, MatchOption, unwrap_or};
+ghost use Rattle.std.specs.Option.{ForSome};
+ghost use Rattle.osgi_ops.specs.Settings.{Bounds, bounds_of, standard_bounds};
+ghost use Rattle.osgi_ops.specs.declared.limits.TheConstants.{MAX_BUDGET, MAX_HANDINGS};
+ghost use Rattle.osgi_program.specs.Words.{AsksRun, Gives, IsNumberUpTo, IsOption};
+ghost use Rattle.osgi_program.specs.computed.Options.{AsksMore};
 
 use osgi_base::{ServiceId, Text};
-use osgi_ops::{Limits, MAX_BUDGET};
+use osgi_ops::{Limits, MAX_BUDGET, MAX_HANDINGS};
 use osgi_syntax::id;
 
-/// A word as a limit on effort: one to ten digits of a number from 1 to 1,000,000,000. None where it is none.
-fn budget(word: &[u8]) -> Option<u64>
-    ensures reads { IfSome result (IsBudget word.now) }
-    ensures only { (budget : ℕ) → IsBudget word.now budget → result ≡ Some budget }
+const BUDGET: &[u8] = b"--budget";
+
+const HANDINGS: &[u8] = b"--handings";
+
+/// A word as a number from 1 to this one: one to ten digits. None where it is none.
+fn number(word: &[u8], most: u64) -> Option<u64>
+    ensures reads { IfSome result (IsNumberUpTo most word.now) }
+    ensures only { (number : ℕ) → IsNumberUpTo most word.now number → result ≡ Some number }
 {
     // Ids and numbers are written alike.
     let ServiceId(number) = id(word)?;
-    if number < 1 || number > MAX_BUDGET {
+    if number < 1 || number > most {
         return None;
     }
     Some(number)
 }
 
-/// What stands after `--budget=`; none where the word does not begin with it.
-fn after_sign(word: &[u8]) -> Option<&[u8]>
-    ensures after { MatchOption result ((rest : List ℕ) → word.now ≢ codes "--budget=" ++ rest) (λ rest. word.now ≡ codes "--budget=" ++ rest.now) }
+/// What stands behind these bytes in a word that begins with them.
+fn behind<'a>(word: &'a [u8], first: &[u8]) -> Option<&'a [u8]>
+    ensures behind { MatchOption result ((rest : List ℕ) → word.now ≢ first.now ++ rest) (λ rest. word.now ≡ first.now ++ rest.now) }
 {
-    word.strip_prefix(b"--budget=".as_slice())
+    word.strip_prefix(first)
 }
 
-/// The limit on effort that the words after `run` give; none where they are of another form.
-fn options_budget(options: &[Text]) -> Option<u64>
-    ensures reads { IfSome result (AreOptions options.now) }
-    ensures only { (budget : ℕ) → AreOptions options.now budget → result ≡ Some budget }
+/// The word of the number of an option of this name that the words begin with, and the words after it.
+fn option<'a>(words: &'a [Text], name: &[u8]) -> Option<(&'a [u8], &'a [Text])>
+    ensures reads { IfSome result (λ r. IsOption name.now words.now r.0.now r.1.now) }
+    ensures only { (word : List ℕ) (rest : List (List ℕ)) → IsOption name.now words.now word rest →
+        IsSomeAnd result (λ r. (r.0.now ≡ word) × (r.1.now ≡ rest)) }
 {
-    match options {
-        [] => Some(Limits::standard().budget),
-        [option] => budget(after_sign(option.bytes())?),
-        [option, number] if option.bytes() == b"--budget".as_slice() => budget(number.bytes()),
-        _ => None,
+    let (first, more) = words.split_first()?;
+    let after = behind(first.bytes(), name)?;
+    if after.is_empty() {
+        let (word, rest) = more.split_first()?;
+        return Some((word.bytes(), rest));
+    }
+    Some((behind(after, b"=".as_slice())?, more))
+}
+
+/// The number, from 1 to this one, of an option of this name that the words begin with, and the words after it.
+fn numbered<'a>(words: &'a [Text], name: &[u8], most: u64) -> Option<(u64, &'a [Text])>
+    ensures reads { IfSome result (λ r. Gives name.now most words.now r.0 r.1.now) }
+    ensures only { (number : ℕ) (rest : List (List ℕ)) → Gives name.now most words.now number rest →
+        IsSomeAnd result (λ r. (r.0 ≡ number) × (r.1.now ≡ rest)) }
+{
+    let (word, rest) = option(words, name)?;
+    Some((number(word, most)?, rest))
+}
+
+/// The options of a run that were given.
+#[derive(Clone, Copy)]
+struct Given {
+    budget: Option<u64>,
+    handings: Option<u64>,
+    ghost budget_fits: { ForSome budget (λ number. number ≤ MAX_BUDGET) },
+    ghost handings_fit: { ForSome handings (λ number. number ≤ MAX_HANDINGS) },
+}
+
+impl Given {
+    /// No option.
+    fn none() -> Given
+        ensures budget { result.budget ≡ None }
+        ensures handings { result.handings ≡ None }
+    {
+        Given {
+            budget: None,
+            handings: None,
+        }
+    }
+
+    /// With the option that the words begin with, and the words after it. None where they begin with none, or it was given before.
+    fn more(self, words: &[Text]) -> Option<(Given, &[Text])>
+        ensures reads { IfSome result (λ r. (bounds : Bounds) → AsksMore r.0.budget r.0.handings r.1.now bounds → AsksMore self.budget self.handings words.now bounds) }
+        ensures only { words.now ≢ [] → (bounds : Bounds) → AsksMore self.budget self.handings words.now bounds →
+            IsSomeAnd result (λ r. AsksMore r.0.budget r.0.handings r.1.now bounds) }
+        ensures fewer { IfSome result (λ r. length r.1.now < length words.now) }
+    {
+        match numbered(words, BUDGET, MAX_BUDGET) {
+            Some((budget, rest)) if self.budget.is_none() => Some((
+                Given {
+                    budget: Some(budget),
+                    handings: self.handings,
+                },
+                rest,
+            )),
+            Some(_) => None,
+            None => {
+                let (handings, rest) = numbered(words, HANDINGS, MAX_HANDINGS)?;
+                if self.handings.is_some() {
+                    return None;
+                }
+                Some((
+                    Given {
+                        budget: self.budget,
+                        handings: Some(handings),
+                    },
+                    rest,
+                ))
+            }
+        }
+    }
+
+    /// The limits of a run with these options.
+    fn limits(self) -> Limits
+        ensures bounds { bounds_of result ≡ record {
+          budget = unwrap_or self.budget standard_bounds.budget;
+          handings = unwrap_or self.handings standard_bounds.handings;
+          entries = standard_bounds.entries;
+        } }
+    {
+        let standard = Limits::standard();
+        Limits {
+            budget: self.budget.unwrap_or(standard.budget),
+            handings: self.handings.unwrap_or(standard.handings),
+            entries: standard.entries,
+        }
     }
 }
 
-/// The limit on effort of a run, if the words ask for one.
-pub fn run_budget(words: &[Text]) -> Option<u64>
-    ensures reads { IfSome result (AsksRun words.now) }
-    ensures only { (budget : ℕ) → AsksRun words.now budget → result ≡ Some budget }
+/// The limits that the words after `run` give. None where they are no options, or one is given twice.
+fn options(words: &[Text]) -> Option<Limits>
+    ensures reads { IfSome result (λ limits. AsksMore None None words.now (bounds_of limits)) }
+    ensures only { (bounds : Bounds) → AsksMore None None words.now bounds →
+        IsSomeAnd result (λ limits. bounds_of limits ≡ bounds) }
 {
-    let (first, options) = words.split_first()?;
+    let mut given = Given::none();
+    let mut rest = words;
+    while !rest.is_empty() {
+        let (next, more) = given.more(rest)?;
+        given = next;
+        rest = more;
+    }
+    Some(given.limits())
+}
+
+/// The limits of a run, if the words ask for one.
+pub fn run_limits(words: &[Text]) -> Option<Limits>
+    ensures reads { IfSome result (λ limits. AsksRun words.now (bounds_of limits)) }
+    ensures only { (bounds : Bounds) → AsksRun words.now bounds → IsSomeAnd result (λ limits. bounds_of limits ≡ bounds) }
+{
+    let (first, rest) = words.split_first()?;
     if first.bytes() == b"run".as_slice() {
-        options_budget(options)
+        options(rest)
     } else {
         None
-    }
-}
-
-/// The limits of a run with this limit on effort.
-pub fn run_limits(budget: u64) -> Limits
-    requires fits { budget ≤ MAX_BUDGET }
-    ensures bounds { bounds_of result ≡ run_bounds budget }
-{
-    let standard = Limits::standard();
-    Limits {
-        budget,
-        handings: standard.handings,
-        entries: standard.entries,
     }
 }

@@ -118,8 +118,8 @@ abbrev pub with_service : Service → LiveService → LiveService
 with_service service row = record row { service = service }
 
 -- the service is that of a live one but for its properties
-abbrev pub DiffersInProperties : Service → List LiveService → Type 0
-DiffersInProperties service rows = IsSomeAnd (row_at service.service rows) (λ row. service ≡ record row.service { properties = service.properties })
+abbrev pub DiffersAtMostInProperties : Service → List LiveService → Type 0
+DiffersAtMostInProperties service rows = IsSomeAnd (row_at service.service rows) (λ row. service ≡ record row.service { properties = service.properties })
 
 -- ---- the release of a bundle
 

@@ -12,7 +12,7 @@ ghost use Rattle.osgi_base.specs.declared.ids.ServiceId.{ServiceId};
 ghost use Rattle.osgi_ops.specs.declared.op.Op.TheVariants as op;
 ghost use Rattle.osgi_ops.specs.declared.reply.Reply.TheVariants as answers;
 ghost use Rattle.osgi_registry.specs.computed.Belonging.{AreAmong, concerns, live_among, owns};
-ghost use Rattle.osgi_registry.specs.Rows.{AreInOrder, change, change_refusal, DiffersInProperties, ids_of, is_owned, is_service, IsAskedFor, modify_refusal, IsOpenBy, new_row, object_at, register_refusal, released, row_at, services_in, use_count, used_less, used_more, with_properties, with_service, without, without_user};
+ghost use Rattle.osgi_registry.specs.Rows.{AreInOrder, change, change_refusal, DiffersAtMostInProperties, ids_of, is_owned, is_service, IsAskedFor, modify_refusal, IsOpenBy, new_row, object_at, register_refusal, released, row_at, services_in, use_count, used_less, used_more, with_properties, with_service, without, without_user};
 ghost use Rattle.osgi_registry.specs.Stands.{StandsAfter, StandsCleaned, StandsFor};
 
 use crate::assignability::Assignability;
@@ -283,7 +283,7 @@ impl Registry {
 
     /// Puts a service in place of the live one of its id, from which it differs in its properties alone.
     pub fn replace(&mut self, service: Service) -> Result<(), AllocError>
-        requires differs { DiffersInProperties service self.old.rows }
+        requires differs { DiffersAtMostInProperties service self.old.rows }
         ensures rows { OnOk result (self.new.rows ≡ change service.service (with_service service) self.old.rows) }
         ensures issued { self.new.issued ≡ self.old.issued }
         ensures unchanged { OnErr result (self.new ≡ self.old) }

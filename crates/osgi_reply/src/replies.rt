@@ -3,23 +3,27 @@
 //! What may fail comes first: the reply and the change are decided, and the reply is copied, for the caller and for the history.
 //! The change comes last, and is made whole or not at all; listeners are told with it.
 
-ghost use Rattle.std.specs.Prelude.{◌≡◌, ◌<◌, false, All, None, IfOk, map, OnErr};
+ghost use Rattle.std.specs.Prelude.{◌≡◌, ◌<◌, ℕ, false, true, All, None, IfOk, IsOk, map, OnErr};
 ghost use Rattle.osgi_listeners.specs.Sights.{IsOfEarlier, sights_of};
-ghost use Rattle.osgi_tables.specs.Asked.{asker_here, asker_refusal, is_decided};
+ghost use Rattle.osgi_ops.specs.declared.op.Op.TheVariants as op;
+ghost use Rattle.osgi_reply_listening.specs.Hands.{end_reply};
+ghost use Rattle.osgi_tables.specs.Asked.{asker_here, asker_refusal, ends_hand, is_decided};
 ghost use Rattle.osgi_tables.specs.Changes.{IsReplyAndChange};
 ghost use Rattle.osgi_tables.specs.Replied.{HasRoom, IsReplied, StandsStill};
 
 use crate::listing::list_bundles;
+use osgi_base::{ListenerId, Tag};
 use osgi_listeners::Sight;
 use osgi_ops::{Asked, Op, Refusal, Reply};
 use osgi_reply_life::{begin_start, begin_stop, end_start, end_stop, wish_start};
+use osgi_reply_listening::{add_listener, end_hand, hand, remove_listener};
 use osgi_reply_loading::{find, load};
 use osgi_reply_resolving::{install, list_wires, resolve};
 use osgi_reply_services::{ServiceChange, services};
 use osgi_tables::{Change, Tables, asker_refusal};
 use std::alloc::{AllocError, Global};
 
-/// The refusal of an operation that the framework does not have yet, or of the end of a hand or of a job, which nothing begins yet.
+/// The refusal of an operation that the framework does not have yet, or of the end of a job, which nothing begins yet.
 fn not_yet(tables: &Tables, asked: &Asked) -> (Reply, Change)
     requires unknown { is_decided asked.now.op ≡ false }
     ensures decided { IsReplyAndChange asked.now tables.now result.0 result.1 }
@@ -51,6 +55,7 @@ fn decide_by(
 ) -> Result<(Reply, Change), AllocError>
     requires room { HasRoom tables.old }
     requires asker { asker_refusal tables.old.bundles (asker_here asked.now.op) ≡ None }
+    requires no_end { ends_hand asked.now.op ≡ false }
     ensures decided { IfOk result (λ r. IsReplyAndChange asked.now tables.old r.0 r.1) }
     ensures unchanged { tables.new ≡ tables.old }
 {
@@ -107,6 +112,15 @@ fn decide_by(
             *user,
             *service,
         ))),
+        Op::AddListener {
+            owner,
+            name,
+            kind,
+            filter,
+        } => add_listener(alloc, tables, *owner, name, *kind, filter),
+        Op::RemoveListener { owner, name } => remove_listener(alloc, tables, *owner, name),
+        Op::Hand => hand(alloc, tables, asked.tag),
+        Op::EndHand { .. } => unreachable!(),
         // No job can be queued yet.
         Op::TakeJob => Ok(unchanging(Reply::NoJob)),
         Op::Print { .. } => Ok(unchanging(Reply::Done)),
@@ -130,9 +144,10 @@ fn decide_by(
     }
 }
 
-/// Decides an operation: its reply, and what it changes.
+/// Decides an operation that ends no hand: its reply, and what it changes.
 fn decide(alloc: Global, tables: &mut Tables, asked: &Asked) -> Result<(Reply, Change), AllocError>
     requires room { HasRoom tables.old }
+    requires no_end { ends_hand asked.now.op ≡ false }
     ensures decided { IfOk result (λ r. IsReplyAndChange asked.now tables.old r.0 r.1) }
     ensures unchanged { tables.new ≡ tables.old }
 {
@@ -151,7 +166,54 @@ pub struct Replied {
     pub told: Vec<Sight>,
 }
 
+/// Carries out an operation that ends no hand, by the entry before which there are so many. If memory runs out, the tables stand for
+/// what they did.
+fn change_by(
+    alloc: Global,
+    tables: &mut Tables,
+    asked: &Asked,
+    entries: u64,
+) -> Result<Replied, AllocError>
+    requires room { HasRoom tables.old }
+    requires countable { entries < 4294967295 }
+    requires earlier { All (IsOfEarlier entries) tables.old.listeners.rows }
+    requires no_end { ends_hand asked.now.op ≡ false }
+    ensures copied { IfOk result (λ r. r.kept ≡ r.reply) }
+    ensures replied { IfOk result (λ r. IsReplied entries asked.now tables.old tables.new r.reply (sights_of r.told.items)) }
+    ensures unchanged { OnErr result (StandsStill tables.old tables.new) }
+{
+    let (reply, change) = decide(alloc, tables, asked)?;
+    let kept = reply.copy(alloc)?;
+    let told = change.make(alloc, tables, entries)?;
+    Ok(Replied { reply, kept, told })
+}
+
+/// The reply to the end of a hand, which is refused if it ended none.
+fn end_reply(ended: bool) -> Reply
+    ensures reply { result ≡ end_reply ended }
+{
+    if ended {
+        return Reply::Done;
+    }
+    let refusal = Refusal::InvalidOperation;
+    Reply::Refused { refusal }
+}
+
+/// Carries out the end of a hand. It takes no memory.
+fn end_by(alloc: Global, tables: &mut Tables, tag: Tag, listener: ListenerId) -> Replied
+    ensures copied { result.kept ≡ result.reply }
+    ensures replied { (entries : ℕ) → IsReplied entries (record { tag = tag; op = op.EndHand listener }) tables.old tables.new result.reply (sights_of result.told.items) }
+{
+    let ended = end_hand(tables, tag, listener);
+    Replied {
+        reply: end_reply(ended),
+        kept: end_reply(ended),
+        told: Vec::new(alloc),
+    }
+}
+
 /// Carries an operation out, by the entry before which there are so many. If memory runs out, the tables stand for what they did.
+/// The end of a hand takes no memory.
 pub fn reply_to(
     alloc: Global,
     tables: &mut Tables,
@@ -163,10 +225,11 @@ pub fn reply_to(
     requires earlier { All (IsOfEarlier entries) tables.old.listeners.rows }
     ensures copied { IfOk result (λ r. r.kept ≡ r.reply) }
     ensures replied { IfOk result (λ r. IsReplied entries asked.now tables.old tables.new r.reply (sights_of r.told.items)) }
+    ensures no_memory { ends_hand asked.now.op ≡ true → IsOk result }
     ensures unchanged { OnErr result (StandsStill tables.old tables.new) }
 {
-    let (reply, change) = decide(alloc, tables, asked)?;
-    let kept = reply.copy(alloc)?;
-    let told = change.make(alloc, tables, entries)?;
-    Ok(Replied { reply, kept, told })
+    match &asked.op {
+        Op::EndHand { listener } => Ok(end_by(alloc, tables, asked.tag, *listener)),
+        _ => change_by(alloc, tables, asked, entries),
+    }
 }

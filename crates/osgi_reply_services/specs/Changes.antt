@@ -9,7 +9,7 @@ use Rattle.osgi_ops.specs.declared.op.Op.{Op}
 use Rattle.osgi_ops.specs.declared.op.Op.TheVariants as op
 use Rattle.osgi_ops.specs.declared.reply.Reply.{Reply}
 use Rattle.osgi_ops.specs.declared.reply.Reply.TheVariants as answer
-use Rattle.osgi_registry.specs.Rows.{change, change_refusal, DiffersInProperties, RegistryRows, row_at, services_in, use_count, used_more, with_service, without}
+use Rattle.osgi_registry.specs.Rows.{change, change_refusal, DiffersAtMostInProperties, RegistryRows, row_at, services_in, use_count, used_more, with_service, without}
 use Rattle.osgi_registry.specs.Stands.{StandsAfter, StandsFor}
 use Rattle.osgi_reply_services.specs.Served.{IsServedToAll}
 use Rattle.osgi_reply_services.specs.declared.change.ServiceChange.{ServiceChange}
@@ -20,7 +20,7 @@ use Rattle.osgi_reply_services.specs.declared.change.ServiceChange.TheVariants.{
 abbrev pub CanBeMade : ServiceChange → RegistryRows → Type 0
 CanBeMade Nothing old = Unit {0}
 CanBeMade (Insert service scope) old = (service.service.0 ≡ old.issued + 1) × (old.issued < 2 ^ 32 - 1) × (length old.rows < MAX_SERVICES)
-CanBeMade (Modify service) old = DiffersInProperties service old.rows
+CanBeMade (Modify service) old = DiffersAtMostInProperties service old.rows
 CanBeMade (Remove owner service) old = change_refusal owner service old.rows ≡ None
 CanBeMade (AddUse user service) old = (¬ (row_at service old.rows ≡ None)) × (use_count user service old.rows < 2 ^ 64 - 1)
 CanBeMade (TakeUse user service) old = 0 < use_count user service old.rows

@@ -1,5 +1,5 @@
 -- The calls of a command, one after another.
-use Rattle.std.proofs.Common.{◌≡◌, ◌≢◌, ◌≤◌, ◌<◌, ◌+◌, ◌⊎◌, inl, inr, ℕ, List, [], ◌∷◌, ◌++◌, Bool, true, false, refl, sym, ap, ◌∙◌, subst, map, append_assoc, arith, length, length-append, ◌-◌}
+use Rattle.std.proofs.Common.{◌≡◌, ◌≢◌, ◌≤◌, ◌<◌, ◌+◌, inl, inr, ℕ, List, [], ◌∷◌, ◌++◌, Bool, true, false, refl, sym, ap, ◌∙◌, subst, map, append_assoc, arith, length, length-append, ◌-◌}
 use Rattle.std.specs.Prelude.{All}
 use Rattle.std.proofs.lemmas.List.{append-nil, map-append}
 use Rattle.std.proofs.lemmas.List.Elements.{All-cons, All-map, All-nil}
@@ -15,7 +15,7 @@ use Rattle.osgi_runner.specs.computed.Ends.{Ends, entry_by, Made}
 use Rattle.osgi_runner.specs.declared.runner.Ended.{Ended}
 use Rattle.osgi_runner.specs.declared.runner.Ended.TheVariants as ended
 use Rattle.osgi_session.specs.Runs.{Call, call, Follows, IsCutOf, IsSpentOf, Sections}
-use Rattle.osgi_session.specs.Sessions.{AreTagged, call_of, IsCutRunOf, IsRunOf}
+use Rattle.osgi_session.specs.Sessions.{call_of, IsCutRunOf, IsRunOf}
 use Rattle.osgi_session.specs.declared.command.Command.{Command}
 use Rattle.osgi_session.specs.declared.line.Content.TheVariants as content
 use Rattle.osgi_session.specs.declared.line.Line.{Line}
@@ -161,7 +161,7 @@ one-falls new here old tag made mid after full o y e f same answered c =
 
 -- ---- the entries of a line
 
-calls-of : (tag : Tag) (calls : List Call) → map call_of (map (entry_by tag) calls) ≡ calls
+pub calls-of : (tag : Tag) (calls : List Call) → map call_of (map (entry_by tag) calls) ≡ calls
 calls-of tag [] = refl
 calls-of tag (c ∷ calls) = ap (λ (l : List Call). c ∷ l) (calls-of tag calls)
 
@@ -169,7 +169,7 @@ each : (tag : Tag) (calls : List Call) → All (λ (c : Call). tag ≡ tag) call
 each tag [] = All-nil (λ (c : Call). tag ≡ tag)
 each tag (c ∷ calls) = All-cons (λ (c : Call). tag ≡ tag) c calls refl (each tag calls)
 
-tagged : (tag : Tag) (calls : List Call) → All (λ (e : Entry). e.tag ≡ tag) (map (entry_by tag) calls)
+pub tagged : (tag : Tag) (calls : List Call) → All (λ (e : Entry). e.tag ≡ tag) (map (entry_by tag) calls)
 tagged tag calls = All-map (λ (e : Entry). e.tag ≡ tag) (entry_by tag) calls (each tag calls)
 
 pub run-of : (script : Sections) (caller : ℕ) (before after : List Entry) (line : Line) (c : Command) → line.content ≡ content.Run c →

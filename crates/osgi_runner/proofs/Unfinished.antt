@@ -1,5 +1,5 @@
 -- What is left of a runner that is not over: some calls.
-use Rattle.std.proofs.Common.{refl, ◌≡◌, ◌≢◌, List, [], ◌∷◌, ◌++◌, Bool, true, false, sym, ◌∙◌, subst, map, reverse}
+use Rattle.std.proofs.Common.{◌≡◌, ◌≢◌, List, [], ◌∷◌, Bool, true, false, sym, ◌∙◌, subst, map, reverse}
 use Rattle.osgi_lifecycle.specs.Pendings.{pending_of}
 use Rattle.osgi_ops.specs.declared.op.Op.{Op}
 use Rattle.osgi_ops.specs.declared.op.Op.TheVariants as op
@@ -112,11 +112,11 @@ asked-reply script o (wait.Plan p) stack is = plan-reply script (pending_of p) o
 asked-reply script o wait.Drain stack is =
     let a = some-ahead (drained true) (map frame_of stack) (drain-done {script = script} true) in
     let b = back a.is.reads in
-    (b.0, b.1, subst (λ k. Ahead script (drained true) (map frame_of stack) (call k b.0 ∷ b.1)) (sym is.0) (subst (λ l. Ahead script (drained true) (map frame_of stack) l) b.2 a.is))
+    (b.0, b.1, subst (λ k. Ahead script (drained true) (map frame_of stack) (call k b.0 ∷ b.1)) (sym is) (subst (λ l. Ahead script (drained true) (map frame_of stack) l) b.2 a.is))
 asked-reply script o (wait.Hand listener) stack is =
     let l = some-left script (to_hand listener ∷ map frame_of stack) done in
     let b = l.is in
-    (b.0, b.1, subst (λ k. Left script (to_hand listener ∷ map frame_of stack) done (call k b.0 ∷ b.1)) (sym is.0) (subst (λ k. Left script (to_hand listener ∷ map frame_of stack) done k) b.3 b))
+    (b.0, b.1, subst (λ k. Left script (to_hand listener ∷ map frame_of stack) done (call k b.0 ∷ b.1)) (sym is) (subst (λ k. Left script (to_hand listener ∷ map frame_of stack) done k) b.3 b))
 asked-reply script o wait.Jobs stack is =
     let a = some-ahead taking (map frame_of stack) (jobs-done {script = script}) in
     let b = back a.is.reads in

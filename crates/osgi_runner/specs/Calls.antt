@@ -1,5 +1,5 @@
 -- What one call does, and what the calls of a command come to.
-use Rattle.std.specs.Prelude.{◌≡◌, ◌≤◌, ℕ, length, Bool, true, false, List, [], ◌∷◌, ◌++◌, ◌⊎◌, MatchResult, Result}
+use Rattle.std.specs.Prelude.{◌≡◌, ◌≤◌, ℕ, length, Bool, true, false, List, [], ◌∷◌, ◌++◌, ◌⊎◌, map, MatchResult, Result}
 use Rattle.osgi_base.specs.declared.ids.Tag.{Tag}
 use Rattle.osgi_ops.specs.declared.entry.Entry.{Entry}
 use Rattle.osgi_ops.specs.declared.op.Op.{Op}
@@ -7,8 +7,8 @@ use Rattle.osgi_ops.specs.declared.op.Op.TheVariants.{Hand}
 use Rattle.osgi_ops.specs.declared.refusal.Refusal.TheVariants.{HandingsSpent, HistoryFull}
 use Rattle.osgi_ops.specs.declared.reply.Reply.{Reply}
 use Rattle.osgi_ops.specs.declared.reply.Reply.TheVariants.{Refused}
-use Rattle.osgi_session.specs.Sessions.{IsCutRunOf, IsRunOf}
-use Rattle.osgi_session.specs.Runs.{Sections}
+use Rattle.osgi_session.specs.Sessions.{AreTagged, call_of, IsCutRunOf}
+use Rattle.osgi_session.specs.Runs.{Call, IsCutOf, IsDrain, IsSpentOf, Sections}
 use Rattle.osgi_session.specs.declared.line.Line.{Line}
 
 abbrev pub says_full : Reply → Bool
@@ -48,3 +48,24 @@ Adds AreThey before after = (added : List Entry) × (after ≡ before ++ added) 
 abbrev pub IsCutShort : Sections → ℕ → Line → Bool → List Entry → List Entry → Type 0
 IsCutShort script number line full before after =
     Adds (IsCutRunOf script number line true) before after ⊎ ((full ≡ true) × Adds (IsCutRunOf script number line false) before after)
+
+-- ---- a drain that is called by itself
+
+-- the entries are a whole drain by the caller, for the line
+pub record IsDrainOf (script : Sections) (caller : ℕ) (line : Line) (entries : List Entry) : Type 0 where
+  pub tagged : AreTagged caller line entries
+  pub drain : IsDrain script (map call_of entries)
+
+abbrev pub IsCutDrain : Sections → Bool → List Call → Type 0
+IsCutDrain script true calls = IsSpentOf (IsDrain script) calls
+IsCutDrain script false calls = IsCutOf (IsDrain script) calls
+
+-- they are a drain that was cut, or never begun; `spent` says that it ends with a Hand refused since enough was handed
+pub record IsCutDrainOf (script : Sections) (caller : ℕ) (line : Line) (spent : Bool) (entries : List Entry) : Type 0 where
+  pub tagged : AreTagged caller line entries
+  pub cut : IsCutDrain script spent (map call_of entries)
+
+-- a drain that was cut: enough was handed, and its Hand was refused for that; or the history was seen to be full
+abbrev pub IsDrainCutShort : Sections → ℕ → Line → Bool → List Entry → List Entry → Type 0
+IsDrainCutShort script number line full before after =
+    Adds (IsCutDrainOf script number line true) before after ⊎ ((full ≡ true) × Adds (IsCutDrainOf script number line false) before after)

@@ -1,4 +1,4 @@
-//! Commands as they run: plan after plan, section after section, and then the jobs.
+//! Commands as they run: plan after plan, section after section, drain after drain, and then the jobs.
 #![tactic(auto)]
 
 mod caller;

@@ -3,7 +3,7 @@
 ghost use Rattle.std.specs.Prelude.{◌≡◌, ◌<◌, ◌∷◌, false, List, reverse, vec_capacity, vec_len};
 ghost use Rattle.osgi_ops.specs.declared.op.Op.{Op};
 ghost use Rattle.osgi_runner.specs.Calls.{says_cut, says_spent};
-ghost use Rattle.osgi_runner.specs.computed.Stacks.{AllFit, CanStep, HasSome, IsAsked};
+ghost use Rattle.osgi_runner.specs.computed.Stacks.{AllFit, CanStep, IsAsked};
 ghost use Rattle.osgi_runner.specs.computed.States.{After, frames_of, handed_to, is_job, Waited};
 ghost use Rattle.osgi_ops.specs.declared.op.Op.TheVariants as op;
 ghost use Rattle.osgi_runner.specs.declared.frames.Frame.{Frame};
@@ -49,7 +49,6 @@ fn is_job(reply: &Reply) -> bool
 fn handed<'s>(stack: &mut Vec<Frame<'s>>, reply: Reply) -> Step<'s>
     requires room { vec_len stack.old < vec_capacity stack.old }
     requires fit { AllFit (reverse stack.old.items) }
-    requires some { HasSome (reverse stack.old.items) }
     ensures fit { AllFit (reverse stack.new.items) }
     ensures can { CanStep result (reverse stack.new.items) }
     ensures on { (script : Sections) (calls : List Call) → After script result (frames_of stack.new.items) calls → says_spent reply ≡ false →

@@ -1,8 +1,8 @@
-//! The runner: it runs the command of a line, and then the jobs.
+//! The runner: it runs the command of a line, and then the jobs; or it makes a drain.
 
 ghost use Rattle.std.specs.Prelude.{◌≡◌, [], List, false, true, reverse, IfOk, OnErr};
 ghost use Rattle.osgi_ops.specs.declared.entry.Entry.{Entry};
-ghost use Rattle.osgi_runner.specs.Calls.{Adds, IsCutShort};
+ghost use Rattle.osgi_runner.specs.Calls.{Adds, IsCutDrainOf, IsCutShort, IsDrainCutShort, IsDrainOf};
 ghost use Rattle.osgi_runner.specs.computed.Ends.{Ends, Made};
 ghost use Rattle.osgi_runner.specs.computed.Stacks.{AllFit, CanStep};
 ghost use Rattle.osgi_runner.specs.computed.States.{After, frames_of};
@@ -13,21 +13,22 @@ ghost use Rattle.osgi_session.specs.Scripts.{sections_of};
 ghost use Rattle.osgi_session.specs.Sessions.{IsCutRunOf, IsRunOf};
 
 use crate::caller::Caller;
-use crate::frames::{Frame, Step};
+use crate::frames::{Frame, Step, Wait};
 use crate::replies::is_cut;
 use crate::steps::follow;
 use osgi_base::BundleId;
 use osgi_lifecycle::{Last, Plan};
+use osgi_ops::Op;
 use osgi_session::{Command, Content, Line, Scripts};
 use std::alloc::{AllocError, Global};
 
 /// The system bundle, which runs the console's commands.
 const SYSTEM: BundleId = BundleId(0);
 
-/// How a command ended.
+/// How a command or a drain ended.
 #[derive(Clone, Copy, PartialEq, Eq)]
 pub enum Ended {
-    /// It ran whole, and no job is queued.
+    /// It ran whole; after a command no job is queued.
     Done,
     /// The history was full, or enough was handed.
     Cut,
@@ -124,6 +125,25 @@ fn run_line<C: Caller>(
     run(alloc, caller, scripts, line.number, command)
 }
 
+/// Hands what can be handed now, for a line.
+fn drain<C: Caller>(
+    alloc: Global,
+    caller: &mut C,
+    scripts: &Scripts,
+    line: &Line,
+) -> Result<Ended, AllocError>
+    ensures number { C.number caller.new ≡ C.number caller.old }
+    ensures limit { C.limit caller.new ≡ C.limit caller.old }
+    ensures done { IfOk result (λ how. how ≡ ended.Done → Adds (IsDrainOf (sections_of scripts.now) (C.number caller.old) line.now) (C.made caller.old) (C.made caller.new)) }
+    ensures cut { IfOk result (λ how. how ≡ ended.Cut →
+        IsDrainCutShort (sections_of scripts.now) (C.number caller.old) line.now (C.full caller.new) (C.made caller.old) (C.made caller.new)) }
+    ensures wanting { OnErr result (Adds (IsCutDrainOf (sections_of scripts.now) (C.number caller.old) line.now false) (C.made caller.old) (C.made caller.new)) }
+{
+    let mut stack = Vec::new(alloc);
+    let step = Step::Ask(Op::Hand, Wait::Drain);
+    finish(alloc, caller, scripts, line.number, &mut stack, step)
+}
+
 /// A caller of the framework as it runs lines, whose sections are those of these scripts.
 #[derive(Drop)]
 pub struct Runner<'a, C> {
@@ -164,5 +184,25 @@ impl<'a, C: Caller> Runner<'a, C> {
         ensures wanting { OnErr result (Adds (IsCutRunOf (sections_of self.old.scripts.now) (C.number self.old.caller.now) line.now false) (C.made self.old.caller.now) (C.made self.new.caller.now)) }
     {
         run_line(self.alloc, self.caller, self.scripts, line)
+    }
+
+    /// Makes one drain for a line, with or without a command: hands one event after another, and runs the section of each, until
+    /// no event can be handed now, or the Hand is refused.
+    ///
+    /// Where it answers Done, the entries that were added are a whole drain. Where it answers Cut, they are the beginning of
+    /// one, and the history was seen to be full; or one that ends with a Hand refused since enough was handed. Where memory ran
+    /// out, they are the beginning of one.
+    pub fn drain(&mut self, line: &Line) -> Result<Ended, AllocError>
+        ensures same_caller { self.new.caller.ghost_name ≡ self.old.caller.ghost_name }
+        ensures scripts { self.new.scripts.now ≡ self.old.scripts.now }
+        ensures number { C.number self.new.caller.now ≡ C.number self.old.caller.now }
+        ensures limit { C.limit self.new.caller.now ≡ C.limit self.old.caller.now }
+        ensures done { IfOk result (λ how. how ≡ ended.Done →
+            Adds (IsDrainOf (sections_of self.old.scripts.now) (C.number self.old.caller.now) line.now) (C.made self.old.caller.now) (C.made self.new.caller.now)) }
+        ensures cut { IfOk result (λ how. how ≡ ended.Cut →
+            IsDrainCutShort (sections_of self.old.scripts.now) (C.number self.old.caller.now) line.now (C.full self.new.caller.now) (C.made self.old.caller.now) (C.made self.new.caller.now)) }
+        ensures wanting { OnErr result (Adds (IsCutDrainOf (sections_of self.old.scripts.now) (C.number self.old.caller.now) line.now false) (C.made self.old.caller.now) (C.made self.new.caller.now)) }
+    {
+        drain(self.alloc, self.caller, self.scripts, line)
     }
 }

@@ -4,25 +4,29 @@ use Rattle.std.specs.Prelude.{cond}
 use Rattle.std.proofs.lemmas.Bool.{eqb-true}
 use Rattle.osgi_ops.specs.Along.{AllAlong}
 use Rattle.osgi_ops.specs.Brackets.{Bracket, brackets, brackets_of, closes, opens, with_entry, own_closes, own_turned}
+use Rattle.osgi_ops.specs.Conditions.{IsDeep}
 use Rattle.osgi_ops.specs.declared.limits.TheConstants.{MAX_BRACKETS}
-use Rattle.osgi_runs.specs.Bound.{is_take, IsBound}
+use Rattle.osgi_runs.specs.Bound.{finds_nothing, is_hand, is_take, IsBound}
 use Rattle.osgi_ops.specs.Legal.{IsAllowed}
 use Rattle.osgi_ops.specs.Operations.{Answers, IsReply, IsRow}
 use Rattle.osgi_ops.specs.Jobs.{jobs, Queued}
+use Rattle.osgi_ops.specs.rows.Events.{IsHanding, IsNothing}
 use Rattle.osgi_ops.specs.rows.Jobs.{taken}
 use Rattle.osgi_session.specs.Rendering.{takes_no_job}
 use Rattle.osgi_ops.specs.Replies.{verdict}
-use Rattle.osgi_session.specs.Runs.{call, ends_jobs}
+use Rattle.osgi_session.specs.Runs.{call, ends_drain, ends_jobs}
 use Rattle.osgi_ops.specs.Callers.{by, is_by}
 use Rattle.osgi_session.specs.Sessions.{call_of}
 use Rattle.osgi_ops.specs.Settings.{Setting}
-use Rattle.osgi_ops.specs.laws.Stages.{here-row, take-here}
+use Rattle.osgi_ops.specs.laws.Stages.{hand-here, here-row, take-here}
 use Rattle.osgi_ops.specs.Moments.{moment, entries_in, Moment, Told}
 use Rattle.osgi_ops.specs.declared.entry.Entry.{Entry}
 use Rattle.osgi_ops.specs.declared.op.Op.{Op}
-use Rattle.osgi_ops.specs.declared.op.Op.TheVariants.{TakeJob}
+use Rattle.osgi_ops.specs.declared.op.Op.TheVariants.{Hand, TakeJob}
+use Rattle.osgi_ops.specs.declared.refusal.Refusal.TheVariants.{HandingsSpent, TooDeep}
 use Rattle.osgi_ops.specs.declared.reply.Reply.{Reply}
-use Rattle.osgi_legal.proofs.Owned.{answer-of, answered-of, brackets-last, closes-own, ended-by, entries-last, of, of-turned, of-turned-other}
+use Rattle.osgi_ops.specs.declared.reply.Reply.TheVariants.{Refused}
+use Rattle.osgi_legal.proofs.Owned.{answer-of, answered-of, brackets-last, closes-own, ended-by, entries-last, hand-row, of, of-turned, of-turned-other}
 
 -- a TakeJob that takes no job found none, or its caller is as deep as it may be
 taken-by : (m : Moment) (op : Op) (reply : Reply) → IsReply m op reply → is_take op ≡ true → ends_jobs reply ≡ true → (takes_no_job op reply ≡ true) ⊎ (MAX_BRACKETS ≤ length (brackets_of m.tag.caller m.before))
@@ -37,8 +41,21 @@ taken-by m TakeJob reply r h e = by (here-row m TakeJob reply take-here r)
     by (inr (n, p)) = let a = answer-of (Answers m TakeJob) (verdict reply) p in found (jobs m.before) (answered-of reply a.0 a.1 ∙ a.2)
 taken-by m op reply r h e = absurd (cc h)
 
+-- a Hand that ends its drain found nothing to hand, or its caller is as deep as it may be
+found-by : (m : Moment) (op : Op) (reply : Reply) → IsReply m op reply → is_hand op ≡ true → ends_drain reply ≡ true → (finds_nothing op reply ≡ true) ⊎ (MAX_BRACKETS ≤ length (brackets_of m.tag.caller m.before))
+found-by m Hand reply r h e = by (hand-row m reply (here-row m Hand reply hand-here r))
+  where
+    by : (IsDeep m × (reply ≡ Refused TooDeep)) ⊎ (reply ≡ Refused HandingsSpent) ⊎ IsHanding m reply ⊎ IsNothing m reply →
+        (finds_nothing Hand reply ≡ true) ⊎ (MAX_BRACKETS ≤ length (brackets_of m.tag.caller m.before))
+    by (inl deep) = inr deep.0
+    by (inr (inl spent)) = absurd (let c : true ≡ false = sym e ∙ ap ends_drain spent in cc c)
+    by (inr (inr (inl handing))) = absurd (let c : true ≡ false = sym e ∙ ap ends_drain handing.is in cc c)
+    by (inr (inr (inr nothing))) = inl (ap (finds_nothing Hand) nothing.is)
+found-by m op reply r h e = absurd (cc h)
+
 pub due-reply : (m : Moment) (op : Op) (reply : Reply) → IsReply m op reply → IsBound MAX_BRACKETS m.tag (brackets_of m.tag.caller m.before) (call op reply)
-due-reply m op reply r = record { ended = λ f. ended-by m op reply r (closes-own m.tag op (brackets m.before) ∙ f); taken = taken-by m op reply r }
+due-reply m op reply r =
+    record { ended = λ f. ended-by m op reply r (closes-own m.tag op (brackets m.before) ∙ f); found = found-by m op reply r; taken = taken-by m op reply r }
 
 -- ---- a caller's own entries
 

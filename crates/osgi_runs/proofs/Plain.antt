@@ -1,6 +1,6 @@
 -- Sessions whose lines are all of lane 0: their lines run one after another, as one lane of caller 0.
 use Rattle.std.proofs.Common.{◌≡◌, ℕ, List, [], ◌∷◌, ◌++◌, map, append_assoc, append-nil, Bool, true, false, refl, sym, ap, ◌∙◌, subst}
-use Rattle.std.specs.Prelude.{◌==◌, not, cond, All, filter}
+use Rattle.std.specs.Prelude.{◌==◌, not, cond, All}
 use Rattle.std.proofs.lemmas.Bool.{eq-eqb}
 use Rattle.std.proofs.lemmas.List.Elements.{All-head, All-tail, filter-append}
 use Rattle.osgi_ops.specs.declared.entry.Entry.{Entry}

@@ -86,19 +86,29 @@ lanes-runs {script} caller first (lane ∷ more) part less a = go (cases_eq firs
     go (inl e) ih = subst (λ c. AreRuns script c (by c part)) e (lane-runs a.0)
     go (inr n) ih = ih (omega (arith, n, less)) a.1
 
--- each caller's entries are whole runs
+-- one more run, of whichever caller
+run-more : {script : Sections} (caller other : ℕ) (line : Line) (entries rest : List Entry) → IsRunOf script caller line entries → AreRuns script other (by other rest) → AreRuns script other (by other (entries ++ rest))
+run-more {script} caller other line entries rest r x = go (cases_eq caller other)
+  where
+    both : by other (entries ++ rest) ≡ by other entries ++ by other rest
+    both = filter-append (is_by other) entries rest
+
+    go : (caller ≡ other) ⊎ (caller ≡ other → ⊥) → AreRuns script other (by other (entries ++ rest))
+    go (inl e) =
+        subst (AreRuns script other) (sym (both ∙ ap (λ l. l ++ by other rest) (run-by other line entries (subst (λ c. AreTagged c line entries) e r.tagged))))
+        (next (subst (λ c. IsRunOf script c line entries) e r) x)
+    go (inr n) = subst (AreRuns script other) (sym (both ∙ ap (λ l. l ++ by other rest) (run-not-by caller other line entries n r.tagged))) x
+
+-- each caller's entries are whole runs: where one caller's lines each ran,
+pub lane-callers : {script : Sections} (caller : ℕ) {was_cut : Bool} {lines : List Line} {history : List Entry} → Lane script Never caller was_cut lines history → (other : ℕ) → AreRuns script other (by other history)
+lane-callers caller over other = none
+lane-callers caller (ran {line = line} {entries = entries} {rest = rest} r x) other = run-more caller other line entries rest r (lane-callers caller x other)
+lane-callers caller (cut r never) other = absurd never
+
+-- and where all the blocks of a session did
 pub makes-runs : {script : Sections} {first : ℕ} {more : List Block} {history : List Entry} → Makes script Never first more history → 1 ≤ first → (caller : ℕ) → AreRuns script caller (by caller history)
 makes-runs over less caller = none
-makes-runs {script} (ran {line = line} {entries = entries} {rest = rest} r x) less caller = go (cases_eq 0 caller) (makes-runs x less caller)
-  where
-    both : by caller (entries ++ rest) ≡ by caller entries ++ by caller rest
-    both = filter-append (is_by caller) entries rest
-
-    go : (0 ≡ caller) ⊎ (0 ≡ caller → ⊥) → AreRuns script caller (by caller rest) → AreRuns script caller (by caller (entries ++ rest))
-    go (inl e) ih =
-        subst (AreRuns script caller) (sym (both ∙ ap (λ l. l ++ by caller rest) (run-by caller line entries (subst (λ c. AreTagged c line entries) e r.tagged))))
-        (next (subst (λ c. IsRunOf script c line entries) e r) ih)
-    go (inr n) ih = subst (AreRuns script caller) (sym (both ∙ ap (λ l. l ++ by caller rest) (run-not-by 0 caller line entries n r.tagged))) ih
+makes-runs (ran {line = line} {entries = entries} {rest = rest} r x) less caller = run-more 0 caller line entries rest r (makes-runs x less caller)
 makes-runs (cut r never) less caller = absurd never
 makes-runs {script} {first = first} (lanes each part {rest = rest} from a none_cut x) less caller = go (cases_le first caller) (makes-runs x (omega (arith, less)) caller)
   where

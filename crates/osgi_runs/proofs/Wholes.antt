@@ -17,7 +17,7 @@ pub record WasCut (script : Sections) (lawful : Bool → Type 0) : Type 0 where
   pub is : IsCutRunOf script caller line spent entries
   pub allowed : lawful spent
 
-uncut-lane : {script : Sections} {lawful : Bool → Type 0} {caller : ℕ} {was_cut : Bool} {lines : List Line} {entries : List Entry} →
+pub uncut-lane : {script : Sections} {lawful : Bool → Type 0} {caller : ℕ} {was_cut : Bool} {lines : List Line} {entries : List Entry} →
     Lane script lawful caller was_cut lines entries → was_cut ≡ false → Lane script Never caller was_cut lines entries
 uncut-lane over e = over
 uncut-lane (ran r x) e = ran r (uncut-lane x e)

@@ -5,19 +5,30 @@ use Rattle.osgi_ops.specs.Brackets.{Bracket, bracket, Cause, ends, is_end, opens
 use Rattle.osgi_session.specs.Plans.{Plan, ask, run, stop, stirs}
 use Rattle.osgi_ops.specs.Replies.{is_effective}
 use Rattle.osgi_session.specs.Rendering.{takes_no_job}
-use Rattle.osgi_session.specs.Runs.{Call, drained, ends_jobs, taking, planned, statements, Task}
+use Rattle.osgi_session.specs.Runs.{Call, drained, ends_drain, ends_jobs, taking, planned, statements, Task}
 use Rattle.osgi_ops.specs.declared.op.Op.{Op}
-use Rattle.osgi_ops.specs.declared.op.Op.TheVariants.{TakeJob}
+use Rattle.osgi_ops.specs.declared.op.Op.TheVariants.{Hand, TakeJob}
 use Rattle.osgi_ops.specs.declared.reply.Reply.{Reply}
+use Rattle.osgi_ops.specs.declared.reply.Reply.TheVariants.{Nothing}
 
 abbrev pub is_take : Op → Bool
 is_take TakeJob = true
 is_take _ = false
 
--- what its reply is bound to: the end of the innermost bracket is not refused as none, and a TakeJob that takes no job finds none, or as
--- many brackets are open as there may be
+abbrev pub is_hand : Op → Bool
+is_hand Hand = true
+is_hand _ = false
+
+-- a Hand that finds nothing to hand
+abbrev pub finds_nothing : Op → Reply → Bool
+finds_nothing Hand (Nothing busy) = true
+finds_nothing _ _ = false
+
+-- what its reply is bound to: the end of the innermost bracket is not refused as none; and a Hand that ends its drain finds nothing to hand,
+-- and a TakeJob that takes no job finds none, unless as many brackets are open as there may be
 pub record IsBound (limit : ℕ) (tag : Tag) (own : List Bracket) (c : Call) : Type 0 where
   pub ended : own_closes tag c.op own ≡ true → is_effective c.reply ≡ true
+  pub found : is_hand c.op ≡ true → ends_drain c.reply ≡ true → (finds_nothing c.op c.reply ≡ true) ⊎ (limit ≤ length own)
   pub taken : is_take c.op ≡ true → ends_jobs c.reply ≡ true → (takes_no_job c.op c.reply ≡ true) ⊎ (limit ≤ length own)
 
 -- each of the calls is so, and this holds of the brackets after them

@@ -1,4 +1,5 @@
--- What runners come to, what legal histories say of one command's calls, and lines that run one after another.
+-- What runners come to, what legal histories say of one command's calls, lines that run one after another, and what listeners were handed.
 pub mod Bound
 pub mod Courses
+pub mod Handed
 pub mod Plain

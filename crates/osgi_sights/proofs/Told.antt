@@ -118,19 +118,20 @@ module _ (l : Listening) (removed : Option BundleId) (world : World) where
   later_from : (place : ℕ) (happened : List Shown) (sights : List Sight) → AllByRecursion (IsFrom place happened) sights → AllByRecursion (λ (s : Sight). place ≤ s.place) sights
   later_from place happened sights all = each_so _ _ (λ s own. let is = own.place_is in omega (arith, is)) sights all
 
-  ordered_from : Rise l.rows → (place : ℕ) (happened : List Shown) (sights : List Sight) → TellsAll l removed world place happened sights → Ordered sights
-  ordered_from rise place happened sights all_told = tt
-  ordered_from rise place happened sights (first_of {shown} {rest} {now} {later} told more) =
-      ordered_joined now later (ordered_of shown place _ now (ids_rise (asks shown) l.rows rise) told) (ordered_from rise (1 + place) rest later more)
+  ordered_from : (place : ℕ) (happened : List Shown) (sights : List Sight) → (0 < length happened → Rise l.rows) → TellsAll l removed world place happened sights → Ordered sights
+  ordered_from place happened sights rise all_told = tt
+  ordered_from place happened sights rise (first_of {shown} {rest} {now} {later} told more) =
+      let rows = rise (omega arith) in
+      ordered_joined now later (ordered_of shown place _ now (ids_rise (asks shown) l.rows rows) told) (ordered_from (1 + place) rest later (λ some. rows) more)
       (each_so _ (λ s. AllByRecursion (ComesBefore s) later) (λ s own. each_so _ (ComesBefore s) (λ t behind. inl (let is = own.0 in omega (arith, is, behind))) later (later_from (1 + place) rest later (only_from (1 + place) rest later more))) now (only_of shown place _ now told))
 
   -- so what is told of all happenings are their sights
-  pub all_sights : AreInOrder l → (happened : List Shown) (sights : List Sight) → TellsAll l removed world 0 happened sights → AreSightsOf l removed world happened sights
-  all_sights ordered happened sights told = record {
+  pub all_sights : (happened : List Shown) (sights : List Sight) → (0 < length happened → AreInOrder l) → TellsAll l removed world 0 happened sights → AreSightsOf l removed world happened sights
+  all_sights happened sights ordered told = record {
     only = All-from_recursion (IsSightOf l removed world happened) sights
         (each_so (IsFrom 0 happened) (IsSightOf l removed world happened) (λ s own. record { shown = own.shown; at = subst (λ n. IsAt n happened own.shown) (let is = own.place_is in omega (arith, is)) own.at; seen = own.seen }) sights (only_from 0 happened sights told));
     every = λ s it. In-contains sights s (every_from 0 happened sights told s s.place (omega arith) it.shown it.at it.seen);
-    in_order = ordered_pairs sights (ordered_from (rows_rise l ordered) 0 happened sights told);
+    in_order = ordered_pairs sights (ordered_from 0 happened sights (λ some. rows_rise l (ordered some)) told);
   }
 
   -- their places are those of the happenings

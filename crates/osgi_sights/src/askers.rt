@@ -1,6 +1,7 @@
 //! Who is asked whether it sees a happening.
 
 ghost use Rattle.std.specs.Prelude.{◌≡◌};
+ghost use Rattle.osgi_listeners.specs.Rows.{AreInOrder};
 ghost use Rattle.osgi_sights.specs.Shown.{shown};
 ghost use Rattle.osgi_sights.specs.computed.Asking.{askers};
 
@@ -12,9 +13,8 @@ use osgi_ops::Kind;
 /// The listeners of the kinds that can see the happening, by rising id.
 pub fn askers<'a>(listeners: &'a Listeners, happening: &Happening<'_>) -> Merged<'a>
     ensures askers { result ≡ askers (shown happening.now) listeners.now.rows }
+    ensures in_order { AreInOrder listeners.now }
 {
-    // That the ids rise is said where listeners are counted.
-    let _ = listeners.count();
     match happening {
         Happening::Service { .. } | Happening::Modified { .. } => Merged::new(
             listeners.of_kind(Kind::Service),

@@ -3,10 +3,12 @@
 
 mod askers;
 mod attributes;
+mod happened;
 mod happening;
 mod merged;
 mod onlookers;
 mod telling;
 
+pub use happened::Happened;
 pub use happening::Happening;
 pub use telling::sights;

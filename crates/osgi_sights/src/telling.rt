@@ -1,12 +1,14 @@
 //! What the listeners see of what happens at an entry.
 
-ghost use Rattle.std.specs.Prelude.{◌<◌, ◌^◌, All, IfOk, map, OnOk};
+ghost use Rattle.std.specs.Prelude.{◌<◌, ◌^◌, All, IfOk, OnOk};
+ghost use Rattle.osgi_listeners.specs.Rows.{AreInOrder};
 ghost use Rattle.osgi_listeners.specs.Sights.{sights_of};
 ghost use Rattle.osgi_sights.specs.Shown.{shown};
 ghost use Rattle.osgi_sights.specs.Sights.{AreSightsOf};
 ghost use Rattle.osgi_sights.specs.computed.Telling.{AddsSights, TellsOf};
 
 use crate::askers::askers;
+use crate::happened::Happened;
 use crate::happening::Happening;
 use crate::onlookers::Onlookers;
 use osgi_base::BundleId;
@@ -22,6 +24,7 @@ fn tell(
     told: &mut Vec<Sight>,
 ) -> Result<(), AllocError>
     ensures told { OnOk result (AddsSights (TellsOf onlookers.now.listeners.now onlookers.now.removed onlookers.now.wirings.now.world (shown happening.now) place) (sights_of told.old.items) (sights_of told.new.items)) }
+    ensures in_order { AreInOrder onlookers.now.listeners.now }
 {
     let mut made = None;
     for listener in askers(onlookers.listeners, happening) {
@@ -39,16 +42,14 @@ fn tell(
 
 /// Which listeners see what happens at an entry, as which event: by rising place of the happening, and of one happening by rising
 /// listener. The listeners of the bundle that the entry cleans see nothing. Services are assignable by these wirings.
-///
-/// It fails where there is no memory, and where there are more happenings than 32 bits can count.
 pub fn sights(
     alloc: Global,
     listeners: &Listeners,
     wirings: &Wirings,
-    happened: &[Happening<'_>],
+    happened: &Happened<'_>,
     removed: Option<BundleId>,
 ) -> Result<Vec<Sight>, AllocError>
-    ensures sights { IfOk result (λ told. AreSightsOf listeners.now removed wirings.now.world (map shown happened.now) (sights_of told.items)) }
+    ensures sights { IfOk result (λ told. AreSightsOf listeners.now removed wirings.now.world happened.now (sights_of told.items)) }
     ensures small { IfOk result (λ told. All (λ s. s.place < 2 ^ 32) (sights_of told.items)) }
 {
     let onlookers = Onlookers {
@@ -57,14 +58,10 @@ pub fn sights(
         wirings,
         removed,
     };
-    // That the ids of the listeners rise is said where they are counted.
-    let _ = listeners.count();
+    let items = happened.items();
     let mut told = Vec::new(alloc);
-    for (place, happening) in happened.iter().enumerate() {
-        let Ok(place) = u32::try_from(place) else {
-            return Err(AllocError);
-        };
-        tell(&onlookers, place, happening, &mut told)?;
+    for (place, happening) in items.iter().enumerate() {
+        tell(&onlookers, place as u32, happening, &mut told)?;
     }
     Ok(told)
 }

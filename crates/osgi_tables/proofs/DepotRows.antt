@@ -1,10 +1,17 @@
 -- The row of the depot that a live bundle shows is that of its source.
 use Rattle.std.proofs.Common.{◌≡◌, ◌⊎◌, inl, inr, ◌+◌, ◌<◌, ℕ, List, [], ◌∷◌, ◌++◌, length, ap, sym, subst, ◌∙◌, refl, arith}
-use Rattle.std.specs.Prelude.{false, Option, None, Some, Contains, find}
+use Rattle.std.specs.Prelude.{◌==◌, ◌||◌, Bool, true, false, is_some, Option, None, Some, Contains, find}
 use Rattle.std.specs.List.{filter_map}
 use Rattle.std.specs.Option.{option_map, option_map_or}
 use Rattle.std.proofs.lemmas.Bool.{eq-eqb, eqb-true}
 use Rattle.osgi_base.specs.declared.ids.BundleId.{BundleId}
+use Rattle.osgi_bundle.specs.Rows.{row_at, TableRows}
+use Rattle.osgi_bundle.specs.Stands.{StandsFor}
+use Rattle.osgi_bundle.specs.declared.kept.BundleKept.{BundleKept}
+use Rattle.osgi_bundle.specs.laws.OneBundle.{found_row, gone, row_number_of, says_row, SaysRow}
+use Rattle.osgi_legal.proofs.Facts.{row-at}
+use Rattle.osgi_ops.specs.Legal.{IsTold}
+use Rattle.osgi_ops.specs.Moments.{Moment}
 use Rattle.osgi_ops.specs.Bundles.{Bundle, bundles, Installed, installed, installed_after, installed_by, is_there, live, live_at, row_from, row_of, source, the_system_bundle}
 use Rattle.osgi_ops.specs.Depots.{row_number, stored_revision}
 use Rattle.osgi_ops.specs.declared.depot.DepotRow.{DepotRow}
@@ -88,3 +95,23 @@ depot_row depot history c there = by (Contains-cases the_system_bundle (filter_m
         let number : found.0.bundle.0 ≡ i.bundle.0 = eqb-true found.0.bundle.0 c.bundle.0 j.1 ∙ ap (λ (x : BundleId). x.0) row.1 in
         let same : found.0 ≡ i = once.1 found.0 i (In-filter is_there (installed history) found.0 j.0).0 (In-filter is_there (installed history) i in_live).0 number in
         row.0 ∙ sym (read_by depot i (live_at c.bundle history) (found.1 ∙ ap Some same))
+
+-- ---- the row that the table shows
+
+read_none : (b : BundleId) (depot : List DepotRow) (o : Option Installed) → (b.0 == 0) || is_some o ≡ false → 0 ≡ option_map_or (λ (j : Installed). row_number depot (source j)) o 0
+read_none b depot None dead = refl
+read_none b depot (Some i) dead = let bad : true ≡ false = sym (or_true (b.0 == 0)) ∙ dead in cc bad
+  where
+    or_true : (t : Bool) → t || true ≡ true
+    or_true true = refl
+    or_true false = refl
+
+-- of a live bundle it is that of its row; of any other it is 0
+pub shown_row : (now : Moment) → IsTold now → (table : TableRows) (b : BundleId) → StandsFor now.setting.depot now.before now.world table →
+    option_map_or (λ (row : BundleKept). row.row) (row_at b table.rows) 0 ≡ row_of now.setting.depot now.before b
+shown_row now told table b stands = by (row_at b table.rows) refl (says_row now.setting.depot now.before now.world table b stands (row-at now told))
+  where
+    by : (o : Option BundleKept) → row_at b table.rows ≡ o → SaysRow now.setting.depot now.before now.world b o → option_map_or (λ (row : BundleKept). row.row) o 0 ≡ row_of now.setting.depot now.before b
+    by None e (gone dead) = read_none b now.setting.depot (live_at b now.before) dead
+    by (Some row) e said =
+        row_number_of now.setting.depot now.before now.world b row (found_row now.setting.depot now.before now.world table b row stands e) (λ c there. sym (depot_row now.setting.depot now.before c there))

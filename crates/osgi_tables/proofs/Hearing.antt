@@ -1,5 +1,5 @@
 -- The listeners after an entry that hands nothing, adds no listener, and takes none away but by a clean up.
-use Rattle.std.proofs.Common.{◌≡◌, ◌+◌, ◌-◌, ℕ, List, [], ◌∷◌, ◌++◌, append-nil, length, ap, sym, subst, ◌∙◌, refl}
+use Rattle.std.proofs.Common.{◌≡◌, ◌-◌, ℕ, List, [], ◌∷◌, ◌++◌, append-nil, length, ap, sym, subst, ◌∙◌}
 use Rattle.std.specs.Prelude.{true, false, cond, None, Some, filter}
 use Rattle.std.proofs.lemmas.List.Elements.{filter-append}
 use Rattle.osgi_base.specs.declared.ids.BundleId.{BundleId}

@@ -1,7 +1,9 @@
 -- Lemmas on the tables, and on what operations decide by them.
 pub mod Asking
+mod Called
 pub mod DepotRows
 pub mod Happening
+pub mod Heard
 pub mod Hearing
 pub mod Living
 mod Putting

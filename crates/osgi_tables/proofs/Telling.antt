@@ -1,11 +1,13 @@
 -- A change that was decided, made of tables with room, with those told who see what happens: what was asked for is replied to so.
-use Rattle.std.proofs.Common.{◌≡◌, ◌⊎◌, ◌<◌, ◌≤◌, inl, inr, ℕ, List, [], ◌∷◌, ◌++◌, append-nil, length, map, ap, sym, subst, ◌∙◌, refl}
-use Rattle.std.specs.Prelude.{All, Bool, true, false, not, None, Option, Some}
+use Rattle.std.proofs.Common.{◌≡◌, ◌⊎◌, ◌<◌, ◌≤◌, inl, inr, ℕ, List, [], ◌∷◌, ◌++◌, append-nil, arith, length, map, ap, sym, subst, ◌∙◌, refl}
+use Rattle.std.specs.Prelude.{◌*◌, All, Bool, true, false, cond, drop, not, None, Option, Some}
 use Rattle.std.specs.List.{list_any}
 use Rattle.osgi_base.specs.declared.ids.BundleId.{BundleId}
 use Rattle.osgi_base.specs.declared.ids.ListenerId.{ListenerId}
-use Rattle.std.proofs.lemmas.List.Elements.{All-cons, All-filter, All-head, All-nil, All-tail}
-use Rattle.osgi_listeners.specs.Rows.{AreRoomier, bare, is_owned, Listening, Row}
+use Rattle.std.proofs.lemmas.List.Elements.{All-cons, All-filter, All-head, All-nil, All-push, All-tail}
+use Rattle.osgi_listeners.specs.Rows.{AreRoomier, bare, change as change_at, is_listener, is_named, is_owned, Listening, new_row, Row, without_first}
+use Rattle.osgi_listeners.specs.declared.row.ListenerRow.{ListenerRow}
+use Rattle.osgi_listeners.specs.declared.row.Waiting.{Waiting}
 use Rattle.osgi_listeners.specs.Sights.{HasRoomFor, IsOfEarlier, sights_by, sights_of, told_all}
 use Rattle.osgi_listeners.specs.declared.sight.Sight as declared
 use Rattle.osgi_listeners.specs.Stands as hearing
@@ -14,8 +16,8 @@ use Rattle.osgi_legal.proofs.Sights.{sights-once}
 use Rattle.osgi_listeners.specs.laws.Premises.{handed-first, handed-first-same, small-more}
 use Rattle.osgi_listeners.specs.laws.Standing.{stands-with-all-seen}
 use Rattle.osgi_ops.specs.Legal.{entry_of, IsAskedAt, IsTold}
-use Rattle.osgi_ops.specs.Listening.{AreSights, handed_by, happenings}
-use Rattle.osgi_ops.specs.Moments.{later, Moment, Seen, seen_after, Sight}
+use Rattle.osgi_ops.specs.Listening.{AreSights, handed_by, happenings, IsAt}
+use Rattle.osgi_ops.specs.Moments.{later, Moment, Seen, Sight}
 use Rattle.osgi_ops.specs.declared.asked.Asked.{Asked}
 use Rattle.osgi_ops.specs.declared.reply.Reply.{Reply}
 use Rattle.osgi_ops.specs.declared.entry.Entry.{Entry}
@@ -26,9 +28,10 @@ use Rattle.osgi_bundle.specs.declared.kept.BundleKept.{BundleKept}
 use Rattle.osgi_world.specs.declared.world.World.{World}
 use Rattle.osgi_sights.specs.Shown.{is_of_service, Shown}
 use Rattle.osgi_sights.specs.Shown as shown
-use Rattle.osgi_sights.specs.Sights.{AreSightsOf}
+use Rattle.osgi_sights.specs.Sights.{AreSightsOf, IsSightOf}
 use Rattle.osgi_sights.specs.laws.Standing.{nothing_seen, rows_of_standing, sights_of_history}
-use Rattle.osgi_tables.proofs.Roomier.{changed_so, HearsAlike, IsChangedSo, tables_alike, with_listeners}
+use Rattle.osgi_listeners.specs.laws.Room.{same_but_room}
+use Rattle.osgi_tables.proofs.Roomier.{all_alike, HearsAlike, IsChangedSo, tables_alike, with_listeners}
 use Rattle.osgi_tables.proofs.Shown.{each}
 use Rattle.osgi_tables.specs.Changes.{bundles_shown, Changes, cleaned_in, happened, IsReplyAndChange}
 use Rattle.osgi_tables.specs.Replied.{EachTime, EachTimeAt, IsAnswered, IsReplied, StandsFor}
@@ -58,6 +61,9 @@ world_left change.Nothing old new is some = ap (λ (t : Tables). t.wirings.world
 world_left (change.Services c) old new is some = ap (λ (t : Tables). t.wirings.world) (sym is.is)
 world_left (change.Install made revision) old new is some = no_service (shown.bundle 1 made.bundle made.name made.version ∷ []) refl some
 world_left (change.Resolve added resolved) old new is some = no_service (bundles_shown 32 resolved old.bundles.rows) (bundles_only 32 resolved old.bundles.rows) some
+world_left (change.Listen owner name kind given) old new is some = ap (λ (t : Tables). t.wirings.world) (sym is)
+world_left (change.Unlisten owner name) old new is some = ap (λ (t : Tables). t.wirings.world) (sym is)
+world_left (change.Hand tag listener) old new is some = ap (λ (t : Tables). t.wirings.world) (sym is.is)
 world_left (change.BeginStart tag b) old new is some = ap (λ (t : Tables). t.wirings.world) (sym is.is)
 world_left (change.EndStart tag b failed) old new is some = ap (λ (t : Tables). t.wirings.world) (sym is.is)
 world_left (change.BeginStop tag b) old new is some = ap (λ (t : Tables). t.wirings.world) (sym is.is)
@@ -142,37 +148,67 @@ module _ (entries : ℕ) (asked : Asked) (old mid : Tables) (reply : Reply) (c :
 
 -- ---- what holds of each listener's row as it was, whatever its room, holds of those that are left
 
-stays_all : (P : Row → Type 0) (c : Change) (old new : Tables) → Changes c old new → All P old.listeners.rows → All P new.listeners.rows
-stays_all P change.Nothing old new is all = subst (λ (t : Tables). All P t.listeners.rows) (sym is) all
-stays_all P (change.Services c) old new is all = subst (λ (t : Tables). All P t.listeners.rows) (sym is.is) all
-stays_all P (change.Install made revision) old new is all = subst (λ (t : Tables). All P t.listeners.rows) (sym is.is) all
-stays_all P (change.Resolve added resolved) old new is all = subst (λ (t : Tables). All P t.listeners.rows) (sym is.is) all
-stays_all P (change.BeginStart tag b) old new is all = subst (λ (t : Tables). All P t.listeners.rows) (sym is.is) all
-stays_all P (change.BeginStop tag b) old new is all = subst (λ (t : Tables). All P t.listeners.rows) (sym is.is) all
-stays_all P (change.EndStart tag b true) old new is all = subst (λ (t : Tables). All P t.listeners.rows) (sym is.is) (All-filter (λ row. not (is_owned b row)) P old.listeners.rows all)
-stays_all P (change.EndStart tag b false) old new is all = subst (λ (t : Tables). All P t.listeners.rows) (sym is.is) all
-stays_all P (change.EndStop tag b failed) old new is all = subst (λ (t : Tables). All P t.listeners.rows) (sym is.is) (All-filter (λ row. not (is_owned b row)) P old.listeners.rows all)
+-- it holds of a row that hands its first event, where it holds of the row, and of that of a listener that is added
+record IsLasting (P : Row → Type 0) (c : Change) (old : Tables) : Type 0 where
+  fewer : (row : Row) → P row → P (without_first row)
+  fresh : happened c old.registry old.bundles ≡ [] → (listener : ListenerRow) → P (new_row listener)
+
+fewer_all : (P : Row → Type 0) → ((row : Row) → P row → P (without_first row)) → (listener : ListenerId) (rows : List Row) → All P rows → All P (change_at listener without_first rows)
+fewer_all P fewer listener [] all = All-nil P
+fewer_all P fewer listener (row ∷ rest) all =
+    All-cons P (cond (is_listener listener row) (without_first row) row) (change_at listener without_first rest) (by (is_listener listener row) (All-head P row rest all)) (fewer_all P fewer listener rest (All-tail P row rest all))
+  where
+    by : (t : Bool) → P row → P (cond t (without_first row) row)
+    by true p = fewer row p
+    by false p = p
+
+stays_all : (P : Row → Type 0) (c : Change) (old new : Tables) → IsLasting P c old → Changes c old new → All P old.listeners.rows → All P new.listeners.rows
+stays_all P change.Nothing old new lasts is all = subst (λ (t : Tables). All P t.listeners.rows) (sym is) all
+stays_all P (change.Services c) old new lasts is all = subst (λ (t : Tables). All P t.listeners.rows) (sym is.is) all
+stays_all P (change.Install made revision) old new lasts is all = subst (λ (t : Tables). All P t.listeners.rows) (sym is.is) all
+stays_all P (change.Resolve added resolved) old new lasts is all = subst (λ (t : Tables). All P t.listeners.rows) (sym is.is) all
+stays_all P (change.Listen owner name kind given) old new lasts is all = subst (λ (t : Tables). All P t.listeners.rows) (sym is) (All-push P old.listeners.rows _ all (lasts.fresh refl _))
+stays_all P (change.Unlisten owner name) old new lasts is all = subst (λ (t : Tables). All P t.listeners.rows) (sym is) (All-filter (λ row. not (is_named owner name row)) P old.listeners.rows all)
+stays_all P (change.Hand tag listener) old new lasts is all = subst (λ (t : Tables). All P t.listeners.rows) (sym is.is) (fewer_all P lasts.fewer listener old.listeners.rows all)
+stays_all P (change.BeginStart tag b) old new lasts is all = subst (λ (t : Tables). All P t.listeners.rows) (sym is.is) all
+stays_all P (change.BeginStop tag b) old new lasts is all = subst (λ (t : Tables). All P t.listeners.rows) (sym is.is) all
+stays_all P (change.EndStart tag b true) old new lasts is all = subst (λ (t : Tables). All P t.listeners.rows) (sym is.is) (All-filter (λ row. not (is_owned b row)) P old.listeners.rows all)
+stays_all P (change.EndStart tag b false) old new lasts is all = subst (λ (t : Tables). All P t.listeners.rows) (sym is.is) all
+stays_all P (change.EndStop tag b failed) old new lasts is all = subst (λ (t : Tables). All P t.listeners.rows) (sym is.is) (All-filter (λ row. not (is_owned b row)) P old.listeners.rows all)
+
+-- where nothing happens there is nothing to see
+none_at : {place : ℕ} {shown : Shown} → IsAt place [] shown → ⊥
+none_at x = elim x [ ]
+
+pub nothing_told : (l : Listening) (removed : Option BundleId) (world : World) (happened : List Shown) (sights : List Sight) → AreSightsOf l removed world happened sights → happened ≡ [] → sights ≡ []
+nothing_told l removed world happened [] seen none = refl
+nothing_told l removed world happened (s ∷ rest) seen none =
+    let first = All-head (IsSightOf l removed world happened) s rest seen.only in absurd (none_at (subst (λ all. IsAt s.place all first.shown) none first.at))
 
 -- the room that was made is there
-pub room_there : (c : Change) (old new : Tables) (sights : List Sight) → Changes c old new → HasRoomFor sights old.listeners.rows → HasRoomFor sights new.listeners.rows
-room_there c old new sights changes room = stays_all (λ row. length (sights_by row.listener.listener sights) ≤ row.room) c old new changes room
+pub room_there : (c : Change) (old new : Tables) (sights : List Sight) → (happened c old.registry old.bundles ≡ [] → sights ≡ []) → Changes c old new → HasRoomFor sights old.listeners.rows → HasRoomFor sights new.listeners.rows
+room_there c old new sights none changes room = stays_all (λ row. length (sights_by row.listener.listener sights) ≤ row.room) c old new lasts changes room
+  where
+    lasts : IsLasting (λ row. length (sights_by row.listener.listener sights) ≤ row.room) c old
+    lasts = record {
+      fewer = λ row p. omega (arith, p);
+      fresh = λ nothing listener. subst (λ list. length (sights_by listener.listener list) ≤ 0) (sym (none nothing)) (omega arith);
+    }
 
-bare_all : (entries : ℕ) (rows : List Row) → All (IsOfEarlier entries) rows → All (IsOfEarlier entries) (map bare rows)
-bare_all entries [] all = All-nil (IsOfEarlier entries)
-bare_all entries (row ∷ rest) all = All-cons (IsOfEarlier entries) (bare row) (map bare rest) (All-head (IsOfEarlier entries) row rest all) (bare_all entries rest (All-tail (IsOfEarlier entries) row rest all))
-
-all_bare : (entries : ℕ) (rows : List Row) → All (IsOfEarlier entries) (map bare rows) → All (IsOfEarlier entries) rows
-all_bare entries [] all = All-nil (IsOfEarlier entries)
-all_bare entries (row ∷ rest) all =
-    All-cons (IsOfEarlier entries) row rest (All-head (IsOfEarlier entries) (bare row) (map bare rest) all) (all_bare entries rest (All-tail (IsOfEarlier entries) (bare row) (map bare rest) all))
+earlier_drop : (entries : ℕ) (row : Row) → IsOfEarlier entries row → IsOfEarlier entries (without_first row)
+earlier_drop entries row all = drop_one row.waiting all
+  where
+    drop_one : (waiting : List Waiting) → All (λ (w : Waiting). w.place < entries * 4294967296) waiting → All (λ (w : Waiting). w.place < entries * 4294967296) (drop 1 waiting)
+    drop_one [] all = All-nil (λ (w : Waiting). w.place < entries * 4294967296)
+    drop_one (w ∷ rest) all = All-tail (λ (v : Waiting). v.place < entries * 4294967296) w rest all
 
 -- and what waits is still of earlier entries
 pub earlier_there : (c : Change) (old new : Tables) (r : Listening) (entries : ℕ) → HearsAlike old.listeners r → Changes c (with_listeners r old) new → All (IsOfEarlier entries) old.listeners.rows → All (IsOfEarlier entries) new.listeners.rows
 earlier_there c old new r entries alike changes all =
-    stays_all (IsOfEarlier entries) c (with_listeners r old) new changes (all_bare entries r.rows (subst (All (IsOfEarlier entries)) (sym alike.rows) (bare_all entries old.listeners.rows all)))
+    stays_all (IsOfEarlier entries) c (with_listeners r old) new (record { fewer = λ row p. earlier_drop entries row p; fresh = λ nothing listener. All-nil _ }) changes (all_alike old.listeners r alike (IsOfEarlier entries) (λ row p. p) (λ row p. p) all)
 
 pub alike_roomier : (old new : Listening) → AreRoomier old new → HearsAlike old new
-alike_roomier old new roomier = record { rows = roomier.same; turns = roomier.turns; issued = roomier.issued }
+alike_roomier old new roomier = record { rows = same_but_room old.rows new.rows roomier.rows; turns = roomier.turns; issued = roomier.issued }
 
 -- the listeners are those once they were told
 pub is_told : (entries : ℕ) (old new : Listening) (given list : List declared.Sight) → given ≡ list → new.rows ≡ map (told_all entries (sights_of given)) old.rows → new.turns ≡ old.turns → new.issued ≡ old.issued → new ≡ tell entries (sights_of list) old

@@ -1,5 +1,5 @@
 -- Which operations are decided one by one, and why the bundle that asks for one may not.
-use Rattle.std.specs.Prelude.{ℕ, ◌==◌, if◌then◌else◌, Bool, false, Option, None, Some}
+use Rattle.std.specs.Prelude.{ℕ, ◌==◌, if◌then◌else◌, Bool, true, false, Option, None, Some}
 use Rattle.osgi_base.specs.declared.ids.BundleId.{BundleId}
 use Rattle.osgi_bundle.specs.Rows.{state_at, TableRows}
 use Rattle.osgi_ops.specs.Conditions.{asker_of}
@@ -11,9 +11,13 @@ use Rattle.osgi_ops.specs.declared.refusal.Refusal.{Refusal}
 use Rattle.osgi_ops.specs.declared.refusal.Refusal.TheVariants.{InvalidOperation, NoSuchBundle}
 use Rattle.osgi_ops.specs.declared.state.TheConstants.{UNINSTALLED}
 
--- the operation has come, and is not the end of a hand or of a job, which nothing begins yet
+-- the operation is the end of a hand
+abbrev pub ends_hand : Op → Bool
+ends_hand (EndHand listener) = true
+ends_hand op = false
+
+-- the operation has come, and is not the end of a job, which nothing begins yet
 abbrev pub is_decided : Op → Bool
-is_decided (EndHand listener) = false
 is_decided EndJob = false
 is_decided op = is_here op
 

@@ -1,8 +1,11 @@
 -- Changes of the tables: which can be made, and what they make of them.
-use Rattle.std.specs.Prelude.{ℕ, ◌≡◌, ◌==◌, ◌+◌, ◌-◌, ◌^◌, ◌<◌, if◌then◌else◌, not, Bool, true, false, MatchBool, List, [], ◌∷◌, ◌++◌, Option, None, Some, All, filter, map}
+use Rattle.std.specs.Prelude.{ℕ, ◌≡◌, ◌+◌, ◌-◌, ◌^◌, ◌<◌, if◌then◌else◌, not, Bool, true, false, MatchBool, List, [], ◌∷◌, ◌++◌, Option, None, Some, All, filter, map}
 use Rattle.std.specs.List.{filter_map}
 use Rattle.std.specs.Option.{option_map, option_to_list}
+use Rattle.std.specs.BTreeMap.{insert_entry}
+use Rattle.std.specs.Ordering.{nat_cmp}
 use Rattle.osgi_base.specs.declared.ids.BundleId.{BundleId}
+use Rattle.osgi_base.specs.declared.ids.ListenerId.{ListenerId}
 use Rattle.osgi_base.specs.declared.ids.Tag.{Tag}
 use Rattle.osgi_brackets.specs.Open.{Closes, Opens}
 use Rattle.osgi_brackets.specs.declared.brackets.Brackets.{Brackets}
@@ -10,7 +13,7 @@ use Rattle.osgi_bundle.specs.Rows.{IsInChange, IsSettable, IsStartable, IsStoppa
 use Rattle.osgi_bundle.specs.Rows as table
 use Rattle.osgi_bundle.specs.Stands.{StandsAfter, StandsPut, started_phase}
 use Rattle.osgi_bundle.specs.declared.kept.BundleKept.{BundleKept}
-use Rattle.osgi_listeners.specs.Rows.{Listening}
+use Rattle.osgi_listeners.specs.Rows.{add_refusal, change, is_named, IsHanded, Listening, without_first}
 use Rattle.osgi_listeners.specs.Rows as listening
 use Rattle.osgi_ops.specs.Brackets.{Cause}
 use Rattle.osgi_ops.specs.Brackets as bracket
@@ -18,6 +21,9 @@ use Rattle.osgi_ops.specs.Bundles.{idle, Phase, starting, stopping}
 use Rattle.osgi_ops.specs.Cleaning.{cleaned_by}
 use Rattle.osgi_ops.specs.Resolved.{current_revision}
 use Rattle.osgi_ops.specs.declared.asked.Asked.{Asked}
+use Rattle.osgi_model.specs.declared.filter.Filter.{Filter}
+use Rattle.osgi_ops.specs.declared.event.Event.{Event}
+use Rattle.osgi_ops.specs.declared.kind.Kind.{Kind}
 use Rattle.osgi_ops.specs.declared.op.Op.{Op}
 use Rattle.osgi_ops.specs.declared.refusal.Refusal.{Refusal}
 use Rattle.osgi_ops.specs.declared.reply.Reply.{Reply}
@@ -29,7 +35,7 @@ use Rattle.osgi_world.specs.declared.revision.Revision.{Revision}
 use Rattle.osgi_world.specs.declared.wiring.Wiring.{Wiring}
 use Rattle.osgi_tables.specs.Replied.{IsAnswered, IsBrought}
 use Rattle.osgi_tables.specs.declared.change.Change.{Change}
-use Rattle.osgi_tables.specs.declared.change.Change.TheVariants.{BeginStart, BeginStop, EndStart, EndStop, Install, Nothing, Resolve, Services}
+use Rattle.osgi_tables.specs.declared.change.Change.TheVariants.{BeginStart, BeginStop, EndStart, EndStop, Hand, Install, Listen, Nothing, Resolve, Services, Unlisten}
 use Rattle.osgi_tables.specs.declared.tables.Tables.{Tables}
 use Rattle.osgi_reply_services.specs.Changes as services
 use Rattle.osgi_reply_services.specs.declared.change.ServiceChange.{ServiceChange}
@@ -55,12 +61,26 @@ pub record CanBePut (added : List Wiring) (resolved : List BundleId) (bundles : 
   pub extends : MayExtend wirings.world added
   pub settable : All (λ b. IsSettable b bundles.rows) resolved
 
+-- the owner has no live listener of this name, there is room for one more, and an id is left
+pub record CanBeHeard (owner : BundleId) (name : List ℕ) (l : Listening) : Type 0 where
+  pub free : add_refusal owner name l.rows ≡ None
+  pub ids : l.issued < 2 ^ 32 - 1
+
+-- an event is to be handed to this listener next, and a hand may still hand one
+pub record CanBeHanded (listener : ListenerId) (old : Tables) : Type 0 where
+  pub event : Event
+  pub next : IsHanded old.listeners listener event
+  pub left : 0 < old.handings_left
+
 -- the change can be made of these tables
 abbrev pub CanBeMade : Change → Tables → Type 0
 CanBeMade Nothing old = Unit {0}
 CanBeMade (Services change) old = services.CanBeMade change old.registry
 CanBeMade (Install made revision) old = CanBeAdded made old.bundles old.wirings
 CanBeMade (Resolve added resolved) old = CanBePut added resolved old.bundles old.wirings
+CanBeMade (Listen owner name kind filter) old = CanBeHeard owner name old.listeners
+CanBeMade (Unlisten owner name) old = Unit {0}
+CanBeMade (Hand tag listener) old = CanBeHanded listener old
 CanBeMade (BeginStart tag bundle) old = IsStartable bundle old.bundles.rows
 CanBeMade (EndStart tag bundle failed) old = IsInChange STARTING tag bundle old.bundles.rows
 CanBeMade (BeginStop tag bundle) old = IsStoppable bundle old.bundles.rows
@@ -90,6 +110,35 @@ pub record ArePut (added : List Wiring) (resolved : List BundleId) (old new : Ta
   pub rows : bundles.rows ≡ with_resolved resolved old.bundles.rows
   pub given : bundles.issued ≡ old.bundles.issued
   pub is : new ≡ record old { bundles = bundles; wirings = wirings }
+
+-- the owner's listener of this name is added under the next id, and nothing waits for it
+abbrev pub with_listener : BundleId → List ℕ → Kind → Option Filter → Listening → Listening
+with_listener owner name kind given l = record {
+  rows = l.rows ++ listening.new_row (record { listener = record { 0 = l.issued + 1 }; owner = owner; name = name; kind = kind; filter = given }) ∷ [];
+  turns = l.turns;
+  issued = l.issued + 1;
+}
+
+abbrev pub Listens : BundleId → List ℕ → Kind → Option Filter → Tables → Tables → Type 0
+Listens owner name kind given old new = new ≡ record old { listeners = with_listener owner name kind given old.listeners }
+
+-- the owner's listener of this name goes; an open turn stays
+abbrev pub without_listener : BundleId → List ℕ → Listening → Listening
+without_listener owner name l = record { rows = filter (λ row. not (is_named owner name row)) l.rows; turns = l.turns; issued = l.issued }
+
+-- the first event that waits for the listener is handed: the listener is in a turn, for the line of the tag
+abbrev pub with_turn : Tag → ListenerId → Listening → Listening
+with_turn tag listener l = record {
+  rows = change listener without_first l.rows;
+  turns = insert_entry nat_cmp l.turns listener.0 tag;
+  issued = l.issued;
+}
+
+-- so it is, a bracket of the tag's caller is open for that, and one hand less may hand an event
+pub record Hands (tag : Tag) (listener : ListenerId) (old new : Tables) : Type 0 where
+  pub brackets : Brackets
+  pub opened : Opens old.brackets brackets tag (bracket.handing listener)
+  pub is : new ≡ record old { brackets = brackets; listeners = with_turn tag listener old.listeners; handings_left = old.handings_left - 1 }
 
 -- the bundle is put into the phase, and a bracket of the tag's caller is open for that
 pub record Begins (phase : Phase) (cause : Cause) (tag : Tag) (bundle : BundleId) (old new : Tables) : Type 0 where
@@ -125,6 +174,9 @@ Changes Nothing old new = new ≡ old
 Changes (Services change) old new = ServicesChange change old new
 Changes (Install made revision) old new = IsAdded made revision old new
 Changes (Resolve added resolved) old new = ArePut added resolved old new
+Changes (Listen owner name kind filter) old new = Listens owner name kind filter old new
+Changes (Unlisten owner name) old new = new ≡ record old { listeners = without_listener owner name old.listeners }
+Changes (Hand tag listener) old new = Hands tag listener old new
 Changes (BeginStart tag bundle) old new = Begins starting (bracket.starting bundle) tag bundle old new
 Changes (EndStart tag bundle failed) old new = Ends (started_phase failed) failed tag bundle old new
 Changes (BeginStop tag bundle) old new = Begins stopping (bracket.stopping bundle) tag bundle old new
@@ -132,7 +184,8 @@ Changes (EndStop tag bundle failed) old new = Ends idle true tag bundle old new
 
 -- ---- what happens as it is made
 
--- the bundle comes to this, as its row shows it
+-- the bundle comes to this, as its row shows it. What happens to a bundle without a row is not shown; a change that can be made names
+-- none
 abbrev pub shown_at : ℕ → List BundleKept → BundleId → Option Shown
 shown_at code rows b = option_map (λ (row : BundleKept). shown.bundle code b row.name row.version) (table.row_at b rows)
 
@@ -148,13 +201,19 @@ abbrev pub services_shown : ServiceChange → RegistryRows → List Shown
 services_shown (service.Insert made scope) registry = shown.service 1 made ∷ []
 services_shown (service.Modify made) registry = map (λ (row : LiveService). shown.modified row.service made) (option_to_list (row_at made.service registry.rows))
 services_shown (service.Remove owner id) registry = map (λ (row : LiveService). shown.service 4 row.service) (option_to_list (row_at id registry.rows))
-services_shown change registry = []
+services_shown (service.AddUse user id) registry = []
+services_shown (service.TakeUse user id) registry = []
+services_shown service.Nothing registry = []
 
+-- what happens as the change is made, in order
 abbrev pub happened : Change → RegistryRows → TableRows → List Shown
 happened Nothing registry bundles = []
 happened (Services change) registry bundles = services_shown change registry
 happened (Install made revision) registry bundles = shown.bundle 1 made.bundle made.name made.version ∷ []
 happened (Resolve added resolved) registry bundles = bundles_shown 32 resolved bundles.rows
+happened (Listen owner name kind filter) registry bundles = []
+happened (Unlisten owner name) registry bundles = []
+happened (Hand tag listener) registry bundles = []
 happened (BeginStart tag bundle) registry bundles = bundles_shown 128 (bundle ∷ []) bundles.rows
 happened (EndStart tag bundle true) registry bundles =
     bundles_shown 256 (bundle ∷ []) bundles.rows ++ leaving bundle registry ++ bundles_shown 4 (bundle ∷ []) bundles.rows
@@ -164,9 +223,17 @@ happened (EndStop tag bundle failed) registry bundles = leaving bundle registry 
 
 -- the bundle that it cleans
 abbrev pub cleaned_in : Change → Option BundleId
+cleaned_in Nothing = None
+cleaned_in (Services change) = None
+cleaned_in (Install made revision) = None
+cleaned_in (Resolve added resolved) = None
+cleaned_in (Listen owner name kind filter) = None
+cleaned_in (Unlisten owner name) = None
+cleaned_in (Hand tag listener) = None
+cleaned_in (BeginStart tag bundle) = None
 cleaned_in (EndStart tag bundle failed) = if failed then Some bundle else None
+cleaned_in (BeginStop tag bundle) = None
 cleaned_in (EndStop tag bundle failed) = Some bundle
-cleaned_in change = None
 
 -- the reply and the change are decided: the change can be made, and once it is made, what was asked for is answered so, and this is what
 -- happens

@@ -68,12 +68,13 @@ pub record IsReplied (entries : ℕ) (asked : Asked) (old new : Tables) (reply :
   pub seen : EachTimeAt entries asked old (λ now. AreSights now.before now.world new.wirings.world (entry_of now asked.op reply) sights)
   pub stands : EachTimeAt entries asked old (λ now. StandsFor (later now asked.op reply new.wirings.world sights) new)
 
--- the registry has room, ids of bundles and of revisions are left to be given, and the next bundle has no current revision. One
--- more than the budget can be counted
+-- the registry has room, ids of bundles, of revisions and of listeners are left to be given, and the next bundle has no current
+-- revision. One more than the budget can be counted
 pub record HasRoom (tables : Tables) : Type 0 where
   pub services : served.HasRoom tables.registry
   pub bundles : tables.bundles.issued < 2 ^ 32 - 1
   pub revisions : tables.wirings.issued < 2 ^ 32 - 1
+  pub listeners : tables.listeners.issued < 2 ^ 32 - 1
   pub fresh : (b : BundleId) → b.0 ≡ tables.bundles.issued + 1 → current_revision tables.wirings.world b ≡ None
   pub budget : tables.budget < 2 ^ 64 - 1
 

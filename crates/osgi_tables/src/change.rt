@@ -8,8 +8,10 @@ ghost use Rattle.osgi_tables.specs.Changes.{CanBeAdded, Changes, CanBeMade, with
 ghost use Rattle.osgi_wiring.specs.States.{IsKeptWorld, MayExtend, with_wirings};
 
 use crate::tables::Tables;
-use osgi_base::{BundleId, List, Shared, Tag};
+use osgi_base::{BundleId, List, ListenerId, Shared, Tag, Text};
 use osgi_bundle::{BundleKept, Table};
+use osgi_model::Filter;
+use osgi_ops::Kind;
 use osgi_reply_services::ServiceChange;
 use osgi_resolver::IndexedWirings;
 use osgi_world::{Revision, Wiring};
@@ -31,6 +33,23 @@ pub enum Change {
     Resolve {
         added: List<Wiring>,
         resolved: List<BundleId>,
+    },
+    /// The owner's listener of this name is added, under the next id.
+    Listen {
+        owner: BundleId,
+        name: Text,
+        kind: Kind,
+        filter: Option<Filter>,
+    },
+    /// The owner's listener of this name goes, if there is one.
+    Unlisten {
+        owner: BundleId,
+        name: Text,
+    },
+    /// The earliest event that waits is handed to this listener, for the line of the tag.
+    Hand {
+        tag: Tag,
+        listener: ListenerId,
     },
     /// The start of the bundle begins, for the line of the tag.
     BeginStart {
@@ -71,6 +90,17 @@ impl Drop for Change {
                 added: _,
                 resolved: _,
             } => {}
+            Change::Listen {
+                owner: _,
+                name: _,
+                kind: _,
+                filter: _,
+            } => {}
+            Change::Unlisten { owner: _, name: _ } => {}
+            Change::Hand {
+                tag: _,
+                listener: _,
+            } => {}
             Change::BeginStart { tag: _, bundle: _ } => {}
             Change::EndStart {
                 tag: _,
@@ -108,6 +138,17 @@ impl Change {
                 extend(&mut tables.bundles, &mut tables.wirings, added, &resolved)?;
                 Ok(())
             }
+            Change::Listen {
+                owner,
+                name,
+                kind,
+                filter,
+            } => tables.listen(owner, name, kind, filter),
+            Change::Unlisten { owner, name } => {
+                tables.listeners.remove(owner, &name);
+                Ok(())
+            }
+            Change::Hand { tag, listener } => tables.hand(tag, listener),
             Change::BeginStart { tag, bundle } => tables.begin_start(tag, bundle),
             Change::EndStart {
                 tag,

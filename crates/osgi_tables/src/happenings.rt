@@ -1,6 +1,6 @@
 //! What happens as a change is made.
 
-ghost use Rattle.std.specs.Prelude.{◌≡◌, ◌++◌, ◌∷◌, [], IfOk, OnOk, map};
+ghost use Rattle.std.specs.Prelude.{◌≡◌, ◌++◌, ◌∷◌, [], IfOk, OnOk};
 ghost use Rattle.std.specs.Option.{option_map, option_to_list};
 ghost use Rattle.osgi_sights.specs.Shown.{shown};
 ghost use Rattle.osgi_tables.specs.Changes.{bundles_shown, happened, leaving, services_shown, shown_at};
@@ -10,7 +10,7 @@ use osgi_base::BundleId;
 use osgi_bundle::Table;
 use osgi_registry::Registry;
 use osgi_reply_services::ServiceChange;
-use osgi_sights::Happening;
+use osgi_sights::{Happened, Happening};
 use std::alloc::{AllocError, Global};
 
 /// OSGi's codes of service events.
@@ -49,9 +49,9 @@ fn add_bundles<'t>(
     code: u16,
     ids: &[BundleId],
     bundles: &'t Table,
-    happened: &mut Vec<Happening<'t>>,
+    happened: &mut Happened<'t>,
 ) -> Result<(), AllocError>
-    ensures added { OnOk result (map shown happened.new.items ≡ map shown happened.old.items ++ bundles_shown code ids.now bundles.now.rows) }
+    ensures added { OnOk result (happened.new ≡ happened.old ++ bundles_shown code ids.now bundles.now.rows) }
 {
     for bundle in ids {
         if let Some(happening) = of_bundle(code, *bundle, bundles) {
@@ -65,9 +65,9 @@ fn add_bundles<'t>(
 fn add_leaving<'t>(
     bundle: BundleId,
     registry: &'t Registry,
-    happened: &mut Vec<Happening<'t>>,
+    happened: &mut Happened<'t>,
 ) -> Result<(), AllocError>
-    ensures added { OnOk result (map shown happened.new.items ≡ map shown happened.old.items ++ leaving bundle registry.now) }
+    ensures added { OnOk result (happened.new ≡ happened.old ++ leaving bundle registry.now) }
 {
     let services = registry.owned(bundle)?;
     for service in services.as_slice() {
@@ -106,12 +106,13 @@ pub(crate) fn happenings<'t>(
     registry: &'t Registry,
     bundles: &'t Table,
     change: &'t Change,
-) -> Result<Vec<Happening<'t>>, AllocError>
-    ensures happened { IfOk result (λ list. map shown list.items ≡ happened change.now registry.now bundles.now) }
+) -> Result<Happened<'t>, AllocError>
+    ensures happened { IfOk result (λ list. list ≡ happened change.now registry.now bundles.now) }
 {
-    let mut happened = Vec::new(alloc);
+    let mut happened = Happened::new(alloc);
     match change {
-        Change::Nothing => {}
+        Change::Nothing | Change::Listen { .. } | Change::Unlisten { .. } | Change::Hand { .. } =>
+            {}
         Change::Services { change } => {
             if let Some(happening) = of_service(change, registry) {
                 happened.push(happening)?;

@@ -3,6 +3,7 @@
 
 mod askers;
 mod change;
+mod handing;
 mod happenings;
 mod life;
 mod making;

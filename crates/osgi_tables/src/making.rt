@@ -1,6 +1,6 @@
 //! Changes made, and those told who see what happens.
 
-ghost use Rattle.std.specs.Prelude.{◌≡◌, ◌<◌, ◌^◌, All, IfOk, map, OnErr};
+ghost use Rattle.std.specs.Prelude.{◌≡◌, ◌<◌, ◌^◌, All, IfOk, OnErr};
 ghost use Rattle.osgi_listeners.specs.Sights.{IsOfEarlier, sights_of};
 ghost use Rattle.osgi_ops.specs.declared.asked.Asked.{Asked};
 ghost use Rattle.osgi_ops.specs.declared.reply.Reply.{Reply};
@@ -42,7 +42,7 @@ impl Change {
             alloc,
             &tables.listeners,
             tables.wirings.wirings(),
-            happened.as_slice(),
+            &happened,
             self.cleaned(),
         )
     }

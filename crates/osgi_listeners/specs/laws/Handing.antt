@@ -4,6 +4,7 @@
 --                answers-handed     so Handed is the answer, with what the row says of the listener
 --                answers-next       the same by what `next` and `row` answer; row-handed: that `row` answers
 --                handed_once        what `next` names is what `hand` then hands
+--                answers_once       a hand has one answer
 --   ready        is-nothing-ready   where no row is open, nothing may be handed
 --   deliver_all  waits-of-earlier   its condition on what waits
 use Rattle.osgi_listeners.specs.declared.row.ListenerRow.{ListenerRow}
@@ -14,8 +15,11 @@ use Rattle.std.specs.Option.{option_map}
 use Rattle.std.proofs.lemmas.Bool.{cases_eq, cases_lt, eq-eqb, eqb-true, lt-ltb}
 use Rattle.std.proofs.lemmas.List.{length-map, map-append, take-append-drop}
 use Rattle.osgi_base.specs.declared.ids.ListenerId.{ListenerId}
-use Rattle.osgi_listeners.specs.Rows.{bare, ComesFirst, id_of, is_in_turn as is_busy_row, is_open, Listening, Row, tag_of, AreInOrder, IsHanded, IsEarliest as IsEarliestOfRows, is_listener as is_row_of, listener_of, row_at}
+use Rattle.osgi_listeners.specs.Rows.{AnswersHand, bare, ComesFirst, id_of, is_in_turn as is_busy_row, is_open, Listening, Row, tag_of, AreInOrder, IsHanded, IsEarliest as IsEarliestOfRows, is_listener as is_row_of, listener_of, row_at}
+use Rattle.osgi_listeners.specs.declared.answer.HandAnswer.{HandAnswer}
+use Rattle.osgi_listeners.specs.declared.answer.HandAnswer.TheVariants.{Handed, Nothing}
 use Rattle.osgi_listeners.specs.declared.row.Waiting.{Waiting}
+use Rattle.osgi_listeners.specs.declared.sight.TheConstants.{ENTRY_PLACES}
 use Rattle.osgi_ops.specs.Brackets.{brackets}
 use Rattle.osgi_ops.specs.Listening.{Added, event_at, handed_in, is_in_turn, is_listener, is_seen_by, IsEarlier, IsEarliest, IsNext, IsReady, listeners, Spot, spot_of}
 use Rattle.osgi_ops.specs.Moments.{Moment, Seen}
@@ -130,7 +134,7 @@ ready-row sights history l stands listener spot ready =
 -- ---- places
 
 -- a lower place is that of an earlier event
-order : (s t : Seen) (i j : ℕ) → s.place < 4294967296 → t.place < 4294967296 → ComesFirst (place_of s) i (place_of t) j → IsEarlier (spot_of s) (spot_of t) ⊎ ((s.entry ≡ t.entry) × (s.place ≡ t.place) × (i ≤ j))
+order : (s t : Seen) (i j : ℕ) → s.place < ENTRY_PLACES → t.place < ENTRY_PLACES → ComesFirst (place_of s) i (place_of t) j → IsEarlier (spot_of s) (spot_of t) ⊎ ((s.entry ≡ t.entry) × (s.place ≡ t.place) × (i ≤ j))
 order s t i j a b c = by (cases_lt s.entry t.entry) (cases_eq s.entry t.entry) c
   where
     by : (s.entry < t.entry) ⊎ (t.entry ≤ s.entry) → (s.entry ≡ t.entry) ⊎ (s.entry ≢ t.entry) → ComesFirst (place_of s) i (place_of t) j → IsEarlier (spot_of s) (spot_of t) ⊎ ((s.entry ≡ t.entry) × (s.place ≡ t.place) × (i ≤ j))
@@ -146,13 +150,13 @@ order s t i j a b c = by (cases_lt s.entry t.entry) (cases_eq s.entry t.entry) c
 pub waits-of-earlier : (sights : List Seen) (history : List Entry) (l : Listening) (entry : ℕ) → All (λ (s : Seen). s.entry < entry) sights → AreSmall sights → StandsFor sights history l → All (IsOfEarlier entry) l.rows
 waits-of-earlier sights history l entry past small stands = all-in (IsOfEarlier entry) l.rows (λ row i. one row (row-added sights history l stands row i))
   where
-    below : (t : Seen) → In t sights → place_of t < entry * 4294967296
+    below : (t : Seen) → In t sights → place_of t < entry * ENTRY_PLACES
     below t i =
         let a = in-all (λ (x : Seen). x.entry < entry) sights t past i in
-        let b = in-all (λ (x : Seen). x.place < 4294967296) sights t small i in
+        let b = in-all (λ (x : Seen). x.place < ENTRY_PLACES) sights t small i in
         omega (arith, a, b)
 
-    waits : (listener : ListenerId) (w : Waiting) → In w (waiting_for listener sights history) → w.place < entry * 4294967296
+    waits : (listener : ListenerId) (w : Waiting) → In w (waiting_for listener sights history) → w.place < entry * ENTRY_PLACES
     waits listener w i =
         let r = In-map waiting_of (drop (length (handed_in listener history)) (seen_by listener sights)) w i in
         let low = below r.0 (of-sights sights history listener r.0 r.1) in
@@ -162,8 +166,8 @@ waits-of-earlier sights history l entry past small stands = all-in (IsOfEarlier 
     one : (row : Row) → (a : Added) × In a (listeners history) × (bare row ≡ row_of sights history a) → IsOfEarlier entry row
     one row r =
         let is : row.waiting ≡ waiting_for r.0.listener sights history = ap (λ (x : Row). x.waiting) r.2 in
-        subst (λ ws. All (λ (w : Waiting). w.place < entry * 4294967296) ws) (sym is)
-        (all-in (λ (w : Waiting). w.place < entry * 4294967296) (waiting_for r.0.listener sights history) (waits r.0.listener))
+        subst (λ ws. All (λ (w : Waiting). w.place < entry * ENTRY_PLACES) ws) (sym is)
+        (all-in (λ (w : Waiting). w.place < entry * ENTRY_PLACES) (waiting_for r.0.listener sights history) (waits r.0.listener))
 
 pub is-nothing-ready :
     (sights : List Seen) (history : List Entry) (l : Listening) → StandsFor sights history l → All (λ row. is_open l.turns row ≡ false) l.rows →
@@ -203,8 +207,8 @@ is-same-earliest sights history l row next small first stands e = (w.0, sym w.3,
       next = waits-next sights history first added.0.listener w.0 w.1 w.2;
     }
 
-    fits : (s : Seen) → In s sights → s.place < 4294967296
-    fits s i = in-all (λ (x : Seen). x.place < 4294967296) sights s small i
+    fits : (s : Seen) → In s sights → s.place < ENTRY_PLACES
+    fits s i = in-all (λ (x : Seen). x.place < ENTRY_PLACES) sights s small i
 
     before : (other : ListenerId) (spot : Spot) → IsReady sights history other spot →
         IsEarlier (spot_of w.0) spot ⊎ ((w.0.entry ≡ spot.entry) × (w.0.place ≡ spot.place) × (added.0.listener.0 ≤ other.0))
@@ -294,3 +298,22 @@ handed_once l a b d e order one other =
     let firsts : Some one.next ≡ Some other.next = sym one.earliest.first ∙ ap (λ (r : Row). slice_get r.waiting 0) rows ∙ other.earliest.first in
     let next : one.next ≡ other.next = cc firsts in
     (sym one.to ∙ ap (λ (r : Row). r.listener.listener) rows ∙ other.to, sym one.with ∙ ap (λ (w : Waiting). w.event) next ∙ other.with)
+
+some_waits : (waiting : List Waiting) (w : Waiting) → slice_get waiting 0 ≡ Some w → nat_lt 0 (length waiting) ≡ true
+some_waits [] w first = absurd (cc first)
+some_waits (v ∷ rest) w first = lt-ltb 0 (suc (length rest)) (omega arith)
+
+-- the row of what is handed is open
+never_both : (l : Listening) (listener : ListenerId) (happened : Event) → IsHanded l listener happened → All (λ row. is_open l.turns row ≡ false) l.rows → ⊥
+never_both l listener happened h none =
+    let closed = said (λ (row : Row). is_open l.turns row ≡ false) l.rows h.row h.earliest.live none in
+    let waits = some_waits h.row.waiting h.next h.earliest.first in
+    let open_there : is_open l.turns h.row ≡ true = (λ i. not (h.earliest.free i) && waits i) in
+    let bad : true ≡ false = sym open_there ∙ closed in
+    cc bad
+
+pub answers_once : (l : Listening) (a b : HandAnswer) → AreInOrder l → AnswersHand l a → AnswersHand l b → a ≡ b
+answers_once l (Handed listener d) (Handed other e) order one again = let same = handed_once l listener other d e order one again in λ i. Handed (same.0 i) (same.1 i)
+answers_once l (Handed listener d) (Nothing busy) order one again = absurd (never_both l listener d one again.0)
+answers_once l (Nothing busy) (Handed other e) order one again = absurd (never_both l other e again one.0)
+answers_once l (Nothing busy) (Nothing more) order one again = ap Nothing (one.1 ∙ sym again.1)

@@ -35,6 +35,7 @@ use Rattle.osgi_legal.proofs.Listening.{counted, ends_turn}
 use Rattle.osgi_legal.proofs.Owned.{brackets-last, entries-last, hand-row}
 use Rattle.osgi_listeners.specs.Stands.{AreSmall, AreHandedFirst, AreOfAdded, ArePast, AreTurnsApart, event_in, is_turn, seen_by, IsQuietEntry}
 use Rattle.osgi_listeners.specs.laws.Items.{all-in, in-all}
+use Rattle.osgi_listeners.specs.declared.sight.TheConstants.{ENTRY_PLACES}
 use Rattle.osgi_listeners.specs.laws.Waiting.{handed-same, hearing-last}
 use Rattle.osgi_listeners.specs.laws.Turns.{turn-stays}
 use Rattle.osgi_ops.specs.declared.op.Op.TheVariants as op
@@ -202,8 +203,8 @@ quiet-entry history e heard none ends = record {
 -- ---- few happenings
 
 -- the sights of one entry more are small, where their places are
-pub small-more : (sights : List Seen) (entry : ℕ) (these : List Sight) → AreSmall sights → All (λ (s : Sight). s.place < 4294967296) these → AreSmall (sights ++ seen_after entry these)
+pub small-more : (sights : List Seen) (entry : ℕ) (these : List Sight) → AreSmall sights → All (λ (s : Sight). s.place < ENTRY_PLACES) these → AreSmall (sights ++ seen_after entry these)
 small-more sights entry these small fit =
-    All-append (λ (s : Seen). s.place < 4294967296) sights (seen_after entry these) small
-    (all-in (λ (s : Seen). s.place < 4294967296) (seen_after entry these) (λ s i. (let r = In-map (λ (x : Sight). record { listener = x.listener; entry = entry; place = x.place; event = x.event }) these s i in
-    subst (λ (x : Seen). x.place < 4294967296) (sym r.2) (in-all (λ (x : Sight). x.place < 4294967296) these r.0 fit r.1))))
+    All-append (λ (s : Seen). s.place < ENTRY_PLACES) sights (seen_after entry these) small
+    (all-in (λ (s : Seen). s.place < ENTRY_PLACES) (seen_after entry these) (λ s i. (let r = In-map (λ (x : Sight). record { listener = x.listener; entry = entry; place = x.place; event = x.event }) these s i in
+    subst (λ (x : Seen). x.place < ENTRY_PLACES) (sym r.2) (in-all (λ (x : Sight). x.place < ENTRY_PLACES) these r.0 fit r.1))))

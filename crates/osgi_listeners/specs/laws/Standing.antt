@@ -20,7 +20,7 @@ use Rattle.std.specs.Ordering.{nat_cmp}
 use Rattle.std.proofs.lemmas.List.{map-append}
 use Rattle.osgi_base.specs.declared.ids.BundleId.{BundleId}
 use Rattle.osgi_base.specs.declared.ids.ListenerId.{ListenerId}
-use Rattle.osgi_listeners.specs.Rows.{bare, is_listener, is_named, is_owned, Listening, new_row, Row, told, without_first, change, no_listeners, without_turn, tag_of, AreRoomier}
+use Rattle.osgi_listeners.specs.Rows.{bare, is_listener, is_named, is_owned, Listening, new_row, Row, told, without_first, change, no_listeners, without_turn, tag_of, AreRising, AreRoomier}
 use Rattle.osgi_ops.specs.Brackets.{bracket, brackets, handing, opens, turned, closes}
 use Rattle.osgi_ops.specs.Cleaning.{cleaned_by}
 use Rattle.osgi_ops.specs.Listening.{Added, clears, handed_by, heard_by, Hearing, hearing, lets_go, listeners, takes_off, with_heard, AreSights, happenings, IsAt, IsSight, here, there}
@@ -30,13 +30,14 @@ use Rattle.osgi_ops.specs.declared.op.Op.{Op}
 use Rattle.osgi_ops.specs.declared.reply.Reply.{Reply}
 use Rattle.osgi_legal.proofs.Listening.{ends_turn}
 use Rattle.osgi_legal.proofs.Owned.{brackets-last}
-use Rattle.osgi_listeners.specs.Stands.{is_turn, listener_row, row_of, StandsFor, tag_in, turn_of, waiting_for, AreHandedFirst, AreOfAdded, AreTurnsApart, IsQuietEntry, AreRising}
+use Rattle.osgi_listeners.specs.Stands.{is_turn, listener_row, row_of, StandsFor, tag_in, turn_of, waiting_for, AreHandedFirst, AreOfAdded, AreTurnsApart, IsQuietEntry}
 use Rattle.osgi_ops.specs.Legal.{entry_of, IsTold}
 use Rattle.osgi_world.specs.declared.world.World.{World}
 use Rattle.osgi_listeners.specs.laws.Items.{bytes-turn, eq-turn, in-all, map-twice, none-taken}
 use Rattle.osgi_listeners.specs.laws.Waiting.{handed-same, hearing-last, none-waits, rows-changed, rows-filtered, rows-same, waits-fewer, waits-same, waits-seen}
 use Rattle.osgi_listeners.specs.laws.Turns.{lookup-inserted, lookup-removed, opens-none, own-turn, rising-inserted, rising-removed, turn-ended, turn-stays, at-is}
 use Rattle.osgi_listeners.specs.laws.Premises.{handed-first, handed-first-same}
+use Rattle.osgi_listeners.specs.laws.Room.{same_but_room}
 use Rattle.osgi_listeners.specs.Sights.{sights_by, told_all, waiting_at}
 use Rattle.osgi_ops.specs.declared.event.Event.{Event}
 use Rattle.osgi_ops.specs.declared.kind.Kind.{Kind}
@@ -90,7 +91,7 @@ stands-with-added sights history l tag owner name kind given id next added stand
 -- where room was made, and nothing else changed
 pub stands-roomier : (sights : List Seen) (history : List Entry) (old new : Listening) → AreRoomier old new → StandsFor sights history old → StandsFor sights history new
 stands-roomier sights history old new roomier stands = record {
-  rows = roomier.same ∙ stands.rows;
+  rows = same_but_room old.rows new.rows roomier.rows ∙ stands.rows;
   turns = λ n. ap (tag_of n) roomier.turns ∙ stands.turns n;
   rising = subst AreRising (sym roomier.turns) stands.rising;
   issued = roomier.issued ∙ stands.issued;

@@ -19,7 +19,8 @@ use Rattle.osgi_ops.specs.declared.op.Op.{Op}
 use Rattle.osgi_ops.specs.declared.op.Op.TheVariants.{EndHand, EndJob, EndStart, EndStop}
 use Rattle.osgi_legal.proofs.Listening.{ends_turn}
 use Rattle.osgi_legal.proofs.Owned.{brackets-last}
-use Rattle.osgi_listeners.specs.Stands.{AreRising, AreTurnsApart, is_turn, RiseFrom, tag_in, turn_of}
+use Rattle.osgi_listeners.specs.Rows.{AreRising, RiseFrom}
+use Rattle.osgi_listeners.specs.Stands.{AreTurnsApart, is_turn, tag_in, turn_of}
 
 -- ---- brackets
 

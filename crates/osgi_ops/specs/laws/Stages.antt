@@ -55,5 +55,8 @@ ends-here (op.EndStart bundle failed) e = refl
 ends-here (op.EndStop bundle failed) e = refl
 ends-here _ e = absurd (cc e)
 
+pub hand-here : is_here op.Hand ≡ true
+hand-here = refl
+
 pub take-here : is_here op.TakeJob ≡ true
 take-here = refl

@@ -11,15 +11,13 @@ use Rattle.osgi_ops.specs.Conditions.{invalid_where, IsDeep, no_own_end}
 use Rattle.osgi_ops.specs.Listening.{Added, handings, hearing, is_turn_of, IsEarliest, IsNext, IsReady, listener_at, listeners, Spot}
 use Rattle.osgi_ops.specs.Moments.{Moment}
 use Rattle.osgi_ops.specs.declared.event.Busy.{Busy}
+use Rattle.osgi_ops.specs.declared.limits.TheConstants.{MAX_LISTENERS}
 use Rattle.osgi_ops.specs.declared.op.Op.TheVariants.{EndHand}
 use Rattle.osgi_ops.specs.declared.refusal.Many.TheVariants.{Listeners}
 use Rattle.osgi_ops.specs.declared.refusal.Refusal.{Refusal}
 use Rattle.osgi_ops.specs.declared.refusal.Refusal.TheVariants.{HandingsSpent, TooDeep, TooMany}
 use Rattle.osgi_ops.specs.declared.reply.Reply.{Reply}
 use Rattle.osgi_ops.specs.declared.reply.Reply.TheVariants as answer
-
-abbrev pub most_listeners : ℕ
-most_listeners = 4096
 
 abbrev pub is_name : BundleId → List ℕ → Added → Bool
 is_name owner name a = (a.owner.0 == owner.0) && bytes_eq a.name name
@@ -29,7 +27,7 @@ has_listener now owner name = list_any (is_name owner name) (listeners now.befor
 
 abbrev pub add_listener_refusals : Moment → BundleId → List ℕ → List (Refusal → Type 0)
 add_listener_refusals now owner name =
-    invalid_where (has_listener now owner name ≡ true) ∷ Where (TooMany Listeners) (most_listeners ≤ length (listeners now.before)) ∷ []
+    invalid_where (has_listener now owner name ≡ true) ∷ Where (TooMany Listeners) (MAX_LISTENERS ≤ length (listeners now.before)) ∷ []
 
 -- the ids of listeners count from 1 and are never used again
 abbrev pub AddListenerAnswers : Moment → Reply → Type 0

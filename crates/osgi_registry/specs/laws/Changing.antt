@@ -9,7 +9,7 @@ use Rattle.std.proofs.lemmas.List.Kept.{AllPairs-from_increasing}
 use Rattle.osgi_base.specs.declared.ids.ServiceId.{ServiceId}
 use Rattle.osgi_model.specs.declared.value.Attribute.{Attribute}
 use Rattle.osgi_ops.specs.declared.service.Service.{Service}
-use Rattle.osgi_registry.specs.Rows.{AreInOrder, change, DiffersInProperties, is_service, LiveService, RegistryRows, row_at, service_number, with_properties, with_service}
+use Rattle.osgi_registry.specs.Rows.{AreInOrder, change, DiffersAtMostInProperties, is_service, LiveService, RegistryRows, row_at, service_number, with_properties, with_service}
 
 -- ---- a service that has no row
 
@@ -103,7 +103,7 @@ pub made_of : (service : ServiceId) (properties : List Attribute) (rows : List L
 made_of service properties rows made is = made_by service properties rows made (row_at service rows) refl is
 
 -- it may be put in place of the service
-pub made_differs : (service : ServiceId) (properties : List Attribute) (rows : List LiveService) (made : Service) → IsMade service properties rows made → DiffersInProperties made rows
+pub made_differs : (service : ServiceId) (properties : List Attribute) (rows : List LiveService) (made : Service) → IsMade service properties rows made → DiffersAtMostInProperties made rows
 made_differs service properties rows made of =
     let Differs : Option LiveService → Type 0 = λ at. IsSomeAnd at (λ row. made ≡ record row.service { properties = made.properties }) in
     let own : Differs (Some of.row) = of.is ∙ ap (λ (all : List Attribute). let s : Service = record of.row.service { properties = all } in s) (sym (ap (λ (s : Service). s.properties) of.is)) in

@@ -34,12 +34,12 @@ abbrev pub IsWaiting : Pending → Op → Type 0
 IsWaiting (waiting drains next) o = drains ≡ is_drained o
 IsWaiting pending o = ⊥
 
--- a plan waits for what was begun in it; the outermost frame is the end of a job, or the jobs after a line
+-- a plan waits for what was begun in it; the outermost frame is the end of a hand or of a job, or the jobs after a line
 abbrev pub Fits : Frame → List Frame → Type 0
 Fits (frame.Drained plan) outer = IsDraining (pending_of plan) × HasSome outer
 Fits (frame.Ran plan) outer = IsWithin (pending_of plan) × HasSome outer
 Fits (frame.Statement s r) outer = HasSome outer
-Fits (frame.Hand listener) outer = HasSome outer
+Fits (frame.Hand listener) outer = Unit {0}
 Fits frame.Job outer = Unit {0}
 Fits frame.Jobs outer = Unit {0}
 
@@ -51,8 +51,8 @@ AllFit (f ∷ outer) = Fits f outer × AllFit outer
 -- the operation is the one that waits for its reply
 abbrev pub IsAsked : Op → Wait → List Frame → Type 0
 IsAsked o (wait.Plan plan) outer = IsWaiting (pending_of plan) o × HasSome outer
-IsAsked o wait.Drain outer = (o ≡ op.Hand) × HasSome outer
-IsAsked o (wait.Hand listener) outer = (o ≡ op.EndHand listener) × HasSome outer
+IsAsked o wait.Drain outer = o ≡ op.Hand
+IsAsked o (wait.Hand listener) outer = o ≡ op.EndHand listener
 IsAsked o wait.Jobs outer = o ≡ op.TakeJob
 IsAsked o wait.Job outer = o ≡ op.EndJob
 

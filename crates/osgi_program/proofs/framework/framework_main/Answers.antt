@@ -1,24 +1,35 @@
--- The session is that of all bytes that were left, under the limit that the words give, and its status says what is in it.
-use Rattle.std.proofs.Common.{◌≡◌, ap, ◌∙◌}
+-- The session is that of all bytes that were left, under the limits that the words give, and its status says what is in it.
+use Rattle.std.proofs.Common.{◌≡◌}
 use Rattle.osgi_ops.specs.Settings.{bounds_of}
-use Rattle.osgi_program.specs.Words.{run_bounds}
-use Rattle.osgi_program.proofs.Ends.{all_taken, session_from, status_from}
+use Rattle.osgi_ops.specs.declared.limits.Limits.{Limits}
+use Rattle.osgi_program.proofs.Ends.{all_taken, completed, limit_from, not_asked, session_from, status_from}
 use Rattle.osgi_program.proofs.framework.framework_main.Goals as goal
 
 pub returns-in-Ok-clause-session : goal.returns-in-Ok-clause-session
-returns-in-Ok-clause-session g c = λ budget asks.
-    let same : c.in-Some.budget ≡ budget = cc (c.in-Some.ensures.only budget asks) in
-    let bounds : bounds_of c.run_limits.result ≡ run_bounds budget = c.run_limits.ensures.bounds ∙ ap run_bounds same in
+returns-in-Ok-clause-session g c = λ bounds asks.
+    let same : bounds_of c.in-Some.limits ≡ bounds = c.in-Some.ensures.only bounds asks in
     let read = rw c.in-Ok-All.field-0-is at c.in-Ok-All.ensures.input in
-    session_from (run_bounds budget) c.bytes.result.now _ c.in-Ok.ran c.in-Ok.session c.write_session-status.result _
-    (rw bounds at c.in-Ok.ensures.run)
-    (rw c.bytes.ensures.bytes (all_taken _ _ _ read.0 read.1)) (rw c.bytes.ensures.bytes read.2) c.write_session-status.ensures.starved
+    session_from bounds c.bytes.result.now _ c.in-Ok.ran c.in-Ok.session c.write_session-status.result _
+    (rw same at c.in-Ok.ensures.run)
+    (rw c.bytes.ensures.bytes (all_taken _ _ _ read.0 read.1)) (rw c.bytes.ensures.bytes read.2) c.write_session-status.ensures.starved c.write_session-status.ensures.status
 
 pub returns-in-Ok-clause-status_by_session : goal.returns-in-Ok-clause-status_by_session
-returns-in-Ok-clause-status_by_session g c = λ written. status_from (bounds_of c.run_limits.result) c.bytes.result.now _ c.in-Ok.ran c.in-Ok.session c.write_session-status.result c.in-Ok.ensures.run c.write_session-status.ensures.starved written (c.write_session-status.ensures.status written)
+returns-in-Ok-clause-status_by_session g c = λ written. status_from (bounds_of c.in-Some.limits) c.bytes.result.now _ c.in-Ok.ran c.in-Ok.session c.write_session-status.result c.in-Ok.ensures.run c.write_session-status.ensures.starved written (c.write_session-status.ensures.status written)
+
+pub returns-in-Ok-clause-cut : goal.returns-in-Ok-clause-cut
+returns-in-Ok-clause-cut g c = λ bounds asks cut.
+    let same : bounds_of c.in-Some.limits ≡ bounds = c.in-Some.ensures.only bounds asks in
+    limit_from bounds c.bytes.result.now _ c.in-Ok.ran c.in-Ok.session c.write_session-status.result (rw same at c.in-Ok.ensures.run) c.write_session-status.ensures.starved c.write_session-status.ensures.status cut
+
+pub returns-in-Ok-clause-complete : goal.returns-in-Ok-clause-complete
+returns-in-Ok-clause-complete g c = λ bounds asks source sink left free.
+    let same : bounds_of c.in-Some.limits ≡ bounds = c.in-Some.ensures.only bounds asks in
+    completed c.write_session-status.result c.write_session-status.ensures.which (λ failed. sink (c.write_session-status.ensures.failed failed))
+    (λ cut. free
+    (limit_from bounds c.bytes.result.now _ c.in-Ok.ran c.in-Ok.session c.write_session-status.result (rw same at c.in-Ok.ensures.run) c.write_session-status.ensures.starved c.write_session-status.ensures.status cut))
 
 pub returns-in_default-clause-faulty_words : goal.returns-in_default-clause-faulty_words
-returns-in_default-clause-faulty_words g c = ((λ is asks. c.in_default.not-Some asks.0 (c.run_budget.ensures.only asks.0 asks.1)), (λ none. c.bare.ensures.status))
+returns-in_default-clause-faulty_words g c = ((λ is asks. not_asked (λ (limits : Limits). bounds_of limits ≡ asks.0) c.run_limits.result c.in_default.not-Some (c.run_limits.ensures.only asks.0 asks.1)), (λ none. c.bare.ensures.status))
 
 pub returns-in_default-clause-complete : goal.returns-in_default-clause-complete
-returns-in_default-clause-complete g c = λ asks source sink left few. absurd (c.in_default.not-Some asks.0 (c.run_budget.ensures.only asks.0 asks.1))
+returns-in_default-clause-complete g c = λ bounds asks source sink left free. absurd (not_asked (λ (limits : Limits). bounds_of limits ≡ bounds) c.run_limits.result c.in_default.not-Some (c.run_limits.ensures.only bounds asks))

@@ -1,5 +1,5 @@
 -- The session's history is the machine's, which replays under the limits and the depot that were read, sound at every step.
-use Rattle.std.proofs.Common.{◌≡◌, ap, sym, subst, ◌∙◌, refl, rules}
+use Rattle.std.proofs.Common.{◌≡◌, ap, sym, subst, ◌∙◌, rules}
 use Rattle.osgi_core.specs.Sound.{IsSoundlyTold}
 use Rattle.osgi_ops.specs.Settings.{bounds_of, Setting, setting_of}
 use Rattle.osgi_ops.specs.declared.depot.Depot.{Depot}
@@ -23,5 +23,5 @@ returns-clause-run g c =
       legal = (machine.world, told.replayed);
       sound = told.sound;
       runs = search rules;
-      handings = refl;
+      handings = search rules;
     }

@@ -96,3 +96,20 @@ returns-in-BeginStop-clause-decided c = own_ok c.begin_stop.result c.args.asked.
 pub returns-in-EndStop-clause-decided : goal.returns-in-EndStop-clause-decided
 returns-in-EndStop-clause-decided c =
     decided_own c.args.asked.now (op.EndStop c.in-EndStop.bundle c.in-EndStop.failed) c.args.tables.now c.end_stop.result.0 c.end_stop.result.1 c.in-EndStop.is c.end_stop.ensures.decided
+
+pub add_listener-requires : goal.add_listener-requires
+add_listener-requires c = record { room = c.requires.room; asker = rw c.in-AddListener.is at c.requires.asker }
+
+pub returns-in-AddListener-clause-decided : goal.returns-in-AddListener-clause-decided
+returns-in-AddListener-clause-decided c =
+    asked_ok c.add_listener.result c.args.asked.now (op.AddListener c.in-AddListener.owner c.in-AddListener.name c.in-AddListener.kind c.in-AddListener.filter) c.args.tables.now c.in-AddListener.is c.add_listener.ensures.decided
+
+pub remove_listener-requires : goal.remove_listener-requires
+remove_listener-requires c = record { asker = rw c.in-RemoveListener.is at c.requires.asker }
+
+pub returns-in-RemoveListener-clause-decided : goal.returns-in-RemoveListener-clause-decided
+returns-in-RemoveListener-clause-decided c =
+    asked_ok c.remove_listener.result c.args.asked.now (op.RemoveListener c.in-RemoveListener.owner c.in-RemoveListener.name) c.args.tables.now c.in-RemoveListener.is c.remove_listener.ensures.decided
+
+pub returns-in-Hand-clause-decided : goal.returns-in-Hand-clause-decided
+returns-in-Hand-clause-decided c = own_ok c.hand.result c.args.asked.now op.Hand c.args.tables.now c.in-Hand.is c.hand.ensures.decided

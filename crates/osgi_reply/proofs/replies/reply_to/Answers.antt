@@ -1,32 +1,11 @@
--- What was decided, once the change is made.
+-- The end of a hand is replied to as what it is.
 use Rattle.std.proofs.Common.{subst, sym}
-use Rattle.std.specs.Prelude.{All, map}
-use Rattle.osgi_listeners.specs.Sights.{IsOfEarlier, sights_of}
-use Rattle.osgi_tables.proofs.Replying.{on_err, still_same}
-use Rattle.osgi_tables.specs.Replied.{IsReplied, StandsStill}
-use Rattle.osgi_tables.specs.Changes.{CanBeMade, IsReplyAndChange}
-use Rattle.osgi_tables.specs.declared.tables.Tables.{Tables}
+use Rattle.osgi_listeners.specs.Sights.{sights_of}
+use Rattle.osgi_ops.specs.declared.op.Op.{Op}
+use Rattle.osgi_tables.specs.Replied.{IsReplied}
 use Rattle.osgi_reply.proofs.replies.reply_to.Goals as goal
 
-pub returns-in_err-reply-clause-unchanged : goal.returns-in_err-reply-clause-unchanged
-returns-in_err-reply-clause-unchanged c = on_err c.from_residual.result (still_same c.args.tables.now c.decide.new.tables c.decide.ensures.unchanged)
-
-pub returns-in_err-kept-clause-unchanged : goal.returns-in_err-kept-clause-unchanged
-returns-in_err-kept-clause-unchanged c = on_err c.from_residual-in_err-kept.result (still_same c.args.tables.now c.decide.new.tables c.decide.ensures.unchanged)
-
-pub make-requires : goal.make-requires
-make-requires c = record {
-  possible = subst (CanBeMade c.in_ok-reply.change) (sym c.decide.ensures.unchanged) c.in_ok-reply.ensures.decided.possible;
-  countable = c.requires.countable;
-  earlier = subst (λ (t : Tables). All (IsOfEarlier c.args.entries) t.listeners.rows) (sym c.decide.ensures.unchanged) c.requires.earlier;
-}
-
-pub returns-in_err-told-clause-unchanged : goal.returns-in_err-told-clause-unchanged
-returns-in_err-told-clause-unchanged c =
-    on_err c.from_residual-in_err-told.result (subst (λ (t : Tables). StandsStill t c.make.new.tables) c.decide.ensures.unchanged c.in_err-told.ensures.unchanged)
-
-pub returns-clause-replied : goal.returns-clause-replied
-returns-clause-replied c =
-    subst (λ (t : Tables). IsReplied c.args.entries c.args.asked.now t c.make.new.tables c.in_ok-reply.reply (sights_of c.in_ok-told.told.items)) c.decide.ensures.unchanged
-    (c.in_ok-told.ensures.replied c.args.asked.now c.in_ok-reply.reply
-    (subst (λ (t : Tables). IsReplyAndChange c.args.asked.now t c.in_ok-reply.reply c.in_ok-reply.change) (sym c.decide.ensures.unchanged) c.in_ok-reply.ensures.decided))
+pub returns-in-EndHand-clause-replied : goal.returns-in-EndHand-clause-replied
+returns-in-EndHand-clause-replied c =
+    subst (λ (o : Op). IsReplied c.args.entries (record { tag = c.args.asked.now.tag; op = o }) c.args.tables.now c.end_by.new.tables c.end_by.result.reply (sights_of c.end_by.result.told.items)) (sym c.in-EndHand.is)
+    (c.end_by.ensures.replied c.args.entries)

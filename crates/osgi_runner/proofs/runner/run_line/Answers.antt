@@ -1,6 +1,5 @@
 -- The calls of the command are the entries of the line.
 use Rattle.std.proofs.lemmas.Result.{on_err_weaker}
-use Rattle.osgi_ops.specs.declared.entry.Entry.{Entry}
 use Rattle.osgi_runner.proofs.Loops.{cut-of, done-of, short-of, tag_of}
 use Rattle.osgi_runner.proofs.Unfinished.{if-ok}
 use Rattle.osgi_runner.specs.Calls.{Adds, IsCutShort}

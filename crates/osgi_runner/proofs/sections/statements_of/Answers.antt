@@ -1,5 +1,5 @@
 -- The statements of the part that was found.
-use Rattle.std.proofs.Common.{◌≡◌, List, [], ap, ◌∙◌}
+use Rattle.std.proofs.Common.{List, [], ap, ◌∙◌}
 use Rattle.std.specs.Prelude.{find, Option}
 use Rattle.std.specs.Option.{option_map_or}
 use Rattle.osgi_session.specs.Scripts.{is_section}

@@ -33,4 +33,5 @@ returns c =
     record {
       told = all_asked onlookers.listeners.now onlookers.removed onlookers.wirings.now.world it c.args.place (askers it onlookers.listeners.now.rows) c.loop-listener.listener-iterator
           (sights_of c.args.told.now.items) (sights_of c.loop-listener.told.items) c.loop-listener.invariant.told left;
+      in_order = c.askers-listener-items.ensures.in_order;
     }

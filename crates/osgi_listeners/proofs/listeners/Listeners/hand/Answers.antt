@@ -1,22 +1,26 @@
 -- The earliest event is handed, and all that is true of the fields stays so.
-use Rattle.std.proofs.Common.{◌≡◌, ◌≢◌, ℕ, List, ap, get_or, map, set, subst, sym, refl, ◌∙◌}
-use Rattle.std.specs.Prelude.{Some, All, false, filter, slice_get}
+use Rattle.std.proofs.Common.{◌≡◌, ◌≢◌, ℕ, List, ap, get_or, set, subst, sym, refl, ◌∙◌}
+use Rattle.std.specs.Prelude.{Some, All, false, slice_get}
 use Rattle.std.proofs.lemmas.List.{get_or_default}
-use Rattle.osgi_listeners.specs.Rows.{AnswersHand, busy_in, busy_of, change, id_of, is_busy, is_open, number_of, IsEarliest, IsHanded, Listening, Row, tag_of, without_first}
+use Rattle.osgi_listeners.specs.Rows.{AreRising, change, id_of, is_open, number_of, IsEarliest, IsHanded, Listening, Row, tag_of, without_first}
 use Rattle.osgi_listeners.specs.computed.Kept.{IsKept, IsPlaceOf}
-use Rattle.osgi_listeners.specs.declared.answer.HandAnswer.TheVariants.{Nothing}
 use Rattle.osgi_listeners.specs.declared.row.ListenerRow.{ListenerRow}
 use Rattle.osgi_listeners.proofs.Changes.{change_at}
 use Rattle.osgi_listeners.specs.laws.Ids.{ids_rise}
-use Rattle.osgi_listeners.proofs.Handing.{earliest, first_within, kept_handed, none_open_by, other_key}
+use Rattle.osgi_listeners.specs.laws.Turns.{rising-inserted}
+use Rattle.osgi_listeners.proofs.Handing.{earliest, first_within, kept_handed, none_open_by, other_key, waits_there}
 use Rattle.osgi_listeners.proofs.listeners.Listeners.hand.Goals as goal
 
 pub returns-in_default-clause-answer : goal.returns-in_default-clause-answer
 returns-in_default-clause-answer c =
     let old : Listening = record { rows = c.self.inside.slots.items; turns = c.self.inside.turns.entries; issued = c.self.inside.issued } in
     let closed : All (λ (row : Row). is_open old.turns row ≡ false) old.rows = none_open_by old c.self.inside.firsts c.self.invariant c.in_default.ensures.first in
-    let named : c.from.result ≡ busy_in old = c.from.ensures ∙ c.in_ok-busy.ensures.busy ∙ ap (λ (rows : List Row). map busy_of (filter (is_busy rows) old.turns)) c.deref.ensures.value in
-    subst (λ (l : Listening). AnswersHand l (Nothing c.from.result)) c.self.view_is (closed, named)
+    (subst (λ (l : Listening). All (λ (row : Row). is_open l.turns row ≡ false) l.rows) c.self.view_is closed, c.in_ok-busy.ensures.busy)
+
+pub unreachable-requires : goal.unreachable-requires
+unreachable-requires c =
+    let old : Listening = record { rows = c.self.inside.slots.items; turns = c.self.inside.turns.entries; issued = c.self.inside.issued } in
+    waits_there old c.self.inside.firsts c.self.invariant c.in-Some.at c.in-Some.ensures.first c.index_mut-slot.result.now c.index_mut-slot.ensures.value (sym c.in_default-take_first.ensures.first)
 
 place_there : (c : goal.In-Some-take_first) → IsPlaceOf c.listener.result.now.listener c.self.inside.slots.items c.in-Some.at
 place_there c =
@@ -40,9 +44,10 @@ invariant_of-self-2 c =
     let listener = c.listener.result.now.listener in
     let turns = c.insert.new.self.entries in
     let begun : tag_of listener.0 turns ≡ Some c.args.tag = c.in_ok-insert.ensures.updates.1 in
+    let rising : AreRising turns = subst AreRising (sym c.in_ok-insert.ensures.entries) (rising-inserted listener.0 c.args.tag old.turns c.self.invariant.in_order.turns) in
     let others : (q : ℕ) → q ≢ listener.0 → tag_of q turns ≡ tag_of q old.turns = λ q differ. c.in_ok-insert.ensures.updates.2 q (other_key listener.0 q differ) in
     subst (λ (p : List Row × List ℕ). IsKept (record { rows = p.0; turns = turns; issued = old.issued }) p.1 c.self.inside.by_kind) (λ i. (sym (written c) i, sym c.set.ensures.set i))
-    (kept_handed old c.self.inside.firsts listener c.in-Some.at c.args.tag turns c.self.invariant (place_there c) begun others)
+    (kept_handed old c.self.inside.firsts listener c.in-Some.at c.args.tag turns c.self.invariant (place_there c) rising begun others)
 
 pub returns-clause-answer : goal.returns-clause-answer
 returns-clause-answer c =

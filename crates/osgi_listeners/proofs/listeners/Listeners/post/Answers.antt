@@ -11,7 +11,7 @@ pub deliver-requires-clause-accepts : goal.deliver-requires-clause-accepts
 deliver-requires-clause-accepts g c =
     let rows = c.loop-at.self.rows in
     let within : c.loop-at.at < length rows = subst (λ n. c.loop-at.at < n) (c.count-count.ensures.count ∙ sym (long _ rows c.loop-at.invariant.same)) c.loop-at-test.true in
-    let later = later_still c.args.place _ _ c.reserve.ensures.roomier.same c.requires.later in
+    let later = later_still c.args.place _ _ c.reserve.ensures.roomier.rows c.requires.later in
     said_still _ _ _ c.loop-at.self c.loop-at.at within c.at.result.now.listener (λ d. ap (λ (l : ListenerRow). l.listener) (listener_there rows c.loop-at.at c.at.result.now within c.at.ensures.listener d)) c.loop-at.invariant
     (Accepts c.args.place) (ids_rise rows c.at.ensures.in_order.listeners.rising) (λ k d inside. (c.in_ok-reserve.ensures.room k d inside, later k d inside))
 

@@ -22,7 +22,7 @@ pub returns-in-Hand-clause-on : goal.returns-in-Hand-clause-on
 returns-in-Hand-clause-on c = λ script asks calls is h s.
     let asked = subst (λ (w : Wait). IsAsked asks w (reverse c.args.stack.now.items)) c.in-Hand.is is in
     subst (λ (w : Wait). Waited script asks w (frames_of c.args.stack.now.items) (call asks c.args.reply ∷ calls)) (sym c.in-Hand.is)
-    (subst (λ (o : Op). Waited script o (wait.Hand c.in-Hand.field-0) (frames_of c.args.stack.now.items) (call o c.args.reply ∷ calls)) (sym asked.0)
+    (subst (λ (o : Op). Waited script o (wait.Hand c.in-Hand.field-0) (frames_of c.args.stack.now.items) (call o c.args.reply ∷ calls)) (sym asked)
     (back-to-hand done c.in-Hand.field-0 c.args.reply h))
 
 pub returns-in-Job-clause-on : goal.returns-in-Job-clause-on

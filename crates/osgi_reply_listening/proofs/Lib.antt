@@ -1,0 +1,3 @@
+-- Lemmas on listeners and hands.
+mod Hands
+mod Listeners

@@ -1,0 +1,2 @@
+-- What hands and their ends are answered.
+pub mod Hands
