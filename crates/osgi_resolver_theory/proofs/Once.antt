@@ -61,7 +61,7 @@ module _ (P : Problem) (cs : List Choice) (L : IsProblem P) (M : IsProblem (othe
   candidate-from : (q : ReqRef) (c : CapRef) → IsCandidate (other P cs) q c → IsCandidate P q c
   candidate-from q c is = record { satisfies = is.satisfies; current = is.current; no_fragment = is.no_fragment; not_owner = is.not_owner; stands = is.stands }
 
-  candidates-same : (q : ReqRef) → CanBeAsked P.world.known q → candidates P q ≡ candidates (other P cs) q
+  pub candidates-same : (q : ReqRef) → CanBeAsked P.world.known q → candidates P q ≡ candidates (other P cs) q
   candidates-same q a =
       sym (candidates-one P L q a (candidates (other P cs) q)
       (λ c. (λ i. candidate-from q c ((M.candidates_are q c a).0 i), λ i. (M.candidates_are q c a).1 (candidate-to q c i))) (M.candidates_ordered q))

@@ -56,7 +56,7 @@ all-in K c provider owner index =
     in-flat_map (λ p. capabilities_of K p (all_revisions K)) (all_revisions K) c.provider c provider
     (in-flat_map (own_capabilities K c.provider) (all_revisions K) c.owner c owner (in-map (λ i. record { provider = c.provider; owner = c.owner; index = i }) (below (capability_count K c.owner)) c.index (in-below (capability_count K c.owner) c.index index)))
 
-asked-in : (K : List Known) (q : ReqRef) → CanBeAsked K q → In q (asked_requirements K)
+pub asked-in : (K : List Known) (q : ReqRef) → CanBeAsked K q → In q (asked_requirements K)
 asked-in K q h =
     in-filter (λ n. is_current K n.owner && is_effective K n) (requirements_of K (all_revisions K)) q
     (in-flat_map (own_requirements K) (all_revisions K) q.owner q (current-listed K q.owner h.current) (in-map (λ i. record { owner = q.owner; index = i }) (below (requirement_count K q.owner)) q.index (in-below (requirement_count K q.owner) q.index h.known)))
