@@ -1,10 +1,10 @@
 -- Loops over the slots: the places of the first events that are written one after another, and the room that is made.
 use Rattle.std.proofs.Common.{◌≡◌, ◌≢◌, ◌⊎◌, inl, inr, ◌+◌, ◌<◌, ◌≤◌, ℕ, List, length, set, get_or, ap, sym, subst, ◌∙◌, arith, get_or-set_other, get_or-set_same}
-use Rattle.std.proofs.lemmas.Bool.{cases_eq, cases_lt}
+use Rattle.std.proofs.lemmas.Bool.{cases_eq}
 use Rattle.std.proofs.lemmas.List.{length-set, get_or_default}
 use Rattle.osgi_base.specs.declared.ids.Tag.{Tag}
 use Rattle.osgi_listeners.specs.Rows.{AreRoomierRows, bare, IsRoomier, Row}
-use Rattle.osgi_listeners.specs.computed.Kept.{AreFirsts, open_place}
+use Rattle.osgi_listeners.specs.computed.Kept.{open_place}
 use Rattle.osgi_listeners.specs.computed.Tournaments.{none, number_at}
 
 -- ---- the places of the first events
@@ -35,16 +35,6 @@ filled_more numbers turns rows before at number low few within outside filled = 
     cleared : (i : ℕ) → i < at + 1 → length rows ≤ i → (i ≡ at) ⊎ (i ≢ at) → number_at (set numbers at number) i ≡ none
     cleared i below beyond (inl same) = there i same ∙ outside (omega (arith, beyond, same))
     cleared i below beyond (inr differ) = get_or-set_other numbers at i number none differ ∙ filled.cleared i (omega (arith, below, differ)) beyond
-
-pub filled_all : (numbers : List ℕ) (turns : List (ℕ × Tag)) (rows : List Row) (before at : ℕ) → before ≤ at → length rows ≤ before → IsFilled numbers turns rows before at → AreFirsts numbers turns rows
-filled_all numbers turns rows before at all fewer filled = record {
-  at = λ i d within. filled.written i d (omega arith) within;
-  past = λ i beyond. by i beyond (cases_lt i before);
-}
-  where
-    by : (i : ℕ) → length rows ≤ i → (i < before) ⊎ (before ≤ i) → number_at numbers i ≡ none
-    by i beyond (inl below) = filled.cleared i (omega (arith, below, all)) beyond
-    by i beyond (inr past) = filled.past i past
 
 -- ---- room
 

@@ -22,9 +22,6 @@ pub record IsPostedTo (place : ℕ) (Sees : ListenerId → Option Event → Type
   pub turns : now.turns ≡ before.turns
   pub issued : now.issued ≡ before.issued
 
-pub posted_none : (place : ℕ) (Sees : ListenerId → Option Event → Type 0) (before : Listening) → IsPostedTo place Sees before before 0
-posted_none place Sees before = record { same = refl; done = λ i d below within. absurd (omega (arith, below)); rest = λ i d above within. refl; turns = refl; issued = refl }
-
 pub long : (before now : List Row) → listeners_in now ≡ listeners_in before → length now ≡ length before
 long before now same = sym (length-map now listener_of) ∙ ap length same ∙ length-map before listener_of
 

@@ -1,10 +1,9 @@
 -- One more happening is told, until none is left.
-use Rattle.std.proofs.Common.{◌≡◌, ◌+◌, ◌<◌, ◌≤◌, arith, length, map, refl, subst, sym, ◌∙◌, List}
+use Rattle.std.proofs.Common.{◌+◌, ◌<◌, ◌≤◌, arith, length, map, refl, subst, sym, List}
 use Rattle.std.proofs.Math.ListN.{drop_of_length-le}
 use Rattle.std.proofs.lemmas.List.{length-map}
 use Rattle.osgi_listeners.specs.Rows.{AreInOrder}
 use Rattle.osgi_listeners.specs.Sights.{sights_of}
-use Rattle.osgi_ops.specs.Moments.{Sight}
 use Rattle.osgi_sights.specs.Shown.{Shown, shown}
 use Rattle.osgi_sights.specs.Sights.{AreSightsOf}
 use Rattle.osgi_sights.proofs.Onward.{all_happened, one_happened}
