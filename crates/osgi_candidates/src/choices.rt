@@ -1,11 +1,15 @@
 //! The problem of resolving a revision in a world.
 
-ghost use Rattle.std.specs.Prelude.{◌≡◌, ◌↔◌, IfOk, IsTrue, OnOk};
-ghost use Rattle.osgi_candidates.specs.computed.Choices.{AddsChoice, AddsChoices, AreChoices};
+ghost use Rattle.std.specs.Prelude.{◌≡◌, ◌↔◌, ◌<◌, ◌∷◌, [], IfOk, IsTrue, OnOk, Some, map};
+ghost use Rattle.osgi_candidates.specs.computed.Choices.{AddsChoices, AreChoices};
 ghost use Rattle.osgi_candidates.specs.computed.Fitting.{IsFit};
+ghost use Rattle.osgi_resolver_theory.specs.WorldProblems.{asked_requirements};
 ghost use Rattle.osgi_world.specs.Candidates.{CanBeAsked, IsProblem, IsResolvable};
 ghost use Rattle.osgi_world.specs.Consistency.{Consistent};
+ghost use Rattle.osgi_world.specs.Lookups.{known_at, requirement_count};
+ghost use Rattle.osgi_world.specs.Payloads.{own_requirements};
 ghost use Rattle.osgi_world.specs.Wirings.{IsWorld};
+ghost use Rattle.osgi_world.specs.declared.problem.Choice.{Choice};
 
 use crate::offer_index::OfferIndex;
 use crate::offers::Offers;
@@ -14,12 +18,15 @@ use osgi_lookup::KnownIndex;
 use osgi_world::{Choice, Known, Problem, ReqRef, World};
 use std::alloc::{AllocError, Global};
 
-/// The problem of resolving the root: the candidates of each effective requirement of each current revision are listed.
+/// The problem of resolving the root: a row for each effective requirement of each current revision, with all of its candidates, the
+/// preferred first. The rows stand in the order in which the revisions are known and the requirements stand in them; there is no
+/// other row.
 pub fn problem(alloc: Global, world: World, root: RevisionId) -> Result<Problem, AllocError>
     requires resolvable { IsResolvable world root }
     ensures world { IfOk result (λ problem. problem.world ≡ world) }
     ensures root { IfOk result (λ problem. problem.root ≡ root) }
     ensures problem { IfOk result IsProblem }
+    ensures rows { IfOk result (λ problem. map (λ (row : Choice). row.requirement) problem.choices ≡ asked_requirements world.known) }
 {
     let choices = choices_in(alloc, &world)?;
     Ok(Problem {
@@ -51,7 +58,8 @@ fn add_choices(
     choices: &mut List<Choice>,
     known: &Known,
 ) -> Result<(), AllocError>
-    ensures added { OnOk result (IsFit offers.now → AddsChoices offers.now known.now choices.old choices.new) }
+    ensures added { OnOk result (IsFit offers.now → known_at offers.now.known known.now.id ≡ Some known.now
+        → AddsChoices offers.now (own_requirements offers.now.known known.now.id) choices.old choices.new) }
 {
     if !known.current {
         return Ok(());
@@ -73,7 +81,8 @@ fn add_choice(
     choices: &mut List<Choice>,
     at: ReqRef,
 ) -> Result<(), AllocError>
-    ensures added { OnOk result (IsFit offers.now → AddsChoice offers.now at choices.old choices.new) }
+    ensures added { OnOk result (IsFit offers.now → at.index < requirement_count offers.now.known at.owner
+        → AddsChoices offers.now (at ∷ []) choices.old choices.new) }
 {
     if !has_candidates(offers.known(), at) {
         return Ok(());

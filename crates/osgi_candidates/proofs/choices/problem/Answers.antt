@@ -10,4 +10,5 @@ returns c =
     let P : Problem = record { world = c.args.world; root = c.args.root; choices = c.in_ok-choices.choices } in
     let is = c.requires.resolvable in
     let fit : IsFit c.args.world = record { world_is = is.is_world; ordered = is.ordered; consistent = is.consistent } in
-    record { world = refl; root = refl; problem = problem_is P (c.in_ok-choices.ensures.choices fit) fit is.unresolved }
+    let rows = c.in_ok-choices.ensures.choices fit in
+    record { world = refl; root = refl; problem = problem_is P rows fit is.unresolved; rows = rows.listed }
