@@ -12,7 +12,7 @@ sys.dont_write_bytecode = True
 from loader_model import is_assignable, loaded
 from resolver_model import FIRST, Found, Problem, Spent, Walk, extended
 from space_model import Space, World
-from space_rows import parts, read_revision, spelled_wiring
+from space_rows import parts, read_revision, spelled_place, spelled_wiring
 
 AMPLE = 1000000
 
@@ -32,6 +32,13 @@ def spelled_answer(problem, answer):
         return "clash"
     asked = problem.before.requirement(*answer.lacking)
     return f"no candidate {asked.namespace} {asked.name}"
+
+
+def spelled_problem(problem):
+    """What can be asked for in the world of the problem, each requirement with its candidates."""
+    places = [(known.id, index) for known in problem.world.known if known.current for index in range(len(known.requirements))]
+    asked = [place for place in places if problem.before.is_effective(*place)]
+    return ", ".join(" ".join([f"{owner}.{index}>", *map(spelled_place, problem.candidates((owner, index)))]) for owner, index in asked) or "none"
 
 
 def spelled_slowly(answer):
@@ -78,16 +85,18 @@ class Teller:
         return self.walks[root]
 
     def resolve(self, word, root, budget):
-        """The answer to `resolve`, `anew` or `slowly`. The effort is within the budget, or the budget is spent."""
+        """The answer to `resolve`, `anew`, `solve`, `slowly` or `problem`. The effort is within the budget, or the budget is spent."""
         obstacle = self.obstacle(root)
         if obstacle is not None:
             return obstacle
+        if word == "problem":
+            return spelled_problem(Problem(self.world, root))
         walk, answer = self.walk(root)
         if walk.effort > budget:
             answer = Spent(budget + 1)
         if word == "slowly":
             return spelled_slowly(answer)
-        if not isinstance(answer, Found) or word == "anew":
+        if not isinstance(answer, Found) or word in ("anew", "solve"):
             return spelled_answer(walk.problem, answer)
         self.world = extended(self.world, answer.added)
         self.walks = {}

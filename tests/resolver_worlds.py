@@ -317,16 +317,21 @@ class Row:
             self.answers.append(answer)
 
     def resolve(self, word, root):
-        """With a budget that is one too small, and with just enough; first by the slow search, if few words come up."""
+        """With a budget that is one too small, and with just enough; first by the slow search, if few words come up. A resolve anew
+        is asked for by the problem too, whose rows are shown."""
         if self.teller.obstacle(root) is not None:
             return self.take(f"{word} {root}")
         walk, answer = self.teller.walk(root)
         self.problems.append((walk, answer))
         is_slow = not isinstance(answer, Spent) and has_few_words(walk, FEW)
         self.slow += is_slow
+        if word == "anew":
+            self.take(f"problem {root}")
         for budget in [MOST] if isinstance(answer, Spent) else [walk.effort - 1, walk.effort] if walk.effort > 0 else [0]:
             if is_slow:
                 self.take(f"slowly {root} {budget}")
+            if word == "anew":
+                self.take(f"solve {root} {budget}")
             self.take(f"{word} {root} {budget}")
 
     def text(self):

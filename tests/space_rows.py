@@ -109,9 +109,14 @@ def spelled_revision(known):
     return " ".join(words)
 
 
+def spelled_place(given):
+    """The place of a capability: its provider, its owner where that is another, and the index."""
+    provider, owner, index = given
+    return f"{provider}.{index}" if owner == provider else f"{provider}.{owner}.{index}"
+
+
 def spelled_wire(wire):
-    owner = "" if wire.owner == wire.provider else f".{wire.owner}"
-    return f"{wire.asker}.{wire.asked}>{wire.provider}{owner}.{wire.given}"
+    return f"{wire.asker}.{wire.asked}>{spelled_place((wire.provider, wire.owner, wire.given))}"
 
 
 def spelled_wiring(wiring):

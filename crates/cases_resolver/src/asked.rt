@@ -1,20 +1,19 @@
-//! What is asked of the resolver, and what it answers.
+//! Resolves whose wirings are put in force.
 
 ghost use Rattle.std.specs.Prelude.{◌≡◌, None};
 ghost use Rattle.osgi_wiring.specs.States.{MayExtend};
 ghost use Rattle.osgi_world.specs.Candidates.{IsUnresolved};
 
-use crate::shown::{push_cause, push_first, push_found};
-use crate::slowly::{FirstWord, first_word_slowly};
+use crate::shown::{push_cause, push_found};
 use osgi_base::{List, RevisionId};
-use osgi_resolver::{Answer, IndexedWirings, resolve};
+use osgi_resolver::{Answer, IndexedWirings};
 use osgi_wiring::Wirings;
 use osgi_world::Wiring;
-use std::alloc::{AllocError, Global};
+use std::alloc::AllocError;
 use std::fmt::Write;
 
 /// Why a revision cannot be resolved, if it cannot.
-fn obstacle(wirings: &Wirings, root: RevisionId) -> Option<&'static str>
+pub fn obstacle(wirings: &Wirings, root: RevisionId) -> Option<&'static str>
     ensures unresolved { result ≡ None → IsUnresolved wirings.now.world.known wirings.now.world.wirings root }
 {
     let Some(known) = wirings.known(root) else {
@@ -75,67 +74,5 @@ pub fn push_resolved(
     match obstacle(wirings.wirings(), root) {
         Some(reason) => out.push_str(reason),
         None => push_answer(out, wirings, root, budget),
-    }
-}
-
-/// Adds how a revision that may be resolved is resolved where nothing of its world was kept. Nothing is put in force.
-fn push_answer_anew(
-    alloc: Global,
-    out: &mut String,
-    wirings: &Wirings,
-    root: RevisionId,
-    budget: u32,
-) -> Result<(), AllocError>
-    requires unresolved { IsUnresolved wirings.now.world.known wirings.now.world.wirings root }
-{
-    match resolve(alloc, wirings.world(), root, u64::from(budget))? {
-        Answer::Found { word, added } => push_found(out, word.items(), added.items()),
-        Answer::NoWord(cause) => push_cause(out, wirings, cause),
-        Answer::Spent { visited } => write!(out, "spent {visited}"),
-    }
-}
-
-/// Adds how a revision is resolved where nothing of its world was kept, or why it cannot be.
-pub fn push_resolved_anew(
-    alloc: Global,
-    out: &mut String,
-    wirings: &Wirings,
-    root: RevisionId,
-    budget: u32,
-) -> Result<(), AllocError> {
-    match obstacle(wirings, root) {
-        Some(reason) => out.push_str(reason),
-        None => push_answer_anew(alloc, out, wirings, root, budget),
-    }
-}
-
-/// Adds what the slow search answers for a revision that may be resolved.
-fn push_answer_slowly(
-    alloc: Global,
-    out: &mut String,
-    wirings: &Wirings,
-    root: RevisionId,
-    budget: u32,
-) -> Result<(), AllocError>
-    requires unresolved { IsUnresolved wirings.now.world.known wirings.now.world.wirings root }
-{
-    match first_word_slowly(alloc, wirings.world(), root, u64::from(budget))? {
-        FirstWord::Found(word) => push_first(out, word.items()),
-        FirstWord::NoWord => out.push_str("none"),
-        FirstWord::Spent { visited } => write!(out, "spent {visited}"),
-    }
-}
-
-/// Adds what the slow search answers for a revision, or why it cannot be resolved.
-pub fn push_resolved_slowly(
-    alloc: Global,
-    out: &mut String,
-    wirings: &Wirings,
-    root: RevisionId,
-    budget: u32,
-) -> Result<(), AllocError> {
-    match obstacle(wirings, root) {
-        Some(reason) => out.push_str(reason),
-        None => push_answer_slowly(alloc, out, wirings, root, budget),
     }
 }

@@ -13,6 +13,8 @@
 //! |---|---|
 //! | `resolve ID`, `resolve ID BUDGET` | how the revision is resolved, with a budget of 1,000,000 where none is given: one of the answers below |
 //! | `anew ID`, `anew ID BUDGET` | the same by a call that keeps nothing of the world from one time to the next; what is found is not put in force |
+//! | `problem ID` | all that can be asked for, in its order, each requirement with its candidates, the preferred first: `REQUIREMENT> CAPABILITY CAPABILITY, REQUIREMENT>`, or `none`. A requirement is written `OWNER.PLACE`, a capability as in a wiring |
+//! | `solve ID`, `solve ID BUDGET` | the same as `anew`, by the call that is given the problem |
 //! | `slowly ID`, `slowly ID BUDGET` | what a search over all words answers, also those that are hopeless: `found [NUMBER NUMBER]`, `none` for `no candidate` and `clash`, or `spent NUMBER`; what is found is not put in force |
 //! | `add REVISION` | nothing, or `cannot be known`: the revision becomes known |
 //! | `load ID CLASS` | the revision whose folder a class is loaded from for this one: its number, or `none` |
@@ -29,6 +31,7 @@
 #![tactic(auto)]
 
 mod asked;
+mod called;
 mod known;
 mod loaded;
 mod rows;

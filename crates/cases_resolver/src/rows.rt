@@ -1,6 +1,7 @@
 //! Rows: what is known at first, and steps.
 
-use crate::asked::{push_resolved, push_resolved_anew, push_resolved_slowly};
+use crate::asked::push_resolved;
+use crate::called::{Call, push_called};
 use crate::known::{add, add_all, first_wirings};
 use crate::loaded::{push_assignable, push_loaded};
 use crate::shown::push_wirings;
@@ -40,6 +41,21 @@ fn make_known(
     out.push_str("cannot be known")
 }
 
+/// The call that a word names.
+fn call_of(word: &str) -> Option<Call> {
+    if word == "anew" {
+        Some(Call::Anew)
+    } else if word == "slowly" {
+        Some(Call::Slowly)
+    } else if word == "problem" {
+        Some(Call::Problem)
+    } else if word == "solve" {
+        Some(Call::Solve)
+    } else {
+        None
+    }
+}
+
 /// Adds the answer to a question about a world.
 fn push_answer(
     alloc: Global,
@@ -49,24 +65,11 @@ fn push_answer(
 ) -> Result<(), AllocError> {
     let (word, rest) = question;
     let (root, allowed) = cut(rest);
-    if word == "resolve" {
+    if let Some(call) = call_of(word) {
+        let now = wirings.wirings();
+        push_called(alloc, out, now, call, revision_id(root), budget(allowed))
+    } else if word == "resolve" {
         push_resolved(out, wirings, revision_id(root), budget(allowed))
-    } else if word == "anew" {
-        push_resolved_anew(
-            alloc,
-            out,
-            wirings.wirings(),
-            revision_id(root),
-            budget(allowed),
-        )
-    } else if word == "slowly" {
-        push_resolved_slowly(
-            alloc,
-            out,
-            wirings.wirings(),
-            revision_id(root),
-            budget(allowed),
-        )
     } else if word == "load" {
         push_loaded(alloc, out, wirings.wirings(), rest)
     } else if word == "assignable" {

@@ -4,7 +4,7 @@ use cases_text::push_bytes;
 use osgi_base::RevisionId;
 use osgi_resolver::Cause;
 use osgi_wiring::Wirings;
-use osgi_world::{CapRef, ReqRef, Requirement, Wire, Wiring};
+use osgi_world::{CapRef, Choice, ReqRef, Requirement, Wire, Wiring};
 use std::alloc::AllocError;
 use std::fmt::Write;
 
@@ -75,6 +75,31 @@ pub fn push_found(out: &mut String, word: &[u64], added: &[Wiring]) -> Result<()
     push_first(out, word)?;
     out.push(' ')?;
     push_wirings(out, added)
+}
+
+/// Adds `REQUIREMENT> CAPABILITY ..`.
+fn push_row(out: &mut String, row: &Choice) -> Result<(), AllocError> {
+    let asked = row.requirement;
+    write!(out, "{}.{}>", asked.owner.0, asked.index)?;
+    for capability in row.candidates.items() {
+        out.push(' ')?;
+        push_capability(out, *capability)?;
+    }
+    Ok(())
+}
+
+/// Adds `REQUIREMENT> CAPABILITY .., REQUIREMENT> CAPABILITY ..`, or `none`.
+pub fn push_rows(out: &mut String, rows: &[Choice]) -> Result<(), AllocError> {
+    if rows.is_empty() {
+        return out.push_str("none");
+    }
+    let mut before = "";
+    for row in rows {
+        out.push_str(before)?;
+        push_row(out, row)?;
+        before = ", ";
+    }
+    Ok(())
 }
 
 fn requirement(wirings: &Wirings, place: ReqRef) -> Option<&Requirement> {

@@ -1,2 +1,3 @@
--- Lemmas on what is kept of a world.
+-- Lemmas on what is kept of a world, and on the answers to problems of one root.
 pub mod Growing
+pub mod Solved

@@ -10,5 +10,5 @@ mod walk;
 
 pub use answer::{Answer, Cause};
 pub use indexed_wirings::IndexedWirings;
-pub use resolving::resolve;
+pub use resolving::{resolve, solve};
 pub use walk::Walk;

@@ -1,7 +1,7 @@
 //! The resolve of one revision in a world.
 
 ghost use Rattle.std.specs.Prelude.{◌≡◌, ◌-◌, ◌^◌, ◌<◌, IfOk, ℕ};
-ghost use Rattle.osgi_world.specs.Candidates.{IsResolvable};
+ghost use Rattle.osgi_world.specs.Candidates.{IsProblem, IsResolvable};
 ghost use Rattle.osgi_resolver_theory.specs.WorldProblems.{the_problem};
 ghost use Rattle.osgi_resolver_search.specs.Outcomes.{IsOutcome};
 ghost use Rattle.osgi_candidates.specs.Following.{Covers};
@@ -18,7 +18,7 @@ use osgi_candidates::{OfferIndex, Offers};
 use osgi_resolver_path::Path;
 use osgi_resolver_search::{Outcome, search};
 use osgi_space::{DisputedRows, KeptRows};
-use osgi_world::World;
+use osgi_world::{Problem, World};
 use std::alloc::{AllocError, Global};
 use std::mem;
 
@@ -37,6 +37,16 @@ pub fn resolve(
 {
     let mut index = Index::new(alloc);
     resolve_with(alloc, world, &mut index, root, budget)
+}
+
+/// Solves a problem: what `resolve` answers for its root in its world. The lists of candidates that it has are the only ones that
+/// a problem of that root can have, so the search lists those that it comes to itself.
+pub fn solve(alloc: Global, problem: &Problem, budget: u64) -> Result<Answer, AllocError>
+    requires problem { IsProblem problem.now }
+    requires budget { budget < 2 ^ 64 - 1 }
+    ensures answer { IfOk result (IsAnswer problem.now budget) }
+{
+    resolve(alloc, &problem.world, problem.root, budget)
 }
 
 /// Resolves the root with what was kept of the world, and keeps what is found out of it. If memory runs out, less may be kept.
