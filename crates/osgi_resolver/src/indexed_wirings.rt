@@ -7,6 +7,7 @@ ghost use Rattle.osgi_world.specs.Candidates.{IsUnresolved};
 
 use crate::answer::Answer;
 use crate::index::Index;
+use crate::refusals::Refusals;
 use crate::resolving::resolve_with;
 use osgi_base::{BundleId, List, RevisionId, Shared};
 use osgi_wiring::Wirings;
@@ -15,11 +16,13 @@ use std::alloc::{AllocError, Global};
 use std::marker::Model;
 
 /// The known revisions and the wirings in force, as `Wirings` has them. A resolve makes use of what an earlier one has found out,
-/// and reads only what is new in the world since, and the ids of the known revisions.
+/// and reads only what is new in the world since, and the ids of the known revisions. One that was refused is refused again
+/// without a search, until the world changes.
 pub struct IndexedWirings {
     alloc: Global,
     wirings: Wirings,
     index: Index,
+    refusals: Refusals,
 }
 
 /// Not derived, so that each exit at which one is dropped is a single call, which is cheap to prove.
@@ -29,6 +32,7 @@ impl Drop for IndexedWirings {
             alloc: _,
             wirings: _,
             index: _,
+            refusals: _,
         } = self;
     }
 }
@@ -38,6 +42,7 @@ impl Model for IndexedWirings {
     ghost use Rattle.osgi_model.specs.contracts.filter.Filter as filter;
     ghost use Rattle.osgi_model.specs.contracts.value.Value as value;
     ghost use Rattle.osgi_resolver.specs.computed.Following.{FollowsWorld};
+    ghost use Rattle.osgi_resolver.specs.computed.Refused.{AreOf};
     ghost use Rattle.osgi_wiring.specs.States.{WiringState};
 
     ghost Value = { WiringState };
@@ -46,7 +51,7 @@ impl Model for IndexedWirings {
 
     ghost view = { λ w. w.wirings };
 
-    ghost invariant = { λ w. FollowsWorld w.index w.wirings.world };
+    ghost invariant = { λ w. FollowsWorld w.index w.wirings.world × AreOf w.refusals w.wirings.world };
 }
 
 impl IndexedWirings {
@@ -61,6 +66,7 @@ impl IndexedWirings {
             alloc,
             wirings: Wirings::new(alloc, system)?,
             index: Index::new(alloc),
+            refusals: Refusals::new(alloc),
         })
     }
 
@@ -100,6 +106,7 @@ impl IndexedWirings {
         ensures unchanged { OnErr result (self.new ≡ self.old) }
         ensures room { 0 < self.old.spare → IsOk result }
     {
+        self.refusals = Refusals::new(self.alloc);
         self.wirings.add(bundle, revision)
     }
 
@@ -112,13 +119,18 @@ impl IndexedWirings {
         ensures answer { IfOk result (IsAnswerTo self.old.world root budget) }
         ensures unchanged { self.new ≡ self.old }
     {
-        resolve_with(
+        if let Some(answer) = self.refusals.answer(root, budget) {
+            return Ok(answer);
+        }
+        let answer = resolve_with(
             self.alloc,
             self.wirings.world(),
             &mut self.index,
             root,
             budget,
-        )
+        )?;
+        self.refusals.keep(root, budget, &answer);
+        Ok(answer)
     }
 
     /// Puts wirings in force.
@@ -130,6 +142,7 @@ impl IndexedWirings {
         ensures spare { self.new.spare ≡ self.old.spare }
         ensures unchanged { OnErr result (self.new ≡ self.old) }
     {
+        self.refusals = Refusals::new(self.alloc);
         self.wirings.extend(added)
     }
 }

@@ -5,6 +5,7 @@ mod answer;
 mod index;
 mod indexed_wirings;
 mod lacking;
+mod refusals;
 mod resolving;
 mod walk;
 
