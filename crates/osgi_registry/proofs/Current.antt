@@ -1,101 +1,130 @@
--- That what stands at a place is the service as it is, after the rows change.
-use Rattle.std.proofs.Common.{◌≡◌, ◌≢◌, ℕ, List, [], ◌∷◌, ◌++◌, ap, sym, ◌∙◌, refl, get_or, nat_eq, map, true≢false}
-use Rattle.std.specs.Prelude.{Bool, true, false, cond, ◌&&◌, Option, None, Some, All, filter}
-use Rattle.std.specs.Map.{lookup, set_value, values_of}
-use Rattle.std.specs.Option.{is_some}
-use Rattle.std.proofs.lemmas.Bool.{and_parts, eq-eqb}
-use Rattle.std.proofs.lemmas.List.Elements.{All-contains, All-filter, All-map, All-push}
+-- That what stands in slots is the services as they are, after the rows change.
+use Rattle.std.proofs.Common.{◌≡◌, ◌≢◌, ℕ, ◌+◌, List, [], ◌∷◌, ◌++◌, ap, sym, ◌∙◌, refl, arith, inl, inr, nat_eq}
+use Rattle.std.specs.Prelude.{Bool, true, false, cond, ◌⊎◌, Option, None, Some, All}
+use Rattle.std.specs.BTreeMap.{is_at}
+use Rattle.std.specs.Map.{lookup, remove_entry, set_value}
+use Rattle.std.specs.Option.{option_map}
+use Rattle.std.specs.Ordering.{nat_cmp}
+use Rattle.std.proofs.lemmas.Bool.{eq-eqb, eqb-true, ne_eqb}
+use Rattle.std.proofs.lemmas.List.Elements.{All-head, All-tail}
 use Rattle.osgi_base.specs.declared.ids.ServiceId.{ServiceId}
-use Rattle.osgi_ops.specs.Classes.{has_class, is_among}
 use Rattle.osgi_ops.specs.declared.service.Service.{Service}
-use Rattle.osgi_registry.specs.declared.place.Place.{Place}
-use Rattle.osgi_registry.specs.computed.Kept.{AreKept}
-use Rattle.osgi_registry.specs.computed.Places.{AreCurrent, Classes, HoldsNoMore, HoldsSame, IsFresh, IsIndexOf, Moves, place_of, Puts, same_place, service_under}
-use Rattle.osgi_registry.specs.Rows.{change, service_number, is_service, LiveService}
-use Rattle.osgi_registry.proofs.Changed.{uses_set}
-use Rattle.osgi_registry.proofs.Exact.{place_exact, place_itself}
-use Rattle.osgi_registry.proofs.Placed.{IsAt, row_held}
+use Rattle.osgi_registry.specs.computed.Kept.{AreKept, IsUnder}
+use Rattle.osgi_registry.specs.computed.Slots.{AreCurrent, Forgets, PutsAtMost, service_in}
+use Rattle.osgi_registry.specs.Rows.{LiveService, service_number}
+use Rattle.osgi_registry.proofs.Keys.{found_by}
+use Rattle.osgi_registry.proofs.Slotted.{kept_id}
 
--- what is held alike
-pub current_same : (old new : Classes) (rows : List LiveService) → AreCurrent old rows → HoldsSame old new → AreCurrent new rows
-current_same old new rows current same = λ c p service is. current c p service (sym (same c p) ∙ is)
+-- what is found, as a service
+abbrev pub service_of : Option LiveService → Option Service
+service_of found = option_map (λ (row : LiveService). row.service) found
 
--- less that is held
-pub current_less : (old new : Classes) (rows : List LiveService) → AreCurrent old rows → HoldsNoMore old new → AreCurrent new rows
-current_less old new rows current less = λ c p service is. current c p service (less c p service is)
+-- the service of the id by the equality of ids
+pub service_by : (entries : List (ℕ × LiveService)) (id : ℕ) → service_in entries id ≡ service_of (lookup (nat_eq id) entries)
+service_by entries id = ap service_of (sym (found_by id entries (lookup (is_at (nat_cmp id)) entries) refl))
 
--- fewer rows
-pub current_filter : (classes : Classes) (keep : LiveService → Bool) (rows : List LiveService) → AreCurrent classes rows → AreCurrent classes (filter keep rows)
-current_filter classes keep rows current = λ c p service is. All-filter keep (λ row. place_of row.service ≡ p → service ≡ row.service) rows (current c p service is)
+-- ---- a row set
 
--- rows with the services that they had
-pub current_map : (classes : Classes) (f : LiveService → LiveService) (rows : List LiveService) → ((row : LiveService) → (f row).service ≡ row.service) → AreCurrent classes rows → AreCurrent classes (map f rows)
-current_map classes f rows same current = λ c p service is.
-    All-map (λ row. place_of row.service ≡ p → service ≡ row.service) f rows (λ k d within at. current c p service is k d within (ap place_of (sym (same (get_or rows k d))) ∙ at) ∙ sym (same (get_or rows k d)))
+set_by : (key id : ℕ) (old new : LiveService) (e : ℕ × LiveService) (rest : List (ℕ × LiveService)) (here this : Bool) → nat_eq key e.0 ≡ here → nat_eq id e.0 ≡ this → (id ≡ key → new.service ≡ old.service) → cond here (Some e.1) (lookup (nat_eq key) rest) ≡ Some old →
+    (lookup (nat_eq key) rest ≡ Some old → service_of (lookup (nat_eq id) (set_value (nat_eq key) rest new)) ≡ service_of (lookup (nat_eq id) rest)) →
+    service_of (lookup (nat_eq id) (cond here ((e.0, new) ∷ rest) (e ∷ set_value (nat_eq key) rest new))) ≡ service_of (cond this (Some e.1) (lookup (nat_eq id) rest))
+set_by key id old new e rest true true at is same found more =
+    let row_is : e.1 ≡ old = cc found in
+    let alike : new.service ≡ e.1.service = same (eqb-true id e.0 is ∙ sym (eqb-true key e.0 at)) ∙ ap (λ (r : LiveService). r.service) (sym row_is) in
+    ap (λ b. service_of (cond b (Some new) (lookup (nat_eq id) rest))) is ∙ ap (λ s. Some s) alike
+set_by key id old new e rest true false at is same found more = ap (λ b. service_of (cond b (Some new) (lookup (nat_eq id) rest))) is
+set_by key id old new e rest false true at is same found more = ap (λ b. service_of (cond b (Some e.1) (lookup (nat_eq id) (set_value (nat_eq key) rest new)))) is
+set_by key id old new e rest false false at is same found more =
+    ap (λ b. service_of (cond b (Some e.1) (lookup (nat_eq id) (set_value (nat_eq key) rest new)))) is ∙ more found
 
--- ---- one more service
+-- the service of each id stays, but of the one whose row is set
+set_services : (key id : ℕ) (old new : LiveService) (entries : List (ℕ × LiveService)) → lookup (nat_eq key) entries ≡ Some old → (id ≡ key → new.service ≡ old.service) → service_of (lookup (nat_eq id) (set_value (nat_eq key) entries new)) ≡ service_of (lookup (nat_eq id) entries)
+set_services key id old new [] found same = absurd (cc found)
+set_services key id old new (e ∷ rest) found same =
+    set_by key id old new e rest (nat_eq key e.0) (nat_eq id e.0) refl refl same found (λ found. set_services key id old new rest found same)
 
-pushed_by : (there : Bool) (p : Place) (row : LiveService) (rows : List LiveService) (old : Option Service) (service : Service) → (there ≡ true → same_place (place_of row.service) p ≡ true) → (same_place (place_of row.service) p ≡ true → old ≡ None) →
-    All (λ r. place_of r.service ≢ place_of row.service) rows → (old ≡ Some service → All (λ r. place_of r.service ≡ p → service ≡ r.service) rows) → cond there (Some row.service) old ≡ Some service →
-    All (λ r. place_of r.service ≡ p → service ≡ r.service) (rows ++ row ∷ [])
-pushed_by true p row rows old service same fresh apart current is =
-    let own : service ≡ row.service = cc is in
-    All-push (λ r. place_of r.service ≡ p → service ≡ r.service) rows row (λ k d within at. absurd (apart k d within (at ∙ sym (place_exact (place_of row.service) p (same refl))))) (λ at. own)
-pushed_by false p row rows old service same fresh apart current is =
-    All-push (λ r. place_of r.service ≡ p → service ≡ r.service) rows row (current is)
-    (λ at. absurd (cc (sym is ∙ fresh (ap (same_place (place_of row.service)) (sym at) ∙ place_itself (place_of row.service)))))
+set_here_by : (key : ℕ) (old new : LiveService) (e : ℕ × LiveService) (rest : List (ℕ × LiveService)) (here : Bool) → nat_eq key e.0 ≡ here → cond here (Some e.1) (lookup (nat_eq key) rest) ≡ Some old →
+    (lookup (nat_eq key) rest ≡ Some old → lookup (nat_eq key) (set_value (nat_eq key) rest new) ≡ Some new) → lookup (nat_eq key) (cond here ((e.0, new) ∷ rest) (e ∷ set_value (nat_eq key) rest new)) ≡ Some new
+set_here_by key old new e rest true at found more = ap (λ b. cond b (Some new) (lookup (nat_eq key) rest)) at
+set_here_by key old new e rest false at found more = ap (λ b. cond b (Some e.1) (lookup (nat_eq key) (set_value (nat_eq key) rest new))) at ∙ more found
 
-pub current_push : (old new : Classes) (rows : List LiveService) (row : LiveService) → IsFresh old (place_of row.service) → All (λ r. place_of r.service ≢ place_of row.service) rows → AreCurrent old rows →
-    Puts old new row.service.classes (place_of row.service) (Some row.service) → AreCurrent new (rows ++ row ∷ [])
-current_push old new rows row fresh apart current added = λ c p service is.
-    pushed_by (is_among row.service.classes c && same_place (place_of row.service) p) p row rows (service_under old c p) service (λ there. (and_parts (is_among row.service.classes c) _ there).1) (fresh c p) apart (current c p service)
-    (sym (added c p) ∙ is)
-
--- ---- a service changed
-
--- the rows that have the place that the service leaves or comes to
-moved_by : (service : ServiceId) (f : LiveService → LiveService) (row r : LiveService) (to from p : Place) (c : List ℕ) (now : Service) (old : Option Service) (here : Bool) → is_service service r ≡ here → (is_service service r ≡ true → r ≡ row) → to ≡ place_of (f row).service → to.service ≡ service.0 →
-    (put left : Bool) → (put ≡ true → same_place to p ≡ true) → (same_place to p ≡ true → put ≡ false → old ≡ Some now → ⊥) → (old ≡ Some now → place_of r.service ≡ p → now ≡ r.service) →
-    cond put (Some (f row).service) (cond left None old) ≡ Some now → place_of (cond here (f r) r).service ≡ p → now ≡ (cond here (f r) r).service
-moved_by service f row r to from p c now old true at only comes its true left same none current is there =
-    let own : (f row).service ≡ now = cc is in
-    sym own ∙ ap (λ x. (f x).service) (sym (only at))
-moved_by service f row r to from p c now old false at only comes its true left same none current is there =
-    let id : service_number r ≡ service.0 = ap (λ (q : Place). q.service) (there ∙ sym (place_exact to p (same refl))) ∙ its in
-    absurd (true≢false (sym (eq-eqb service.0 (service_number r) (sym id)) ∙ at))
-moved_by service f row r to from p c now old here at only comes its false true same none current is there = absurd (cc is)
-moved_by service f row r to from p c now old true at only comes its false false same none current is there =
-    let gone : to ≡ p = comes ∙ ap (λ x. place_of (f x).service) (sym (only at)) ∙ there in
-    absurd (none (ap (same_place to) (sym gone) ∙ place_itself to) refl is)
-moved_by service f row r to from p c now old false at only comes its false false same none current is there = current is there
-
--- no other service stands where it comes to
-none_there : (old : Classes) (service : ServiceId) (row : LiveService) (rows : List LiveService) (to p : Place) (c : List ℕ) (now : Service) → IsIndexOf old rows → All (λ r. is_service service r ≡ true → r ≡ row) rows → to.service ≡ service.0 →
-    same_place to p ≡ true → (is_among row.service.classes c && same_place to p) ≡ false → service_under old c p ≡ Some now → ⊥
-none_there old service row rows to p c now index only its same out is =
-    let at : IsAt c rows p = row_held old c rows p index (ap (λ o. is_some o) is) in
-    let id : service_number at.row ≡ service.0 = ap (λ (q : Place). q.service) (at.is ∙ sym (place_exact to p same)) ∙ its in
-    let own : at.row ≡ row = All-contains (λ r. is_service service r ≡ true → r ≡ row) rows at.row only at.live (eq-eqb service.0 (service_number at.row) (sym id)) in
-    let has : is_among row.service.classes c ≡ true = ap (λ r. has_class c r.service) (sym own) ∙ at.has in
-    true≢false (sym (λ i. has i && same i) ∙ out)
-
-pub current_change : (old new : Classes) (service : ServiceId) (f : LiveService → LiveService) (row : LiveService) (rows : List LiveService) (from : Place) → AreCurrent old rows → IsIndexOf old rows → Moves old new row.service.classes from (place_of (f row).service) (f row).service →
-    (place_of (f row).service).service ≡ service.0 → All (λ r. is_service service r ≡ true → r ≡ row) rows → AreCurrent new (change service f rows)
-current_change old new service f row rows from current index moved its only = λ c p now is.
-    let to = place_of (f row).service in
-    All-map (λ r. place_of r.service ≡ p → now ≡ r.service) (λ r. cond (is_service service r) (f r) r) rows
-    (λ k d within.
-    moved_by service f row (get_or rows k d) to from p c now (service_under old c p) (is_service service (get_or rows k d)) refl (only k d within) refl its
-    (is_among row.service.classes c && same_place to p) (is_among row.service.classes c && same_place from p) (λ put. (and_parts (is_among row.service.classes c) _ put).1)
-    (λ same out. none_there old service row rows to p c now index only its same out) (λ held. current c p now held k d within) (sym (moved c p) ∙ is))
-
-kept_service : (f : LiveService → LiveService) (r : LiveService) (here : Bool) → (f r).service ≡ r.service → (cond here (f r) r).service ≡ r.service
-kept_service f r true same = same
-kept_service f r false same = refl
+set_here : (key : ℕ) (old new : LiveService) (entries : List (ℕ × LiveService)) → lookup (nat_eq key) entries ≡ Some old → lookup (nat_eq key) (set_value (nat_eq key) entries new) ≡ Some new
+set_here key old new [] found = absurd (cc found)
+set_here key old new (e ∷ rest) found = set_here_by key old new e rest (nat_eq key e.0) refl found (set_here key old new rest)
 
 -- a service whose uses change
-pub current_kept : (issued : ℕ) (service : ServiceId) (old new : LiveService) (entries : List (ℕ × LiveService)) (classes : Classes) → AreKept issued entries → AreCurrent classes (values_of entries) → new.service ≡ old.service → lookup (nat_eq service.0) entries ≡ Some old →
-    AreCurrent classes (values_of (set_value (nat_eq service.0) entries new))
-current_kept issued service old new entries classes kept current same found =
-    rw (uses_set issued service old new entries kept same found)
-    (current_map classes (λ row. cond (is_service service row) (record new { service = row.service }) row) (values_of entries) (λ row. kept_service (λ r. record new { service = r.service }) row (is_service service row) refl) current)
+pub current_kept : (issued : ℕ) (service : ServiceId) (old new : LiveService) (entries : List (ℕ × LiveService)) (slots : List (Option Service)) → AreKept issued entries → AreCurrent slots entries → new.service ≡ old.service → lookup (nat_eq service.0) entries ≡ Some old →
+    AreCurrent slots (set_value (nat_eq service.0) entries new)
+current_kept issued service old new entries slots kept current same found = λ id s is.
+    service_by (set_value (nat_eq service.0) entries new) id ∙ set_services service.0 id old new entries found (λ own. same) ∙ sym (service_by entries id) ∙ current id s is
+
+changed_by : (key : ℕ) (old new : LiveService) (entries : List (ℕ × LiveService)) (id : ℕ) (s : Service) → lookup (nat_eq key) entries ≡ Some old → s.service.0 ≡ id → service_number new ≡ key → (s ≡ new.service) ⊎ ((service_in entries id ≡ Some s) × (id ≢ key)) →
+    service_in (set_value (nat_eq key) entries new) id ≡ Some s
+changed_by key old new entries id s found own number (inl is) =
+    let at : id ≡ key = sym own ∙ ap (λ (t : Service). t.service.0) is ∙ number in
+    service_by (set_value (nat_eq key) entries new) id ∙ ap (λ k. service_of (lookup (nat_eq k) (set_value (nat_eq key) entries new))) at ∙ ap service_of (set_here key old new entries found) ∙ ap (λ t. Some t) (sym is)
+changed_by key old new entries id s found own number (inr was) =
+    service_by (set_value (nat_eq key) entries new) id ∙ set_services key id old new entries found (λ at. absurd (was.1 at)) ∙ sym (service_by entries id) ∙ was.0
+
+-- a service in place of another
+pub current_changed : (old mid new : List (Option Service)) (key : ℕ) (row changed : LiveService) (entries : List (ℕ × LiveService)) → AreCurrent old entries → Forgets old mid key → PutsAtMost mid new changed.service → service_number changed ≡ key → lookup (nat_eq key) entries ≡ Some row →
+    AreCurrent new (set_value (nat_eq key) entries changed)
+current_changed old mid new key row changed entries current forgets puts number found = λ id s is.
+    changed_by key row changed entries id s found (kept_id new id s is) number
+    (elim (puts id s is) [
+      | inl own ↦ inl own
+      | inr was ↦ (let left = forgets id s was in inr (current id s left.0, left.1))
+    ])
+
+-- ---- a row taken out
+
+removed_by : (key id : ℕ) (e : ℕ × LiveService) (rest : List (ℕ × LiveService)) (here this : Bool) → nat_eq key e.0 ≡ here → nat_eq id e.0 ≡ this → id ≢ key → lookup (nat_eq id) (remove_entry (nat_eq key) rest) ≡ lookup (nat_eq id) rest →
+    lookup (nat_eq id) (cond here rest (e ∷ remove_entry (nat_eq key) rest)) ≡ cond this (Some e.1) (lookup (nat_eq id) rest)
+removed_by key id e rest true true at is apart more = absurd (apart (eqb-true id e.0 is ∙ sym (eqb-true key e.0 at)))
+removed_by key id e rest true false at is apart more = refl
+removed_by key id e rest false true at is apart more = ap (λ b. cond b (Some e.1) (lookup (nat_eq id) (remove_entry (nat_eq key) rest))) is
+removed_by key id e rest false false at is apart more = ap (λ b. cond b (Some e.1) (lookup (nat_eq id) (remove_entry (nat_eq key) rest))) is ∙ more
+
+removed : (key id : ℕ) (entries : List (ℕ × LiveService)) → id ≢ key → lookup (nat_eq id) (remove_entry (nat_eq key) entries) ≡ lookup (nat_eq id) entries
+removed key id [] apart = refl
+removed key id (e ∷ rest) apart = removed_by key id e rest (nat_eq key e.0) (nat_eq id e.0) refl refl apart (removed key id rest apart)
+
+pub current_removed : (old new : List (Option Service)) (key : ℕ) (entries : List (ℕ × LiveService)) → AreCurrent old entries → Forgets old new key → AreCurrent new (remove_entry (nat_eq key) entries)
+current_removed old new key entries current forgets = λ id s is.
+    let left = forgets id s is in
+    service_by (remove_entry (nat_eq key) entries) id ∙ ap service_of (removed key id entries left.1) ∙ sym (service_by entries id) ∙ current id s left.0
+
+-- ---- one more row
+
+still_by : (id : ℕ) (e : ℕ × LiveService) (rest last : List (ℕ × LiveService)) (s : Service) (this : Bool) → service_of (cond this (Some e.1) (lookup (nat_eq id) rest)) ≡ Some s →
+    (service_of (lookup (nat_eq id) rest) ≡ Some s → service_of (lookup (nat_eq id) (rest ++ last)) ≡ Some s) → service_of (cond this (Some e.1) (lookup (nat_eq id) (rest ++ last))) ≡ Some s
+still_by id e rest last s true is more = is
+still_by id e rest last s false is more = more is
+
+still_found : (id : ℕ) (entries last : List (ℕ × LiveService)) (s : Service) → service_of (lookup (nat_eq id) entries) ≡ Some s → service_of (lookup (nat_eq id) (entries ++ last)) ≡ Some s
+still_found id [] last s is = absurd (cc is)
+still_found id (e ∷ rest) last s is = still_by id e rest last s (nat_eq id e.0) is (still_found id rest last s)
+
+last_found : (issued : ℕ) (entries : List (ℕ × LiveService)) (row : LiveService) → All (IsUnder issued) entries → lookup (nat_eq (issued + 1)) (entries ++ (issued + 1, row) ∷ []) ≡ Some row
+last_found issued [] row under = ap (λ b. cond b (Some row) None) (eq-eqb (issued + 1) (issued + 1) refl)
+last_found issued (e ∷ rest) row under =
+    let here = All-head (IsUnder issued) e rest under in
+    ap (λ b. cond b (Some e.1) (lookup (nat_eq (issued + 1)) (rest ++ (issued + 1, row) ∷ []))) (ne_eqb (issued + 1) e.0 (λ same. absurd (omega (arith, same, here.below))))
+    ∙ last_found issued rest row (All-tail (IsUnder issued) e rest under)
+
+pushed_by : (issued : ℕ) (entries : List (ℕ × LiveService)) (row : LiveService) (id : ℕ) (s : Service) → All (IsUnder issued) entries → s.service.0 ≡ id → service_number row ≡ issued + 1 → (s ≡ row.service) ⊎ (service_in entries id ≡ Some s) →
+    service_in (entries ++ (issued + 1, row) ∷ []) id ≡ Some s
+pushed_by issued entries row id s under own number (inl is) =
+    let at : id ≡ issued + 1 = sym own ∙ ap (λ (t : Service). t.service.0) is ∙ number in
+    service_by (entries ++ (issued + 1, row) ∷ []) id ∙ ap (λ k. service_of (lookup (nat_eq k) (entries ++ (issued + 1, row) ∷ []))) at ∙ ap service_of (last_found issued entries row under) ∙ ap (λ t. Some t) (sym is)
+pushed_by issued entries row id s under own number (inr was) =
+    service_by (entries ++ (issued + 1, row) ∷ []) id ∙ still_found id entries ((issued + 1, row) ∷ []) s (sym (service_by entries id) ∙ was)
+
+pub current_push : (issued : ℕ) (old new : List (Option Service)) (entries : List (ℕ × LiveService)) (row : LiveService) → All (IsUnder issued) entries → service_number row ≡ issued + 1 → PutsAtMost old new row.service → AreCurrent old entries →
+    AreCurrent new (entries ++ (issued + 1, row) ∷ [])
+current_push issued old new entries row under number puts current = λ id s is.
+    pushed_by issued entries row id s under (kept_id new id s is) number
+    (elim (puts id s is) [
+      | inl own ↦ inl own
+      | inr was ↦ inr (current id s was)
+    ])

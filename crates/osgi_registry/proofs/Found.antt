@@ -4,7 +4,7 @@ use Rattle.std.specs.Prelude.{Bool, true, false, All, AllPairs, Contains, IfOk, 
 use Rattle.std.specs.Bool.{Decides}
 use Rattle.std.specs.declared.cmp.Ordering.{Ordering}
 use Rattle.std.specs.declared.cmp.Ordering.TheVariants.{Less, Equal, Greater}
-use Rattle.std.specs.List.{list_all}
+use Rattle.std.specs.List.{cons_option, list_all}
 use Rattle.std.specs.List.Sorted.{IsStrictlySortedBy}
 use Rattle.std.specs.Map.{keys_of, values_of}
 use Rattle.std.specs.Ordering.{is_eq, is_gt}
@@ -22,17 +22,26 @@ use Rattle.osgi_ops.specs.declared.service.Service.{Service}
 use Rattle.osgi_world.specs.declared.world.World.{World}
 use Rattle.osgi_registry.specs.declared.place.Place.{Place}
 use Rattle.osgi_registry.specs.computed.Finding.{AnswersIn, AnswersTold, does_fit, IsFirst, IsFirstFound, is_open}
-use Rattle.osgi_registry.specs.computed.Places.{AreCurrent, Classes, entries_at, IsIndexOf, place_cmp, place_of, service_at}
+use Rattle.osgi_registry.specs.computed.Kept.{AreKept}
+use Rattle.osgi_registry.specs.computed.Places.{Classes, IsIndexOf, place_cmp, place_of, places_at, service_at}
+use Rattle.osgi_registry.specs.computed.Slots.{service_in, services_at}
 use Rattle.osgi_registry.specs.Rows.{IsAskedFor, IsOpenBy, LiveService, services_in}
 use Rattle.osgi_registry.proofs.Entries.{pairs_head, pairs_tail}
 use Rattle.osgi_registry.proofs.Exact.{place_itself}
-use Rattle.osgi_registry.proofs.Ranked.{all_listed, every_listed, ids_are, IsListed, ordered}
+use Rattle.osgi_registry.proofs.Ranked.{are_listed, AreListed, every_listed, ids_are, IsListed, ordered}
 
 -- what a test answered of a service that was read
 pub answered : (passes : Service → Bool) (s read : Service) (answer told : Bool) → answer ≡ passes read → read ≡ s → answer ≡ told → passes s ≡ told
 answered passes s read answer told test same is = ap passes (sym same) ∙ sym test ∙ is
 
--- the first of those that are left passes
+-- ---- the places that are left
+
+-- the first of them has this service, or none
+pub next_service : (entries : List (ℕ × LiveService)) (left rest : List Place) (p : Place) (id : ServiceId) (found : Option Service) → left ≡ p ∷ rest → id.0 ≡ p.service → found ≡ service_in entries id.0 → services_at entries left ≡ cons_option found (services_at entries rest)
+next_service entries left rest p id found is own at =
+    ap (services_at entries) is ∙ ap (λ o. cons_option o (services_at entries rest)) (sym (at ∙ ap (λ n. service_in entries n) own))
+
+-- that passes
 pub one_more : (passes : Service → Bool) (ids : List ServiceId) (left rest : List Service) (s : Service) → left ≡ s ∷ rest → passes s ≡ true → (ids ++ s.service ∷ []) ++ ids_of (filter passes rest) ≡ ids ++ ids_of (filter passes left)
 one_more passes ids left rest s is own = rw (is, own) (append_assoc ids (s.service ∷ []) (ids_of (filter passes rest)))
 
@@ -88,13 +97,12 @@ values_listed c rows entries listed = All-map (λ s. Contains (services_in rows)
 
 -- ---- the services of a class that pass
 
-module _ (classes : Classes) (c : List ℕ) (rows : List LiveService) (index : IsIndexOf classes rows) (current : AreCurrent classes rows) (passes : Service → Bool)
-    (IsAsked : Service → Type 0) (tells : (s : Service) → has_class c s ≡ true → Decides (passes s) (IsAsked s)) (asked_has : (s : Service) → IsAsked s → has_class c s ≡ true)
-    (entries : List (Place × Service)) (are : entries_at classes c ≡ entries) where
+module _ (c : List ℕ) (rows : List LiveService) (entries : List (Place × Service)) (listed : All (IsListed c rows) entries)
+    (every : (k : ℕ) (d : LiveService) → k < length rows → has_class c (get_or rows k d).service ≡ true → Contains (values_of entries) (get_or rows k d).service) (passes : Service → Bool)
+    (IsAsked : Service → Type 0) (tells : (s : Service) → has_class c s ≡ true → Decides (passes s) (IsAsked s)) (asked_has : (s : Service) → IsAsked s → has_class c s ≡ true) where
   -- those that pass are those that are asked for, the better first
-  pub ranked_under : IsStrictlySortedBy place_cmp (keys_of entries) → AreRanked IsAsked (services_in rows) (ids_of (filter passes (values_of entries)))
+  ranked_under : IsStrictlySortedBy place_cmp (keys_of entries) → AreRanked IsAsked (services_in rows) (ids_of (filter passes (values_of entries)))
   ranked_under sorted =
-      let listed : All (IsListed c rows) entries = all_listed classes c rows index current entries are sorted in
       let live : All (λ s. Contains (services_in rows) s × (has_class c s ≡ true)) (filter passes (values_of entries))
       = All-filter passes (λ s. Contains (services_in rows) s × (has_class c s ≡ true)) (values_of entries) (values_listed c rows entries listed) in
       record {
@@ -107,20 +115,20 @@ module _ (classes : Classes) (c : List ℕ) (rows : List LiveService) (index : I
             (λ k d within asked.
             let s : Service = (get_or rows k d).service in
             let has : has_class c s ≡ true = asked_has s asked in
-            passes_kept passes s (values_of entries) (subst (λ (list : List (Place × Service)). Contains (values_of list) s) are (every_listed classes c rows index current k d within has)) ((tells s has).1 asked));
+            passes_kept passes s (values_of entries) (every k d within has) ((tells s has).1 asked));
       }
 
   -- one that passes is one of them
-  one_passes : IsStrictlySortedBy place_cmp (keys_of entries) → (id : ServiceId) → IsAskedFor (λ s. passes s ≡ true) (values_of entries) id → IsAskedFor IsAsked (services_in rows) id
-  one_passes sorted id one =
-      let here = All-contains (λ s. Contains (services_in rows) s × (has_class c s ≡ true)) (values_of entries) one.service (values_listed c rows entries (all_listed classes c rows index current entries are sorted)) one.there in
+  one_passes : (id : ServiceId) → IsAskedFor (λ s. passes s ≡ true) (values_of entries) id → IsAskedFor IsAsked (services_in rows) id
+  one_passes id one =
+      let here = All-contains (λ s. Contains (services_in rows) s × (has_class c s ≡ true)) (values_of entries) one.service (values_listed c rows entries listed) one.there in
       record { service = one.service; there = here.0; is = one.is; asked = (tells one.service here.1).0 one.asked }
 
   -- where all pass, the ids are those of their places
-  pub all_ranked : ((s : Service) → passes s ≡ true) → IsStrictlySortedBy place_cmp (keys_of entries) → AreRanked IsAsked (services_in rows) (map service_at (keys_of entries))
+  all_ranked : ((s : Service) → passes s ≡ true) → IsStrictlySortedBy place_cmp (keys_of entries) → AreRanked IsAsked (services_in rows) (map service_at (keys_of entries))
   all_ranked all sorted =
       subst (λ list. AreRanked IsAsked (services_in rows) list)
-      (sym (ids_are c rows entries (all_listed classes c rows index current entries are sorted) ∙ ap ids_of (sym (filter_all passes (values_of entries) (λ k d within. all (get_or (values_of entries) k d))))))
+      (sym (ids_are c rows entries listed ∙ ap ids_of (sym (filter_all passes (values_of entries) (λ k d within. all (get_or (values_of entries) k d))))))
       (ranked_under sorted)
 
 -- ---- the first service of a class that passes a test
@@ -148,22 +156,20 @@ first_weaker answers more services (Some id) so f = record {
   is = f.is;
 }
 
-module _ (classes : Classes) (c : List ℕ) (rows : List LiveService) (index : IsIndexOf classes rows) (current : AreCurrent classes rows) (answers : Service → Bool → Type 0)
-    (IsAsked : Service → Type 0) (tells : (s : Service) → has_class c s ≡ true → (answers s true → IsAsked s) × (answers s false → ¬ IsAsked s)) (asked_has : (s : Service) → IsAsked s → has_class c s ≡ true)
-    (entries : List (Place × Service)) (are : entries_at classes c ≡ entries) where
+module _ (c : List ℕ) (rows : List LiveService) (entries : List (Place × Service)) (listed : All (IsListed c rows) entries)
+    (every : (k : ℕ) (d : LiveService) → k < length rows → has_class c (get_or rows k d).service ≡ true → Contains (values_of entries) (get_or rows k d).service) (answers : Service → Bool → Type 0)
+    (IsAsked : Service → Type 0) (tells : (s : Service) → has_class c s ≡ true → (answers s true → IsAsked s) × (answers s false → ¬ IsAsked s)) (asked_has : (s : Service) → IsAsked s → has_class c s ≡ true) where
   there : (k : ℕ) (d : LiveService) → k < length rows → IsAsked (get_or rows k d).service → Contains (values_of entries) (get_or rows k d).service
-  there k d within asked =
-      subst (λ (list : List (Place × Service)). Contains (values_of list) (get_or rows k d).service) are (every_listed classes c rows index current k d within (asked_has (get_or rows k d).service asked))
+  there k d within asked = every k d within (asked_has (get_or rows k d).service asked)
 
   refused : (list : List Service) (s : Service) → All (λ t. answers t false) list → Contains list s → ¬ IsAsked s
   refused list s all at asked = (tells s (asked_has s asked)).1 (All-contains (λ t. answers t false) list s all at) asked
 
   -- it is the best of those that are asked for
-  pub found_first : (found : Option ServiceId) → IsStrictlySortedBy place_cmp (keys_of entries) → IsFirstFound answers (values_of entries) found → IsFound IsAsked (services_in rows) found
+  found_first : (found : Option ServiceId) → IsStrictlySortedBy place_cmp (keys_of entries) → IsFirstFound answers (values_of entries) found → IsFound IsAsked (services_in rows) found
   found_first None sorted none =
       All-map (λ s. ¬ IsAsked s) (λ row. row.service) rows (λ k d within asked. refused (values_of entries) (get_or rows k d).service none (there k d within asked) asked)
   found_first (Some id) sorted f =
-      let listed : All (IsListed c rows) entries = all_listed classes c rows index current entries are sorted in
       let here =
       All-contains (λ s. Contains (services_in rows) s × (has_class c s ≡ true)) (values_of entries) f.service (values_listed c rows entries listed) (first_there answers (values_of entries) id f) in
       let pairs : AllPairs (λ a b. rank_cmp a b ≡ Less) (values_of entries)
@@ -224,33 +230,67 @@ world_tells world asker class filter s has = (
   (λ d (is : IsOpenTo world asker class filter s). (let bad : false ≡ true = d.1 (is.0.1, is.1) in cc bad)),
 )
 
-module _ (classes : Classes) (c : List ℕ) (rows : List LiveService) (index : IsIndexOf classes rows) (current : AreCurrent classes rows) where
+-- ---- the services at the places of a class
+
+module _ (issued : ℕ) (classes : Classes) (c : List ℕ) (entries : List (ℕ × LiveService)) (kept : AreKept issued entries) (index : IsIndexOf classes (values_of entries))
+    (places : List Place) (are : places_at classes c ≡ places) where
+  the : AreListed c entries places
+  the = are_listed issued c entries kept classes index places are
+
+  every : (k : ℕ) (d : LiveService) → k < length (values_of entries) → has_class c (get_or (values_of entries) k d).service ≡ true → Contains (values_of the.pairs) (get_or (values_of entries) k d).service
+  every k d within has =
+      subst (λ (list : List Service). Contains list (get_or (values_of entries) k d).service) (sym the.values) (every_listed issued c entries kept classes index places are k d within has)
+
+  in_order : IsStrictlySortedBy place_cmp places → IsStrictlySortedBy place_cmp (keys_of the.pairs)
+  in_order sorted = subst (IsStrictlySortedBy place_cmp) (sym the.keys) sorted
+
+  -- those that pass are those that are asked for
+  pub some_ranked : (passes : Service → Bool) (IsAsked : Service → Type 0) → ((s : Service) → has_class c s ≡ true → Decides (passes s) (IsAsked s)) → ((s : Service) → IsAsked s → has_class c s ≡ true) → IsStrictlySortedBy place_cmp places →
+      AreRanked IsAsked (services_in (values_of entries)) (ids_of (filter passes (services_at entries places)))
+  some_ranked passes IsAsked tells asked_has sorted =
+      subst (λ list. AreRanked IsAsked (services_in (values_of entries)) (ids_of (filter passes list))) the.values
+      (ranked_under c (values_of entries) the.pairs the.listed every passes IsAsked tells asked_has (in_order sorted))
+
+  -- where all pass, they are those of the places
+  pub each_ranked : (passes : Service → Bool) (IsAsked : Service → Type 0) → ((s : Service) → has_class c s ≡ true → Decides (passes s) (IsAsked s)) → ((s : Service) → IsAsked s → has_class c s ≡ true) → ((s : Service) → passes s ≡ true) →
+      IsStrictlySortedBy place_cmp places → AreRanked IsAsked (services_in (values_of entries)) (map service_at places)
+  each_ranked passes IsAsked tells asked_has all sorted =
+      subst (λ list. AreRanked IsAsked (services_in (values_of entries)) (map service_at list)) the.keys
+      (all_ranked c (values_of entries) the.pairs the.listed every passes IsAsked tells asked_has all (in_order sorted))
+
   -- where the class has no services, none is found
-  pub none_found : (IsAsked : Service → Type 0) → ((s : Service) → IsAsked s → has_class c s ≡ true) → entries_at classes c ≡ [] → IsFound IsAsked (services_in rows) None
-  none_found IsAsked asked_has are =
-      found_first classes c rows index current (λ s b. ⊥) IsAsked (λ s has. ((λ no. absurd no), (λ no. absurd no))) asked_has [] are None none_sorted (All-nil (λ (s : Service). ⊥))
+  pub none_found : (IsAsked : Service → Type 0) → ((s : Service) → IsAsked s → has_class c s ≡ true) → places ≡ [] → IsFound IsAsked (services_in (values_of entries)) None
+  none_found IsAsked asked_has none =
+      found_first c (values_of entries) the.pairs the.listed every (λ s b. ⊥) IsAsked (λ s has. ((λ no. absurd no), (λ no. absurd no))) asked_has None (in_order (subst (IsStrictlySortedBy place_cmp) (sym none) none_sorted))
+      (subst (λ list. All (λ (s : Service). ⊥) list) (sym (the.values ∙ ap (services_at entries) none)) (All-nil (λ (s : Service). ⊥)))
 
-  -- what is found by what is told
-  pub told_found : (Agrees : (BundleId → List ℕ → Bool) → Type 0) (filter : Option Filter) (entries : List (Place × Service)) → entries_at classes c ≡ entries → (found : Option ServiceId) → IsStrictlySortedBy place_cmp (keys_of entries) →
-      IsFirstFound (AnswersTold Agrees filter) (values_of entries) found → (test : BundleId → List ℕ → Bool) → Agrees test → IsFound (IsOpenBy test c filter) (services_in rows) found
-  told_found Agrees filter entries are found sorted first test agrees =
-      found_first classes c rows index current (λ s b. b ≡ is_open test filter s) (IsOpenBy test c filter) (computed_tells test c filter) (λ s is. is.0.0) entries are found sorted
-      (first_weaker (AnswersTold Agrees filter) (λ s b. b ≡ is_open test filter s) (values_of entries) found (λ s b is. is.0 test agrees) first)
+  module _ (found : Option ServiceId) (sorted : IsStrictlySortedBy place_cmp places) where
+    first_listed : (answers : Service → Bool → Type 0) → IsFirstFound answers (services_at entries places) found → IsFirstFound answers (values_of the.pairs) found
+    first_listed answers first = subst (λ (list : List Service). IsFirstFound answers list found) (sym the.values) first
 
-  -- it is of the class and fits the filter, whatever is told
-  pub told_fits : (Agrees : (BundleId → List ℕ → Bool) → Type 0) (filter : Option Filter) (entries : List (Place × Service)) → entries_at classes c ≡ entries → (found : Option ServiceId) → IsStrictlySortedBy place_cmp (keys_of entries) →
-      IsFirstFound (AnswersTold Agrees filter) (values_of entries) found → IfSome found (IsAskedFor (IsOf c filter) (services_in rows))
-  told_fits Agrees filter entries are found sorted first =
-      some_is found (IsAskedFor (λ s. does_fit filter s ≡ true) (values_of entries)) (IsAskedFor (IsOf c filter) (services_in rows))
-      (one_passes classes c rows index current (does_fit filter) (IsOf c filter) (of_decides c filter) (λ s is. is.0) entries are sorted)
-      (first_asked (AnswersTold Agrees filter) (λ s. does_fit filter s ≡ true) (values_of entries) found (λ s is. is.1) first)
+    -- what is found by what is told
+    pub told_found : (Agrees : (BundleId → List ℕ → Bool) → Type 0) (filter : Option Filter) → IsFirstFound (AnswersTold Agrees filter) (services_at entries places) found → (test : BundleId → List ℕ → Bool) → Agrees test →
+        IsFound (IsOpenBy test c filter) (services_in (values_of entries)) found
+    told_found Agrees filter first test agrees =
+        found_first c (values_of entries) the.pairs the.listed every (λ s b. b ≡ is_open test filter s) (IsOpenBy test c filter) (computed_tells test c filter) (λ s is. is.0.0) found (in_order sorted)
+        (first_weaker (AnswersTold Agrees filter) (λ s b. b ≡ is_open test filter s) (values_of the.pairs) found (λ s b is. is.0 test agrees) (first_listed (AnswersTold Agrees filter) first))
 
-  -- what is found by the wirings of a world
-  pub asked_found : {E : Type 0} (world : World) (asker : BundleId) (filter : Option Filter) (entries : List (Place × Service)) → entries_at classes c ≡ entries → (r : Result (Option ServiceId) E) → OnOk r (IsStrictlySortedBy place_cmp (keys_of entries)) →
-      IfOk r (IsFirstFound (AnswersIn world asker filter) (values_of entries)) → IfOk r (IsFound (IsOpenTo world asker c filter) (services_in rows))
-  asked_found world asker filter entries are (Ok found) sorted first =
-      found_first classes c rows index current (AnswersIn world asker filter) (IsOpenTo world asker c filter) (world_tells world asker c filter) (λ s is. is.0.0) entries are found sorted first
-  asked_found world asker filter entries are (Err e) sorted first = tt
+    -- it is of the class and fits the filter, whatever is told
+    pub told_fits : (Agrees : (BundleId → List ℕ → Bool) → Type 0) (filter : Option Filter) → IsFirstFound (AnswersTold Agrees filter) (services_at entries places) found → IfSome found (IsAskedFor (IsOf c filter) (services_in (values_of entries)))
+    told_fits Agrees filter first =
+        some_is found (IsAskedFor (λ s. does_fit filter s ≡ true) (values_of the.pairs)) (IsAskedFor (IsOf c filter) (services_in (values_of entries)))
+        (one_passes c (values_of entries) the.pairs the.listed every (does_fit filter) (IsOf c filter) (of_decides c filter) (λ s is. is.0))
+        (first_asked (AnswersTold Agrees filter) (λ s. does_fit filter s ≡ true) (values_of the.pairs) found (λ s is. is.1) (first_listed (AnswersTold Agrees filter) first))
+
+    -- what is found by the wirings of a world
+    pub asked_found : (world : World) (asker : BundleId) (filter : Option Filter) → IsFirstFound (AnswersIn world asker filter) (services_at entries places) found → IsFound (IsOpenTo world asker c filter) (services_in (values_of entries)) found
+    asked_found world asker filter first =
+        found_first c (values_of entries) the.pairs the.listed every (AnswersIn world asker filter) (IsOpenTo world asker c filter) (world_tells world asker c filter) (λ s is. is.0.0) found (in_order sorted)
+        (first_listed (AnswersIn world asker filter) first)
+
+pub if_found : {E : Type 0} (r : Result (Option ServiceId) E) (First Found : Option ServiceId → Type 0) (sorted : Type 0) → OnOk r sorted → IfOk r First → ((found : Option ServiceId) → sorted → First found → Found found) → IfOk r Found
+if_found (Ok found) First Found sorted order first so = so found order first
+if_found (Err e) First Found sorted order first so = tt
 
 -- ---- the answer
 

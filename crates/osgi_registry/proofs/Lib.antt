@@ -16,4 +16,5 @@ pub mod Owned
 pub mod Placed
 pub mod Pushes
 pub mod Ranked
+pub mod Slotted
 pub mod Twins

@@ -148,7 +148,8 @@ owned_exact issued bundle entries services kept among rising =
 
 -- ---- the services of these ids
 
-each_found : (rows : List LiveService) → AllPairs (λ a b. service_number a < service_number b) rows → All (λ row. row_at row.service.service rows ≡ Some row) rows
+-- each row is found by its id
+pub each_found : (rows : List LiveService) → AllPairs (λ a b. service_number a < service_number b) rows → All (λ row. row_at row.service.service rows ≡ Some row) rows
 each_found [] pairs = λ k d within. absurd (omega arith)
 each_found (row ∷ rest) pairs =
     let after = pairs_head (λ a b. service_number a < service_number b) row rest pairs in

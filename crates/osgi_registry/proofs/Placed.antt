@@ -1,9 +1,8 @@
 -- The index by class after the rows change, and what its first place says of them.
 use Rattle.std.proofs.Common.{◌≡◌, ◌≢◌, ◌<◌, ℕ, List, [], ◌∷◌, ◌++◌, ap, sym, ◌∙◌, refl, arith, get_or, length, nat_eq, true≢false}
-use Rattle.std.specs.Prelude.{Bool, true, false, cond, ◌||◌, ◌&&◌, not, Option, None, Some, All, AllPairs, Contains}
+use Rattle.std.specs.Prelude.{Bool, true, false, cond, ◌||◌, ◌&&◌, not, Some, All, AllPairs, Contains}
 use Rattle.std.specs.List.{list_any}
 use Rattle.std.specs.Map.{lookup, set_value, values_of}
-use Rattle.std.specs.Option.{is_some}
 use Rattle.std.proofs.lemmas.Bool.{and_from, and_parts, and_right, eq-eqb, eqb-true, or_left, or_right}
 use Rattle.std.proofs.lemmas.List.{get_or-map, length-map}
 use Rattle.std.proofs.lemmas.List.Elements.{All-cons, All-head, All-map, All-tail}
@@ -11,9 +10,8 @@ use Rattle.std.proofs.lemmas.List.Folds.{Any-from_list_any, list_any-append, lis
 use Rattle.osgi_base.specs.declared.ids.ServiceId.{ServiceId}
 use Rattle.osgi_registry.specs.declared.place.Place.{Place}
 use Rattle.osgi_registry.specs.computed.Kept.{AreKept, IsBefore, IsUnder}
-use Rattle.osgi_registry.specs.computed.Places.{Classes, holds, HoldsSame, is_placed, IsFresh, IsIndexOf, Moves, place_of, Puts, same_place, service_under, StandsUnder}
+use Rattle.osgi_registry.specs.computed.Places.{Classes, holds, HoldsSame, is_placed, IsFresh, IsIndexOf, Moves, place_of, Puts, same_place, StandsUnder}
 use Rattle.osgi_ops.specs.Classes.{has_class, is_among}
-use Rattle.osgi_ops.specs.declared.service.Service.{Service}
 use Rattle.osgi_registry.specs.Rows.{change, service_number, is_service, LiveService, services_in, without}
 use Rattle.osgi_registry.proofs.Changed.{others_differ, uses_set}
 use Rattle.osgi_registry.proofs.Entries.{pairs_head, pairs_tail}
@@ -22,7 +20,7 @@ use Rattle.osgi_registry.proofs.Holds.{added_held, moved_held, taken_held}
 
 -- what is held alike is an index alike
 pub index_same : (old new : Classes) (rows : List LiveService) → IsIndexOf old rows → HoldsSame old new → IsIndexOf new rows
-index_same old new rows index same = λ c p. ap is_some (same c p) ∙ index c p
+index_same old new rows index same = λ c p. same c p ∙ index c p
 
 -- ---- one more service
 
@@ -32,25 +30,20 @@ or_last true false = refl
 or_last false true = refl
 or_last false false = refl
 
-pub placed_push : (old new : Classes) (rows : List LiveService) (row : LiveService) → IsIndexOf old rows → Puts old new row.service.classes (place_of row.service) (Some row.service) → IsIndexOf new (rows ++ row ∷ [])
+pub placed_push : (old new : Classes) (rows : List LiveService) (row : LiveService) → IsIndexOf old rows → Puts old new row.service.classes (place_of row.service) true → IsIndexOf new (rows ++ row ∷ [])
 placed_push old new rows row index added = λ c p.
-    added_held old new row.service.classes (place_of row.service) row.service added c p ∙ ap (λ b. is_placed c p row || b) (index c p) ∙ or_last (is_placed c p row) (list_any (is_placed c p) rows) ∙ sym (list_any-append (is_placed c p) rows (row ∷ []))
+    added_held old new row.service.classes (place_of row.service) added c p ∙ ap (λ b. is_placed c p row || b) (index c p) ∙ or_last (is_placed c p row) (list_any (is_placed c p) rows) ∙ sym (list_any-append (is_placed c p) rows (row ∷ []))
 
 apart_by : (a place p : Place) (test : Bool) → same_place a p ≡ test → a ≢ place → same_place place p ≡ true → test ≡ false
 apart_by a place p true same apart there = absurd (apart (place_exact a p same ∙ sym (place_exact place p there)))
 apart_by a place p false same apart there = refl
 
-none_held : (service : Option Service) → is_some service ≡ false → service ≡ None
-none_held None held = refl
-none_held (Some service) held = absurd (cc held)
-
 -- a place that is no service's stands under no class
 pub fresh_place : (classes : Classes) (rows : List LiveService) (place : Place) → IsIndexOf classes rows → All (λ row. place_of row.service ≢ place) rows → IsFresh classes place
 fresh_place classes rows place index apart = λ c p same.
-    none_held (service_under classes c p)
-    (index c p
+    index c p
     ∙ list_any_none (is_placed c p) rows
-    (λ k d within. and_right (has_class c (get_or rows k d).service) _ (apart_by (place_of (get_or rows k d).service) place p _ refl (apart k d within) same)))
+    (λ k d within. and_right (has_class c (get_or rows k d).service) _ (apart_by (place_of (get_or rows k d).service) place p _ refl (apart k d within) same))
 
 -- as that of an id which was not given
 pub fresh_id : (issued : ℕ) (entries : List (ℕ × LiveService)) (place : Place) → All (IsUnder issued) entries → issued < place.service → All (λ row. place_of row.service ≢ place) (values_of entries)
@@ -143,7 +136,7 @@ removed service c p row (r ∷ rest) is only =
     removed_by service c p row r rest (is_service service r) refl is (All-head (λ x. is_service service x ≡ true → x ≡ row) r rest only)
     (removed service c p row rest is (All-tail (λ x. is_service service x ≡ true → x ≡ row) r rest only))
 
-pub placed_remove : (old new : Classes) (service : ServiceId) (row : LiveService) (rows : List LiveService) → IsIndexOf old rows → Puts old new row.service.classes (place_of row.service) None → service_number row ≡ service.0 →
+pub placed_remove : (old new : Classes) (service : ServiceId) (row : LiveService) (rows : List LiveService) → IsIndexOf old rows → Puts old new row.service.classes (place_of row.service) false → service_number row ≡ service.0 →
     All (λ r. is_service service r ≡ true → r ≡ row) rows → IsIndexOf new (without service rows)
 placed_remove old new service row rows index taken is only = λ c p.
     taken_held old new row.service.classes (place_of row.service) taken c p ∙ ap (λ b. not (is_placed c p row) && b) (index c p) ∙ removed service c p row rows is only
@@ -186,10 +179,10 @@ changed service f c p row (r ∷ rest) is only =
     (changed service f c p row rest is (All-tail (λ x. is_service service x ≡ true → x ≡ row) r rest only))
 
 -- a service that moves with its classes
-pub placed_change : (old new : Classes) (service : ServiceId) (f : LiveService → LiveService) (row : LiveService) (rows : List LiveService) → IsIndexOf old rows → Moves old new row.service.classes (place_of row.service) (place_of (f row).service) (f row).service →
+pub placed_change : (old new : Classes) (service : ServiceId) (f : LiveService → LiveService) (row : LiveService) (rows : List LiveService) → IsIndexOf old rows → Moves old new row.service.classes (place_of row.service) (place_of (f row).service) →
     (f row).service.classes ≡ row.service.classes → service_number row ≡ service.0 → All (λ r. is_service service r ≡ true → r ≡ row) rows → list_any (is_service service) rows ≡ true → IsIndexOf new (change service f rows)
 placed_change old new service f row rows index moved classes is only some = λ c p.
-    moved_held old new row.service.classes (place_of row.service) (place_of (f row).service) (f row).service moved c p ∙ ap (λ b. (is_among row.service.classes c && same_place (place_of (f row).service) p) || (not (is_placed c p row) && b)) (index c p)
+    moved_held old new row.service.classes (place_of row.service) (place_of (f row).service) moved c p ∙ ap (λ b. (is_among row.service.classes c && same_place (place_of (f row).service) p) || (not (is_placed c p row) && b)) (index c p)
     ∙ ap (λ l. (is_among l c && same_place (place_of (f row).service) p) || (not (is_placed c p row) && list_any (is_placed c p) rows)) (sym classes)
     ∙ ap (λ b. (b && is_placed c p (f row)) || (not (is_placed c p row) && list_any (is_placed c p) rows)) (sym some)
     ∙ changed service f c p row rows is only

@@ -3,4 +3,5 @@ pub mod Belonging
 pub mod Finding
 pub mod Kept
 pub mod Places
+pub mod Slots
 pub mod Uses

@@ -2,7 +2,6 @@
 
 ghost use Rattle.std.specs.Prelude.{◌≡◌, ℕ, List, Bool, true, Some, All, IfOk, OnOk, filter, map};
 ghost use Rattle.std.specs.Bool.{Decides, OnTrue};
-ghost use Rattle.std.specs.BTreeMap.{keys, values};
 ghost use Rattle.std.specs.List.{list_all};
 ghost use Rattle.std.specs.List.Sorted.{IsStrictlySortedBy};
 ghost use Rattle.std.specs.Option.{option_copied};
@@ -11,16 +10,18 @@ ghost use Rattle.osgi_ops.specs.Assignable.{IsAssignable};
 ghost use Rattle.osgi_ops.specs.Classes.{ids_of};
 ghost use Rattle.osgi_registry.specs.computed.Finding as spec;
 ghost use Rattle.osgi_registry.specs.computed.Places.{place_cmp, service_at};
+ghost use Rattle.osgi_registry.specs.computed.Slots.{AreCurrent, services_at};
 
 use crate::assignability::Assignability;
+use crate::live::Live;
 use crate::place::Place;
 use crate::service_test::ServiceTest;
-use osgi_base::{BundleId, List, ServiceId, Shared, Text};
+use osgi_base::{BundleId, List, ServiceId, Text};
 use osgi_filter::{Case, matches};
 use osgi_model::Filter;
 use osgi_ops::Service;
 use std::alloc::{AllocError, Global};
-use std::collections::BTreeMap;
+use std::collections::BTreeSet;
 use std::convert::Infallible;
 
 /// Whether the filter, if there is one, matches the service's properties.
@@ -119,33 +120,34 @@ impl<'a, A: Assignability> ServiceTest for Asked<'a, A> {
     }
 }
 
-/// All of the services, in their order.
-pub fn all_of(
-    alloc: Global,
-    services: &BTreeMap<Place, Shared<Service>>,
-) -> Result<List<ServiceId>, AllocError>
-    ensures all { IfOk result (λ all. all ≡ map service_at (keys services.now)) }
-    ensures ordered { OnOk result (IsStrictlySortedBy place_cmp (keys services.now)) }
+/// The services at these places, in their order.
+pub fn all_of(alloc: Global, places: &BTreeSet<Place>) -> Result<List<ServiceId>, AllocError>
+    ensures all { IfOk result (λ all. all ≡ map service_at places.now.keys) }
+    ensures ordered { OnOk result (IsStrictlySortedBy place_cmp places.now.keys) }
 {
     let mut all = List::new(alloc)?;
-    for place in services.keys() {
+    for place in places {
         all.push(place.service())?;
     }
     Ok(all)
 }
 
-/// Those of the services that fit the filter, in their order.
+/// Those of the services at these places that fit the filter, in their order.
 pub fn all_fit(
     alloc: Global,
-    services: &BTreeMap<Place, Shared<Service>>,
+    live: Live<'_>,
+    places: &BTreeSet<Place>,
     asked: &Filter,
 ) -> Result<List<ServiceId>, AllocError>
-    ensures all { IfOk result (λ all. all ≡ ids_of (filter (spec.does_fit (Some asked.now)) (values services.now))) }
-    ensures ordered { OnOk result (IsStrictlySortedBy place_cmp (keys services.now)) }
+    requires current { AreCurrent live.slots.now.slots.items live.rows.now.entries }
+    ensures all { IfOk result (λ all. all ≡ ids_of (filter (spec.does_fit (Some asked.now)) (services_at live.entry.rows.now.entries places.now.keys))) }
+    ensures ordered { OnOk result (IsStrictlySortedBy place_cmp places.now.keys) }
 {
     let mut all = List::new(alloc)?;
-    for shared in services.values() {
-        let service = shared.get();
+    for place in places {
+        let Some(service) = live.service(place.service()) else {
+            continue;
+        };
         if !does_fit(Some(asked), service) {
             continue;
         }

@@ -13,7 +13,7 @@ use osgi_ops::{Scope, Service};
 use std::alloc::{AllocError, Global};
 use std::marker::Model;
 
-/// A service, which the index by class shares, its scope, and how often each user holds it.
+/// A service, which its slot shares, its scope, and how often each user holds it.
 ///
 /// All are reached through one pointer, so that the nodes of a tree of these stay small: a look-up goes through few of them.
 #[derive(Drop)]

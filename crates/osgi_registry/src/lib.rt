@@ -6,6 +6,8 @@ mod bundle_services;
 mod class_index;
 mod finding;
 mod held;
+mod id_slots;
+mod live;
 mod others;
 mod place;
 mod properties;

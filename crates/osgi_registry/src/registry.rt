@@ -20,6 +20,8 @@ use crate::bundle_services::BundleServices;
 use crate::class_index::ClassIndex;
 use crate::finding::{Asked, Told, all_fit, all_of};
 use crate::held::{Held, modified};
+use crate::id_slots::IdSlots;
+use crate::live::Live;
 use crate::place::Place;
 use crate::properties::{FrameworkTexts, has_twins};
 use crate::service_test::first_passing;
@@ -36,6 +38,7 @@ pub struct Registry {
     alloc: Global,
     texts: FrameworkTexts,
     services: BTreeMap<u64, Held>,
+    slots: IdSlots,
     index: ClassIndex,
     bundles: BundleServices,
     issued: u64,
@@ -48,6 +51,7 @@ impl Drop for Registry {
             alloc: _,
             texts: _,
             services: _,
+            slots: _,
             index: _,
             bundles: _,
             issued: _,
@@ -68,7 +72,7 @@ impl Model for Registry {
 
     ghost view = { λ r. record { rows = values_of r.services.entries; issued = r.issued } };
 
-    ghost invariant = { λ r. IsKept r.issued r.services.entries r.index.classes r.bundles.bundles };
+    ghost invariant = { λ r. IsKept r.issued r.services.entries r.slots.slots.items r.index.classes r.bundles.bundles };
 }
 
 impl Registry {
@@ -80,6 +84,7 @@ impl Registry {
             alloc,
             texts: FrameworkTexts::new(alloc)?,
             services: BTreeMap::new(alloc),
+            slots: IdSlots::new(alloc),
             index: ClassIndex::new(alloc),
             bundles: BundleServices::new(alloc),
             issued: 0,
@@ -196,14 +201,15 @@ impl Registry {
         let owner = service.owner;
         let place = Place::of(&service);
         let held = Held::new(self.alloc, service, scope)?;
+        let shared = held.shared().copy(self.alloc)?;
         self.bundles.add(owner, ServiceId(id))?;
-        self.index
-            .add_all(held.service().classes.items(), place, held.shared())?;
+        self.index.add_all(held.service().classes.items(), place)?;
         if let Err(error) = self.services.insert(id, held) {
             let (_, held) = error.value;
             self.index.take_all(held.service().classes.items(), place);
             return Err(AllocError);
         }
+        self.slots.put(shared);
         self.issued = id;
         Ok(())
     }
@@ -288,15 +294,19 @@ impl Registry {
         ensures issued { self.new.issued ≡ self.old.issued }
         ensures unchanged { OnErr result (self.new ≡ self.old) }
     {
-        let Some(held) = self.services.get_mut(&service.service.0) else {
+        let id = service.service;
+        let Some(held) = self.services.get_mut(&id.0) else {
             unreachable!()
         };
         let now = held.service();
         let place = Place::of(&service);
         let next = Shared::new(self.alloc, service)?;
+        let shared = next.copy(self.alloc)?;
         self.index
-            .move_all(now.classes.items(), Place::of(now), place, &next)?;
+            .move_all(now.classes.items(), Place::of(now), place)?;
         held.replace(next);
+        self.slots.forget(id);
+        self.slots.put(shared);
         Ok(())
     }
 
@@ -324,6 +334,7 @@ impl Registry {
             return;
         };
         let taken = held.service();
+        self.slots.forget(service);
         self.index.take_all(taken.classes.items(), Place::of(taken));
         self.bundles.take(taken.owner, service);
     }
@@ -423,8 +434,12 @@ impl Registry {
             IsFound (IsOpenBy test class.now (option_copied filter.entry)) (services_in self.now.rows) result }
         ensures fits { IfSome result (IsAskedFor (IsOf class.now (option_copied filter.entry)) (services_in self.now.rows)) }
     {
-        let services = self.index.services(class)?;
-        match first_passing(services, &Told { filter, assignable }) {
+        let places = self.index.places(class)?;
+        let live = Live {
+            slots: &self.slots,
+            rows: &self.services,
+        };
+        match first_passing(live, places, &Told { filter, assignable }) {
             Ok(found) => found,
             Err(never) => match never {},
         }
@@ -440,11 +455,16 @@ impl Registry {
     ) -> Result<Option<ServiceId>, AllocError>
         ensures found { IfOk result (IsFound (IsOpenTo (A.world assignability.now) asker class.now (option_copied filter.entry)) (services_in self.now.rows)) }
     {
-        let Some(services) = self.index.services(class) else {
+        let Some(places) = self.index.places(class) else {
             return Ok(None);
         };
+        let live = Live {
+            slots: &self.slots,
+            rows: &self.services,
+        };
         first_passing(
-            services,
+            live,
+            places,
             &Asked {
                 filter,
                 asker,
@@ -461,12 +481,16 @@ impl Registry {
     ) -> Result<List<ServiceId>, AllocError>
         ensures ranked { IfOk result (AreRanked (IsOf class.now (option_copied filter.entry)) (services_in self.now.rows)) }
     {
-        let Some(services) = self.index.services(class) else {
+        let Some(places) = self.index.places(class) else {
             return List::new(self.alloc);
         };
+        let live = Live {
+            slots: &self.slots,
+            rows: &self.services,
+        };
         match filter {
-            Some(asked) => all_fit(self.alloc, services, asked),
-            None => all_of(self.alloc, services),
+            Some(asked) => all_fit(self.alloc, live, places, asked),
+            None => all_of(self.alloc, places),
         }
     }
 

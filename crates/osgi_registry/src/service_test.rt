@@ -2,17 +2,18 @@
 
 ghost use Rattle.std.specs.Prelude.{◌≡◌, ℕ, List, Bool, true, IfOk, OnOk};
 ghost use Rattle.std.specs.Bool.{OnTrue};
-ghost use Rattle.std.specs.BTreeMap.{keys, values};
 ghost use Rattle.std.specs.List.Sorted.{IsStrictlySortedBy};
 ghost use Rattle.std.specs.Option.{option_copied};
 ghost use Rattle.osgi_ops.specs.declared.service.Service as declared;
 ghost use Rattle.osgi_registry.specs.computed.Finding as spec;
 ghost use Rattle.osgi_registry.specs.computed.Places.{place_cmp};
+ghost use Rattle.osgi_registry.specs.computed.Slots.{AreCurrent, services_at};
 
+use crate::live::Live;
 use crate::place::Place;
-use osgi_base::{ServiceId, Shared};
+use osgi_base::ServiceId;
 use osgi_ops::Service;
-use std::collections::BTreeMap;
+use std::collections::BTreeSet;
 
 /// A test of services, which may fail.
 pub trait ServiceTest {
@@ -29,17 +30,21 @@ pub trait ServiceTest {
         ensures answer { IfOk result (answers self.now service.now) };
 }
 
-/// The first of the services that passes the test.
+/// The first of the services at these places that passes the test.
 pub fn first_passing<T: ServiceTest>(
-    services: &BTreeMap<Place, Shared<Service>>,
+    live: Live<'_>,
+    places: &BTreeSet<Place>,
     test: &T,
 ) -> Result<Option<ServiceId>, T::Error>
+    requires current { AreCurrent live.slots.now.slots.items live.rows.now.entries }
     requires can { T.can_ask test.now }
-    ensures first { IfOk result (spec.IsFirstFound (T.answers test.now) (values services.now)) }
-    ensures ordered { OnOk result (IsStrictlySortedBy place_cmp (keys services.now)) }
+    ensures first { IfOk result (spec.IsFirstFound (T.answers test.now) (services_at live.entry.rows.now.entries places.now.keys)) }
+    ensures ordered { OnOk result (IsStrictlySortedBy place_cmp places.now.keys) }
 {
-    for shared in services.values() {
-        let service = shared.get();
+    for place in places {
+        let Some(service) = live.service(place.service()) else {
+            continue;
+        };
         if test.passes(service)? {
             return Ok(Some(service.service));
         }

@@ -1,9 +1,11 @@
 -- What is true of the registry's fields between calls.
-use Rattle.std.specs.Prelude.{ℕ, ◌≡◌, ◌-◌, ◌^◌, ◌<◌, ◌≤◌, List, All, AllPairs, length}
+use Rattle.std.specs.Prelude.{ℕ, ◌≡◌, ◌-◌, ◌^◌, ◌<◌, ◌≤◌, List, Option, All, AllPairs, length}
 use Rattle.std.specs.Map.{values_of}
 use Rattle.osgi_ops.specs.declared.limits.TheConstants.{MAX_SERVICES}
+use Rattle.osgi_ops.specs.declared.service.Service.{Service}
 use Rattle.osgi_registry.specs.computed.Belonging.{AreCovered, Bundles}
-use Rattle.osgi_registry.specs.computed.Places.{AreCurrent, Classes, IsIndexOf}
+use Rattle.osgi_registry.specs.computed.Places.{Classes, IsIndexOf}
+use Rattle.osgi_registry.specs.computed.Slots.{AreCurrent}
 use Rattle.osgi_registry.specs.Rows.{LiveService, service_number}
 
 -- a row under its id, which was given
@@ -22,9 +24,9 @@ pub record AreKept (issued : ℕ) (entries : List (ℕ × LiveService)) : Type 0
   pub few : length entries ≤ MAX_SERVICES
   pub fits : issued ≤ 2 ^ 32 - 1
 
--- and the index by class is theirs, as they are now, and so is the index by bundle
-pub record IsKept (issued : ℕ) (entries : List (ℕ × LiveService)) (classes : Classes) (bundles : Bundles) : Type 0 where
+-- and the index by class is theirs, and so is the index by bundle; what stands in slots is as they are now
+pub record IsKept (issued : ℕ) (entries : List (ℕ × LiveService)) (slots : List (Option Service)) (classes : Classes) (bundles : Bundles) : Type 0 where
   pub rows : AreKept issued entries
+  pub current : AreCurrent slots entries
   pub index : IsIndexOf classes (values_of entries)
-  pub current : AreCurrent classes (values_of entries)
   pub covered : AreCovered bundles (values_of entries)

@@ -1,8 +1,7 @@
 -- The services so far, and those of the places that are left.
 use Rattle.std.proofs.Common.{◌≡◌, ◌++◌, map}
-use Rattle.std.specs.BTreeMap.{keys}
 use Rattle.osgi_registry.specs.computed.Places.{service_at}
 use Rattle.osgi_registry.proofs.finding.all_of.Given as goal
 
 abbrev pub invariant-loop-place : goal.invariant-loop-place
-invariant-loop-place l = l.all ++ map service_at l.place-iterator ≡ map service_at (keys l.fn.services)
+invariant-loop-place l = l.all ++ map service_at l.place-iterator ≡ map service_at l.fn.places.keys

@@ -63,7 +63,7 @@ invariant_of-self-2 c =
     (record {
       rows = kept_set _ c.args.service.0 _ _ c.self.invariant.rows (ap (λ s. s.service.0) c.add_use.ensures.service ∙ sym (found_under _ _ _ _ c.self.invariant.rows.under found).key);
       index = index_kept _ c.args.service c.in-Some.held.now c.add_use.new.self _ c.self.inside.index.classes c.self.invariant.rows c.self.invariant.index c.add_use.ensures.service found;
-      current = current_kept _ c.args.service c.in-Some.held.now c.add_use.new.self _ c.self.inside.index.classes c.self.invariant.rows c.self.invariant.current c.add_use.ensures.service found;
+      current = current_kept _ c.args.service c.in-Some.held.now c.add_use.new.self _ c.self.inside.slots.slots.items c.self.invariant.rows c.self.invariant.current c.add_use.ensures.service found;
       covered =
           let old = c.self.inside.bundles.bundles in
           let new = c.add.new.self.bundles in

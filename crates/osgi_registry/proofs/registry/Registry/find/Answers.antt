@@ -1,28 +1,27 @@
 -- The best of those that are open to who asks, as it is told.
-use Rattle.std.proofs.Common.{◌≡◌, ℕ, Bool, Bor, List, sym}
-use Rattle.std.specs.Map.{values_of}
+use Rattle.std.proofs.Common.{◌≡◌, ℕ, [], Bool, Bor, List, refl, sym}
 use Rattle.std.specs.Option.{option_copied}
 use Rattle.osgi_base.specs.declared.ids.BundleId.{BundleId}
 use Rattle.osgi_registry.proofs.Found.{none_found, told_fits, told_found}
 use Rattle.osgi_registry.specs.Rows.{IsOpenBy}
 use Rattle.osgi_registry.proofs.registry.Registry.find.Goals as goal
 
-pub returns-in_err-services-clause-found : goal.returns-in_err-services-clause-found
-returns-in_err-services-clause-found g c = λ test agrees.
+pub returns-in_err-places-clause-found : goal.returns-in_err-places-clause-found
+returns-in_err-places-clause-found g c = λ test agrees.
     rw (c.from_residual.ensures, ← c.self.view_is)
-    (none_found c.self.inside.index.classes c.args.class.now (values_of c.self.inside.services.entries) c.self.invariant.index c.self.invariant.current (IsOpenBy test c.args.class.now (option_copied c.args.filter)) (λ s is. is.0.0)
-    (sym c.in_err-services.ensures.services))
+    (none_found c.self.inside.issued c.self.inside.index.classes c.args.class.now c.self.inside.services.entries c.self.invariant.rows c.self.invariant.index [] (sym c.in_err-places.ensures.places)
+    (IsOpenBy test c.args.class.now (option_copied c.args.filter)) (λ s is. is.0.0) refl)
 
 pub returns-clause-found : goal.returns-clause-found
 returns-clause-found g c = λ test agrees.
     rw (← c.self.view_is)
-    (told_found c.self.inside.index.classes c.args.class.now (values_of c.self.inside.services.entries) c.self.invariant.index c.self.invariant.current
-    (λ test. (owner : BundleId) (class : Bor (List ℕ)) (answer : Bool) → g.F.Fn.post c.args.assignable (owner, (class, tt)) answer → answer ≡ test owner class.now) (option_copied c.args.filter) c.in_ok-services.services.now.entries
-    (sym c.in_ok-services.ensures.services) c.in-Ok.found c.in-Ok.ensures.ordered c.in-Ok.ensures.first test agrees)
+    (told_found c.self.inside.issued c.self.inside.index.classes c.args.class.now c.self.inside.services.entries c.self.invariant.rows c.self.invariant.index c.in_ok-places.places.now.keys (sym c.in_ok-places.ensures.places)
+    c.in-Ok.found c.in-Ok.ensures.ordered (λ test. (owner : BundleId) (class : Bor (List ℕ)) (answer : Bool) → g.F.Fn.post c.args.assignable (owner, (class, tt)) answer → answer ≡ test owner class.now)
+    (option_copied c.args.filter) c.in-Ok.ensures.first test agrees)
 
 pub returns-clause-fits : goal.returns-clause-fits
 returns-clause-fits g c =
     rw (← c.self.view_is)
-    (told_fits c.self.inside.index.classes c.args.class.now (values_of c.self.inside.services.entries) c.self.invariant.index c.self.invariant.current
-    (λ test. (owner : BundleId) (class : Bor (List ℕ)) (answer : Bool) → g.F.Fn.post c.args.assignable (owner, (class, tt)) answer → answer ≡ test owner class.now) (option_copied c.args.filter) c.in_ok-services.services.now.entries
-    (sym c.in_ok-services.ensures.services) c.in-Ok.found c.in-Ok.ensures.ordered c.in-Ok.ensures.first)
+    (told_fits c.self.inside.issued c.self.inside.index.classes c.args.class.now c.self.inside.services.entries c.self.invariant.rows c.self.invariant.index c.in_ok-places.places.now.keys (sym c.in_ok-places.ensures.places)
+    c.in-Ok.found c.in-Ok.ensures.ordered (λ test. (owner : BundleId) (class : Bor (List ℕ)) (answer : Bool) → g.F.Fn.post c.args.assignable (owner, (class, tt)) answer → answer ≡ test owner class.now)
+    (option_copied c.args.filter) c.in-Ok.ensures.first)

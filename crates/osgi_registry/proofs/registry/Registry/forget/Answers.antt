@@ -27,7 +27,7 @@ invariant_of-self-2 c =
     (record {
       rows = kept_set _ c.args.service.0 _ _ c.self.invariant.rows (ap (λ s. s.service.0) same ∙ sym (found_under _ _ _ _ c.self.invariant.rows.under found).key);
       index = index_kept _ c.args.service c.in-Some.held.now c.forget.new.self _ c.self.inside.index.classes c.self.invariant.rows c.self.invariant.index same found;
-      current = current_kept _ c.args.service c.in-Some.held.now c.forget.new.self _ c.self.inside.index.classes c.self.invariant.rows c.self.invariant.current same found;
+      current = current_kept _ c.args.service c.in-Some.held.now c.forget.new.self _ c.self.inside.slots.slots.items c.self.invariant.rows c.self.invariant.current same found;
       covered =
           covered_set c.self.inside.bundles.bundles c.args.service.0 c.in-Some.held.now c.forget.new.self c.self.inside.services.entries found
           (covered_forgotten c.self.inside.bundles.bundles c.args.user c.in-Some.held.now c.forget.new.self c.forget.ensures.forgotten) c.self.invariant.covered;

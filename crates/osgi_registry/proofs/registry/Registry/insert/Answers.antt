@@ -1,18 +1,19 @@
 -- A service under the next id.
-use Rattle.std.proofs.Common.{◌≡◌, ◌≢◌, ◌+◌, ◌-◌, ◌^◌, ◌<◌, [], ◌∷◌, ◌++◌, ap, ◌∙◌, sym, refl, arith, length, subst}
-use Rattle.std.specs.Prelude.{All, None, Some, true}
+use Rattle.std.proofs.Common.{◌≡◌, ◌+◌, ◌-◌, ◌^◌, ◌<◌, [], ◌∷◌, ◌++◌, ap, ◌∙◌, sym, refl, arith, length, subst}
+use Rattle.std.specs.Prelude.{false, true}
 use Rattle.std.specs.BTreeMap.{insert_entry}
 use Rattle.std.specs.Map.{values_of}
 use Rattle.std.specs.Ordering.{nat_cmp}
 use Rattle.std.proofs.lemmas.Map.Entries.{length-values_of}
 use Rattle.osgi_ops.specs.declared.limits.TheConstants.{MAX_SERVICES}
 use Rattle.osgi_registry.proofs.Covered.{covered_grown, covered_push, covered_same}
-use Rattle.osgi_registry.proofs.Current.{current_push, current_same}
+use Rattle.osgi_registry.proofs.Current.{current_push}
 use Rattle.osgi_registry.proofs.Entries.{inserted, kept_push, values-push}
 use Rattle.osgi_registry.proofs.Holds.{undone}
 use Rattle.osgi_registry.proofs.Placed.{fresh_id, fresh_place, index_same, placed_push}
 use Rattle.osgi_registry.specs.computed.Belonging.{Sets}
 use Rattle.osgi_registry.specs.computed.Places.{HoldsSame, IsFresh, place_of, Puts}
+use Rattle.osgi_registry.specs.computed.Slots.{PutsAtMost}
 use Rattle.osgi_registry.specs.Rows.{service_number}
 use Rattle.osgi_registry.proofs.registry.Registry.insert.Goals as goal
 
@@ -35,7 +36,7 @@ pub invariant_of-self-in_err-add_all : goal.invariant_of-self-in_err-add_all
 invariant_of-self-in_err-add_all c = record {
   rows = c.self.invariant.rows;
   index = index_same c.self.inside.index.classes c.add_all.new.self.classes (values_of c.self.inside.services.entries) c.self.invariant.index c.in_err-add_all.ensures.unchanged;
-  current = current_same c.self.inside.index.classes c.add_all.new.self.classes (values_of c.self.inside.services.entries) c.self.invariant.current c.in_err-add_all.ensures.unchanged;
+  current = c.self.invariant.current;
   covered = covered_grown c.self.inside.bundles.bundles c.add.new.self.bundles c.args.service.owner c.args.service.service (values_of c.self.inside.services.entries) c.in_ok-add.ensures.added c.self.invariant.covered;
 }
 
@@ -51,18 +52,17 @@ invariant_of-self-in-Err c =
     let given_back : c.in-Err.error.value.1 ≡ c.in_ok-held.held = ap (λ p. p.1) c.in-Err.ensures.value_returned in
     let among : c.items-in-Err.result.now ≡ c.args.service.classes
     = c.items-in-Err.ensures.items ∙ ap (λ s. s.classes) (c.service-in-Err.ensures.service ∙ ap (λ r. r.service) (given_back ∙ c.in_ok-held.ensures.service)) in
-    let shared = Some c.shared.result.now in
-    let added : Puts old mid c.args.service.classes place shared
-    = subst (λ l. Puts old mid l place shared) (c.items.ensures.items ∙ ap (λ s. s.classes) (c.service.ensures.service ∙ ap (λ r. r.service) c.in_ok-held.ensures.service))
-    (subst (λ q. Puts old mid c.items.result.now q shared) c.of-place.ensures.place c.in_ok-add_all.ensures.added) in
-    let taken : Puts mid new c.args.service.classes place None
-    = subst (λ l. Puts mid new l place None) among (subst (λ q. Puts mid new c.items-in-Err.result.now q None) c.of-place.ensures.place c.take_all.ensures.taken) in
-    let same : HoldsSame old new = undone old mid new c.args.service.classes place shared fresh added taken in
+    let added : Puts old mid c.args.service.classes place true
+    = subst (λ l. Puts old mid l place true) (c.items.ensures.items ∙ ap (λ s. s.classes) (c.service.ensures.service ∙ ap (λ r. r.service) c.in_ok-held.ensures.service))
+    (subst (λ q. Puts old mid c.items.result.now q true) c.of-place.ensures.place c.in_ok-add_all.ensures.added) in
+    let taken : Puts mid new c.args.service.classes place false
+    = subst (λ l. Puts mid new l place false) among (subst (λ q. Puts mid new c.items-in-Err.result.now q false) c.of-place.ensures.place c.take_all.ensures.taken) in
+    let same : HoldsSame old new = undone old mid new c.args.service.classes place fresh added taken in
     rw c.in-Err.ensures.err
     (record {
       rows = c.self.invariant.rows;
       index = index_same old new rows c.self.invariant.index same;
-      current = current_same old new rows c.self.invariant.current same;
+      current = c.self.invariant.current;
       covered = covered_grown c.self.inside.bundles.bundles c.add.new.self.bundles c.args.service.owner c.args.service.service rows c.in_ok-add.ensures.added c.self.invariant.covered;
     })
 
@@ -79,21 +79,24 @@ invariant_of-self-2 c =
     let row = c.in_ok-held.held in
     let is : c.args.service ≡ row.service = sym (ap (λ r. r.service) c.in_ok-held.ensures.service) in
     let place : c.of-place.result ≡ place_of row.service = c.of-place.ensures.place ∙ ap place_of is in
-    let apart : All (λ r. place_of r.service ≢ place_of row.service) rows
-    = fresh_id c.self.inside.issued c.self.inside.services.entries (place_of row.service) c.self.invariant.rows.under (omega (arith, next, ap (λ s. s.service.0) is)) in
-    let added : Puts old new row.service.classes (place_of row.service) (Some row.service)
-    = subst (λ s. Puts old new row.service.classes (place_of row.service) (Some s)) c.shared.ensures.service
-    (subst (λ l. Puts old new l (place_of row.service) (Some c.shared.result.now)) (c.items.ensures.items ∙ ap (λ s. s.classes) c.service.ensures.service)
-    (subst (λ q. Puts old new c.items.result.now q (Some c.shared.result.now)) place c.in_ok-add_all.ensures.added)) in
+    let added : Puts old new row.service.classes (place_of row.service) true
+    = subst (λ l. Puts old new l (place_of row.service) true) (c.items.ensures.items ∙ ap (λ s. s.classes) c.service.ensures.service)
+    (subst (λ q. Puts old new c.items.result.now q true) place c.in_ok-add_all.ensures.added) in
+    let slots = c.self.inside.slots.slots.items in
+    let filled = c.put.new.self.slots.items in
+    let number : service_number row ≡ c.self.inside.issued + 1 = ap service_number c.in_ok-held.ensures.service ∙ next in
+    let shared : c.in_ok-shared.shared ≡ row.service = c.in_ok-shared.ensures.same ∙ c.shared.ensures.service in
     rw (entries, next)
     (record {
       rows =
-          kept_push c.self.inside.issued c.self.inside.services.entries c.in_ok-held.held c.self.invariant.rows (ap service_number c.in_ok-held.ensures.service ∙ next)
+          kept_push c.self.inside.issued c.self.inside.services.entries c.in_ok-held.held c.self.invariant.rows number
           (omega (arith, room, length-values_of c.self.inside.services.entries)) fits;
       index =
           rw (values-push c.self.inside.services.entries (c.self.inside.issued + 1) c.in_ok-held.held)
           (placed_push old new rows row c.self.invariant.index added);
-      current = rw (values-push c.self.inside.services.entries (c.self.inside.issued + 1) row) (current_push old new rows row (fresh_place old rows (place_of row.service) c.self.invariant.index apart) apart c.self.invariant.current added);
+      current =
+          current_push c.self.inside.issued slots filled c.self.inside.services.entries row c.self.invariant.rows.under number
+          (subst (λ s. PutsAtMost slots filled s) shared c.put.ensures.put) c.self.invariant.current;
       covered =
           rw (values-push c.self.inside.services.entries (c.self.inside.issued + 1) row)
           (covered_push c.self.inside.bundles.bundles c.add.new.self.bundles rows row

@@ -7,11 +7,12 @@ use Rattle.std.proofs.lemmas.Result.{err_from_is_err_and}
 use Rattle.osgi_ops.specs.declared.service.Service.{Service}
 use Rattle.osgi_registry.proofs.Changed.{kept_set, rows_set, written_same}
 use Rattle.osgi_registry.proofs.Covered.{covered_alike, covered_set}
-use Rattle.osgi_registry.proofs.Current.{current_change, current_same}
+use Rattle.osgi_registry.proofs.Current.{current_changed}
 use Rattle.osgi_registry.proofs.Entries.{row_absent, row_present}
 use Rattle.osgi_registry.proofs.Keys.{found_by, set_by}
 use Rattle.osgi_registry.proofs.Placed.{any_found, fresh_move, index_same, only_one, placed_change, stands}
 use Rattle.osgi_registry.specs.computed.Places.{Moves, place_of}
+use Rattle.osgi_registry.specs.computed.Slots.{PutsAtMost}
 use Rattle.osgi_registry.specs.Rows.{is_service, LiveService, row_at, service_number, with_service}
 use Rattle.osgi_registry.proofs.registry.Registry.replace.Goals as goal
 
@@ -37,6 +38,18 @@ returns-in_err-next-clause-unchanged c =
     (written_same c.args.service.service.0 c.in-Some.held.now c.in-Some.held.now _ _ refl c.in-Some.ensures.value (c.get_mut.follows.holds c.in-Some.held.now).0)
     ∙ c.self.view_is)
 
+pub invariant_of-self-in_err-shared : goal.invariant_of-self-in_err-shared
+invariant_of-self-in_err-shared c =
+    rw (written_same c.args.service.service.0 c.in-Some.held.now c.in-Some.held.now _ _ refl c.in-Some.ensures.value (c.get_mut.follows.holds c.in-Some.held.now).0) c.self.invariant
+
+pub returns-in_err-shared-clause-unchanged : goal.returns-in_err-shared-clause-unchanged
+returns-in_err-shared-clause-unchanged c =
+    let p = err_from_is_err_and c.from_residual-in_err-shared.result c.from_residual-in_err-shared.ensures.1 in
+    rw p.1
+    (ap (λ es. record { rows = values_of es; issued = c.self.inside.issued })
+    (written_same c.args.service.service.0 c.in-Some.held.now c.in-Some.held.now _ _ refl c.in-Some.ensures.value (c.get_mut.follows.holds c.in-Some.held.now).0)
+    ∙ c.self.view_is)
+
 pub move_all-requires-clause-stands : goal.move_all-requires-clause-stands
 move_all-requires-clause-stands c =
     rw (c.items.ensures.items, c.of.ensures.place, c.service-now.ensures.service)
@@ -56,7 +69,7 @@ invariant_of-self-in_err-move_all c =
     (record {
       rows = c.self.invariant.rows;
       index = index_same c.self.inside.index.classes c.move_all.new.self.classes (values_of c.self.inside.services.entries) c.self.invariant.index c.in_err-move_all.ensures.unchanged;
-      current = current_same c.self.inside.index.classes c.move_all.new.self.classes (values_of c.self.inside.services.entries) c.self.invariant.current c.in_err-move_all.ensures.unchanged;
+      current = c.self.invariant.current;
       covered = c.self.invariant.covered;
     })
 
@@ -87,11 +100,13 @@ invariant_of-self-2 c =
     let among : c.items.result.now ≡ row.service.classes = c.items.ensures.items ∙ ap (λ s. s.classes) c.service-now.ensures.service in
     let from : c.of.result ≡ place_of row.service = c.of.ensures.place ∙ ap place_of c.service-now.ensures.service in
     let to : c.of-place.result ≡ place_of changed = c.of-place.ensures.place in
-    let moved : Moves old new row.service.classes (place_of row.service) (place_of changed) changed
-    = subst (λ s. Moves old new row.service.classes (place_of row.service) (place_of changed) s) next
-    (subst (λ l. Moves old new l (place_of row.service) (place_of changed) c.in_ok-next.next) among
-    (subst (λ q. Moves old new c.items.result.now q (place_of changed) c.in_ok-next.next) from
-    (subst (λ q. Moves old new c.items.result.now c.of.result q c.in_ok-next.next) to c.in_ok-move_all.ensures.moved))) in
+    let moved : Moves old new row.service.classes (place_of row.service) (place_of changed)
+    = subst (λ l. Moves old new l (place_of row.service) (place_of changed)) among
+    (subst (λ q. Moves old new c.items.result.now q (place_of changed)) from (subst (λ q. Moves old new c.items.result.now c.of.result q) to c.in_ok-move_all.ensures.moved)) in
+    let slots = c.self.inside.slots.slots.items in
+    let emptied = c.forget.new.self.slots.items in
+    let filled = c.put.new.self.slots.items in
+    let shared : c.in_ok-shared.shared ≡ c.replace.new.self.service = c.in_ok-shared.ensures.same ∙ next ∙ ap (λ r. r.service) is in
     let only = only_one _ id row _ rows.under rows.rising found in
     rw (set_by id.0 _ _ _ (c.get_mut.follows.holds c.replace.new.self).0)
     (record {
@@ -101,8 +116,8 @@ invariant_of-self-2 c =
           (placed_change old new id (with_service changed) row (values_of c.self.inside.services.entries) c.self.invariant.index moved classes (sym key) only
           (any_found (is_service id) id.0 row c.self.inside.services.entries (eq-eqb id.0 (service_number row) key) found));
       current =
-          rw (rows_set _ id row c.replace.new.self (with_service changed) _ rows.under rows.rising is found)
-          (current_change old new id (with_service changed) row (values_of c.self.inside.services.entries) (place_of row.service) c.self.invariant.current c.self.invariant.index moved refl only);
+          current_changed slots emptied filled id.0 row c.replace.new.self c.self.inside.services.entries c.self.invariant.current c.forget.ensures.forgotten
+          (subst (λ s. PutsAtMost emptied filled s) shared c.put.ensures.put) (ap (λ r. r.service.service.0) (sym is)) found;
       covered =
           covered_set c.self.inside.bundles.bundles id.0 row c.replace.new.self c.self.inside.services.entries found
           (covered_alike c.self.inside.bundles.bundles row c.replace.new.self (ap (λ r. r.service.service.0) (sym is) ∙ key) (ap (λ r. r.service.owner) (sym is) ∙ owner) (ap (λ r. r.uses) (sym is))) c.self.invariant.covered;

@@ -1,17 +1,16 @@
 -- A service taken out, if it is live.
 use Rattle.std.proofs.Common.{◌≡◌, ap, sym, ◌∙◌, nat_eq, subst}
-use Rattle.std.specs.Prelude.{None, not, Some, false}
+use Rattle.std.specs.Prelude.{Some, false}
 use Rattle.std.specs.Map.{lookup, remove_entry, values_of}
 use Rattle.osgi_registry.proofs.Changed.{kept_remove, rows_remove}
 use Rattle.osgi_registry.proofs.Covered.{covered_without}
-use Rattle.osgi_registry.proofs.Current.{current_filter, current_less}
+use Rattle.osgi_registry.proofs.Current.{current_removed}
 use Rattle.osgi_registry.proofs.Entries.{found_under}
-use Rattle.osgi_registry.proofs.Holds.{taken_less}
 use Rattle.osgi_registry.proofs.Keys.{found_by, removed_by}
 use Rattle.osgi_registry.proofs.Placed.{only_one, placed_remove}
 use Rattle.osgi_registry.specs.computed.Belonging.{Sets}
 use Rattle.osgi_registry.specs.computed.Places.{place_of, Puts}
-use Rattle.osgi_registry.specs.Rows.{is_service, without}
+use Rattle.osgi_registry.specs.Rows.{without}
 use Rattle.osgi_registry.proofs.registry.Registry.take_out.Goals as goal
 
 pub returns-in_default-clause-rows : goal.returns-in_default-clause-rows
@@ -29,8 +28,8 @@ invariant_of-self-2 c =
     let new = c.take_all.new.self.classes in
     let left : values_of (remove_entry (nat_eq c.args.service.0) c.self.inside.services.entries) ≡ without c.args.service (values_of c.self.inside.services.entries)
     = rows_remove c.self.inside.issued c.args.service c.self.inside.services.entries rows.under rows.rising in
-    let taken : Puts old new row.service.classes (place_of row.service) None
-    = subst (λ l. Puts old new l (place_of row.service) None) among (subst (λ q. Puts old new c.items.result.now q None) at c.take_all.ensures.taken) in
+    let taken : Puts old new row.service.classes (place_of row.service) false
+    = subst (λ l. Puts old new l (place_of row.service) false) among (subst (λ q. Puts old new c.items.result.now q false) at c.take_all.ensures.taken) in
     rw (removed_by c.args.service.0 _ _ c.in-Some.ensures.entries)
     (record {
       rows = kept_remove _ _ _ rows;
@@ -39,9 +38,7 @@ invariant_of-self-2 c =
           (placed_remove old new c.args.service row (values_of c.self.inside.services.entries) c.self.invariant.index taken
           (sym (found_under _ _ _ _ rows.under found).key) (only_one _ c.args.service row _ rows.under rows.rising found));
       current =
-          rw left
-          (current_filter new (λ r. not (is_service c.args.service r)) (values_of c.self.inside.services.entries)
-          (current_less old new (values_of c.self.inside.services.entries) c.self.invariant.current (taken_less old new row.service.classes (place_of row.service) taken)));
+          current_removed c.self.inside.slots.slots.items c.forget.new.self.slots.items c.args.service.0 c.self.inside.services.entries c.self.invariant.current c.forget.ensures.forgotten;
       covered =
           rw left
           (covered_without c.self.inside.bundles.bundles c.take.new.self.bundles row.service.owner c.args.service (values_of c.self.inside.services.entries)

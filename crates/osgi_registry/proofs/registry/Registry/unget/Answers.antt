@@ -28,7 +28,7 @@ invariant_of-self-2 c =
     (record {
       rows = kept_set _ c.args.service.0 _ _ c.self.invariant.rows (ap (λ s. s.service.0) c.take_use.ensures.service ∙ sym (found_under _ _ _ _ c.self.invariant.rows.under found).key);
       index = index_kept _ c.args.service c.in-Some.held.now c.take_use.new.self _ c.self.inside.index.classes c.self.invariant.rows c.self.invariant.index c.take_use.ensures.service found;
-      current = current_kept _ c.args.service c.in-Some.held.now c.take_use.new.self _ c.self.inside.index.classes c.self.invariant.rows c.self.invariant.current c.take_use.ensures.service found;
+      current = current_kept _ c.args.service c.in-Some.held.now c.take_use.new.self _ c.self.inside.slots.slots.items c.self.invariant.rows c.self.invariant.current c.take_use.ensures.service found;
       covered =
           covered_set c.self.inside.bundles.bundles c.args.service.0 c.in-Some.held.now c.take_use.new.self c.self.inside.services.entries found
           (covered_returned c.self.inside.bundles.bundles c.args.user c.in-Some.held.now c.take_use.new.self c.take_use.result c.take_use.ensures.answer c.take_use.ensures.used c.take_use.ensures.unchanged) c.self.invariant.covered;
