@@ -14,6 +14,7 @@ pub mod Viewing
 pub mod Decided
 pub mod Placed
 pub mod Rows
+pub mod Fragments
 pub mod Payloads
 pub mod Turns
 pub mod Lasts

@@ -24,6 +24,8 @@ use Rattle.osgi_resolver_theory.proofs.States.{in-payload}
 use Rattle.osgi_resolver_decisions.specs.DecisionOf.{decision_of}
 use Rattle.osgi_resolver_path.specs.Standing.{HasValue, IsProblemOf, Standing, made}
 use Rattle.osgi_resolver_decisions.specs.computed.Asks.{decisions_in}
+use Rattle.osgi_resolver_theory.specs.States.{State}
+use Rattle.osgi_resolver_path.specs.computed.Attached.{AreAttached}
 use Rattle.osgi_resolver_path.specs.computed.Courses.{CourseLists, IsAlong, IsRight, lists_of, made_of, steps_of, taken_back, word_of}
 use Rattle.osgi_resolver_decisions.specs.Sure.{AreSure}
 use Rattle.osgi_resolver_decisions.specs.computed.Known.{AreRight, IsProblemIn, Knows}
@@ -38,7 +40,8 @@ use Rattle.osgi_resolver_decisions.specs.declared.decision_ref.DecisionRef.{Deci
 use Rattle.osgi_resolver_decisions.specs.declared.decision_ref.DecisionRef.TheVariants.{Attach, Choose, Pick}
 use Rattle.osgi_resolver_decisions.specs.declared.lists.Lists.{Lists}
 use Rattle.osgi_resolver_path.proofs.Longer.{asked-of, last-mark, learnt-known, listed-next, next-of}
-use Rattle.osgi_resolver_path.proofs.Next.{next-there}
+use Rattle.osgi_resolver_path.proofs.Fragments.{attached-rows}
+use Rattle.osgi_resolver_path.proofs.Next.{next-there, right-state}
 use Rattle.osgi_resolver_decisions.proofs.Owners.{same-candidates}
 use Rattle.osgi_resolver_path.proofs.Placed.{placed-first}
 use Rattle.osgi_resolver_path.proofs.Rows.{rows-seen}
@@ -244,6 +247,11 @@ module _ (W : World) (root : RevisionId) (lists : Lists) (spaces : SpacesState) 
       let second : AreRowsIn rows (after_steps P.world.wirings (steps_of ms)) = subst (λ (V : World). AreRowsIn rows (after_steps V.wirings (steps_of ms))) (sym world) first in
       let known-is : rows.known ≡ P.world.known = known ∙ ap (λ (x : SpacesState). x.known) on.spaces_are ∙ ap (λ (V : World). V.known) (sym world) in
       subst (λ (D : Made). AreRowsIn rows (partial P D)) (sym (made-at P of)) (rows-seen P ms (lists_of c) (stands-at P of) rows known-is second)
+
+  -- the rows attach the fragments of a member
+  pub attached-at : (P : Problem) → IsProblemOf s P → (rows : WorldLists) → rows.known ≡ spaces.known → AreRowsIn rows (wirings_of spaces) → (m : RevisionId) → In m (members P (made P s)) → AreAttached rows.rows (made P s) m
+  attached-at P of rows known are m i =
+      attached-rows P of.is (made P s) (subst (State P) (sym (made-at P of)) (right-state P (reverse c.marks.items) (lists_of c) (stands-at P of))) rows (rows-at P of rows known are) m i
 
 -- at the empty word
 pub on-first : (W : World) (root : RevisionId) (lists : Lists) (spaces : SpacesState) (c : Course) → lists.offers ≡ W → AreRight lists → IsLearnt lists c → ArePlaces c.places c.ids.items → spaces ≡ record { known = W.known; wirings = W.wirings; steps = [] } → c.marks.items ≡ [] →

@@ -3,6 +3,7 @@ pub mod Steps
 pub mod Courses
 pub mod Valued
 pub mod Placed
+pub mod Attached
 pub mod Openings
 pub mod Afters
 pub mod Nexts

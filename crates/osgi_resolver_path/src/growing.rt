@@ -1,12 +1,12 @@
 //! One decision more: who joins, and which decisions are due then.
 
-ghost use Rattle.std.specs.Prelude.{◌≡◌, ◌==◌, ◌||◌, ◌∷◌, ◌++◌, All, IfOk, IsTrue, OnOk, flat_map, reverse};
+ghost use Rattle.std.specs.Prelude.{◌≡◌, ◌==◌, ◌||◌, ◌++◌, All, IfOk, IsTrue, OnOk, flat_map, reverse};
 ghost use Rattle.osgi_world.specs.Lookups.{is_current};
 ghost use Rattle.std.specs.List.{list_any};
 ghost use Rattle.std.specs.Option.{option_to_list};
 ghost use Rattle.osgi_base.specs.declared.ids.RevisionId.{RevisionId};
-ghost use Rattle.osgi_world.specs.Decisions.{attaching, is_yes, value_made};
-ghost use Rattle.osgi_world.specs.DueDecisions.{fragments_of, is_in_force, provider_of, pull_in};
+ghost use Rattle.osgi_world.specs.Decisions.{is_yes, value_made};
+ghost use Rattle.osgi_world.specs.DueDecisions.{is_in_force, provider_of, pull_in};
 ghost use Rattle.osgi_world.specs.declared.problem.Problem.{Problem};
 ghost use Rattle.osgi_resolver_decisions.specs.DecisionOf.{decision_of};
 ghost use Rattle.osgi_resolver_decisions.specs.computed.Asks.{decisions_in, first_due};
@@ -69,27 +69,6 @@ pub fn value_of(marks: &[Mark], decision: DecisionRef) -> Option<u64>
     None
 }
 
-/// Whether the fragment is attached to the host, once the decision on one fragment has this value.
-fn is_attached(
-    marks: &[Mark],
-    host: RevisionId,
-    decided: RevisionId,
-    value: u64,
-    fragment: RevisionId,
-) -> bool
-    ensures attached { result ≡ is_yes (value_made ((attaching host decided, value) ∷ made_of (reverse marks.now)) (attaching host fragment)) }
-{
-    let on = DecisionRef::Attach {
-        host,
-        fragment: decided,
-    };
-    let decision = DecisionRef::Attach { host, fragment };
-    if on.is_same(decision) {
-        return value == 0;
-    }
-    is_first(value_of(marks, decision))
-}
-
 /// Whether a decision is made with its first value, yes.
 pub fn is_first(value: Option<u64>) -> bool
     ensures first { result ≡ is_yes value }
@@ -98,28 +77,6 @@ pub fn is_first(value: Option<u64>) -> bool
         Some(value) => value == 0,
         None => false,
     }
-}
-
-/// The host, and the fragments that are attached to it then.
-pub fn owners_of(
-    alloc: Global,
-    offers: &Offers,
-    marks: &[Mark],
-    host: RevisionId,
-    decided: RevisionId,
-    value: u64,
-) -> Result<Vec<RevisionId>, AllocError>
-    ensures owners { IfOk result (λ owners. (P : Problem) → IsProblemIn offers.now P → owners.items ≡ host ∷ fragments_of P ((attaching host decided, value) ∷ made_of (reverse marks.now)) host) }
-{
-    let fragments = offers.fragments_for(alloc, host)?;
-    let mut owners = Vec::new(alloc);
-    owners.push(host)?;
-    for fragment in &fragments {
-        if is_attached(marks, host, decided, value, *fragment) {
-            owners.push(*fragment)?;
-        }
-    }
-    Ok(owners)
 }
 
 /// Asks for the candidates of all owners.

@@ -2,6 +2,7 @@
 #![tactic(auto)]
 
 mod adding;
+mod attached;
 mod course;
 mod growing;
 mod last;

@@ -3,25 +3,29 @@
 ghost use Rattle.std.specs.Prelude.{◌≡◌, ◌+◌, ◌<◌, ◌≤◌, ◌∷◌, [], ◌++◌, All, IfOk, IsTrue, List, OnErr, OnOk, Some, length, reverse, vec_capacity, vec_len};
 ghost use Rattle.std.specs.Option.{option_to_list};
 ghost use Rattle.osgi_base.specs.declared.ids.RevisionId.{RevisionId};
-ghost use Rattle.osgi_world.specs.Decisions.{attached, attaching};
-ghost use Rattle.osgi_world.specs.DueDecisions.{fragments_of};
+ghost use Rattle.osgi_world.specs.Decisions as decisions;
+ghost use Rattle.osgi_world.specs.Decisions.{Made, attached};
 ghost use Rattle.osgi_world.specs.Lookups.{is_current};
 ghost use Rattle.osgi_world.specs.declared.problem.Problem.{Problem};
 ghost use Rattle.osgi_resolver_decisions.specs.computed.Asks.{asks_of, decisions_in};
 ghost use Rattle.osgi_resolver_decisions.specs.DecisionOf.{decision_of};
-ghost use Rattle.osgi_resolver_path.specs.computed.Afters.{IsAskedAfter};
-ghost use Rattle.osgi_resolver_path.specs.computed.Courses.{IsRight, lists_of, made_of};
+ghost use Rattle.osgi_resolver_path.specs.computed.Afters.{IsAskedAfter, owners_with};
+ghost use Rattle.osgi_resolver_path.specs.computed.Attached.{AreAttached};
+ghost use Rattle.osgi_resolver_path.specs.computed.Courses.{IsRight, lists_of};
+ghost use Rattle.osgi_resolver_path.specs.computed.Moving.{IsSpaceOf};
 ghost use Rattle.osgi_resolver_path.specs.computed.Placed.{ArePlaces, IsNoMember};
-ghost use Rattle.osgi_resolver_path.specs.computed.Nexts.{IsDecidedBy, IsDecidedWith, IsNextOf, IsOpenedBy, IsSameCourse};
+ghost use Rattle.osgi_resolver_path.specs.computed.Nexts.{AreRowsBefore, IsDecidedBy, IsDecidedWith, IsNextOf, IsOpenedBy, IsSameCourse};
 ghost use Rattle.osgi_resolver_path.specs.computed.Steps.{steps_in};
 ghost use Rattle.osgi_resolver_decisions.specs.computed.Known.{AreRight, IsProblemIn, Knows, KnowsAll};
 
+use crate::attached::owners_of;
 use crate::course::{Course, Mark};
-use crate::growing::{learn_all, owners_of};
+use crate::growing::learn_all;
 use crate::opening::{More, open};
 use crate::step::Step;
 use osgi_base::RevisionId;
 use osgi_resolver_decisions::{DecisionRef, Lists, asks_of};
+use osgi_space_rows::Rows;
 use osgi_uses::Spaces;
 use std::alloc::{AllocError, Global};
 
@@ -29,7 +33,7 @@ use std::alloc::{AllocError, Global};
 fn asks_with(
     alloc: Global,
     lists: &mut Lists,
-    marks: &[Mark],
+    rows: &Rows,
     host: RevisionId,
     fragment: RevisionId,
     value: u64,
@@ -38,21 +42,20 @@ fn asks_with(
     ensures offers { lists.new.offers ≡ lists.old.offers }
     ensures right { AreRight lists.new }
     ensures nothing_lost { KnowsAll lists.old lists.new }
-    ensures asks { IfOk result (λ asks. (P : Problem) → IsProblemIn lists.old.offers P →
-        All (λ (o : RevisionId). IsTrue (is_current P.world.known o)) (host ∷ fragments_of P ((attaching host fragment, value) ∷ made_of (reverse marks.now)) host) →
-        decisions_in asks.items ≡ asks_of P host (host ∷ fragments_of P ((attaching host fragment, value) ∷ made_of (reverse marks.now)) host)) }
+    ensures asks { IfOk result (λ asks. (P : Problem) (D : Made) → IsProblemIn lists.old.offers P → AreAttached rows.now D host →
+        All (λ (o : RevisionId). IsTrue (is_current P.world.known o)) (owners_with P D host fragment value) → decisions_in asks.items ≡ asks_of P host (owners_with P D host fragment value)) }
 {
-    let owners = owners_of(alloc, &lists.offers, marks, host, fragment, value)?;
+    let owners = owners_of(alloc, &lists.offers, rows, host, fragment, value)?;
     learn_all(alloc, lists, owners.as_slice())?;
     Ok(asks_of(alloc, lists, host, owners.as_slice())?)
 }
 
 /// What a decision makes due by itself: after the one on a host's last fragment, the decisions of the requirements of its
-/// payload.
+/// payload. The rows are those without this decision.
 pub fn asks_after(
     alloc: Global,
     lists: &mut Lists,
-    marks: &[Mark],
+    rows: &Rows,
     decision: DecisionRef,
     value: u64,
 ) -> Result<Vec<DecisionRef>, AllocError>
@@ -60,11 +63,11 @@ pub fn asks_after(
     ensures offers { lists.new.offers ≡ lists.old.offers }
     ensures right { AreRight lists.new }
     ensures nothing_lost { KnowsAll lists.old lists.new }
-    ensures asks { IfOk result (λ asks. (P : Problem) → IsProblemIn lists.old.offers P → IsAskedAfter P (made_of (reverse marks.now)) (decision_of decision) value (decisions_in asks.items)) }
+    ensures asks { IfOk result (λ asks. (P : Problem) (D : Made) → IsProblemIn lists.old.offers P → AreAttached rows.now D (decisions.host (decision_of decision)) → IsAskedAfter P D (decision_of decision) value (decisions_in asks.items)) }
 {
     match decision {
         DecisionRef::Attach { host, fragment } => {
-            Ok(asks_with(alloc, lists, marks, host, fragment, value)?)
+            Ok(asks_with(alloc, lists, rows, host, fragment, value)?)
         }
         DecisionRef::Choose { .. } | DecisionRef::Pick { .. } => Ok(Vec::new(alloc)),
     }
@@ -114,15 +117,17 @@ fn learn_joining(
     Ok(())
 }
 
-/// The decisions that become due, and how far members are opened then.
+/// The decisions that become due, and how far members are opened then. The rows are those without this decision.
 fn more_after(
     alloc: Global,
     lists: &mut Lists,
+    rows: &Rows,
     course: &Course,
     decision: DecisionRef,
     value: u64,
 ) -> Result<More, AllocError>
     requires right { AreRight lists.old }
+    requires rows { AreRowsBefore rows.now lists.old.offers course.now decision value }
     requires last_in { course.now.last < length course.now.ids.items }
     ensures offers { lists.new.offers ≡ lists.old.offers }
     ensures right { AreRight lists.new }
@@ -136,7 +141,7 @@ fn more_after(
             last: course.last,
         });
     }
-    let decisions = asks_after(alloc, lists, course.marks.as_slice(), decision, value)?;
+    let decisions = asks_after(alloc, lists, rows, decision, value)?;
     let more = More {
         decisions,
         last: course.last,
@@ -171,6 +176,7 @@ fn decide(
     mark: Mark,
 ) -> Result<(), AllocError>
     requires right { AreRight lists.old }
+    requires spaces { IsSpaceOf lists.old.offers course.old spaces.old }
     requires last_in { course.old.last < length course.old.ids.items }
     ensures offers { lists.new.offers ≡ lists.old.offers }
     ensures right { AreRight lists.new }
@@ -182,7 +188,8 @@ fn decide(
     ensures spaces_unchanged { OnErr result (spaces.new ≡ spaces.old) }
     ensures unchanged { OnErr result (IsSameCourse course.old course.new) }
 {
-    let more = more_after(alloc, lists, course, mark.decision, mark.value)?;
+    let rows = spaces.rows().rows();
+    let more = more_after(alloc, lists, rows, course, mark.decision, mark.value)?;
     course.marks.reserve(1)?;
     course.queue.reserve(more.decisions.len())?;
     take(spaces, mark.step)?;
@@ -235,6 +242,7 @@ pub fn decide_with(
     joining: Option<RevisionId>,
 ) -> Result<(), AllocError>
     requires right { AreRight lists.old }
+    requires spaces { IsSpaceOf lists.old.offers course.old spaces.old }
     requires new { IsNoMember joining course.old.ids.items }
     requires placed { ArePlaces course.old.places course.old.ids.items }
     requires last_in { course.old.last < length course.old.ids.items }

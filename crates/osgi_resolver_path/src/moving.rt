@@ -5,7 +5,7 @@ ghost use Rattle.osgi_base.specs.declared.ids.RevisionId.{RevisionId};
 ghost use Rattle.osgi_world.specs.declared.problem.Problem.{Problem};
 ghost use Rattle.osgi_resolver_path.specs.computed.Courses.{IsRight, lists_of, steps_of, taken_back};
 ghost use Rattle.osgi_resolver_decisions.specs.computed.Known.{AreRight, IsProblemIn};
-ghost use Rattle.osgi_resolver_path.specs.computed.Moving.{IsLearnt, IsLonger, IsMarkOf};
+ghost use Rattle.osgi_resolver_path.specs.computed.Moving.{IsLearnt, IsLonger, IsMarkOf, IsSpaceOf};
 ghost use Rattle.osgi_resolver_path.specs.computed.Nexts.{IsSameCourse};
 ghost use Rattle.osgi_resolver_path.specs.computed.Placed.{ArePlaces};
 ghost use Rattle.osgi_resolver_path.specs.declared.course.Mark.{Mark};
@@ -43,6 +43,7 @@ pub fn longer(
     value: u64,
 ) -> Result<(), AllocError>
     requires right { AreRight lists.old }
+    requires spaces { IsSpaceOf lists.old.offers course.old spaces.old }
     requires learnt { IsLearnt lists.old course.old }
     requires placed { ArePlaces course.old.places course.old.ids.items }
     requires next { length course.old.marks.items < length course.old.queue.items }

@@ -21,6 +21,7 @@ ghost use Rattle.osgi_resolver_path.specs.Standing.{HasValue, IsProblemOf, made}
 ghost use Rattle.osgi_resolver_path.specs.Wires.{wired_in};
 ghost use Rattle.osgi_resolver_path.specs.declared.wired.Wired.{Wired};
 
+use crate::attached::attached_among;
 use crate::course::{Course, Mark};
 use crate::last::Last;
 use crate::{adding, growing, last, moving, step, views};
@@ -219,7 +220,8 @@ impl<'w> Path<'w> {
     ) -> Result<Vec<RevisionId>, AllocError>
         ensures fragments { IfOk result (λ list. (P : Problem) → IsProblemOf self.now P → In member (members P (made P self.now)) → list.items ≡ fragments_of P (made P self.now) member) }
     {
-        views::fragments(alloc, &self.lists, &self.course, member)
+        let fragments = self.lists.fragments_for(member);
+        attached_among(alloc, self.spaces.rows().rows(), member, fragments)
     }
 
     /// The candidates of an effective requirement of a member's payload.

@@ -1,11 +1,10 @@
-//! What is seen of a course: fragments, decided members and wires.
+//! What is seen of a course: decided members and wires.
 
 ghost use Rattle.std.specs.Prelude.{◌≡◌, ◌↔◌, ℕ, IfOk, Some, length, reverse, slice_get};
 ghost use Rattle.std.specs.Bool.{Decides};
 ghost use Rattle.std.specs.Option.{option_to_list};
 ghost use Rattle.osgi_base.specs.declared.ids.RevisionId.{RevisionId};
-ghost use Rattle.osgi_world.specs.Decisions.{attaching, is_yes, value_made};
-ghost use Rattle.osgi_world.specs.DueDecisions.{fragments_of, members};
+ghost use Rattle.osgi_world.specs.DueDecisions.{members};
 ghost use Rattle.osgi_world.specs.Hopeless.{IsDecided};
 ghost use Rattle.osgi_world.specs.Lists.{In};
 ghost use Rattle.osgi_world.specs.declared.problem.Problem.{Problem};
@@ -18,44 +17,12 @@ ghost use Rattle.osgi_resolver_path.specs.computed.Views.{IsAt, decided_in, is_s
 ghost use Rattle.osgi_resolver_path.specs.Wires.{wired_by};
 
 use crate::course::{Course, Mark};
-use crate::growing::{is_first, value_of};
 use crate::step::Step;
 use crate::wired::Wired;
 use osgi_base::{List, RevisionId};
 use osgi_candidates::Offers;
 use osgi_resolver_decisions::{DecisionRef, Lists, is_of_space};
 use std::alloc::{AllocError, Global};
-
-// ---- fragments
-
-/// Whether the fragment is attached to the host.
-fn has_fragment(course: &Course, host: RevisionId, fragment: RevisionId) -> bool
-    ensures has { result ≡ is_yes (value_made (decided_in course.now) (attaching host fragment)) }
-{
-    is_first(value_of(
-        course.marks.as_slice(),
-        DecisionRef::Attach { host, fragment },
-    ))
-}
-
-/// The fragments that are attached to a member, by bundle id.
-pub fn fragments(
-    alloc: Global,
-    lists: &Lists,
-    course: &Course,
-    member: RevisionId,
-) -> Result<Vec<RevisionId>, AllocError>
-    requires right { AreRight lists.now }
-    ensures fragments { IfOk result (λ list. (P : Problem) → IsProblemIn lists.now.offers P → Knows lists.now member → list.items ≡ fragments_of P (decided_in course.now) member) }
-{
-    let mut fragments = Vec::new(alloc);
-    for fragment in lists.fragments_for(member) {
-        if has_fragment(course, member, *fragment) {
-            fragments.push(*fragment)?;
-        }
-    }
-    Ok(fragments)
-}
 
 // ---- decided members
 

@@ -44,11 +44,15 @@ pub record IsLonger (offers : World) (old new : Course) (s t : SpacesState) (val
   pub before : taken_back mark (lists_of new) ≡ lists_of old
   pub right : (P : Problem) → IsProblemIn offers P → IsRight P (reverse old.marks.items) (lists_of old) → value < width P (made_of (reverse old.marks.items)) → IsRight P (mark ∷ reverse old.marks.items) (lists_of new)
 
+-- these are the wirings of the world with what the decisions of the course add
+abbrev pub IsSpaceOf : World → Course → SpacesState → Type 0
+IsSpaceOf world c spaces = spaces ≡ record { known = world.known; wirings = world.wirings; steps = steps_of (reverse c.marks.items) }
+
 -- the course stands at a word of each problem of resolving the root in the world, and the rest is as it should be there
 pub record IsOnWay (world : World) (root : RevisionId) (lists : Lists) (spaces : SpacesState) (c : Course) : Type 0 where
   pub offers : lists.offers ≡ world
   pub right : AreRight lists
   pub learnt : IsLearnt lists c
   pub placed : ArePlaces c.places c.ids.items
-  pub spaces_are : spaces ≡ record { known = world.known; wirings = world.wirings; steps = steps_of (reverse c.marks.items) }
+  pub spaces_are : IsSpaceOf world c spaces
   pub along : (P : Problem) → IsProblemIn world P → P.root ≡ root → IsAlong P (lists_of c) (reverse c.marks.items)

@@ -2,7 +2,7 @@
 use Rattle.std.specs.Prelude.{◌≡◌, ℕ, ◌+◌, ◌<◌, ◌⊎◌, List, ◌∷◌, ◌++◌, length, reverse, slice_get, Option, Some}
 use Rattle.std.specs.Option.{option_to_list}
 use Rattle.osgi_base.specs.declared.ids.RevisionId.{RevisionId}
-use Rattle.osgi_world.specs.Decisions.{Made, arity}
+use Rattle.osgi_world.specs.Decisions.{Made, arity, host}
 use Rattle.osgi_world.specs.DueDecisions.{members}
 use Rattle.osgi_world.specs.declared.problem.Problem.{Problem}
 use Rattle.osgi_world.specs.declared.world.World.{World}
@@ -10,6 +10,8 @@ use Rattle.osgi_resolver_decisions.specs.DecisionOf.{decision_of}
 use Rattle.osgi_resolver_decisions.specs.computed.Asks.{decisions_in}
 use Rattle.osgi_resolver_path.specs.computed.Courses.{IsRight, lists_of, made_of}
 use Rattle.osgi_resolver_decisions.specs.computed.Known.{IsProblemIn}
+use Rattle.osgi_space_rows.specs.Rows.{RowLists}
+use Rattle.osgi_resolver_path.specs.computed.Attached.{AreAttached}
 use Rattle.osgi_resolver_path.specs.computed.Openings.{IsOpened}
 use Rattle.osgi_resolver_path.specs.declared.course.Course.{Course}
 use Rattle.osgi_resolver_path.specs.declared.course.Mark.{Mark}
@@ -32,6 +34,11 @@ pub record IsNextOf (P : Problem) (c : Course) (ids : List RevisionId) (decision
 pub record IsOpenedBy (P : Problem) (c : Course) (decision : DecisionRef) (value : ℕ) (more : More) : Type 0 where
   pub opened : IsOpened P (made_with (reverse c.marks.items) decision value) c.ids.items (decisions_in (c.queue.items ++ more.decisions.items)) more.last
   pub pending : (length c.marks.items + 1 < length (c.queue.items ++ more.decisions.items)) ⊎ (more.last + 1 ≡ length c.ids.items)
+
+-- where the decision is next, these rows attach the fragments of its host that are attached before it
+abbrev pub AreRowsBefore : RowLists → World → Course → DecisionRef → ℕ → Type 0
+AreRowsBefore R offers c decision value = (P : Problem) (ids : List RevisionId) → IsProblemIn offers P → IsRight P (reverse c.marks.items) (record (lists_of c) { ids = ids }) → IsNextOf P c ids decision value →
+    AreAttached R (made_of (reverse c.marks.items)) (host (decision_of decision))
 
 -- nothing of it has changed
 pub record IsSameCourse (old new : Course) : Type 0 where

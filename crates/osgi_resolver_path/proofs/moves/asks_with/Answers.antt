@@ -8,8 +8,8 @@ use Rattle.osgi_resolver_decisions.specs.computed.Known.{IsProblemIn}
 use Rattle.osgi_resolver_path.proofs.moves.asks_with.Goals as goal
 
 pub returns-clause-asks : goal.returns-clause-asks
-returns-clause-asks c P in_it =
+returns-clause-asks c P D in_it rows =
     let host = c.args.host in
     let is_problem : IsProblemIn c.learn_all.new.lists.offers P = record { world = in_it.world ∙ sym c.in_ok-learn_all.ensures.offers; is = in_it.is } in
     let says : List RevisionId → Type 0 = λ owners. All (λ (o : RevisionId). IsTrue (is_current P.world.known o)) owners → decisions_in c.in_ok-asks_of.field-0.items ≡ asks_of P host owners in
-    subst says (c.in_ok-owners.ensures.owners P in_it) (subst says c.as_slice-2.ensures.value (c.in_ok-asks_of.ensures.asks P is_problem))
+    subst says (c.in_ok-owners.ensures.owners P D in_it rows) (subst says c.as_slice-2.ensures.value (c.in_ok-asks_of.ensures.asks P is_problem))

@@ -2,11 +2,15 @@
 use Rattle.std.proofs.Common.{◌≡◌, ◌<◌, ◌∷◌, [], ◌++◌, Ok, Err, List, length, flat_map, refl, sym, ◌∙◌, ap, subst, arith}
 use Rattle.std.proofs.lemmas.Option.{slice_get_read}
 use Rattle.std.specs.Prelude.{OnErr, OnOk, slice_get}
-use Rattle.osgi_resolver_path.specs.computed.Moving.{IsLearnt, IsLonger}
+use Rattle.osgi_resolver_path.specs.computed.Moving.{IsLearnt, IsLonger, IsSpaceOf}
 use Rattle.osgi_resolver_path.specs.computed.Nexts.{IsDecidedWith, IsSameCourse}
 use Rattle.osgi_resolver_path.specs.computed.Steps.{steps_in}
+use Rattle.osgi_world.specs.declared.world.World.{World}
 use Rattle.osgi_resolver_path.proofs.Longer.{is-longer, learnt-more, learnt-still}
 use Rattle.osgi_resolver_path.proofs.moving.longer.Goals as goal
+
+pub decide_with-requires-clause-spaces : goal.decide_with-requires-clause-spaces
+decide_with-requires-clause-spaces c = subst (λ (w : World). IsSpaceOf w c.args.course.now c.args.spaces.now) (sym c.learn_new.ensures.offers) c.requires.spaces
 
 pub returns-clause-learnt : goal.returns-clause-learnt
 returns-clause-learnt c =

@@ -2,10 +2,14 @@
 use Rattle.std.proofs.Common.{◌≡◌, Ok, Err, sym, subst}
 use Rattle.std.specs.Prelude.{OnErr, OnOk}
 use Rattle.osgi_resolver_path.specs.Standing.{HasValue}
-use Rattle.osgi_resolver_path.specs.computed.Moving.{IsLonger, IsOnWay}
+use Rattle.osgi_world.specs.declared.world.World.{World}
+use Rattle.osgi_resolver_path.specs.computed.Moving.{IsLonger, IsOnWay, IsSpaceOf}
 use Rattle.osgi_resolver_path.specs.computed.Nexts.{IsSameCourse}
 use Rattle.osgi_resolver_path.proofs.OnWay.{last-within, next-within, on-longer, on-same}
 use Rattle.osgi_resolver_path.proofs.path.Path.longer.Goals as goal
+
+pub longer-requires-clause-spaces : goal.longer-requires-clause-spaces
+longer-requires-clause-spaces c = subst (λ (w : World). IsSpaceOf w c.self.inside.course c.self.inside.spaces) (sym c.self.invariant.offers) c.self.invariant.spaces_are
 
 pub longer-requires-clause-next : goal.longer-requires-clause-next
 longer-requires-clause-next c = (next-within c.self.inside.world.now c.self.inside.root c.self.inside.lists c.self.inside.spaces c.self.inside.course c.self.invariant c.args.value (subst (λ s. HasValue s c.args.value) (sym c.self.view_is) c.requires.value)).1
