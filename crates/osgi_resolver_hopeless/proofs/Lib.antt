@@ -10,4 +10,6 @@ pub mod Settling
 pub mod Offering
 pub mod Clashes
 pub mod Reasons
+pub mod Newly
 pub mod Tested
+pub mod Latest

@@ -10,6 +10,7 @@ use Rattle.osgi_resolver_theory.specs.OnwardFacts.{IsOnward}
 use Rattle.osgi_resolver_theory.specs.Reasons as reason
 use Rattle.osgi_resolver_theory.specs.Reasons.{IsAnew, IsTouched, Stuck}
 use Rattle.osgi_resolver_hopeless.proofs.Answering.{known-is}
+use Rattle.osgi_resolver_hopeless.proofs.Newly.{newly, newly-amiss}
 use Rattle.osgi_resolver_hopeless.proofs.Reasons.{hopeless-reason}
 use Rattle.osgi_resolver_hopeless.specs.Before.{IsHopefulBefore}
 use Rattle.osgi_resolver_hopeless.specs.computed.Clashing.{HasClash, HasLost, HasLostAt, IsLostBy}
@@ -19,7 +20,7 @@ use Rattle.osgi_resolver_hopeless.specs.computed.Onward.{HasNewRivals, IsAtOnce,
 use Rattle.osgi_resolver_hopeless.specs.computed.Reasons as reasons
 use Rattle.osgi_resolver_hopeless.specs.computed.Reasons.{Reason}
 use Rattle.osgi_resolver_hopeless.specs.computed.Rivals.{HasRivals, IsCurrentSingleton}
-use Rattle.osgi_resolver_hopeless.specs.computed.Stuck.{IsAmiss, IsMemberOf, IsStuck, IsStuckBy, OtherProvider, amiss, by_itself, by_wire, two_providers}
+use Rattle.osgi_resolver_hopeless.specs.computed.Stuck.{IsMemberOf, IsNewlyAmiss, IsStuck, IsStuckBy, OtherProvider, amiss, by_itself, by_wire, two_providers}
 use Rattle.osgi_resolver_path.specs.declared.last.Last.{Last}
 use Rattle.osgi_resolver_decisions.specs.DecisionOf.{decision_of}
 use Rattle.osgi_resolver_path.specs.Standing.{IsProblemOf, Standing, made}
@@ -45,13 +46,13 @@ stuck-of P D m (amiss (inr t)) = reason.two_versions t
 
 -- where the wire goes to one of two providers, there are two
 pub by-stuck : (P : Problem) (D : Made) (m : RevisionId) (by : Option Wired) → IsStuckBy P D m by → IsStuck P D m
-by-stuck P D m by (by_itself a) = amiss a
+by-stuck P D m by (by_itself a) = amiss (newly-amiss P D m a)
 by-stuck P D m by (by_wire w e o) =
     two_providers (record { name = o.name; one = w.wire.capability.provider; other = o.other; one_wire = o.one_wire; other_wire = o.other_wire; differ = o.differ })
 
 -- m is stuck, and if it is so by two providers, the decision adds the wire to one of them
 pub data StuckNow (P : Problem) (d : Decision) (v : ℕ) (E : Made) (m : RevisionId) : Type 0 where
-  itself : IsAmiss P E m → StuckNow P d v E m
+  itself : IsNewlyAmiss P E m → StuckNow P d v E m
   wire : (w : Wire) → In (wired m w) (adds P d v) → OtherProvider P.world.known (partial P E) m w.capability.provider → StuckNow P d v E m
 
 -- what one decision more can give, of E, which is what is decided then
@@ -82,7 +83,7 @@ module _ (P : Problem) (D : Made) (d : Decision) (v : ℕ) (x : OneMore P D d v)
   })
 
   stuck-now : (m : RevisionId) → IsStuck P ((d, v) ∷ D) m → StuckNow P d v ((d, v) ∷ D) m
-  stuck-now m (amiss a) = itself a
+  stuck-now m (amiss a) = itself (newly P D d v x hopeful m a)
   stuck-now m (two_providers t) = elim (package-either m t.one t.name t.one_wire) [
     | inr new ↦ added-one m t.one t.other t.name new t.one_wire t.other_wire t.differ
     | inl a ↦ elim (package-either m t.other t.name t.other_wire) [
@@ -128,10 +129,10 @@ module _ (s : Standing) (P : Problem) (L : IsProblemOf s P) (last : Last) (x : I
   onward-is : IsOnward P x.before (decision_of last.decision) last.value
   onward-is = record { word = x.word; next = x.next; range = x.range }
 
-  more : OneMore P (made_by P x.before) (decision_of last.decision) last.value
+  pub more : OneMore P (made_by P x.before) (decision_of last.decision) last.value
   more = one-more P L.is x.before (decision_of last.decision) last.value onward-is
 
-  made-is : made P s ≡ ((decision_of last.decision, last.value) ∷ made_by P x.before)
+  pub made-is : made P s ≡ ((decision_of last.decision, last.value) ∷ made_by P x.before)
   made-is = ap (made_by P) x.word_is ∙ made-onward P x.before (decision_of last.decision) last.value onward-is
 
   pub host-there : In (host (decision_of last.decision)) (members P (made P s))
@@ -150,9 +151,9 @@ module _ (s : Standing) (P : Problem) (L : IsProblemOf s P) (last : Last) (x : I
   made-holder w e = subst (λ m. In m (members P (made P s))) (adder-host P (decision_of last.decision) last.value w.revision w.wire ((x.wired w.revision w.wire).1 e)) host-there
 
   -- what it newly uses
-  newly : (n : RevisionId) → (In n (members P (made P s)) × ¬ In n (members P (made_by P x.before))) ⊎ In (attached (host (decision_of last.decision)) n) (adds P (decision_of last.decision) last.value) → IsNewBy last n
-  newly n (inl j) = inl ((x.joined n).1 j)
-  newly n (inr a) = inr ((x.fragment n).0 a)
+  newly-by : (n : RevisionId) → (In n (members P (made P s)) × ¬ In n (members P (made_by P x.before))) ⊎ In (attached (host (decision_of last.decision)) n) (adds P (decision_of last.decision) last.value) → IsNewBy last n
+  newly-by n (inl j) = inl ((x.joined n).1 j)
+  newly-by n (inr a) = inr ((x.fragment n).0 a)
 
   newly-one : (r : HasRivals P (made P s)) (n : RevisionId) → (n ≡ r.new) ⊎ (n ≡ r.other) → IsNewBy last n → IsNewBy last r.new ⊎ IsNewBy last r.other
   newly-one r n (inl e) b = inl (subst (IsNewBy last) e b)
@@ -168,7 +169,7 @@ module _ (s : Standing) (P : Problem) (L : IsProblemOf s P) (last : Last) (x : I
       IsAtOnce P s last ⊎ HasSettledReason P s (host (decision_of last.decision)) × IsDecided P (made P s) (host (decision_of last.decision))
   sorted (stuck m i (inl e) t) = inl (onward.stuck (record { member = m; is_member = i; touched = inl e; stuck = stuck-by m t }))
   sorted (stuck m i (inr j) t) = inl (onward.stuck (record { member = m; is_member = i; touched = inr ((x.joined m).1 j); stuck = stuck-by m t }))
-  sorted (rivals r n one new) = inl (onward.rivals (record { rivals = r; newly = newly-one r n one (newly n new) }))
+  sorted (rivals r n one new) = inl (onward.rivals (record { is_last = x; rivals = r; newly = newly-one r n one (newly-by n new) }))
   sorted (added m w a l) = inl (onward.lost (record { revision = m; wire = w }, (x.wired m w).0 a, l))
   sorted (lost l h) = inr (onward.lost l, h)
   sorted (clash c h) = inr (onward.clash c, h)

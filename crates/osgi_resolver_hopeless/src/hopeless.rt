@@ -8,7 +8,7 @@ ghost use Rattle.osgi_resolver_path.specs.Standing.{IsProblemOf};
 
 use crate::clashing::has_clash;
 use crate::offer::has_lost;
-use crate::rivals::has_rivals;
+use crate::rivals::has_any_rivals;
 use crate::settled::unsettled;
 use crate::stuck::has_stuck_member;
 use osgi_resolver_path::Path;
@@ -21,7 +21,7 @@ pub fn is_hopeless(alloc: Global, path: &Path) -> Result<bool, AllocError>
     if has_stuck_member(alloc, path)? {
         return Ok(true);
     }
-    if has_rivals(alloc, path)? {
+    if has_any_rivals(alloc, path)? {
         return Ok(true);
     }
     let unsettled = unsettled(alloc, path)?;

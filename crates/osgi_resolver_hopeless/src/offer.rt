@@ -7,6 +7,7 @@ ghost use Rattle.osgi_resolver_hopeless.specs.computed.Open.{AreUnsettled};
 ghost use Rattle.osgi_resolver_path.specs.Standing.{IsProblemOf, made};
 ghost use Rattle.osgi_resolver_path.specs.Wires.{wired_in};
 ghost use Rattle.osgi_resolver_path.specs.declared.wired.Wired.{Wired};
+ghost use Rattle.osgi_space_rows.specs.Rows.{Attaches};
 ghost use Rattle.osgi_space_rows.specs.Worlds.{AreRowsIn};
 ghost use Rattle.osgi_world.specs.Lists.{In};
 ghost use Rattle.osgi_world.specs.Partial.{partial};
@@ -22,6 +23,18 @@ use osgi_space_sources::{RevisionSet, imports_elsewhere};
 use osgi_world::CapRef;
 use std::alloc::{AllocError, Global};
 
+/// Whether the fragment is attached to the host.
+pub fn is_attached(rows: &Rows, host: u32, fragment: u32) -> bool
+    ensures attached { IsTrue result ↔ Attaches rows.now host fragment }
+{
+    for row in rows.attached_to(host) {
+        if row.fragment == fragment {
+            return true;
+        }
+    }
+    false
+}
+
 /// Whether what the owner has is in the payload of the revision.
 fn owns(rows: &Rows, revision: u32, owner: u32) -> bool
     ensures owns { IsTrue result ↔ Owns rows.now revision owner }
@@ -29,12 +42,7 @@ fn owns(rows: &Rows, revision: u32, owner: u32) -> bool
     if owner == revision {
         return true;
     }
-    for row in rows.attached_to(revision) {
-        if row.fragment == owner {
-            return true;
-        }
-    }
-    false
+    is_attached(rows, revision, owner)
 }
 
 /// Whether the capability is an export of a package that its provider imports from elsewhere.

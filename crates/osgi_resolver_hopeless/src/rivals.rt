@@ -1,11 +1,14 @@
 //! Whether two current singletons of one symbolic name are in use.
 
-ghost use Rattle.std.specs.Prelude.{◌↔◌, ℕ, Contains, IfOk, OnOk, IsTrue};
+ghost use Rattle.std.specs.Prelude.{◌≡◌, ◌↔◌, ℕ, Contains, IfOk, OnOk, IsTrue, Some};
 ghost use Rattle.std.specs.Ordering.{nat_cmp};
 ghost use Rattle.osgi_resolver_theory.specs.Checks.{IsNew};
 ghost use Rattle.osgi_base.specs.declared.ids.RevisionId.{RevisionId};
 ghost use Rattle.osgi_space_sources.specs.computed.Adds.{Adds};
 ghost use Rattle.osgi_space_sources.specs.computed.Collected.{IsCollected};
+ghost use Rattle.osgi_resolver_hopeless.specs.computed.Onward.{HasNewRivals};
+ghost use Rattle.osgi_resolver_path.specs.declared.last.Last.{Last};
+ghost use Rattle.osgi_world.specs.Consistency.{AreRivals};
 ghost use Rattle.osgi_resolver_hopeless.specs.computed.Rivals.{HasRival, HasRivals, IsCurrentSingleton, IsOther, IsPresent};
 ghost use Rattle.osgi_resolver_path.specs.Standing.{IsProblemOf, made};
 ghost use Rattle.osgi_space_rows.specs.Agree.{id};
@@ -135,7 +138,7 @@ fn has_rival(path: &Path, new: &Found<u32>, revision: RevisionId) -> bool
 }
 
 /// Whether a member, or a fragment that is attached to one, has a rival in use.
-pub fn has_rivals(alloc: Global, path: &Path) -> Result<bool, AllocError>
+pub fn has_any_rivals(alloc: Global, path: &Path) -> Result<bool, AllocError>
     ensures rivals { IfOk result (λ answer. (P : Problem) → IsProblemOf path.now P → IsTrue answer ↔ HasRivals P (made P path.now)) }
 {
     if !is_one_new(alloc, path)? {
@@ -148,4 +151,59 @@ pub fn has_rivals(alloc: Global, path: &Path) -> Result<bool, AllocError>
         }
     }
     Ok(false)
+}
+
+// ---- after one decision more
+
+/// Whether the other revision is another one and a current singleton. It is, wherever it is a rival of the revision.
+fn may_be_rival(path: &Path, revision: RevisionId, other: RevisionId) -> bool
+    ensures all { AreRivals path.now.world.known revision other → IsTrue result }
+{
+    if other.0 == revision.0 {
+        return false;
+    }
+    is_current_singleton(known_at(path), other)
+}
+
+/// Whether another current singleton of the revision's symbolic name is known. One is, wherever the revision has a rival.
+fn may_have_rival(path: &Path, revision: RevisionId) -> bool
+    ensures all { (t : RevisionId) → AreRivals path.now.world.known revision t → IsTrue result }
+{
+    let Some(says) = known_at(path).revision(revision) else {
+        return false;
+    };
+    let named = path.offers().named(&says.name);
+    for other in named {
+        if may_be_rival(path, revision, *other) {
+            return true;
+        }
+    }
+    false
+}
+
+/// The same of the revision, if there is one.
+fn may_one_have_rival(path: &Path, revision: Option<RevisionId>) -> bool
+    ensures all { (r t : RevisionId) → revision ≡ Some r → AreRivals path.now.world.known r t → IsTrue result }
+{
+    match revision {
+        Some(revision) => may_have_rival(path, revision),
+        None => false,
+    }
+}
+
+/// Whether two rivals are in use. True only where it is so, and true wherever one of them is newly in use by the last decision:
+/// all members are looked at only where what is new has a rival among all revisions that are known.
+pub fn has_rivals(alloc: Global, path: &Path) -> Result<bool, AllocError>
+    ensures rivals { IfOk result (λ answer. (P : Problem) → IsProblemOf path.now P → IsTrue answer → HasRivals P (made P path.now)) }
+    ensures all { IfOk result (λ answer. (P : Problem) (last : Last) → IsProblemOf path.now P → HasNewRivals P path.now last → IsTrue answer) }
+{
+    let Some(last) = path.last() else {
+        return Ok(false);
+    };
+    let joined = may_one_have_rival(path, last.joined);
+    let attached = may_one_have_rival(path, last.fragment);
+    if !joined && !attached {
+        return Ok(false);
+    }
+    Ok(has_any_rivals(alloc, path)?)
 }

@@ -1,21 +1,26 @@
 //! Whether a member makes what is decided hopeless by itself.
 
 ghost use Rattle.std.specs.Prelude.{◌≡◌, ◌↔◌, IfOk, IsTrue, Some};
-ghost use Rattle.osgi_resolver_hopeless.specs.computed.Stuck.{IsAmiss, IsMemberOf, IsStuck, IsStuckBy, OtherProvider, SameName};
+ghost use Rattle.osgi_resolver_hopeless.specs.computed.Stuck.{HasNamesake, IsAmiss, IsAmissBy, CannotBeMet, IsFragmentAmiss, IsMemberOf, IsNewlyAmiss, IsOtherFragment, IsStuck, IsStuckBy, OtherProvider, SameName};
+ghost use Rattle.osgi_resolver_decisions.specs.DecisionOf.{decision_of};
+ghost use Rattle.osgi_resolver_path.specs.Last.{IsLast};
 ghost use Rattle.osgi_resolver_path.specs.Standing.{IsProblemOf, made};
 ghost use Rattle.osgi_resolver_path.specs.declared.wired.Wired.{Wired};
 ghost use Rattle.osgi_world.specs.Partial.{partial};
-ghost use Rattle.osgi_world.specs.DueDecisions.{members};
+ghost use Rattle.osgi_world.specs.DueDecisions.{fragments_of, members, payload};
 ghost use Rattle.osgi_world.specs.Lists.{In, Two};
 ghost use Rattle.osgi_base.specs.declared.ids.RevisionId.{RevisionId};
 ghost use Rattle.osgi_world.specs.declared.problem.Problem.{Problem};
 
+use crate::offer::is_attached;
 use crate::place::known_at;
 use crate::providers::{has_other_provider, has_two_providers};
-use crate::unmet::is_unmet;
+use crate::unmet::{cannot_be_met, is_owner_lacking, is_unmet};
 use osgi_base::RevisionId;
-use osgi_resolver_path::{Path, Wired};
+use osgi_resolver_decisions::DecisionRef;
+use osgi_resolver_path::{Last, Path, Wired};
 use osgi_space_rules::are_names_single;
+use osgi_world::ReqRef;
 use std::alloc::{AllocError, Global};
 
 /// Whether two of the fragments have one symbolic name.
@@ -65,7 +70,106 @@ fn has_two_with(path: &Path, member: RevisionId, wired: Option<Wired>) -> bool
     }
 }
 
-/// Whether the member is stuck. Two providers of one package count only where there is this wire, and it goes to one of them.
+// ---- after one decision more
+
+/// Whether the other revision is another fragment of the member than this one.
+fn is_other_fragment(
+    path: &Path,
+    member: RevisionId,
+    fragment: RevisionId,
+    other: RevisionId,
+) -> bool
+    ensures other { (P : Problem) → IsMemberOf path.now P member → IsTrue result ↔ IsOtherFragment P (made P path.now) member fragment other }
+{
+    if other.0 == fragment.0 {
+        return false;
+    }
+    is_attached(path.rows().rows(), member.0, other.0)
+}
+
+/// Whether the member has another fragment of this one's symbolic name. It is looked for among all revisions of that name.
+fn has_namesake(path: &Path, member: RevisionId, fragment: RevisionId) -> bool
+    ensures namesake { (P : Problem) → IsMemberOf path.now P member → In fragment (fragments_of P (made P path.now) member) → IsTrue result ↔ HasNamesake P (made P path.now) member fragment }
+{
+    let Some(says) = known_at(path).revision(fragment) else {
+        return false;
+    };
+    let named = path.offers().named(&says.name);
+    for other in named {
+        if is_other_fragment(path, member, fragment, *other) {
+            return true;
+        }
+    }
+    false
+}
+
+/// Whether a requirement of the member's fragment has no candidate, or another fragment of the member has its symbolic name.
+fn is_fragment_amiss(path: &Path, member: RevisionId, fragment: RevisionId) -> bool
+    ensures amiss { (P : Problem) → IsMemberOf path.now P member → In fragment (fragments_of P (made P path.now) member) → IsTrue result ↔ IsFragmentAmiss P (made P path.now) member fragment }
+{
+    if is_owner_lacking(path, fragment) {
+        return true;
+    }
+    has_namesake(path, member, fragment)
+}
+
+/// Whether the decision on the fragment has the value yes, and the fragment does not fit.
+fn is_attached_amiss(path: &Path, member: RevisionId, fragment: RevisionId, value: u64) -> bool
+    ensures amiss { (P : Problem) → IsMemberOf path.now P member → (value ≡ 0 → In fragment (fragments_of P (made P path.now) member))
+        → IsTrue result ↔ (value ≡ 0) × In fragment (fragments_of P (made P path.now) member) × IsFragmentAmiss P (made P path.now) member fragment }
+{
+    if value != 0 {
+        return false;
+    }
+    is_fragment_amiss(path, member, fragment)
+}
+
+/// Whether a decision on a wire of the requirement has the value no, and the requirement can get no wire any more.
+fn is_refused_amiss(path: &Path, member: RevisionId, requirement: ReqRef, value: u64) -> bool
+    ensures amiss { (P : Problem) → IsMemberOf path.now P member → In requirement (payload P (made P path.now) member)
+        → IsTrue result ↔ (value ≡ 1) × In requirement (payload P (made P path.now) member) × CannotBeMet P (made P path.now) member requirement }
+{
+    if value != 1 {
+        return false;
+    }
+    cannot_be_met(path, member, requirement)
+}
+
+/// Whether the last decision attached a fragment to the member that does not fit, or refused it a wire of a requirement that can
+/// get none any more.
+fn is_amiss_by(path: &Path, last: Last, member: RevisionId) -> bool
+    ensures amiss { (P : Problem) → IsMemberOf path.now P member → IsLast P path.now last → IsTrue result ↔ IsAmissBy P (made P path.now) (decision_of last.decision) last.value member }
+{
+    if last.decision.host().0 != member.0 {
+        return false;
+    }
+    match last.decision {
+        DecisionRef::Attach { fragment, .. } => {
+            is_attached_amiss(path, member, fragment, last.value)
+        }
+        DecisionRef::Choose { .. } => false,
+        DecisionRef::Pick { requirement, .. } => {
+            is_refused_amiss(path, member, requirement, last.value)
+        }
+    }
+}
+
+/// Whether the last decision gave the member a requirement that can get no wire any more, or two fragments of one symbolic name.
+/// Where no decision is made, all requirements and fragments are looked at.
+fn is_newly_amiss(alloc: Global, path: &Path, member: RevisionId) -> Result<bool, AllocError>
+    ensures amiss { IfOk result (λ answer. (P : Problem) → IsMemberOf path.now P member → IsTrue answer ↔ IsNewlyAmiss P (made P path.now) member) }
+{
+    let Some(last) = path.last() else {
+        return Ok(is_amiss(alloc, path, member)?);
+    };
+    if is_owner_lacking(path, member) {
+        return Ok(true);
+    }
+    Ok(is_amiss_by(path, last, member))
+}
+
+/// Whether the last decision made the member stuck, where it was not before. Two providers of one package count only where there
+/// is this wire, and it goes to one of them.
 pub fn is_stuck_by(
     alloc: Global,
     path: &Path,
@@ -74,11 +178,13 @@ pub fn is_stuck_by(
 ) -> Result<bool, AllocError>
     ensures stuck { IfOk result (λ answer. (P : Problem) → IsMemberOf path.now P member → IsTrue answer ↔ IsStuckBy P (made P path.now) member wired) }
 {
-    if is_amiss(alloc, path, member)? {
+    if is_newly_amiss(alloc, path, member)? {
         return Ok(true);
     }
     Ok(has_two_with(path, member, wired))
 }
+
+// ---- of all members
 
 /// Whether one of the members is stuck.
 pub fn has_stuck_member(alloc: Global, path: &Path) -> Result<bool, AllocError>

@@ -2,6 +2,7 @@
 use Rattle.std.specs.Prelude.{◌≡◌, ◌⊎◌, Some}
 use Rattle.osgi_base.specs.declared.ids.RevisionId.{RevisionId}
 use Rattle.osgi_resolver_decisions.specs.DecisionOf.{decision_of}
+use Rattle.osgi_resolver_path.specs.Last.{IsLast}
 use Rattle.osgi_resolver_path.specs.Standing.{Standing, made}
 use Rattle.osgi_resolver_path.specs.declared.wired.Wired.{Wired}
 use Rattle.osgi_world.specs.Decisions.{host}
@@ -25,8 +26,9 @@ pub record HasTouchedStuck (P : Problem) (s : Standing) (last : Last) : Type 0 w
 abbrev pub IsNewBy : Last → RevisionId → Type 0
 IsNewBy last r = (last.joined ≡ Some r) ⊎ (last.fragment ≡ Some r)
 
--- two rivals are in use, and one of them is new by the decision
+-- two rivals are in use, and one of them is new by the decision, which is the last
 pub record HasNewRivals (P : Problem) (s : Standing) (last : Last) : Type 0 where
+  pub is_last : IsLast P s last
   pub rivals : HasRivals P (made P s)
   pub newly : IsNewBy last rivals.new ⊎ IsNewBy last rivals.other
 

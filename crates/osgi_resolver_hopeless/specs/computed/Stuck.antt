@@ -1,10 +1,10 @@
 -- Members that make what is decided hopeless by themselves.
-use Rattle.std.specs.Prelude.{◌≡◌, ◌≢◌, ℕ, ◌<◌, ◌⊎◌, IsTrue, List, [], Option, Some}
+use Rattle.std.specs.Prelude.{◌≡◌, ◌≢◌, ℕ, ◌<◌, ◌⊎◌, IsTrue, List, [], ◌∷◌, Option, Some}
 use Rattle.osgi_base.specs.declared.ids.RevisionId.{RevisionId}
 use Rattle.osgi_resolver_path.specs.Standing.{IsProblemOf, Standing, made}
 use Rattle.osgi_resolver_path.specs.declared.wired.Wired.{Wired}
 use Rattle.osgi_world.specs.Candidates.{candidates}
-use Rattle.osgi_world.specs.Decisions.{Made, pick, value_made}
+use Rattle.osgi_world.specs.Decisions.{Decision, Made, attaching, choose, pick, value_made}
 use Rattle.osgi_world.specs.DueDecisions.{fragments_of, members, payload}
 use Rattle.osgi_world.specs.Lists.{In, Two}
 use Rattle.osgi_world.specs.Lookups.{is_multiple, requirement_count, symbolic_name, IsNeeded}
@@ -77,6 +77,14 @@ pub data IsStuck (P : Problem) (D : Made) (m : RevisionId) : Type 0 where
 
 -- ---- after one decision more
 
+-- the requirement is needed, and has no candidate
+abbrev pub IsLacking : Problem → ReqRef → Type 0
+IsLacking P q = IsNeeded P.world.known q × (candidates P q ≡ [])
+
+-- it is so with a requirement of this owner
+abbrev pub IsOwnerLacking : Problem → RevisionId → Type 0
+IsOwnerLacking P o = (i : ℕ) × (i < requirement_count P.world.known o) × IsLacking P (place o i)
+
 -- r has wires for one package to x and to another provider
 pub record OtherProvider (K : List Known) (W : List Wiring) (r x : RevisionId) : Type 0 where
   pub name : List ℕ
@@ -85,7 +93,31 @@ pub record OtherProvider (K : List Known) (W : List Wiring) (r x : RevisionId) :
   pub other_wire : PackageWire K W r name other
   pub differ : x ≢ other
 
--- m is stuck; two providers of one package count only where there is a wire, and it goes to one of them
+-- g is another fragment of m than f
+abbrev pub IsOtherFragment : Problem → Made → RevisionId → RevisionId → RevisionId → Type 0
+IsOtherFragment P D m f g = In g (fragments_of P D m) × (g ≢ f)
+
+-- another fragment of m has the symbolic name of f
+abbrev pub HasNamesake : Problem → Made → RevisionId → RevisionId → Type 0
+HasNamesake P D m f = (g : RevisionId) × IsOtherFragment P D m f g × SameName P.world.known f g
+
+-- a requirement of the fragment f has no candidate, or another fragment of m has its symbolic name
+abbrev pub IsFragmentAmiss : Problem → Made → RevisionId → RevisionId → Type 0
+IsFragmentAmiss P D m f = IsOwnerLacking P f ⊎ HasNamesake P D m f
+
+-- the decision with this value, of which D tells already, attached to m a fragment that does not fit, or refused m a wire of a
+-- requirement that can get none any more
+abbrev pub IsAmissBy : Problem → Made → Decision → ℕ → RevisionId → Type 0
+IsAmissBy P D (attaching h f) v m = (h ≡ m) × (v ≡ 0) × In f (fragments_of P D m) × IsFragmentAmiss P D m f
+IsAmissBy P D (choose h q) v m = ⊥
+IsAmissBy P D (pick h q c) v m = (h ≡ m) × (v ≡ 1) × In q (payload P D m) × CannotBeMet P D m q
+
+-- a requirement of m itself has no candidate, or the last decision made it amiss; where there is none, it is amiss
+abbrev pub IsNewlyAmiss : Problem → Made → RevisionId → Type 0
+IsNewlyAmiss P [] m = IsAmiss P [] m
+IsNewlyAmiss P (t ∷ D) m = IsOwnerLacking P m ⊎ IsAmissBy P (t ∷ D) t.0 t.1 m
+
+-- m is stuck by the last decision; two providers of one package count only where there is a wire, and it goes to one of them
 pub data IsStuckBy (P : Problem) (D : Made) (m : RevisionId) (wired : Option Wired) : Type 0 where
-  by_itself : IsAmiss P D m → IsStuckBy P D m wired
+  by_itself : IsNewlyAmiss P D m → IsStuckBy P D m wired
   by_wire : (w : Wired) → wired ≡ Some w → OtherProvider P.world.known (partial P D) m w.wire.capability.provider → IsStuckBy P D m wired

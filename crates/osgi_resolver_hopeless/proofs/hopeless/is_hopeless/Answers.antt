@@ -10,7 +10,7 @@ pub returns-then-branch : goal.returns-then-branch
 returns-then-branch c = record { hopeless = λ P L. yes (reason-hopeless P (made P c.args.path.now) L.is (stuck ((c.in_ok-has_stuck_member.ensures.stuck P L).0 c.if-branch.true))) }
 
 pub returns-then-branch-2 : goal.returns-then-branch-2
-returns-then-branch-2 c = record { hopeless = λ P L. yes (reason-hopeless P (made P c.args.path.now) L.is (rivals ((c.in_ok-has_rivals.ensures.rivals P L).0 c.if-branch-2.true))) }
+returns-then-branch-2 c = record { hopeless = λ P L. yes (reason-hopeless P (made P c.args.path.now) L.is (rivals ((c.in_ok-has_any_rivals.ensures.rivals P L).0 c.if-branch-2.true))) }
 
 pub has_lost-requires : goal.has_lost-requires
 has_lost-requires c = record { unsettled = c.in_ok-unsettled.ensures.unsettled }
@@ -27,7 +27,7 @@ returns c = record {
     λ t. reason-hopeless P (made P c.args.path.now) L.is (clash ((c.in_ok-has_clash.ensures.clash P L).0 t)),
     λ h. elim (hopeless-reason P (made P c.args.path.now) L.is h) [
       | stuck s ↦ absurd (not_true _ c.if-branch.false ((c.in_ok-has_stuck_member.ensures.stuck P L).1 s))
-      | rivals r ↦ absurd (not_true _ c.if-branch-2.false ((c.in_ok-has_rivals.ensures.rivals P L).1 r))
+      | rivals r ↦ absurd (not_true _ c.if-branch-2.false ((c.in_ok-has_any_rivals.ensures.rivals P L).1 r))
       | lost l ↦ absurd (not_true _ c.if-has_lost.false ((c.has_lost.ensures.lost P L).1 l))
       | clash k ↦ (c.in_ok-has_clash.ensures.clash P L).1 k
     ],

@@ -17,6 +17,6 @@ returns-then-not-attached c = record {
 
 pub returns : goal.returns
 returns c = record {
-  rivals = λ P L t. (c.in_ok-has_rivals.ensures.rivals P L).0 t;
-  all = λ P L h. (c.in_ok-has_rivals.ensures.rivals P L).1 h.rivals;
+  rivals = λ P L t. c.in_ok-has_rivals.ensures.rivals P L t;
+  all = λ P L h. c.in_ok-has_rivals.ensures.all P c.args.last L h;
 }

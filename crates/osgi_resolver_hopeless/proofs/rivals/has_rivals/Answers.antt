@@ -1,50 +1,43 @@
--- The next new revision, and the first that has a rival.
-use Rattle.std.proofs.Common.{ℕ, List, sym, subst, get_or, Contains}
-use Rattle.std.proofs.lemmas.List.{get_or_default}
-use Rattle.osgi_space_rules.proofs.Grow.{at_in, each_done, each_step}
+-- What is new has a rival, or none has.
+use Rattle.std.proofs.Common.{inl, inr, refl, ◌∙◌, sym, subst}
+use Rattle.osgi_base.specs.declared.ids.RevisionId.{RevisionId}
 use Rattle.osgi_space_rules.proofs.OneValue.{not_true}
-use Rattle.osgi_resolver_hopeless.proofs.Answering.{no, yes}
-use Rattle.osgi_resolver_hopeless.proofs.Present.{rivals-from, rivals-of}
-use Rattle.osgi_resolver_hopeless.specs.computed.Rivals.{HasRival}
-use Rattle.osgi_space.proofs.Ids.{contains-in, in-contains}
-use Rattle.osgi_space_rows.specs.Agree.{id}
+use Rattle.osgi_resolver_hopeless.proofs.Answering.{known-is}
+use Rattle.osgi_resolver_hopeless.proofs.Latest.{new-same, no-last}
+use Rattle.osgi_world.specs.Consistency.{AreRivals}
 use Rattle.osgi_resolver_hopeless.proofs.rivals.has_rivals.Goals as goal
 
-pub loop-revision-init : goal.loop-revision-init
-loop-revision-init c = λ n here. elim here [ ]
+pub returns-in_default : goal.returns-in_default
+returns-in_default c = record {
+  rivals = λ P L t. let f = t in cc;
+  all = λ P last L h. absurd (no-last h.is_last.before last.value (sym h.is_last.word_is ∙ c.in_default.ensures.last));
+}
 
-pub has_rival-requires : goal.has_rival-requires
-has_rival-requires c = record { collected = c.in_ok-new.ensures.collected }
-
-pub loop-revision-preserved : goal.loop-revision-preserved
-loop-revision-preserved c =
-    let items = c.deref-revision-items.result.now in
-    let value = c.deref-revision-items.ensures.value in
-    let i = c.loop-revision.revision-index in
-    let within = c.loop-revision-test.true in
-    let n = get_or items i 0 in
-    each_step (λ (m : ℕ). ¬ HasRival c.args.path.now items (id m)) items i n within (get_or_default items i 0 n within) c.loop-revision.invariant
-    (λ h. not_true _ c.if-has_rival.false (c.has_rival.ensures.rival.1 (subst (λ (xs : List ℕ). HasRival c.args.path.now xs (id n)) value h)))
-
-pub returns-then-has_rival : goal.returns-then-has_rival
-returns-then-has_rival c = record {
-  rivals = λ P L.
-      let items = c.deref-revision-items.result.now in
-      let value = c.deref-revision-items.ensures.value in
-      let i = c.loop-revision.revision-index in
-      let within = c.loop-revision-test.true in
-      let n = get_or items i 0 in
-      let at = subst (λ (xs : List ℕ). Contains xs n) value (in-contains items n (at_in items i n within (get_or_default items i 0 n within))) in
-      yes (rivals-of c.args.path.now P L c.in_ok-new.new.items.items (c.in_ok-new.ensures.new P L) n at (c.has_rival.ensures.rival.0 c.if-has_rival.true));
+pub returns-then-not-attached : goal.returns-then-not-attached
+returns-then-not-attached c = record {
+  rivals = λ P L t. let f = t in cc;
+  all = λ P last L h.
+      let s = c.args.path.now in
+      let known = known-is s P L s.world.known refl in
+      let one = h.rivals.new in
+      let two = h.rivals.other in
+      let r : AreRivals s.world.known one two = subst (λ K. AreRivals K one two) (sym known) h.rivals.rivals in
+      let back : AreRivals s.world.known two one = record { different = λ e. r.different (sym e); name = sym r.name; current = (r.current.1, r.current.0); singletons = (r.singletons.1, r.singletons.0) } in
+      let same = new-same P s last c.in-Some.last h.is_last (c.in-Some.ensures.last P L) in
+      elim h.newly [
+        | inl new ↦ elim (same one new) [
+          | inl e ↦ absurd (not_true _ c.if-not-joined.true (c.may_one_have_rival-joined.ensures.all one two e r))
+          | inr e ↦ absurd (not_true _ c.if-not-attached.true (c.may_one_have_rival-attached.ensures.all one two e r))
+        ]
+        | inr new ↦ elim (same two new) [
+          | inl e ↦ absurd (not_true _ c.if-not-joined.true (c.may_one_have_rival-joined.ensures.all two one e back))
+          | inr e ↦ absurd (not_true _ c.if-not-attached.true (c.may_one_have_rival-attached.ensures.all two one e back))
+        ]
+      ];
 }
 
 pub returns : goal.returns
 returns c = record {
-  rivals = λ P L.
-      let items = c.deref-revision-items.result.now in
-      let value = c.deref-revision-items.ensures.value in
-      let new = c.in_ok-new.new.items.items in
-      let none = each_done (λ (n : ℕ). ¬ HasRival c.args.path.now items (id n)) items c.loop-revision.revision-index c.loop-revision-test.false c.loop-revision.invariant in
-      no (λ has. let r = rivals-from c.args.path.now P L new (c.in_ok-new.ensures.new P L) has in
-      none r.0 (contains-in items r.0 (subst (λ (xs : List ℕ). Contains xs r.0) (sym value) r.1)) (subst (λ (xs : List ℕ). HasRival c.args.path.now xs (id r.0)) (sym value) r.2));
+  rivals = λ P L t. (c.in_ok-has_any_rivals.ensures.rivals P L).0 t;
+  all = λ P last L h. (c.in_ok-has_any_rivals.ensures.rivals P L).1 h.rivals;
 }
