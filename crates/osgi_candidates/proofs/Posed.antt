@@ -6,13 +6,13 @@ use Rattle.std.proofs.lemmas.Grind.{flat_map-append}
 use Rattle.std.proofs.lemmas.List.{map-append}
 use Rattle.std.proofs.lemmas.List.Elements.{filter-append}
 use Rattle.osgi_base.specs.declared.ids.RevisionId.{RevisionId}
-use Rattle.osgi_candidates.specs.computed.Choices.{AddsChoices, AreChoices, IsChoice, can_be_asked, requirements}
+use Rattle.osgi_candidates.specs.computed.Choices.{AddsChoices, AreChoices, IsChoice, requirements}
 use Rattle.osgi_candidates.specs.computed.Collecting.{AreCandidates}
 use Rattle.osgi_candidates.specs.computed.Fitting.{IsFit}
 use Rattle.osgi_candidates.proofs.Answering.{same_candidate}
 use Rattle.osgi_resolver_theory.proofs.Lists.{and-both, and-cases, in-below, in-filter, in-flat_map, in-map, map-in}
 use Rattle.osgi_resolver_theory.proofs.Values.{find-none, find-some, nat-same, place-eq, rev-eq}
-use Rattle.osgi_resolver_theory.specs.WorldProblems.{all_revisions, asked_requirements}
+use Rattle.osgi_resolver_theory.specs.WorldProblems.{all_revisions, asked_requirements, can_be_asked}
 use Rattle.osgi_space_rules.proofs.Grow.{in_either, one_more}
 use Rattle.osgi_world.specs.Candidates.{CanBeAsked, IsPreferred, IsProblem, IsUnresolved, same_place}
 use Rattle.osgi_world.specs.Lists.{In, Two, below}

@@ -21,7 +21,7 @@ use Rattle.osgi_session.specs.Sessions.{IsWhole, Lane, MayBeCut, Never}
 use Rattle.osgi_session.specs.declared.line.Line.{Line}
 use Rattle.osgi_program.proofs.Limits.{handed_all, hands_are, lane_end, some_spent}
 use Rattle.osgi_program.specs.computed.Ended.{IsRun, status_by}
-use Rattle.osgi_program.specs.Outcome.{is_handing, is_troubled, IsAtLimit, IsDoneStatus, IsSession, IsWrittenStatus, Shelved, status_of}
+use Rattle.osgi_program.specs.Outcome.{is_handing, is_troubled, IsAtLimit, IsDoneStatus, IsSession, IsUncut, IsWrittenStatus, Shelved, status_of}
 use Rattle.osgi_program.specs.declared.session.TheConstants.{CUT, DONE, MAX_INPUT, NO_MEMORY, TROUBLED, WRITE_FAILED}
 use Rattle.osgi_program.specs.computed.Running.{IsSpentOrFull, RunsLines, Unspent}
 use Rattle.osgi_program.specs.declared.runner.Ran.{Ran}
@@ -138,6 +138,10 @@ status_from bounds input shelf how session status run starved written is =
 not_cut : (b : Bool) → cond b TROUBLED DONE ≡ CUT → ⊥
 not_cut true e = cc e
 not_cut false e = cc e
+
+-- where no line was cut, the status does not say so
+pub not_cut_by : (session : Session) (status : ℕ) → IsUncut session → status ≡ status_of session → status ≡ CUT → ⊥
+not_cut_by session status uncut is cut = not_cut (is_troubled session.lines session.entries) (sym (cond-false _ _ _ uncut) ∙ sym is ∙ cut)
 
 limit_by : (how : Ran) (setting : Setting) (session : Session) → Legal setting session.entries → session.handings ≡ count_by (λ (e : Entry). is_handing e.reply) session.entries → (how ≡ ran.Starved → ⊥) →
     RunsLines how (sections_of session.scripts) setting.bounds.entries session.lines [] session.entries → CUT ≡ status_by how session → IsAtLimit setting.bounds session

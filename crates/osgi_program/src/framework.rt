@@ -5,7 +5,7 @@ ghost use Rattle.std.specs.List.{count_by, list_any};
 ghost use Rattle.osgi_ops.specs.Replies.{is_refusal};
 ghost use Rattle.osgi_ops.specs.Settings.{Bounds, bounds_of};
 ghost use Rattle.osgi_outside.specs.Causes.{Rose};
-ghost use Rattle.osgi_program.specs.Outcome.{is_bad, is_troubled, status_of, IsAtLimit, IsSession, IsWritten, IsPartlyWritten, IsWrittenStatus, IsBareStatus};
+ghost use Rattle.osgi_program.specs.Outcome.{is_bad, is_troubled, status_of, IsAtLimit, IsSession, IsUncut, IsWritten, IsPartlyWritten, IsWrittenStatus, IsBareStatus};
 ghost use Rattle.osgi_program.specs.Words.{AsksRun};
 ghost use Rattle.osgi_program.specs.computed.Ended.{hands, IsRun, status_by};
 
@@ -178,7 +178,7 @@ pub fn framework_main<R, S: Source, K: Sink, F: Shelf, G: Gate>(
         ¬ Rose (S.faults source.old) (S.faults source.new) →
         ¬ Rose (K.faults sink.old) (K.faults sink.new) →
         IsSomeAnd (S.left source.old) (λ bytes. length bytes ≤ MAX_INPUT) →
-        IfSome result.session (λ session. ¬ IsAtLimit bounds session) →
+        IfSome result.session (λ session. IsUncut session) →
         (result.status ≡ DONE) ⊎ (result.status ≡ TROUBLED) ⊎ (result.status ≡ NO_MEMORY) }
 {
     let Some(limits) = run_limits(words) else {

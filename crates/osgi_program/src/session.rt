@@ -58,9 +58,9 @@ pub(crate) const DONE: u8 = 0;
 pub struct Finished {
     /// The first of these that holds. 2: the words do not ask for a run; nothing was read. 3: a read
     /// failed. 6: the input has more than 1,048,576 bytes. 4: a write or a flush failed. 7: a line with a
-    /// command found the history full, or an event to hand where enough were handed. 1: a line is outside
-    /// the grammar, or a reply is a refusal. 0: otherwise. And 5 in place of any but 2: memory ran out, and
-    /// nothing was written.
+    /// command found the history full, or a Hand was refused since enough events were handed. 1: a line is
+    /// outside the grammar, or a reply is a refusal. 0: otherwise. And 5 in place of any but 2: memory ran
+    /// out, and nothing was written.
     pub status: u8,
     /// None on 2, 3 and 6, and where memory ran out before the framework was made.
     pub session: Option<Session>,

@@ -16,8 +16,8 @@ use std::alloc::{AllocError, Global};
 use std::marker::Model;
 
 /// The known revisions and the wirings in force, as `Wirings` has them. A resolve makes use of what an earlier one has found out,
-/// and reads only what is new in the world since, and the ids of the known revisions. One that was refused is refused again
-/// without a search, until the world changes.
+/// and reads only what is new in the world since, and the ids of the known revisions. A root that was refused within a budget is
+/// refused again within that budget without a search, until the world changes, if memory sufficed to keep the refusal.
 pub struct IndexedWirings {
     alloc: Global,
     wirings: Wirings,

@@ -39,8 +39,8 @@ pub fn resolve(
     resolve_with(alloc, world, &mut index, root, budget)
 }
 
-/// Solves a problem: what `resolve` answers for its root in its world. The lists of candidates that it has are the only ones that
-/// a problem of that root can have, so the search lists those that it comes to itself.
+/// Solves a problem: what `resolve` answers for its root in its world. Each problem of a root in a world has the same candidates
+/// for a requirement that can be asked, and lists of any other count for nothing, so the search lists those that it comes to itself.
 pub fn solve(alloc: Global, problem: &Problem, budget: u64) -> Result<Answer, AllocError>
     requires problem { IsProblem problem.now }
     requires budget { budget < 2 ^ 64 - 1 }

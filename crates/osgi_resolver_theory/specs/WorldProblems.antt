@@ -57,7 +57,7 @@ is_on_offer K W c = (is_owner W c.provider c.owner && nat_lt c.index (capability
 
 -- ---- candidates
 
--- the current fragments that match the host, by bundle id
+-- the current fragments that match the host and that it permits, by bundle id
 abbrev pub matching_fragments : List Known → RevisionId → List RevisionId
 matching_fragments K h = filter (λ f. is_host_of K f h) (current_fragments K)
 
@@ -117,9 +117,13 @@ candidates_in W q = in_order_of (preference W.known W.wirings) (filter (is_candi
 abbrev pub choice_in : World → ReqRef → Choice
 choice_in W q = record { requirement = q; candidates = candidates_in W q }
 
+-- an effective requirement of a current revision, if it is one of its requirements at all
+abbrev pub can_be_asked : List Known → ReqRef → Bool
+can_be_asked K q = is_current K q.owner && is_effective K q
+
 -- the effective requirements of the current revisions
 abbrev pub asked_requirements : List Known → List ReqRef
-asked_requirements K = filter (λ q. is_current K q.owner && is_effective K q) (requirements_of K (all_revisions K))
+asked_requirements K = filter (can_be_asked K) (requirements_of K (all_revisions K))
 
 abbrev pub the_problem : World → RevisionId → Problem
 the_problem W root = record { world = W; root = root; choices = map (choice_in W) (asked_requirements W.known) }

@@ -1,13 +1,11 @@
 -- The rows of a problem: the requirements that can be asked, each with its candidates.
-use Rattle.std.specs.Prelude.{◌≡◌, ◌++◌, ◌&&◌, Bool, List, filter, map}
+use Rattle.std.specs.Prelude.{◌≡◌, ◌++◌, List, filter, map}
 use Rattle.osgi_candidates.specs.computed.Collecting.{AreCandidates}
-use Rattle.osgi_resolver_theory.specs.WorldProblems.{asked_requirements}
+use Rattle.osgi_resolver_theory.specs.WorldProblems.{asked_requirements, can_be_asked}
 use Rattle.osgi_world.specs.Candidates.{CanBeAsked}
 use Rattle.osgi_world.specs.Lists.{In}
-use Rattle.osgi_world.specs.Lookups.{is_current, is_effective}
 use Rattle.osgi_world.specs.declared.problem.Choice.{Choice}
 use Rattle.osgi_world.specs.declared.wiring.ReqRef.{ReqRef}
-use Rattle.osgi_world.specs.declared.world.Known.{Known}
 use Rattle.osgi_world.specs.declared.world.World.{World}
 
 -- the row has the candidates of a requirement that can be asked
@@ -20,10 +18,6 @@ AreGoodChoices w choices = (c : Choice) → In c choices → IsChoice w c
 
 abbrev pub requirements : List Choice → List ReqRef
 requirements choices = map (λ (c : Choice). c.requirement) choices
-
--- an effective requirement of a current revision, if it is one of its requirements at all
-abbrev pub can_be_asked : List Known → ReqRef → Bool
-can_be_asked K q = is_current K q.owner && is_effective K q
 
 -- behind what was there stands a row for each of the requirements that can be asked
 pub record AddsChoices (w : World) (qs : List ReqRef) (old new : List Choice) : Type 0 where

@@ -1,8 +1,8 @@
 -- The session is that of all bytes that were left, under the limits that the words give, and its status says what is in it.
-use Rattle.std.proofs.Common.{◌≡◌}
+use Rattle.std.proofs.Common.{◌≡◌, inr}
 use Rattle.osgi_ops.specs.Settings.{bounds_of}
 use Rattle.osgi_ops.specs.declared.limits.Limits.{Limits}
-use Rattle.osgi_program.proofs.Ends.{all_taken, completed, limit_from, not_asked, session_from, status_from}
+use Rattle.osgi_program.proofs.Ends.{all_taken, completed, limit_from, not_asked, not_cut_by, session_from, status_from}
 use Rattle.osgi_program.proofs.framework.framework_main.Goals as goal
 
 pub returns-in-Ok-clause-session : goal.returns-in-Ok-clause-session
@@ -22,11 +22,11 @@ returns-in-Ok-clause-cut g c = λ bounds asks cut.
     limit_from bounds c.bytes.result.now _ c.in-Ok.ran c.in-Ok.session c.write_session-status.result (rw same at c.in-Ok.ensures.run) c.write_session-status.ensures.starved c.write_session-status.ensures.status cut
 
 pub returns-in-Ok-clause-complete : goal.returns-in-Ok-clause-complete
-returns-in-Ok-clause-complete g c = λ bounds asks source sink left free.
-    let same : bounds_of c.in-Some.limits ≡ bounds = c.in-Some.ensures.only bounds asks in
-    completed c.write_session-status.result c.write_session-status.ensures.which (λ failed. sink (c.write_session-status.ensures.failed failed))
-    (λ cut. free
-    (limit_from bounds c.bytes.result.now _ c.in-Ok.ran c.in-Ok.session c.write_session-status.result (rw same at c.in-Ok.ensures.run) c.write_session-status.ensures.starved c.write_session-status.ensures.status cut))
+returns-in-Ok-clause-complete g c = λ bounds asks source sink left uncut.
+    let status = c.write_session-status.result in
+    completed status c.write_session-status.ensures.which (λ failed. sink (c.write_session-status.ensures.failed failed))
+    (λ cut. not_cut_by c.in-Ok.session status uncut
+    (status_from (bounds_of c.in-Some.limits) c.bytes.result.now _ c.in-Ok.ran c.in-Ok.session status c.in-Ok.ensures.run c.write_session-status.ensures.starved (inr (inr cut)) (c.write_session-status.ensures.status (inr (inr cut)))) cut)
 
 pub returns-in_default-clause-faulty_words : goal.returns-in_default-clause-faulty_words
 returns-in_default-clause-faulty_words g c = ((λ is asks. not_asked (λ (limits : Limits). bounds_of limits ≡ asks.0) c.run_limits.result c.in_default.not-Some (c.run_limits.ensures.only asks.0 asks.1)), (λ none. c.bare.ensures.status))
