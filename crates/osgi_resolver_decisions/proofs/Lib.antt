@@ -1,3 +1,4 @@
 -- Lemmas on what is found out of owners.
 mod Asking
 pub mod Owners
+mod Lacking

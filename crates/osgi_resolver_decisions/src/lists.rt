@@ -1,10 +1,10 @@
 //! What was found out of owners, as far as it was asked for.
 
-ghost use Rattle.std.specs.Prelude.{◌≡◌, OnOk, IsTrue};
+ghost use Rattle.std.specs.Prelude.{◌≡◌, ◌↔◌, OnOk, IsTrue};
 ghost use Rattle.osgi_world.specs.Candidates.{CanBeAsked, candidates, matching};
 ghost use Rattle.osgi_world.specs.Lookups.{is_current};
 ghost use Rattle.osgi_world.specs.declared.problem.Problem.{Problem};
-ghost use Rattle.osgi_resolver_decisions.specs.Sure.{AreSure};
+ghost use Rattle.osgi_resolver_decisions.specs.Sure.{AreSure, LacksCandidate};
 ghost use Rattle.osgi_resolver_decisions.specs.computed.Asks.{decisions_in, first_due};
 ghost use Rattle.osgi_resolver_decisions.specs.computed.Free.{is_free};
 ghost use Rattle.osgi_resolver_decisions.specs.computed.Known.{AreListsOf, AreRight, IsProblemIn, Knows, KnowsAll};
@@ -105,6 +105,16 @@ impl<'w> Lists<'w> {
     {
         match self.by_owner.get(owner.0) {
             Some(owned) => owned.is_sure,
+            None => false,
+        }
+    }
+
+    /// Whether the owner is known and current, and a requirement of it that is needed has no candidate.
+    pub fn lacks_candidate(&self, owner: RevisionId) -> bool
+        ensures lacks { (P : Problem) → AreRight self.now → IsProblemIn self.now.offers P → IsTrue result ↔ Knows self.now owner × IsTrue (is_current P.world.known owner) × LacksCandidate P owner }
+    {
+        match self.by_owner.get(owner.0) {
+            Some(owned) => owned.lacks_candidate,
             None => false,
         }
     }

@@ -1,17 +1,19 @@
 //! What is found out of an owner once: the candidates of its requirements, the fragments that may be attached to it, and its
 //! first decisions.
 
-ghost use Rattle.std.specs.Prelude.{◌≡◌, ◌<◌, IfOk, IsTrue};
+ghost use Rattle.std.specs.Prelude.{◌≡◌, ◌↔◌, ◌<◌, [], IfOk, IsTrue};
 ghost use Rattle.std.specs.List.{list_any};
 ghost use Rattle.osgi_world.specs.Candidates.{CanBeAsked, candidates, matching};
 ghost use Rattle.osgi_world.specs.Lookups.{is_current, requirement_count, IsNeeded};
 ghost use Rattle.osgi_world.specs.Payloads.{own_requirements};
 ghost use Rattle.osgi_world.specs.declared.problem.Problem.{Problem};
 ghost use Rattle.osgi_world.specs.declared.wiring.ReqRef.{ReqRef};
+ghost use Rattle.osgi_resolver_decisions.specs.Sure.{LacksCandidate};
 ghost use Rattle.osgi_resolver_decisions.specs.computed.Free.{asks_space, is_free, is_of_space};
 ghost use Rattle.osgi_resolver_decisions.specs.computed.Known.{AreListsOf, IsProblemIn, IsRightOf};
 ghost use Rattle.osgi_resolver_decisions.specs.computed.Sureness.{IsSureBy, list_at};
 
+use crate::asks::list_at;
 use crate::decision_ref::DecisionRef;
 use crate::first::first_decisions;
 use osgi_base::RevisionId;
@@ -32,6 +34,8 @@ pub struct Owned {
     pub is_free: bool,
     /// Each requirement that is needed may have one wire alone, and has a candidate. Where it is false, that need not be so.
     pub is_sure: bool,
+    /// Whether it is current, and a requirement that is needed has no candidate.
+    pub lacks_candidate: bool,
 }
 
 /// Not derived, so that each exit at which one is dropped is a single call, which is cheap to prove.
@@ -43,6 +47,7 @@ impl Drop for Owned {
             first: _,
             is_free: _,
             is_sure: _,
+            lacks_candidate: _,
         } = self;
     }
 }
@@ -113,6 +118,36 @@ fn are_sure(offers: &Offers, lists: &[Vec<CapRef>], owner: RevisionId) -> bool
     true
 }
 
+/// Whether the requirement is needed, and has no candidate in its list.
+fn is_lacking(offers: &Offers, lists: &[Vec<CapRef>], requirement: ReqRef) -> bool
+    ensures lacking { IsTrue result ↔ IsNeeded offers.now.known requirement × (list_at lists.now requirement.index ≡ []) }
+{
+    if !offers.known().is_needed(requirement) {
+        return false;
+    }
+    list_at(lists, requirement.index).is_empty()
+}
+
+/// Whether the owner is current, and it is so with a requirement of it. The lists are those of the owner.
+fn has_lacking(offers: &Offers, lists: &[Vec<CapRef>], owner: RevisionId) -> bool
+    requires lists { AreListsOf offers.now owner lists.now }
+    ensures lacks { (P : Problem) → IsProblemIn offers.now P → IsTrue result ↔ IsTrue (is_current P.world.known owner) × LacksCandidate P owner }
+{
+    if !offers.known().is_current(owner) {
+        return false;
+    }
+    for index in 0..offers.known().requirement_count(owner) {
+        let requirement = ReqRef {
+            owner,
+            index: index as u32,
+        };
+        if is_lacking(offers, lists, requirement) {
+            return true;
+        }
+    }
+    false
+}
+
 // ---- what is of space
 
 /// Whether a requirement of the namespace is for a bundle or a package.
@@ -165,11 +200,13 @@ pub fn owned_of(alloc: Global, offers: &Offers, owner: RevisionId) -> Result<Own
     let first = first_decisions(alloc, offers, lists.as_slice(), fragments.as_slice(), owner)?;
     let is_free = fragments.is_empty() && !owner_asks_space(alloc, offers, owner)?;
     let is_sure = are_sure(offers, lists.as_slice(), owner);
+    let lacks_candidate = has_lacking(offers, lists.as_slice(), owner);
     Ok(Owned {
         lists,
         fragments,
         first,
         is_free,
         is_sure,
+        lacks_candidate,
     })
 }

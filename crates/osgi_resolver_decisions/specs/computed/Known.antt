@@ -1,5 +1,5 @@
 -- What was found out of owners.
-use Rattle.std.specs.Prelude.{◌≡◌, List, IsSome, IsTrue, Some, slice_get}
+use Rattle.std.specs.Prelude.{◌≡◌, ◌↔◌, List, IsSome, IsTrue, Some, slice_get}
 use Rattle.std.specs.Global.{Vec}
 use Rattle.std.specs.Option.{option_map}
 use Rattle.osgi_base.specs.NumberMaps.{value_at}
@@ -10,7 +10,7 @@ use Rattle.osgi_world.specs.declared.problem.Problem.{Problem}
 use Rattle.osgi_world.specs.declared.wiring.CapRef.{CapRef}
 use Rattle.osgi_world.specs.declared.wiring.ReqRef.{ReqRef}
 use Rattle.osgi_world.specs.declared.world.World.{World}
-use Rattle.osgi_resolver_decisions.specs.Sure.{AreSure}
+use Rattle.osgi_resolver_decisions.specs.Sure.{AreSure, LacksCandidate}
 use Rattle.osgi_resolver_decisions.specs.computed.Asks.{decisions_in, first_due}
 use Rattle.osgi_resolver_decisions.specs.computed.Free.{is_free}
 use Rattle.osgi_resolver_decisions.specs.declared.lists.Lists.{Lists}
@@ -36,6 +36,7 @@ pub record IsRightOf (P : Problem) (owner : RevisionId) (of : Owned) : Type 0 wh
   pub first_is : IsTrue (is_current P.world.known owner) → decisions_in of.first.items ≡ first_due P owner
   pub free_is : IsTrue (is_current P.world.known owner) → of.is_free ≡ is_free P owner
   pub sure_is : IsTrue (is_current P.world.known owner) → IsTrue of.is_sure → AreSure P owner
+  pub lacks_is : IsTrue of.lacks_candidate ↔ IsTrue (is_current P.world.known owner) × LacksCandidate P owner
 
 -- what was found out is so in any problem of the world
 abbrev pub AreRight : Lists → Type 0
