@@ -5,3 +5,4 @@ pub mod Prints
 pub mod Stopping
 pub mod Places
 pub mod Between
+pub mod Dots

@@ -3,7 +3,7 @@
 //! `filter_text` has `parse`, `printing` has `print`, `matching` has `matches`. A text is read from left to right: `scan` has
 //! bytes, white space and names, `values` the values of items, `items` whole items, `filters` what is made of them. Where
 //! they stop, the fault is the number of bytes left there; `fault` says why a whole text was not read. `passing` has what an
-//! item says of a value, with `pieces`, `approx` and `ordered` below it; `case` says how names are compared.
+//! item says of a value, with `pieces`, `approx`, `wanted` and `spelled` below it; `case` says how names are compared.
 #![tactic(auto)]
 
 mod approx;
@@ -13,12 +13,13 @@ mod filter_text;
 mod filters;
 mod items;
 mod matching;
-mod ordered;
 mod passing;
 mod pieces;
 mod printing;
 mod scan;
+mod spelled;
 mod values;
+mod wanted;
 
 pub use case::Case;
 pub use fault::FilterFault;

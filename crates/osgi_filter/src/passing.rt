@@ -4,8 +4,8 @@ ghost use Rattle.std.specs.Prelude.{◌≡◌, map};
 ghost use Rattle.osgi_model.specs.computed.MatchReader as reader;
 
 use crate::approx::is_approx;
-use crate::ordered::Ordered;
 use crate::pieces::stand;
+use crate::wanted::Wanted;
 use osgi_base::Text;
 use osgi_model::{Test, Value};
 
@@ -23,24 +23,32 @@ fn text_passes(test: &Test, given: &Text) -> bool
 }
 
 /// Whether the value passes the test, a list where one of its elements does.
-#[cycle(passes)]
 pub fn passes(test: &Test, given: &Value) -> bool
     ensures passes { result ≡ reader.passes test.now given.now }
 {
+    does_pass(&mut Wanted::new(test), given)
+}
+
+#[cycle(passes)]
+fn does_pass(wanted: &mut Wanted, given: &Value) -> bool
+    ensures passes { result ≡ reader.passes wanted.old given.now }
+    ensures same { wanted.new ≡ wanted.old }
+{
     match given {
-        Value::Text(text) => text_passes(test, text),
-        Value::Long(number) => Ordered::Long(*number).passes(test),
-        Value::Version(version) => Ordered::Version(version).passes(test),
-        Value::List(values) => one_passes(test, values.items()),
+        Value::Text(text) => text_passes(wanted.test(), text),
+        Value::Long(number) => wanted.number_passes(*number),
+        Value::Version(version) => wanted.version_passes(version),
+        Value::List(values) => one_passes(wanted, values.items()),
     }
 }
 
 #[cycle(passes)]
-fn one_passes(test: &Test, values: &[Value]) -> bool
-    ensures passes { result ≡ reader.one_of (map (reader.passes test.now) values.now) }
+fn one_passes(wanted: &mut Wanted, values: &[Value]) -> bool
+    ensures passes { result ≡ reader.one_of (map (reader.passes wanted.old) values.now) }
+    ensures same { wanted.new ≡ wanted.old }
 {
     for value in values {
-        if passes(test, value) {
+        if does_pass(wanted, value) {
             return true;
         }
     }
