@@ -6,3 +6,4 @@ pub mod Stopping
 pub mod Places
 pub mod Between
 pub mod Dots
+pub mod NameLookups

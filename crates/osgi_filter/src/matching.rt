@@ -1,27 +1,28 @@
 //! Whether a filter matches attributes.
 
-ghost use Rattle.std.specs.Prelude.{◌≡◌, ◌↔◌, IsTrue, map};
+ghost use Rattle.std.specs.Prelude.{◌≡◌, ◌≤◌, ◌↔◌, IsTrue, length, map};
 ghost use Rattle.std.specs.Option.{option_copied};
-ghost use Rattle.osgi_model.specs.Matching.{attribute_value, Matches};
+ghost use Rattle.osgi_model.specs.Matching.{Matches};
 ghost use Rattle.osgi_model.specs.computed.MatchReader as reader;
 ghost use Rattle.osgi_filter.specs.Names.{same_name};
+ghost use Rattle.osgi_filter.specs.declared.matching.TheConstants.{LARGE_TABLE, SMALL_TABLE};
 
 use crate::case::Case;
+use crate::named::Named;
 use crate::passing::passes;
-use osgi_base::Text;
 use osgi_model::{Attribute, Attributes, Filter, Test, Value};
 
-/// The value of the first attribute of the name.
-fn attribute_value<'a>(name: &Text, attributes: &'a [Attribute], case: Case) -> Option<&'a Value>
-    ensures value { option_copied result ≡ attribute_value (same_name case) name.now attributes.now }
-{
-    for attribute in attributes {
-        if case.is_same(&attribute.name, name) {
-            return Some(&attribute.value);
-        }
-    }
-    None
-}
+/// So few attributes are looked through for each item.
+const FEW_ATTRIBUTES: usize = 32;
+
+/// For fewer items attributes are not put in order.
+const MANY_ITEMS: u32 = 8;
+
+/// How many attributes are put in order in a small table.
+const SMALL_TABLE: usize = 1024;
+
+/// How many attributes are put in order at all. More than a line has room for.
+const LARGE_TABLE: usize = 65_536;
 
 /// Whether the attribute of an item is there and passes its test. Any value is present, an empty list too.
 fn item_passes(test: &Test, given: Option<&Value>) -> bool
@@ -35,23 +36,23 @@ fn item_passes(test: &Test, given: Option<&Value>) -> bool
 }
 
 #[cycle(matches)]
-fn is_match(filter: &Filter, attributes: &[Attribute], case: Case) -> bool
-    ensures matches { result ≡ reader.matches (same_name case) attributes.now filter.now }
+fn is_match(filter: &Filter, named: &Named) -> bool
+    ensures matches { result ≡ reader.matches (same_name named.now.1) named.now.0 filter.now }
 {
     match filter {
-        Filter::And(filters) => all_match(filters.items(), attributes, case),
-        Filter::Or(filters) => one_matches(filters.items(), attributes, case),
-        Filter::Not(filter) => !is_match(filter.get(), attributes, case),
-        Filter::Item { name, test } => item_passes(test, attribute_value(name, attributes, case)),
+        Filter::And(filters) => all_match(filters.items(), named),
+        Filter::Or(filters) => one_matches(filters.items(), named),
+        Filter::Not(filter) => !is_match(filter.get(), named),
+        Filter::Item { name, test } => item_passes(test, named.value(name)),
     }
 }
 
 #[cycle(matches)]
-fn all_match(filters: &[Filter], attributes: &[Attribute], case: Case) -> bool
-    ensures matches { result ≡ reader.all_of (map (reader.matches (same_name case) attributes.now) filters.now) }
+fn all_match(filters: &[Filter], named: &Named) -> bool
+    ensures matches { result ≡ reader.all_of (map (reader.matches (same_name named.now.1) named.now.0) filters.now) }
 {
     for filter in filters {
-        if !is_match(filter, attributes, case) {
+        if !is_match(filter, named) {
             return false;
         }
     }
@@ -59,15 +60,57 @@ fn all_match(filters: &[Filter], attributes: &[Attribute], case: Case) -> bool
 }
 
 #[cycle(matches)]
-fn one_matches(filters: &[Filter], attributes: &[Attribute], case: Case) -> bool
-    ensures matches { result ≡ reader.one_of (map (reader.matches (same_name case) attributes.now) filters.now) }
+fn one_matches(filters: &[Filter], named: &Named) -> bool
+    ensures matches { result ≡ reader.one_of (map (reader.matches (same_name named.now.1) named.now.0) filters.now) }
 {
     for filter in filters {
-        if is_match(filter, attributes, case) {
+        if is_match(filter, named) {
             return true;
         }
     }
     false
+}
+
+/// How many of so many items are left after those of the filter.
+#[cycle(items)]
+fn items_left(filter: &Filter, count: u32) -> u32 {
+    match filter {
+        Filter::And(filters) => items_left_of_all(filters.items(), count),
+        Filter::Or(filters) => items_left_of_all(filters.items(), count),
+        Filter::Not(filter) => items_left(filter.get(), count),
+        Filter::Item { .. } => count.saturating_sub(1),
+    }
+}
+
+#[cycle(items)]
+fn items_left_of_all(filters: &[Filter], count: u32) -> u32 {
+    let mut left = count;
+    for filter in filters {
+        if left == 0 {
+            return 0;
+        }
+        left = items_left(filter, left);
+    }
+    left
+}
+
+/// The table has its own function, so that other calls do not pay for it; so has the large one.
+#[inline(never)]
+fn is_match_by_small_table(filter: &Filter, attributes: &[Attribute], case: Case) -> bool
+    requires room { length attributes.now ≤ SMALL_TABLE }
+    ensures matches { result ≡ reader.matches (same_name case) attributes.now filter.now }
+{
+    let mut table = [0; SMALL_TABLE];
+    is_match(filter, &Named::in_order(attributes, case, &mut table))
+}
+
+#[inline(never)]
+fn is_match_by_large_table(filter: &Filter, attributes: &[Attribute], case: Case) -> bool
+    requires room { length attributes.now ≤ LARGE_TABLE }
+    ensures matches { result ≡ reader.matches (same_name case) attributes.now filter.now }
+{
+    let mut table = [0; LARGE_TABLE];
+    is_match(filter, &Named::in_order(attributes, case, &mut table))
 }
 
 /// Whether the filter matches the attributes: `&` asks for all of its operands, `|` for one, `!` for none, and an item
@@ -76,5 +119,14 @@ fn one_matches(filters: &[Filter], attributes: &[Attribute], case: Case) -> bool
 pub fn matches(filter: &Filter, attributes: &Attributes, case: Case) -> bool
     ensures matches { IsTrue result ↔ Matches (same_name case) attributes.now filter.now }
 {
-    is_match(filter, attributes.items(), case)
+    let attributes = attributes.items();
+    let count = attributes.len();
+    if count <= FEW_ATTRIBUTES || LARGE_TABLE < count || items_left(filter, MANY_ITEMS) > 0 {
+        return is_match(filter, &Named::scanned(attributes, case));
+    }
+    if count <= SMALL_TABLE {
+        is_match_by_small_table(filter, attributes, case)
+    } else {
+        is_match_by_large_table(filter, attributes, case)
+    }
 }
