@@ -1,0 +1,3 @@
+-- What rows of items hold.
+pub mod Held
+pub mod computed
