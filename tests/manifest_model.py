@@ -753,7 +753,8 @@ def import_requirement(clause, path):
 
 def generic_requirement(clause, path):
     text = directive(clause, b"filter")
-    return Requirement(path, path, filter=None if text is None else filter_of(text), optional=is_optional(clause), effective=takes_part(clause))
+    return Requirement(path, path, filter=None if text is None else filter_of(text), optional=is_optional(clause), effective=takes_part(clause),
+                       multiple=directive(clause, b"cardinality") == b"multiple")
 
 
 def export_capability(clause, path):

@@ -5,7 +5,7 @@ import re
 from manifests import cut
 
 WITHOUT_EFFECT = ("Bundle-RequiredExecutionEnvironment", "Eclipse-PlatformFilter")
-DIRECTIVES = {"Provide-Capability": "uses", "Require-Capability": "cardinality"}  # without effect, too
+DIRECTIVES = {"Provide-Capability": "uses"}  # without effect, too
 TOO_OLD = ("refused 7 ManifestError Bundle-ManifestVersion ManifestVersion 0",
            "no bundle of OSGi R4 or later: its manifest has no Bundle-ManifestVersion: 2")
 

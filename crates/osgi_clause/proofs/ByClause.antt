@@ -161,7 +161,7 @@ required_capability clause filter first second filtered is_first is_second path 
     no_attributes = refl;
     filtered = filtered.holds;
     optional = refl;
-    single = refl;
+    multiple = refl;
     private = refl;
     effective = refl;
   };
@@ -182,7 +182,7 @@ required_capability clause filter first second filtered is_first is_second path 
           equal = has.no_attributes i;
           filter = same i;
           optional = has.optional i;
-          multiple = has.single i;
+          multiple = has.multiple i;
           reexport = has.private i;
           effective = has.effective i;
         }

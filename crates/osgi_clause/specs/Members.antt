@@ -43,8 +43,8 @@ IsFilterOf None filter = filter ≡ None
 IsFilterOf (Some text) None = ⊥
 IsFilterOf (Some text) (Some filter) = ReadsFilter text filter
 
--- what a clause of Require-Capability asks of one of its namespaces; attributes have no effect, nor has `cardinality`, since
--- no requirement has several wires yet
+-- what a clause of Require-Capability asks of one of its namespaces; with `cardinality:=multiple` it may have several wires,
+-- and with any other value, or without the directive, one. Attributes have no effect
 pub record IsRequired (clause : Clause) (namespace : List ℕ) (requirement : Requirement) : Type 0 where
   pub space : requirement.namespace ≡ namespace
   pub name : requirement.name ≡ namespace
@@ -54,7 +54,7 @@ pub record IsRequired (clause : Clause) (namespace : List ℕ) (requirement : Re
   pub no_attributes : requirement.equal ≡ []
   pub filtered : IsFilterOf (directive_value (codes "filter") clause) requirement.filter
   pub optional : requirement.optional ≡ is_directed (codes "resolution") (codes "optional") clause
-  pub single : requirement.multiple ≡ false
+  pub multiple : requirement.multiple ≡ is_directed (codes "cardinality") (codes "multiple") clause
   pub private : requirement.reexport ≡ false
   pub effective : requirement.effective ≡ takes_part clause
 

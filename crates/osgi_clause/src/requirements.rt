@@ -58,7 +58,7 @@ fn requirement(
         equal: Shared::new(alloc, equal)?,
         filter,
         optional: is_directed(b"resolution", b"optional", clause),
-        multiple: false,
+        multiple: is_directed(b"cardinality", b"multiple", clause),
         reexport: false,
         effective: takes_part(clause),
     })

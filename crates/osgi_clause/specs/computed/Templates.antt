@@ -72,7 +72,7 @@ required_of clause filter range from_range = record {
   equal = [];
   filter = filter;
   optional = is_directed (codes "resolution") (codes "optional") clause;
-  multiple = false;
+  multiple = is_directed (codes "cardinality") (codes "multiple") clause;
   reexport = false;
   effective = takes_part clause;
 }
