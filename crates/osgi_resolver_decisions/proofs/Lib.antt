@@ -2,3 +2,4 @@
 mod Asking
 pub mod Owners
 mod Lacking
+mod Alike

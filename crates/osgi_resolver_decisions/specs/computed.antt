@@ -2,4 +2,5 @@
 pub mod Asks
 pub mod Free
 pub mod Sureness
+pub mod Plain
 pub mod Known

@@ -9,8 +9,9 @@ mod kind;
 mod lists;
 mod owned;
 mod payload;
+mod plain;
 
 pub use decision_ref::DecisionRef;
 pub use lists::Lists;
-pub use owned::{Owned, is_of_space, owned_of};
+pub use owned::{Owned, is_of_space, owned_with};
 pub use payload::asks_of;

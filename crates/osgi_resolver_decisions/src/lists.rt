@@ -1,6 +1,6 @@
 //! What was found out of owners, as far as it was asked for.
 
-ghost use Rattle.std.specs.Prelude.{◌≡◌, ◌↔◌, OnOk, IsTrue};
+ghost use Rattle.std.specs.Prelude.{◌≡◌, ◌↔◌, IfOk, IfSome, OnOk, IsTrue};
 ghost use Rattle.osgi_world.specs.Candidates.{CanBeAsked, candidates, matching};
 ghost use Rattle.osgi_world.specs.Lookups.{is_current};
 ghost use Rattle.osgi_world.specs.declared.problem.Problem.{Problem};
@@ -11,17 +11,21 @@ ghost use Rattle.osgi_resolver_decisions.specs.computed.Known.{AreListsOf, AreRi
 
 use crate::asks::list_at;
 use crate::decision_ref::DecisionRef;
-use crate::owned::{Owned, owned_of};
-use osgi_base::{NumberMap, RevisionId};
+use crate::owned::{Owned, owned_with};
+use crate::plain::{add_plain_of, are_alike};
+use osgi_base::{NumberMap, RevisionId, Text};
 use osgi_candidates::Offers;
 use osgi_world::{CapRef, ReqRef};
 use std::alloc::{AllocError, Global};
+use std::collections::BTreeMap;
 
 /// What a world offers, and what was found out of each owner that was asked about.
 #[derive(Drop)]
 pub struct Lists<'w> {
     pub offers: Offers<'w>,
     pub by_owner: NumberMap<Owned>,
+    /// By the names of packages, an import of each that asks for nothing else. Others like it take its list.
+    pub plain: BTreeMap<Text, ReqRef>,
 }
 
 impl<'w> Lists<'w> {
@@ -32,6 +36,7 @@ impl<'w> Lists<'w> {
         Lists {
             offers,
             by_owner: NumberMap::new(alloc),
+            plain: BTreeMap::new(alloc),
         }
     }
 
@@ -46,9 +51,62 @@ impl<'w> Lists<'w> {
         if self.by_owner.get(owner.0).is_some() {
             return Ok(());
         }
-        let owned = owned_of(alloc, &self.offers, owner)?;
+        let lists = self.lists_of(alloc, owner)?;
+        let owned = owned_with(alloc, &self.offers, owner, lists)?;
         self.by_owner.insert(owner.0, owned)?;
-        Ok(())
+        add_plain_of(alloc, &mut self.plain, &self.offers, owner)
+    }
+
+    /// The candidates of the owner's requirements, by their places.
+    fn lists_of(&self, alloc: Global, owner: RevisionId) -> Result<Vec<Vec<CapRef>>, AllocError>
+        requires right { AreRight self.now }
+        ensures lists { IfOk result (λ lists. AreListsOf self.now.offers owner lists.items) }
+    {
+        let mut lists = Vec::new(alloc);
+        for index in 0..self.offers.known().requirement_count(owner) {
+            let requirement = ReqRef {
+                owner,
+                index: index as u32,
+            };
+            lists.push(self.list_of(alloc, requirement)?)?;
+        }
+        Ok(lists)
+    }
+
+    /// The candidates of the requirement, if it is effective: those of one like it, if one is known, and else those that are offered.
+    fn list_of(&self, alloc: Global, requirement: ReqRef) -> Result<Vec<CapRef>, AllocError>
+        requires right { AreRight self.now }
+        ensures list { IfOk result (λ list. (P : Problem) → IsProblemIn self.now.offers P → CanBeAsked P.world.known requirement → list.items ≡ candidates P requirement) }
+    {
+        if !self.offers.known().is_effective(requirement) {
+            return Ok(Vec::new(alloc));
+        }
+        match self.listed_alike(requirement) {
+            Some(list) => Ok(Vec::from_slice(alloc, list)?),
+            None => Ok(self.offers.candidates(alloc, requirement)?),
+        }
+    }
+
+    /// The candidates of an import that is known and asks for the same package, where neither asks for anything else.
+    fn listed_alike(&self, requirement: ReqRef) -> Option<&[CapRef]>
+        ensures alike { IfSome result (λ list. (P : Problem) → AreRight self.now → IsProblemIn self.now.offers P → CanBeAsked P.world.known requirement → list.now ≡ candidates P requirement) }
+    {
+        let name = &self.offers.known().requirement(requirement)?.name;
+        let other = *self.plain.get(name)?;
+        if !are_alike(&self.offers, requirement, other, name) {
+            return None;
+        }
+        self.listed(other)
+    }
+
+    /// The candidates of a requirement, if its owner is known.
+    fn listed(&self, requirement: ReqRef) -> Option<&[CapRef]>
+        ensures listed { IfSome result (λ list. (P : Problem) → AreRight self.now → IsProblemIn self.now.offers P → CanBeAsked P.world.known requirement → list.now ≡ candidates P requirement) }
+    {
+        if self.by_owner.get(requirement.owner.0).is_some() {
+            return Some(self.candidates(requirement));
+        }
+        None
     }
 
     /// The candidates of the requirements of an owner that is known, by their places.

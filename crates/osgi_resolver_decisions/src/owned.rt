@@ -54,36 +54,6 @@ impl Drop for Owned {
 
 // ---- candidates
 
-/// The candidates of the requirement, if it is effective.
-fn list_of(alloc: Global, offers: &Offers, requirement: ReqRef) -> Result<Vec<CapRef>, AllocError>
-    ensures list { IfOk result (λ list. (P : Problem) → IsProblemIn offers.now P → CanBeAsked P.world.known requirement → list.items ≡ candidates P requirement) }
-{
-    if offers.known().is_effective(requirement) {
-        offers.candidates(alloc, requirement)
-    } else {
-        Ok(Vec::new(alloc))
-    }
-}
-
-/// The candidates of the owner's requirements, by their places.
-fn lists_of(
-    alloc: Global,
-    offers: &Offers,
-    owner: RevisionId,
-) -> Result<Vec<Vec<CapRef>>, AllocError>
-    ensures lists { IfOk result (λ lists. AreListsOf offers.now owner lists.items) }
-{
-    let mut lists = Vec::new(alloc);
-    for index in 0..offers.known().requirement_count(owner) {
-        let requirement = ReqRef {
-            owner,
-            index: index as u32,
-        };
-        lists.push(list_of(alloc, offers, requirement)?)?;
-    }
-    Ok(lists)
-}
-
 /// Whether a requirement that is needed has a candidate in its list, and may have one wire alone. Where the answer is false, that
 /// need not be so.
 fn is_sure(offers: &Offers, lists: &[Vec<CapRef>], requirement: ReqRef) -> bool
@@ -191,11 +161,16 @@ fn owner_asks_space(alloc: Global, offers: &Offers, owner: RevisionId) -> Result
 
 // ---- all of it
 
-/// What is found out of the owner.
-pub fn owned_of(alloc: Global, offers: &Offers, owner: RevisionId) -> Result<Owned, AllocError>
+/// What is found out of the owner, whose lists these are.
+pub fn owned_with(
+    alloc: Global,
+    offers: &Offers,
+    owner: RevisionId,
+    lists: Vec<Vec<CapRef>>,
+) -> Result<Owned, AllocError>
+    requires lists { AreListsOf offers.now owner lists.items }
     ensures right { IfOk result (λ owned. (P : Problem) → IsProblemIn offers.now P → IsRightOf P owner owned) }
 {
-    let lists = lists_of(alloc, offers, owner)?;
     let fragments = offers.fragments_for(alloc, owner)?;
     let first = first_decisions(alloc, offers, lists.as_slice(), fragments.as_slice(), owner)?;
     let is_free = fragments.is_empty() && !owner_asks_space(alloc, offers, owner)?;
