@@ -1,7 +1,7 @@
 //! Whether a requirement of a member can get no wire any more.
 
 ghost use Rattle.std.specs.Prelude.{◌≡◌, ◌↔◌, IsTrue};
-ghost use Rattle.osgi_resolver_hopeless.specs.computed.Stuck.{AreRefused, CannotBeMet, IsLacking, IsMemberOf, IsOwner, IsOwnerLacking, IsRefused, IsUnmet, OwnUnmet};
+ghost use Rattle.osgi_resolver_hopeless.specs.computed.Stuck.{AreRefused, CannotBeMet, IsMemberOf, IsOwner, IsOwnerLacking, IsRefused, IsUnmet, OwnUnmet};
 ghost use Rattle.osgi_base.specs.declared.ids.RevisionId.{RevisionId};
 ghost use Rattle.osgi_resolver_path.specs.Standing.{IsProblemOf, made};
 ghost use Rattle.osgi_world.specs.DueDecisions.{fragments_of, payload};
@@ -95,28 +95,10 @@ pub fn is_unmet(path: &Path, member: RevisionId, fragments: &[RevisionId]) -> bo
 
 // ---- what no decision changes
 
-/// Whether the requirement of the member's payload is needed, and has no candidate.
-fn is_lacking(path: &Path, requirement: ReqRef) -> bool
-    ensures lacking { (P : Problem) (m : RevisionId) → IsMemberOf path.now P m → In requirement (payload P (made P path.now) m) → IsTrue result ↔ IsLacking P requirement }
-{
-    if !known_at(path).is_needed(requirement) {
-        return false;
-    }
-    path.candidates(requirement).is_empty()
-}
-
-/// Whether it is so with a requirement of this owner.
+/// Whether a requirement of this owner is needed, and has no candidate. It was found out when the owner came, so a member that
+/// cannot be had costs the same each time that it is tried, however much it requires.
 pub fn is_owner_lacking(path: &Path, owner: RevisionId) -> bool
     ensures lacking { (P : Problem) (m : RevisionId) → IsMemberOf path.now P m → IsOwner P (made P path.now) m owner → IsTrue result ↔ IsOwnerLacking P owner }
 {
-    if path.is_sure(owner) {
-        return false;
-    }
-    let count = known_at(path).requirement_count(owner) as u32;
-    for index in 0..count {
-        if is_lacking(path, ReqRef { owner, index }) {
-            return true;
-        }
-    }
-    false
+    path.lacks_candidate(owner)
 }

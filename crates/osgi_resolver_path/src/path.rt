@@ -15,7 +15,7 @@ ghost use Rattle.osgi_world.specs.Wirings.{HasWire};
 ghost use Rattle.osgi_world.specs.declared.problem.Problem.{Problem};
 ghost use Rattle.osgi_space_rows.specs.Worlds.{AreRowsIn};
 ghost use Rattle.osgi_resolver_path.specs.Last.{IsLast};
-ghost use Rattle.osgi_resolver_decisions.specs.Sure.{AreSure};
+ghost use Rattle.osgi_resolver_decisions.specs.Sure.{AreSure, LacksCandidate};
 ghost use Rattle.osgi_resolver_decisions.specs.DecisionOf.{decision_of};
 ghost use Rattle.osgi_resolver_path.specs.Standing.{HasValue, IsProblemOf, made};
 ghost use Rattle.osgi_resolver_path.specs.Wires.{wired_in};
@@ -237,6 +237,13 @@ impl<'w> Path<'w> {
         ensures sure { IsTrue result → (P : Problem) (m : RevisionId) → IsProblemOf self.now P → In m (members P (made P self.now)) → (owner ≡ m) ⊎ In owner (fragments_of P (made P self.now) m) → AreSure P owner }
     {
         self.lists.is_sure(owner)
+    }
+
+    /// Whether a requirement that is needed of an owner of a member's payload has no candidate. It was found out when the owner came.
+    pub fn lacks_candidate(&self, owner: RevisionId) -> bool
+        ensures lacks { (P : Problem) (m : RevisionId) → IsProblemOf self.now P → In m (members P (made P self.now)) → (owner ≡ m) ⊎ In owner (fragments_of P (made P self.now) m) → IsTrue result ↔ LacksCandidate P owner }
+    {
+        self.lists.lacks_candidate(owner)
     }
 
     /// The marks of the decisions that are made. Their wires are those of the members.
