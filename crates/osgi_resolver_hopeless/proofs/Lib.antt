@@ -9,6 +9,8 @@ pub mod Gathering
 pub mod Settling
 pub mod Offering
 pub mod Clashes
+pub mod Backwards
+pub mod Worklist
 pub mod Reasons
 pub mod Newly
 pub mod Tested

@@ -13,7 +13,7 @@ use Rattle.osgi_resolver_hopeless.proofs.Answering.{known-is}
 use Rattle.osgi_resolver_hopeless.proofs.Newly.{newly, newly-amiss}
 use Rattle.osgi_resolver_hopeless.proofs.Reasons.{hopeless-reason}
 use Rattle.osgi_resolver_hopeless.specs.Before.{IsHopefulBefore}
-use Rattle.osgi_resolver_hopeless.specs.computed.Clashing.{HasClash, HasLost, HasLostAt, IsLostBy}
+use Rattle.osgi_resolver_hopeless.specs.computed.Clashing.{HasClashAt, HasLost, HasLostAt, IsLostBy}
 use Rattle.osgi_resolver_path.specs.Last.{IsLast}
 use Rattle.osgi_resolver_hopeless.specs.computed.Onward as onward
 use Rattle.osgi_resolver_hopeless.specs.computed.Onward.{HasNewRivals, IsAtOnce, IsNewBy, HasSettledReason}
@@ -61,7 +61,7 @@ pub data Given (P : Problem) (D : Made) (d : Decision) (v : ℕ) (E : Made) : Ty
   rivals : (r : HasRivals P E) (n : RevisionId) → (n ≡ r.new) ⊎ (n ≡ r.other) → (In n (members P E) × ¬ In n (members P D)) ⊎ In (attached (host d) n) (adds P d v) → Given P D d v E
   added : (m : RevisionId) (w : Wire) → In (wired m w) (adds P d v) → IsLostBy P E w → Given P D d v E
   lost : HasLostAt P E (host d) → IsDecided P E (host d) → Given P D d v E
-  clash : HasClash P E → IsDecided P E (host d) → Given P D d v E
+  clash : HasClashAt P E (host d) → IsDecided P E (host d) → Given P D d v E
 
 module _ (P : Problem) (D : Made) (d : Decision) (v : ℕ) (x : OneMore P D d v) (hopeful : ¬ Hopeless P D) where
   package-either : (m y : RevisionId) (p : List ℕ) → PackageWire P.world.known (partial P ((d, v) ∷ D)) m p y →
@@ -111,7 +111,7 @@ module _ (P : Problem) (D : Made) (d : Decision) (v : ℕ) (x : OneMore P D d v)
   given-reason (reasons.stuck s) = stuck s.0 s.1 (stuck-touched P D d v x hopeful s.0 s.1 (stuck-of P ((d, v) ∷ D) s.0 s.2)) (stuck-now s.0 s.2)
   given-reason (reasons.rivals r) = rivals-given r
   given-reason (reasons.lost l) = lost-given l
-  given-reason (reasons.clash c) = clash c (clash-leads P D d v x hopeful c.member c.seen_by c.used c.implied c.clash).1
+  given-reason (reasons.clash c) = let l = clash-leads P D d v x hopeful c.member c.seen_by c.used c.implied c.clash in clash (record { clash = c; leads = l.2 }) l.1
 
   pub given : (E : Made) → E ≡ ((d, v) ∷ D) → Hopeless P E → Given P D d v E
   given E e h = subst (Given P D d v) (sym e) (given-reason (hopeless-reason P ((d, v) ∷ D) x.problem (subst (Hopeless P) e h)))

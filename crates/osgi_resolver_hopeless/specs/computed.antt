@@ -4,5 +4,6 @@ pub mod Providers
 pub mod Rivals
 pub mod Open
 pub mod Clashing
+pub mod Leading
 pub mod Reasons
 pub mod Onward

@@ -1,15 +1,17 @@
 //! Whether a constraint that comes from settled revisions alone clashes.
 
-ghost use Rattle.std.specs.Prelude.{◌↔◌, IfOk, IsTrue};
-ghost use Rattle.osgi_base.specs.declared.ids.RevisionId.{RevisionId};
+ghost use Rattle.std.specs.Prelude.{◌↔◌, ℕ, IfOk, IsTrue};
 ghost use Rattle.osgi_space_sources.specs.computed.Disputes.{AreDisputed};
-ghost use Rattle.osgi_resolver_hopeless.specs.computed.Clashing.{HasClash, IsBroken, IsWired};
+ghost use Rattle.osgi_resolver_hopeless.specs.computed.Clashing.{HasClash, HasClashAt, IsBroken, IsWired};
 ghost use Rattle.osgi_resolver_hopeless.specs.computed.Open.{AreUnsettled};
 ghost use Rattle.osgi_resolver_path.specs.Standing.{IsProblemOf, made};
+ghost use Rattle.osgi_space_rows.specs.Agree.{id};
+ghost use Rattle.osgi_world.specs.DueDecisions.{members};
 ghost use Rattle.osgi_world.specs.Lists.{In};
 ghost use Rattle.osgi_world.specs.declared.problem.Problem.{Problem};
 
-use crate::settled::unsettled;
+use crate::leading::leading_to;
+use crate::settled::{numbers, unsettled};
 use osgi_base::RevisionId;
 use osgi_resolver_path::Path;
 use osgi_space_rows::Rows;
@@ -45,29 +47,37 @@ fn is_broken(
     Ok(!keeps_uses(alloc, rows, disputed, among, revision)?)
 }
 
-/// Whether it is so with one of the members.
+/// Whether it is so with one of these revisions.
 fn is_one_broken(
     alloc: Global,
     rows: &Rows,
     disputed: &BTreeSet<u32>,
     unsettled: &RevisionSet,
-    members: &[RevisionId],
+    revisions: &[u32],
 ) -> Result<bool, AllocError>
     requires disputed { AreDisputed rows.now disputed.now }
-    ensures broken { IfOk result (λ answer. IsTrue answer ↔ ((m : RevisionId) × In m members.now × IsBroken rows.now unsettled.now m.0)) }
+    ensures broken { IfOk result (λ answer. IsTrue answer ↔ ((n : ℕ) × In n revisions.now × IsBroken rows.now unsettled.now n)) }
 {
-    for member in members {
-        if is_broken(alloc, rows, disputed, unsettled, member.0)? {
+    for revision in revisions {
+        if is_broken(alloc, rows, disputed, unsettled, *revision)? {
             return Ok(true);
         }
     }
     Ok(false)
 }
 
-/// Whether a member's implied constraint that comes from settled revisions alone clashes.
-pub fn has_clash(alloc: Global, path: &Path, unsettled: &RevisionSet) -> Result<bool, AllocError>
+/// Whether a member's implied constraint that comes from settled revisions alone clashes. True only where it is so, and true
+/// wherever the member's number is one of these, which are of members.
+fn has_clash_among(
+    alloc: Global,
+    path: &Path,
+    unsettled: &RevisionSet,
+    numbers: &[u32],
+) -> Result<bool, AllocError>
     requires unsettled { (P : Problem) → IsProblemOf path.now P → AreUnsettled P (made P path.now) unsettled.now }
-    ensures clash { IfOk result (λ answer. (P : Problem) → IsProblemOf path.now P → IsTrue answer ↔ HasClash P (made P path.now)) }
+    ensures clash { IfOk result (λ answer. (P : Problem) → IsProblemOf path.now P → ((n : ℕ) → In n numbers.now → In (id n) (members P (made P path.now)))
+        → IsTrue answer → HasClash P (made P path.now)) }
+    ensures all { IfOk result (λ answer. (P : Problem) → IsProblemOf path.now P → (h : HasClash P (made P path.now)) → In h.member.0 numbers.now → IsTrue answer) }
 {
     let rows = path.disputed_rows();
     Ok(is_one_broken(
@@ -75,18 +85,29 @@ pub fn has_clash(alloc: Global, path: &Path, unsettled: &RevisionSet) -> Result<
         rows.world_rows().rows(),
         rows.disputed(),
         unsettled,
-        path.members(),
+        numbers,
     )?)
 }
 
-/// Whether a member's implied constraint that comes from settled revisions alone clashes. It is looked for only where a package
-/// may have several sources.
-pub fn has_settled_clash(alloc: Global, path: &Path) -> Result<bool, AllocError>
+/// Whether a member's implied constraint that comes from settled revisions alone clashes.
+pub fn has_clash(alloc: Global, path: &Path, unsettled: &RevisionSet) -> Result<bool, AllocError>
+    requires unsettled { (P : Problem) → IsProblemOf path.now P → AreUnsettled P (made P path.now) unsettled.now }
     ensures clash { IfOk result (λ answer. (P : Problem) → IsProblemOf path.now P → IsTrue answer ↔ HasClash P (made P path.now)) }
+{
+    let members = numbers(alloc, path.members())?;
+    Ok(has_clash_among(alloc, path, unsettled, members.as_slice())?)
+}
+
+/// Whether a member's implied constraint that comes from settled revisions alone clashes. True only where it is so, and true
+/// wherever such a member leads to the host. It is looked for only where a package may have several sources.
+pub fn has_clash_at(alloc: Global, path: &Path, host: RevisionId) -> Result<bool, AllocError>
+    ensures clash { IfOk result (λ answer. (P : Problem) → IsProblemOf path.now P → In host (members P (made P path.now)) → IsTrue answer → HasClash P (made P path.now)) }
+    ensures all { IfOk result (λ answer. (P : Problem) → IsProblemOf path.now P → In host (members P (made P path.now)) → HasClashAt P (made P path.now) host → IsTrue answer) }
 {
     if path.disputed_rows().disputed().is_empty() {
         return Ok(false);
     }
     let unsettled = unsettled(alloc, path)?;
-    has_clash(alloc, path, &unsettled)
+    let leading = leading_to(alloc, path, host)?;
+    Ok(has_clash_among(alloc, path, &unsettled, leading.items.as_slice())?)
 }

@@ -3,6 +3,7 @@
 
 mod clashing;
 mod hopeless;
+mod leading;
 mod offer;
 mod onward;
 mod place;

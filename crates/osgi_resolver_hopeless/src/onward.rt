@@ -9,10 +9,12 @@ ghost use Rattle.osgi_resolver_hopeless.specs.computed.Reasons.{Reason};
 ghost use Rattle.osgi_resolver_hopeless.specs.computed.Rivals.{HasRivals, IsCurrentSingleton};
 ghost use Rattle.osgi_resolver_path.specs.Last.{IsLast};
 ghost use Rattle.osgi_resolver_path.specs.Standing.{IsProblemOf, made};
+ghost use Rattle.osgi_world.specs.DueDecisions.{members};
 ghost use Rattle.osgi_world.specs.Hopeless.{IsHopeless};
+ghost use Rattle.osgi_world.specs.Lists.{In};
 ghost use Rattle.osgi_world.specs.declared.problem.Problem.{Problem};
 
-use crate::clashing::has_settled_clash;
+use crate::clashing::has_clash_at;
 use crate::hopeless::is_hopeless;
 use crate::offer::{has_lost_at, is_new_lost};
 use crate::place::known_at;
@@ -73,20 +75,20 @@ fn is_at_once(alloc: Global, path: &Path, last: Last) -> Result<bool, AllocError
     Ok(is_new_lost(alloc, path, last.wired)?)
 }
 
-/// Whether a settled provider that is the host or reaches it does not have on offer what a wire takes, or a constraint that comes
-/// from settled revisions alone clashes. It is asked once the host is decided.
+/// Whether a settled provider that is the host or reaches it does not have on offer what a wire takes, or a constraint of a member
+/// that leads to the host, which comes from settled revisions alone, clashes. It is asked once the host, a member, is decided.
 fn has_settled_reason(alloc: Global, path: &Path, host: RevisionId) -> Result<bool, AllocError>
-    ensures reason { IfOk result (λ answer. (P : Problem) → IsProblemOf path.now P → IsTrue answer → Reason P (made P path.now)) }
-    ensures all { IfOk result (λ answer. (P : Problem) → IsProblemOf path.now P → HasSettledReason P path.now host → IsTrue answer) }
+    ensures reason { IfOk result (λ answer. (P : Problem) → IsProblemOf path.now P → In host (members P (made P path.now)) → IsTrue answer → Reason P (made P path.now)) }
+    ensures all { IfOk result (λ answer. (P : Problem) → IsProblemOf path.now P → In host (members P (made P path.now)) → HasSettledReason P path.now host → IsTrue answer) }
 {
     if has_lost_at(alloc, path, host)? {
         return Ok(true);
     }
-    Ok(has_settled_clash(alloc, path)?)
+    Ok(has_clash_at(alloc, path, host)?)
 }
 
 /// Whether what is decided is hopeless, where it was not before the last decision. It looks only for reasons that this decision
-/// can have given; for clashes all members are asked, once its host is decided.
+/// can have given; for clashes those members are asked that lead to its host, once this is decided.
 pub fn has_become_hopeless(alloc: Global, path: &Path) -> Result<bool, AllocError>
     ensures hopeless { IfOk result (λ b. (P : Problem) → IsProblemOf path.now P → IsHopefulBefore P path.now.word → Decides b (IsHopeless P path.now.word)) }
 {

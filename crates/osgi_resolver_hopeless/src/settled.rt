@@ -67,7 +67,8 @@ fn is_unsettled_by_wire(alloc: Global, path: &Path, member: RevisionId) -> Resul
     Ok(!is_settled(alloc, path, member)?)
 }
 
-fn numbers(alloc: Global, revisions: &[RevisionId]) -> Result<Vec<u32>, AllocError>
+/// The numbers of the revisions.
+pub fn numbers(alloc: Global, revisions: &[RevisionId]) -> Result<Vec<u32>, AllocError>
     ensures numbers { IfOk result (λ list. (n : ℕ) → Contains list.items n ↔ In (id n) revisions.now) }
 {
     let mut numbers = Vec::with_capacity(alloc, revisions.len())?;

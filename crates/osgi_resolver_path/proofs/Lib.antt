@@ -11,6 +11,7 @@ pub mod Deciding
 pub mod Longer
 pub mod OnWay
 pub mod Viewing
+pub mod Links
 pub mod Decided
 pub mod Placed
 pub mod Rows

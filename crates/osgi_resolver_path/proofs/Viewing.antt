@@ -76,13 +76,13 @@ step-wired (Some (WiredStep r x)) w (inl e) =
     inl (same-wired w r x a b)
 step-wired (Some (WiredStep r x)) w (inr i) = elim i [ ]
 
-wires-to : (P : Problem) (D : Made) → State P D → (r : RevisionId) (w : Wire) → In (wired r w) (all_steps P D) → In r (members P D) × HasWire (partial P D) r w
+pub wires-to : (P : Problem) (D : Made) → State P D → (r : RevisionId) (w : Wire) → In (wired r w) (all_steps P D) → In r (members P D) × HasWire (partial P D) r w
 wires-to P D s r w i =
     let m = step-made P D s (wired r w) i in
     let g : Got P D r w = record { decision = m.decision; chosen = m.chosen; made = m.made; added = m.added } in
     ((got-stands P D s r w g).member, wire-got P D s r w g)
 
-wires-from : (P : Problem) → IsProblem P → (D : Made) (r : RevisionId) (w : Wire) → In r (members P D) → HasWire (partial P D) r w → In (wired r w) (all_steps P D)
+pub wires-from : (P : Problem) → IsProblem P → (D : Made) (r : RevisionId) (w : Wire) → In r (members P D) → HasWire (partial P D) r w → In (wired r w) (all_steps P D)
 wires-from P L D r w i h = elim (wire-cases P D r w h) [
   | inl old ↦ absurd (member-new P L.root_is.not_in_force D r i (record { wiring = old.wiring; stands = old.stands; revision = old.revision }))
   | inr new ↦ made-step P D (wired r w) new.1.decision new.1.chosen new.1.made new.1.added

@@ -10,3 +10,4 @@ pub mod Nexts
 pub mod Moving
 pub mod Views
 pub mod Lasts
+pub mod Links

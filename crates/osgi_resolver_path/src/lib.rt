@@ -6,6 +6,7 @@ mod attached;
 mod course;
 mod growing;
 mod last;
+mod linked;
 mod moves;
 mod moving;
 mod opening;

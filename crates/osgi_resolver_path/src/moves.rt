@@ -21,12 +21,12 @@ ghost use Rattle.osgi_resolver_decisions.specs.computed.Known.{AreRight, IsProbl
 use crate::attached::owners_of;
 use crate::course::{Course, Mark};
 use crate::growing::learn_all;
+use crate::linked::Linked;
 use crate::opening::{More, open};
 use crate::step::Step;
 use osgi_base::RevisionId;
 use osgi_resolver_decisions::{DecisionRef, Lists, asks_of};
 use osgi_space_rows::Rows;
-use osgi_uses::Spaces;
 use std::alloc::{AllocError, Global};
 
 /// The decisions of the requirements of a host's payload, once the decision on the last of its fragments has this value.
@@ -74,7 +74,7 @@ pub fn asks_after(
 }
 
 /// Adds the step to the wirings of a search. If memory runs out, nothing changes.
-fn take(spaces: &mut Spaces, step: Option<Step>) -> Result<(), AllocError>
+fn take(spaces: &mut Linked, step: Option<Step>) -> Result<(), AllocError>
     ensures added { OnOk result (spaces.new ≡ record spaces.old { steps = steps_in step ++ spaces.old.steps }) }
     ensures unchanged { OnErr result (spaces.new ≡ spaces.old) }
 {
@@ -171,7 +171,7 @@ fn commit(course: &mut Course, mark: Mark, more: More)
 fn decide(
     alloc: Global,
     lists: &mut Lists,
-    spaces: &mut Spaces,
+    spaces: &mut Linked,
     course: &mut Course,
     mark: Mark,
 ) -> Result<(), AllocError>
@@ -236,7 +236,7 @@ pub fn learn_new(
 pub fn decide_with(
     alloc: Global,
     lists: &mut Lists,
-    spaces: &mut Spaces,
+    spaces: &mut Linked,
     course: &mut Course,
     mark: Mark,
     joining: Option<RevisionId>,

@@ -12,11 +12,11 @@ ghost use Rattle.osgi_resolver_path.specs.declared.course.Mark.{Mark};
 
 use crate::course::{Course, Mark};
 use crate::growing::{first_of, joining_of};
+use crate::linked::Linked;
 use crate::moves::{decide_with, learn_new};
 use crate::step::step_of;
 use osgi_base::{NumberMap, RevisionId};
 use osgi_resolver_decisions::{DecisionRef, Lists};
-use osgi_uses::Spaces;
 use std::alloc::{AllocError, Global};
 
 /// The mark of a decision that is made now.
@@ -38,7 +38,7 @@ fn mark_of(lists: &Lists, course: &Course, decision: DecisionRef, value: u64) ->
 pub fn longer(
     alloc: Global,
     lists: &mut Lists,
-    spaces: &mut Spaces,
+    spaces: &mut Linked,
     course: &mut Course,
     value: u64,
 ) -> Result<(), AllocError>
@@ -64,7 +64,7 @@ pub fn longer(
 }
 
 /// Takes the last decision back, if there is one, and gives its mark.
-pub fn shorter(spaces: &mut Spaces, course: &mut Course) -> Option<Mark>
+pub fn shorter(spaces: &mut Linked, course: &mut Course) -> Option<Mark>
     requires steps { spaces.old.steps ≡ steps_of (reverse course.old.marks.items) }
     ensures places { course.new.places ≡ course.old.places }
     ensures taken { MatchOption result ((course.old.marks.items ≡ []) × ((spaces.new ≡ spaces.old) × IsSameCourse course.old course.new))

@@ -1,6 +1,6 @@
 //! The path of a search from the empty word to where it stands.
 
-ghost use Rattle.std.specs.Prelude.{◌≡◌, ◌↔◌, ◌⊎◌, ◌∷◌, [], ◌++◌, IsTrue, IfOk, OnOk, OnErr, MatchOption};
+ghost use Rattle.std.specs.Prelude.{◌≡◌, ◌↔◌, ◌⊎◌, ℕ, ◌∷◌, [], ◌++◌, IsTrue, IfOk, OnOk, OnErr, MatchOption};
 ghost use Rattle.std.specs.Bool.{Decides};
 ghost use Rattle.osgi_base.specs.declared.ids.RevisionId.{RevisionId};
 ghost use Rattle.osgi_world.specs.Candidates.{candidates};
@@ -18,19 +18,19 @@ ghost use Rattle.osgi_resolver_path.specs.Last.{IsLast};
 ghost use Rattle.osgi_resolver_decisions.specs.Sure.{AreSure, LacksCandidate};
 ghost use Rattle.osgi_resolver_decisions.specs.DecisionOf.{decision_of};
 ghost use Rattle.osgi_resolver_path.specs.Standing.{HasValue, IsProblemOf, made};
-ghost use Rattle.osgi_resolver_path.specs.Wires.{wired_in};
+ghost use Rattle.osgi_resolver_path.specs.Wires.{IsWiredTo, wired_in};
 ghost use Rattle.osgi_resolver_path.specs.declared.wired.Wired.{Wired};
 
 use crate::attached::attached_among;
 use crate::course::{Course, Mark};
 use crate::last::Last;
+use crate::linked::Linked;
 use crate::{adding, growing, last, moving, step, views};
 use osgi_base::{List, RevisionId};
 use osgi_candidates::Offers;
 use osgi_resolver_decisions::{DecisionRef, Lists};
 use osgi_space::DisputedRows;
 use osgi_space_rows::WorldRows;
-use osgi_uses::Spaces;
 use osgi_world::{CapRef, ReqRef, Wiring, World};
 use std::alloc::{AllocError, Global};
 use std::marker::Model;
@@ -42,7 +42,7 @@ pub struct Path<'w> {
     world: &'w World,
     root: RevisionId,
     lists: Lists<'w>,
-    spaces: Spaces<'w>,
+    spaces: Linked<'w>,
     course: Course,
 }
 
@@ -93,7 +93,7 @@ impl<'w> Path<'w> {
         ensures empty { IfOk result (λ path. path ≡ record { world = world.now; root = root; word = [] }) }
     {
         let mut lists = Lists::new(alloc, offers);
-        let spaces = Spaces::over(alloc, world, rows);
+        let spaces = Linked::over(alloc, world, rows);
         let course = moving::begin(alloc, &mut lists, root)?;
         Ok(Path {
             alloc,
@@ -251,6 +251,13 @@ impl<'w> Path<'w> {
         ensures wires { (P : Problem) → IsProblemOf self.now P → (w : Wired) → In w (wired_in result.now) ↔ In w.revision (members P (made P self.now)) × HasWire (partial.partial P (made P self.now)) w.revision w.wire }
     {
         self.course.marks.as_slice()
+    }
+
+    /// The members that have a wire to this revision, each once for each such wire.
+    pub fn wired_to(&self, provider: RevisionId) -> &[u32]
+        ensures wired { (P : Problem) → IsProblemOf self.now P → (n : ℕ) → In n result.now ↔ IsWiredTo P (made P self.now) provider n }
+    {
+        self.spaces.wired_to(provider)
     }
 
     /// The values of the decisions, in their order.

@@ -13,7 +13,7 @@ use Rattle.osgi_world.specs.declared.problem.Problem.{Problem}
 use Rattle.osgi_world.specs.declared.wiring.Wire.{Wire}
 use Rattle.osgi_world.specs.declared.wiring.Wiring.{Wiring}
 use Rattle.osgi_world.specs.declared.world.Known.{Known}
-use Rattle.osgi_resolver_theory.specs.Reasons.{Reaches}
+use Rattle.osgi_resolver_theory.specs.Reasons.{LeadsTo, Reaches}
 use Rattle.osgi_space_sources.specs.computed.Clashes.{KeepsUsesAmong}
 use Rattle.osgi_space_rows.specs.Rows.{RowLists, Requires, imports_of, required_by}
 use Rattle.osgi_resolver_hopeless.specs.computed.Open.{Has}
@@ -60,6 +60,11 @@ pub record HasClash (P : Problem) (D : Made) : Type 0 where
   pub is_member : In member (members P D)
   pub implied : Implied P.world.known (partial P D) (IsSettled P D) member seen_by used
   pub clash : Clash P.world.known (partial P D) member seen_by used
+
+-- a member that leads to h has one
+pub record HasClashAt (P : Problem) (D : Made) (h : RevisionId) : Type 0 where
+  pub clash : HasClash P D
+  pub leads : LeadsTo P D clash.member h
 
 -- r has a row of a wire for a package, or of one for a required bundle
 abbrev pub IsWired : RowLists → ℕ → Type 0

@@ -9,7 +9,7 @@ use Rattle.osgi_world.specs.Decisions.{host}
 use Rattle.osgi_world.specs.DueDecisions.{members}
 use Rattle.osgi_world.specs.Lists.{In}
 use Rattle.osgi_world.specs.declared.problem.Problem.{Problem}
-use Rattle.osgi_resolver_hopeless.specs.computed.Clashing.{HasClash, HasLostAt, IsLostBy}
+use Rattle.osgi_resolver_hopeless.specs.computed.Clashing.{HasClashAt, HasLostAt, IsLostBy}
 use Rattle.osgi_resolver_hopeless.specs.computed.Rivals.{HasRivals}
 use Rattle.osgi_resolver_hopeless.specs.computed.Stuck.{IsStuckBy}
 use Rattle.osgi_resolver_path.specs.declared.last.Last.{Last}
@@ -42,8 +42,8 @@ pub data IsAtOnce (P : Problem) (s : Standing) (last : Last) : Type 0 where
   rivals : HasNewRivals P s last → IsAtOnce P s last
   lost : HasNewLost P s last → IsAtOnce P s last
 
--- a member has a wire to what is h or reaches it, is settled, and does not have the capability on offer; or an implied constraint
--- that comes from settled revisions alone clashes
+-- a member has a wire to what is h or reaches it, is settled, and does not have the capability on offer; or an implied constraint of
+-- a member that leads to h, which comes from settled revisions alone, clashes
 pub data HasSettledReason (P : Problem) (s : Standing) (h : RevisionId) : Type 0 where
   lost : HasLostAt P (made P s) h → HasSettledReason P s h
-  clash : HasClash P (made P s) → HasSettledReason P s h
+  clash : HasClashAt P (made P s) h → HasSettledReason P s h

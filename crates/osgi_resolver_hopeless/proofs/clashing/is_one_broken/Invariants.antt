@@ -1,9 +1,8 @@
--- None of the members so far is broken.
-use Rattle.std.proofs.Common.{take}
-use Rattle.osgi_base.specs.declared.ids.RevisionId.{RevisionId}
+-- None of the revisions so far is broken.
+use Rattle.std.proofs.Common.{ℕ, take}
 use Rattle.osgi_resolver_hopeless.specs.computed.Clashing.{IsBroken}
 use Rattle.osgi_world.specs.Lists.{In}
 use Rattle.osgi_resolver_hopeless.proofs.clashing.is_one_broken.Given as goal
 
-abbrev pub invariant-loop-member : goal.invariant-loop-member
-invariant-loop-member l = (m : RevisionId) → In m (take l.member-index l.members) → ¬ IsBroken l.rows l.unsettled m.0
+abbrev pub invariant-loop-revision : goal.invariant-loop-revision
+invariant-loop-revision l = (n : ℕ) → In n (take l.revision-index l.revisions) → ¬ IsBroken l.rows l.unsettled n

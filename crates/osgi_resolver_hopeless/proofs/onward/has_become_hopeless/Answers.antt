@@ -31,11 +31,12 @@ returns-then-not-is_decided c = record {
 pub returns : goal.returns
 returns c = record {
   hopeless = λ P L hopeful.
-      let x = c.in-Some.ensures.last P L in (
-        λ t. reason-hopeless P (made P c.args.path.now) L.is (c.in_ok-has_settled_reason.ensures.reason P L t),
+      let x = c.in-Some.ensures.last P L in
+      let there = (host-member_of c.args.path.now P L c.in-Some.last x c.host-host.result c.host-host.ensures.host).member in (
+        λ t. reason-hopeless P (made P c.args.path.now) L.is (c.in_ok-has_settled_reason.ensures.reason P L there t),
         λ h. elim (tested c.args.path.now P L c.in-Some.last x hopeful h) [
           | inl a ↦ absurd (not_true _ c.if-branch.false (c.in_ok-is_at_once.ensures.all P L x a))
-          | inr b ↦ c.in_ok-has_settled_reason.ensures.all P L (subst (HasSettledReason P c.args.path.now) (sym c.host-host.ensures.host) b.0)
+          | inr b ↦ c.in_ok-has_settled_reason.ensures.all P L there (subst (HasSettledReason P c.args.path.now) (sym c.host-host.ensures.host) b.0)
         ],
       );
 }
