@@ -57,7 +57,7 @@ module _ (P : Problem) (s : Standing) (a b : Last) (x : IsLast P s a) (y : IsLas
 -- ---- what it did to its host
 
 module _ (s : Standing) (P : Problem) (L : IsProblemOf s P) (last : Last) (x : IsLast P s last) where
-  state-now : State P (made P s)
+  pub state-now : State P (made P s)
   state-now = subst (State P) (sym (made-is s P L last x)) (state-after P (made_by P x.before) (decision_of last.decision) last.value (more s P L last x))
 
   value-now : value_made (made P s) (decision_of last.decision) ≡ Some last.value

@@ -8,6 +8,7 @@ pub mod Numbers
 pub mod Gathering
 pub mod Settling
 pub mod Offering
+pub mod Replacing
 pub mod Clashes
 pub mod Backwards
 pub mod Worklist

@@ -32,7 +32,7 @@ use Rattle.osgi_world.specs.Hopeless as hopeless
 use Rattle.osgi_world.specs.Hopeless.{Hopeless, IsDecided, IsHopeless}
 use Rattle.osgi_world.specs.Lists.{In}
 use Rattle.osgi_world.specs.Partial.{partial}
-use Rattle.osgi_world.specs.Wirings.{HasWire, PackageWire}
+use Rattle.osgi_world.specs.Wirings.{HasWire, IsExport, PackageWire}
 use Rattle.osgi_world.specs.declared.problem.Problem.{Problem}
 use Rattle.osgi_world.specs.declared.wiring.Wire.{Wire}
 
@@ -44,16 +44,22 @@ stuck-of P D m (amiss (inl u)) = elim u.2.no_wire [
 stuck-of P D m (two_providers t) = reason.two_providers t.one t.other t.name t.one_wire t.other_wire t.differ
 stuck-of P D m (amiss (inr t)) = reason.two_versions t
 
--- where the wire goes to one of two providers, there are two
-pub by-stuck : (P : Problem) (D : Made) (m : RevisionId) (by : Option Wired) → IsStuckBy P D m by → IsStuck P D m
-by-stuck P D m by (by_itself a) = amiss (newly-amiss P D m a)
-by-stuck P D m by (by_wire w e o) =
-    two_providers (record { name = o.name; one = w.wire.capability.provider; other = o.other; one_wire = o.one_wire; other_wire = o.other_wire; differ = o.differ })
+-- where the wire, which is there, is for a package of another provider too, there are two
+pub by-stuck : (P : Problem) (D : Made) (m : RevisionId) (by : Option Wired) → ((w : Wired) → by ≡ Some w → HasWire (partial P D) w.revision w.wire) → IsStuckBy P D m by → IsStuck P D m
+by-stuck P D m by there (by_itself a) = amiss (newly-amiss P D m a)
+by-stuck P D m by there (by_wire w e o) = two_providers (record {
+  name = o.name;
+  one = w.wire.capability.provider;
+  other = o.other;
+  one_wire = record { wire = w.wire; has = subst (λ r. HasWire (partial P D) r w.wire) o.holder (there w e); export = o.export; provider = refl };
+  other_wire = o.other_wire;
+  differ = o.differ;
+})
 
--- m is stuck, and if it is so by two providers, the decision adds the wire to one of them
+-- m is stuck, and if it is so by two providers of a package, the decision adds a wire of m for it
 pub data StuckNow (P : Problem) (d : Decision) (v : ℕ) (E : Made) (m : RevisionId) : Type 0 where
   itself : IsNewlyAmiss P E m → StuckNow P d v E m
-  wire : (w : Wire) → In (wired m w) (adds P d v) → OtherProvider P.world.known (partial P E) m w.capability.provider → StuckNow P d v E m
+  wire : (w : Wire) → In (wired m w) (adds P d v) → OtherProvider P.world.known (partial P E) m (record { revision = m; wire = w }) → StuckNow P d v E m
 
 -- what one decision more can give, of E, which is what is decided then
 pub data Given (P : Problem) (D : Made) (d : Decision) (v : ℕ) (E : Made) : Type 0 where
@@ -64,30 +70,26 @@ pub data Given (P : Problem) (D : Made) (d : Decision) (v : ℕ) (E : Made) : Ty
   clash : HasClashAt P E (host d) → IsDecided P E (host d) → Given P D d v E
 
 module _ (P : Problem) (D : Made) (d : Decision) (v : ℕ) (x : OneMore P D d v) (hopeful : ¬ Hopeless P D) where
-  package-either : (m y : RevisionId) (p : List ℕ) → PackageWire P.world.known (partial P ((d, v) ∷ D)) m p y →
-      PackageWire P.world.known (partial P D) m p y ⊎ ((w : Wire) × In (wired m w) (adds P d v) × (w.capability.provider ≡ y))
+  -- the decision adds a wire of m for the package p to y
+  abbrev AddsWire : RevisionId → RevisionId → List ℕ → Type 0
+  AddsWire m y p = (w : Wire) × In (wired m w) (adds P d v) × IsExport P.world.known w.capability.owner w.capability.index p × (w.capability.provider ≡ y)
+
+  package-either : (m y : RevisionId) (p : List ℕ) → PackageWire P.world.known (partial P ((d, v) ∷ D)) m p y → PackageWire P.world.known (partial P D) m p y ⊎ AddsWire m y p
   package-either m y p a = elim (wire-either P D d v x m a.wire a.has) [
     | inl old ↦ inl (record { wire = a.wire; has = old; export = a.export; provider = a.provider })
-    | inr new ↦ inr (a.wire, new, a.provider)
+    | inr new ↦ inr (a.wire, new, a.export, a.provider)
   ]
 
   -- the wire that the decision adds goes to one of the two providers
-  added-one : (m y z : RevisionId) (p : List ℕ) → ((w : Wire) × In (wired m w) (adds P d v) × (w.capability.provider ≡ y)) → PackageWire P.world.known (partial P ((d, v) ∷ D)) m p y →
-      PackageWire P.world.known (partial P ((d, v) ∷ D)) m p z → y ≢ z → StuckNow P d v ((d, v) ∷ D) m
-  added-one m y z p new a b apart = wire new.0 new.1 (record {
-    name = p;
-    other = z;
-    one_wire = subst (PackageWire P.world.known (partial P ((d, v) ∷ D)) m p) (sym new.2) a;
-    other_wire = b;
-    differ = λ e. apart (sym new.2 ∙ e);
-  })
+  added-one : (m y z : RevisionId) (p : List ℕ) → AddsWire m y p → PackageWire P.world.known (partial P ((d, v) ∷ D)) m p z → y ≢ z → StuckNow P d v ((d, v) ∷ D) m
+  added-one m y z p new b apart = wire new.0 new.1 (record { name = p; other = z; holder = refl; export = new.2; other_wire = b; differ = λ e. apart (sym new.3 ∙ e) })
 
   stuck-now : (m : RevisionId) → IsStuck P ((d, v) ∷ D) m → StuckNow P d v ((d, v) ∷ D) m
   stuck-now m (amiss a) = itself (newly P D d v x hopeful m a)
   stuck-now m (two_providers t) = elim (package-either m t.one t.name t.one_wire) [
-    | inr new ↦ added-one m t.one t.other t.name new t.one_wire t.other_wire t.differ
+    | inr new ↦ added-one m t.one t.other t.name new t.other_wire t.differ
     | inl a ↦ elim (package-either m t.other t.name t.other_wire) [
-      | inr new ↦ added-one m t.other t.one t.name new t.other_wire t.one_wire (λ e. t.differ (sym e))
+      | inr new ↦ added-one m t.other t.one t.name new t.one_wire (λ e. t.differ (sym e))
       | inl b ↦ absurd (hopeful (hopeless.two_providers m t.one t.other t.name a b t.differ))
     ]
   ]

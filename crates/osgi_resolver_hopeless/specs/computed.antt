@@ -5,5 +5,6 @@ pub mod Rivals
 pub mod Open
 pub mod Clashing
 pub mod Leading
+pub mod Losing
 pub mod Reasons
 pub mod Onward

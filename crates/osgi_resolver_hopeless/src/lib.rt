@@ -4,8 +4,10 @@
 mod clashing;
 mod hopeless;
 mod leading;
+mod losing;
 mod offer;
 mod onward;
+mod packages;
 mod place;
 mod providers;
 mod rivals;

@@ -4,9 +4,11 @@ ghost use Rattle.std.specs.Prelude.{◌≡◌, ◌↔◌, ℕ, List, IfOk, IsTru
 ghost use Rattle.osgi_space_sources.specs.computed.RowSources.{Owns};
 ghost use Rattle.osgi_resolver_hopeless.specs.computed.Clashing.{AreWires, HasLost, HasLostAt, IsLost, IsLostAt, IsLostBy, MayReach};
 ghost use Rattle.osgi_resolver_hopeless.specs.computed.Open.{AreUnsettled};
+ghost use Rattle.osgi_resolver_hopeless.specs.computed.Stuck.{IsMemberOf};
 ghost use Rattle.osgi_resolver_path.specs.Standing.{IsProblemOf, made};
 ghost use Rattle.osgi_resolver_path.specs.Wires.{wired_in};
 ghost use Rattle.osgi_resolver_path.specs.declared.wired.Wired.{Wired};
+ghost use Rattle.osgi_resolver_theory.specs.States.{State};
 ghost use Rattle.osgi_space_rows.specs.Rows.{Attaches};
 ghost use Rattle.osgi_space_rows.specs.Worlds.{AreRowsIn};
 ghost use Rattle.osgi_world.specs.Lists.{In};
@@ -15,6 +17,8 @@ ghost use Rattle.osgi_world.specs.Wirings.{HasWire, ImportsElsewhere, IsExport, 
 ghost use Rattle.osgi_world.specs.declared.problem.Problem.{Problem};
 ghost use Rattle.osgi_world.specs.declared.wiring.Wiring.{Wiring};
 
+use crate::losing::may_lose;
+use crate::packages::exported_number;
 use crate::settled::is_settled;
 use osgi_base::RevisionId;
 use osgi_resolver_path::{Mark, Path, Wired};
@@ -53,13 +57,7 @@ fn is_replaced(rows: &WorldRows, capability: CapRef) -> bool
     if rows.rows().imports_of(capability.provider.0).is_empty() {
         return false;
     }
-    let Some(package) = rows
-        .known()
-        .exported_package(capability.owner, capability.index)
-    else {
-        return false;
-    };
-    match rows.names().number(package) {
+    match exported_number(rows, capability) {
         Some(number) => imports_elsewhere(rows.rows(), capability.provider.0, number),
         None => false,
     }
@@ -206,10 +204,14 @@ fn is_one_lost_at(
     Ok(false)
 }
 
-/// The same of all wires that are decided.
+/// The same of all wires that are decided. They are looked through only where the host, which is a member, or what reaches it may
+/// lack what a wire takes.
 pub fn has_lost_at(alloc: Global, path: &Path, host: RevisionId) -> Result<bool, AllocError>
     ensures lost { IfOk result (λ answer. (P : Problem) → IsProblemOf path.now P → IsTrue answer → HasLost P (made P path.now)) }
-    ensures all { IfOk result (λ answer. (P : Problem) → IsProblemOf path.now P → HasLostAt P (made P path.now) host → IsTrue answer) }
+    ensures all { IfOk result (λ answer. (P : Problem) → IsMemberOf path.now P host → State P (made P path.now) → HasLostAt P (made P path.now) host → IsTrue answer) }
 {
+    if !may_lose(alloc, path, host)? {
+        return Ok(false);
+    }
     Ok(is_one_lost_at(alloc, path, path.marks(), host)?)
 }

@@ -7,11 +7,11 @@ ghost use Rattle.osgi_resolver_hopeless.specs.Before.{IsHopefulBefore};
 ghost use Rattle.osgi_resolver_hopeless.specs.computed.Onward.{HasNewRivals, HasTouchedStuck, IsAtOnce, HasSettledReason};
 ghost use Rattle.osgi_resolver_hopeless.specs.computed.Reasons.{Reason};
 ghost use Rattle.osgi_resolver_hopeless.specs.computed.Rivals.{HasRivals, IsCurrentSingleton};
+ghost use Rattle.osgi_resolver_hopeless.specs.computed.Stuck.{IsMemberOf};
 ghost use Rattle.osgi_resolver_path.specs.Last.{IsLast};
 ghost use Rattle.osgi_resolver_path.specs.Standing.{IsProblemOf, made};
-ghost use Rattle.osgi_world.specs.DueDecisions.{members};
+ghost use Rattle.osgi_resolver_theory.specs.States.{State};
 ghost use Rattle.osgi_world.specs.Hopeless.{IsHopeless};
-ghost use Rattle.osgi_world.specs.Lists.{In};
 ghost use Rattle.osgi_world.specs.declared.problem.Problem.{Problem};
 
 use crate::clashing::has_clash_at;
@@ -24,8 +24,8 @@ use osgi_base::RevisionId;
 use osgi_resolver_path::{Last, Path};
 use std::alloc::{AllocError, Global};
 
-/// Whether the host of the last decision, or who joined by it, is stuck. Two providers of one package count only where one is
-/// that of the wire that the decision made: there were no two before, where the word before was not hopeless.
+/// Whether the host of the last decision, or who joined by it, is stuck. Two providers count only of the package that the wire is
+/// for that the decision made: there were no two before, where the word before was not hopeless.
 fn is_touched_stuck(alloc: Global, path: &Path, last: Last) -> Result<bool, AllocError>
     ensures stuck { IfOk result (λ answer. (P : Problem) → IsProblemOf path.now P → IsLast P path.now last → IsTrue answer ↔ HasTouchedStuck P path.now last) }
 {
@@ -78,8 +78,8 @@ fn is_at_once(alloc: Global, path: &Path, last: Last) -> Result<bool, AllocError
 /// Whether a settled provider that is the host or reaches it does not have on offer what a wire takes, or a constraint of a member
 /// that leads to the host, which comes from settled revisions alone, clashes. It is asked once the host, a member, is decided.
 fn has_settled_reason(alloc: Global, path: &Path, host: RevisionId) -> Result<bool, AllocError>
-    ensures reason { IfOk result (λ answer. (P : Problem) → IsProblemOf path.now P → In host (members P (made P path.now)) → IsTrue answer → Reason P (made P path.now)) }
-    ensures all { IfOk result (λ answer. (P : Problem) → IsProblemOf path.now P → In host (members P (made P path.now)) → HasSettledReason P path.now host → IsTrue answer) }
+    ensures reason { IfOk result (λ answer. (P : Problem) → IsMemberOf path.now P host → IsTrue answer → Reason P (made P path.now)) }
+    ensures all { IfOk result (λ answer. (P : Problem) → IsMemberOf path.now P host → State P (made P path.now) → HasSettledReason P path.now host → IsTrue answer) }
 {
     if has_lost_at(alloc, path, host)? {
         return Ok(true);

@@ -1,11 +1,17 @@
 //! Whether a revision has two providers of one package.
 
-ghost use Rattle.std.specs.Prelude.{◌≢◌, ◌↔◌, Any, IsTrue};
-ghost use Rattle.osgi_resolver_hopeless.specs.computed.Providers.{FirstDiffers, HasOtherProvider, HasTwoProviders, IsContested};
+ghost use Rattle.std.specs.Prelude.{◌≢◌, ◌↔◌, Any, IsTrue, List};
+ghost use Rattle.osgi_resolver_hopeless.specs.computed.Providers.{FirstDiffers, HasTwoProviders};
+ghost use Rattle.osgi_resolver_hopeless.specs.computed.Stuck.{OtherProvider};
 ghost use Rattle.osgi_space_rows.specs.Rows.{imports_for};
+ghost use Rattle.osgi_space_rows.specs.Worlds.{AreRowsIn};
 ghost use Rattle.osgi_space_rows.specs.declared.rows.Import.{Import};
+ghost use Rattle.osgi_world.specs.declared.wiring.Wiring.{Wiring};
 
-use osgi_space_rows::{Import, Rows};
+use crate::packages::exported_number;
+use osgi_base::RevisionId;
+use osgi_resolver_path::Wired;
+use osgi_space_rows::{Import, Rows, WorldRows};
 
 /// Whether the first of the revision's wires for the package goes to another provider.
 fn first_differs(rows: &Rows, revision: u32, package: u32, provider: u32) -> bool
@@ -33,7 +39,7 @@ pub fn has_two_providers(rows: &Rows, revision: u32) -> bool
     false
 }
 
-// ---- where one provider is given
+// ---- where one wire is given
 
 /// Whether one of the wires goes to another provider.
 fn has_another(imports: &[Import], provider: u32) -> bool
@@ -47,25 +53,20 @@ fn has_another(imports: &[Import], provider: u32) -> bool
     false
 }
 
-/// Whether this wire goes to the provider, and another wire of the revision for the same package does not.
-fn is_contested(rows: &Rows, revision: u32, provider: u32, row: Import) -> bool
-    ensures contested { IsTrue result ↔ IsContested rows.now revision provider row }
+/// Whether the wire is one of the revision, which has another provider of the same package. Only its wires for that package are
+/// looked at.
+pub fn has_other_provider(rows: &WorldRows, revision: RevisionId, wired: Wired) -> bool
+    ensures other { (W : List Wiring) → AreRowsIn rows.now W → IsTrue result ↔ OtherProvider rows.now.known W revision wired }
 {
-    if row.provider != provider {
+    if wired.revision.0 != revision.0 {
         return false;
     }
-    has_another(rows.imports_for(revision, row.imported), provider)
-}
-
-/// Whether the revision has wires for one package to the provider and to another one.
-pub fn has_other_provider(rows: &Rows, revision: u32, provider: u32) -> bool
-    ensures other { IsTrue result ↔ HasOtherProvider rows.now revision provider }
-{
-    let imports = rows.imports_of(revision);
-    for row in imports {
-        if is_contested(rows, revision, provider, *row) {
-            return true;
-        }
+    let capability = wired.wire.capability;
+    match exported_number(rows, capability) {
+        Some(number) => has_another(
+            rows.rows().imports_for(revision.0, number),
+            capability.provider.0,
+        ),
+        None => false,
     }
-    false
 }

@@ -1,7 +1,7 @@
 //! Whether a member makes what is decided hopeless by itself.
 
 ghost use Rattle.std.specs.Prelude.{◌≡◌, ◌↔◌, IfOk, IsTrue, Some};
-ghost use Rattle.osgi_resolver_hopeless.specs.computed.Stuck.{HasNamesake, IsAmiss, IsAmissBy, CannotBeMet, IsFragmentAmiss, IsMemberOf, IsNewlyAmiss, IsOtherFragment, IsStuck, IsStuckBy, OtherProvider, SameName};
+ghost use Rattle.osgi_resolver_hopeless.specs.computed.Stuck.{HasNamesake, IsAmiss, IsAmissBy, CannotBeMet, IsFragmentAmiss, IsMemberOf, IsNewlyAmiss, IsOtherFragment, IsStuck, IsStuckBy, OtherProvider, SameName, TwoProviders};
 ghost use Rattle.osgi_resolver_decisions.specs.DecisionOf.{decision_of};
 ghost use Rattle.osgi_resolver_path.specs.Last.{IsLast};
 ghost use Rattle.osgi_resolver_path.specs.Standing.{IsProblemOf, made};
@@ -45,27 +45,12 @@ fn is_amiss(alloc: Global, path: &Path, member: RevisionId) -> Result<bool, Allo
     Ok(has_two_versions(alloc, path, fragments.as_slice())?)
 }
 
-/// Whether the member has a requirement that can get no wire any more, two fragments of one symbolic name, or two providers of
-/// one package.
-fn is_stuck(alloc: Global, path: &Path, member: RevisionId) -> Result<bool, AllocError>
-    ensures stuck { IfOk result (λ answer. (P : Problem) → IsMemberOf path.now P member → IsTrue answer ↔ IsStuck P (made P path.now) member) }
-{
-    if is_amiss(alloc, path, member)? {
-        return Ok(true);
-    }
-    Ok(has_two_providers(path.rows().rows(), member.0))
-}
-
-/// Whether the member has wires for one package to the provider of this wire, if there is one, and to another one.
+/// Whether this wire, if there is one, is one of the member, which has another provider of the same package.
 fn has_two_with(path: &Path, member: RevisionId, wired: Option<Wired>) -> bool
-    ensures other { (P : Problem) → IsProblemOf path.now P → IsTrue result
-        ↔ ((w : Wired) × (wired ≡ Some w) × OtherProvider P.world.known (partial P (made P path.now)) member w.wire.capability.provider) }
+    ensures other { (P : Problem) → IsProblemOf path.now P → IsTrue result ↔ ((w : Wired) × (wired ≡ Some w) × OtherProvider P.world.known (partial P (made P path.now)) member w) }
 {
     match wired {
-        Some(wired) => {
-            let provider = wired.wire.capability.provider;
-            has_other_provider(path.rows().rows(), member.0, provider.0)
-        }
+        Some(wired) => has_other_provider(path.rows(), member, wired),
         None => false,
     }
 }
@@ -168,8 +153,8 @@ fn is_newly_amiss(alloc: Global, path: &Path, member: RevisionId) -> Result<bool
     Ok(is_amiss_by(path, last, member))
 }
 
-/// Whether the last decision made the member stuck, where it was not before. Two providers of one package count only where there
-/// is this wire, and it goes to one of them.
+/// Whether the last decision made the member stuck, where it was not before. Two providers count only of the package that this
+/// wire, if there is one, is for.
 pub fn is_stuck_by(
     alloc: Global,
     path: &Path,
@@ -186,14 +171,36 @@ pub fn is_stuck_by(
 
 // ---- of all members
 
-/// Whether one of the members is stuck.
-pub fn has_stuck_member(alloc: Global, path: &Path) -> Result<bool, AllocError>
-    ensures stuck { IfOk result (λ answer. (P : Problem) → IsProblemOf path.now P → IsTrue answer ↔ ((m : RevisionId) × In m (members P (made P path.now)) × IsStuck P (made P path.now) m)) }
+/// Whether one of the members has a requirement that can get no wire any more, or two fragments of one symbolic name.
+fn is_one_amiss(alloc: Global, path: &Path) -> Result<bool, AllocError>
+    ensures amiss { IfOk result (λ answer. (P : Problem) → IsProblemOf path.now P → IsTrue answer ↔ ((m : RevisionId) × In m (members P (made P path.now)) × IsAmiss P (made P path.now) m)) }
 {
     for member in path.members() {
-        if is_stuck(alloc, path, *member)? {
+        if is_amiss(alloc, path, *member)? {
             return Ok(true);
         }
     }
     Ok(false)
+}
+
+/// Whether one of the members has two providers of one package.
+fn one_has_two_providers(path: &Path) -> bool
+    ensures two { (P : Problem) → IsProblemOf path.now P → IsTrue result ↔ ((m : RevisionId) × In m (members P (made P path.now)) × TwoProviders P.world.known (partial P (made P path.now)) m) }
+{
+    for member in path.members() {
+        if has_two_providers(path.rows().rows(), member.0) {
+            return true;
+        }
+    }
+    false
+}
+
+/// Whether one of the members is stuck. What takes all wires of a member to tell is asked last.
+pub fn has_stuck_member(alloc: Global, path: &Path) -> Result<bool, AllocError>
+    ensures stuck { IfOk result (λ answer. (P : Problem) → IsProblemOf path.now P → IsTrue answer ↔ ((m : RevisionId) × In m (members P (made P path.now)) × IsStuck P (made P path.now) m)) }
+{
+    if is_one_amiss(alloc, path)? {
+        return Ok(true);
+    }
+    Ok(one_has_two_providers(path))
 }

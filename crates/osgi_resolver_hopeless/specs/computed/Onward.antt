@@ -14,8 +14,8 @@ use Rattle.osgi_resolver_hopeless.specs.computed.Rivals.{HasRivals}
 use Rattle.osgi_resolver_hopeless.specs.computed.Stuck.{IsStuckBy}
 use Rattle.osgi_resolver_path.specs.declared.last.Last.{Last}
 
--- the host of the decision, or who joined by it, is stuck; two providers count only where the decision made a wire, and it goes to one
--- of them
+-- the host of the decision, or who joined by it, is stuck; two providers count only of the package that a wire which the decision
+-- made is for
 pub record HasTouchedStuck (P : Problem) (s : Standing) (last : Last) : Type 0 where
   pub member : RevisionId
   pub is_member : In member (members P (made P s))

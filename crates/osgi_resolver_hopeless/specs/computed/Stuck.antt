@@ -9,7 +9,7 @@ use Rattle.osgi_world.specs.DueDecisions.{fragments_of, members, payload}
 use Rattle.osgi_world.specs.Lists.{In, Two}
 use Rattle.osgi_world.specs.Lookups.{is_multiple, requirement_count, symbolic_name, IsNeeded}
 use Rattle.osgi_world.specs.Partial.{partial}
-use Rattle.osgi_world.specs.Wirings.{PackageWire}
+use Rattle.osgi_world.specs.Wirings.{IsExport, PackageWire}
 use Rattle.osgi_world.specs.declared.problem.Problem.{Problem}
 use Rattle.osgi_world.specs.declared.wiring.CapRef.{CapRef}
 use Rattle.osgi_world.specs.declared.wiring.ReqRef.{ReqRef}
@@ -85,13 +85,14 @@ IsLacking P q = IsNeeded P.world.known q × (candidates P q ≡ [])
 abbrev pub IsOwnerLacking : Problem → RevisionId → Type 0
 IsOwnerLacking P o = (i : ℕ) × (i < requirement_count P.world.known o) × IsLacking P (place o i)
 
--- r has wires for one package to x and to another provider
-pub record OtherProvider (K : List Known) (W : List Wiring) (r x : RevisionId) : Type 0 where
+-- the wire is one of r, which has another provider of the package that the wire is for
+pub record OtherProvider (K : List Known) (W : List Wiring) (r : RevisionId) (w : Wired) : Type 0 where
   pub name : List ℕ
   pub other : RevisionId
-  pub one_wire : PackageWire K W r name x
+  pub holder : w.revision ≡ r
+  pub export : IsExport K w.wire.capability.owner w.wire.capability.index name
   pub other_wire : PackageWire K W r name other
-  pub differ : x ≢ other
+  pub differ : w.wire.capability.provider ≢ other
 
 -- g is another fragment of m than f
 abbrev pub IsOtherFragment : Problem → Made → RevisionId → RevisionId → RevisionId → Type 0
@@ -117,7 +118,7 @@ abbrev pub IsNewlyAmiss : Problem → Made → RevisionId → Type 0
 IsNewlyAmiss P [] m = IsAmiss P [] m
 IsNewlyAmiss P (t ∷ D) m = IsOwnerLacking P m ⊎ IsAmissBy P (t ∷ D) t.0 t.1 m
 
--- m is stuck by the last decision; two providers of one package count only where there is a wire, and it goes to one of them
+-- m is stuck by the last decision; two providers count only of the package that a wire of m, which is given, is for
 pub data IsStuckBy (P : Problem) (D : Made) (m : RevisionId) (wired : Option Wired) : Type 0 where
   by_itself : IsNewlyAmiss P D m → IsStuckBy P D m wired
-  by_wire : (w : Wired) → wired ≡ Some w → OtherProvider P.world.known (partial P D) m w.wire.capability.provider → IsStuckBy P D m wired
+  by_wire : (w : Wired) → wired ≡ Some w → OtherProvider P.world.known (partial P D) m w → IsStuckBy P D m wired

@@ -7,15 +7,15 @@ use Rattle.osgi_resolver_hopeless.proofs.onward.has_settled_reason.Goals as goal
 
 pub returns-then-branch : goal.returns-then-branch
 returns-then-branch c = record {
-  reason = λ P L i t. lost (c.in_ok-has_lost_at.ensures.lost P L c.if-branch.true);
-  all = λ P L i h. refl;
+  reason = λ P M t. lost (c.in_ok-has_lost_at.ensures.lost P M.problem c.if-branch.true);
+  all = λ P M s h. refl;
 }
 
 pub returns : goal.returns
 returns c = record {
-  reason = λ P L i t. clash (c.in_ok-has_clash_at.ensures.clash P L i t);
-  all = λ P L i h. elim h [
-    | onward.lost l ↦ absurd (not_true _ c.if-branch.false (c.in_ok-has_lost_at.ensures.all P L l))
-    | onward.clash k ↦ c.in_ok-has_clash_at.ensures.all P L i k
+  reason = λ P M t. clash (c.in_ok-has_clash_at.ensures.clash P M.problem M.member t);
+  all = λ P M s h. elim h [
+    | onward.lost l ↦ absurd (not_true _ c.if-branch.false (c.in_ok-has_lost_at.ensures.all P M s l))
+    | onward.clash k ↦ c.in_ok-has_clash_at.ensures.all P M.problem M.member k
   ];
 }

@@ -9,7 +9,7 @@ use Rattle.osgi_resolver_hopeless.proofs.onward.is_at_once.Goals as goal
 
 pub returns-then-branch : goal.returns-then-branch
 returns-then-branch c = record {
-  reason = λ P L x t. let s = (c.in_ok-is_touched_stuck.ensures.stuck P L x).0 c.if-branch.true in stuck (s.member, s.is_member, by-stuck P (made P c.args.path.now) s.member c.args.last.wired s.stuck);
+  reason = λ P L x t. let s = (c.in_ok-is_touched_stuck.ensures.stuck P L x).0 c.if-branch.true in stuck (s.member, s.is_member, by-stuck P (made P c.args.path.now) s.member c.args.last.wired (made-wire c.args.path.now P L c.args.last x) s.stuck);
   all = λ P L x h. refl;
 }
 

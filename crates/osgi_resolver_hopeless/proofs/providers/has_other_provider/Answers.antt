@@ -1,32 +1,41 @@
--- The next wire, and the first to the provider where another one for its package goes elsewhere.
-use Rattle.std.proofs.Common.{Any, sym, subst}
-use Rattle.std.proofs.lemmas.List.{get_or_default}
-use Rattle.osgi_space_rules.proofs.OneValue.{not_true}
-use Rattle.osgi_resolver_hopeless.proofs.Answering.{no, yes}
-use Rattle.osgi_resolver_hopeless.proofs.TwoProviders.{some-contested}
-use Rattle.osgi_resolver_hopeless.specs.computed.Providers.{IsContested}
-use Rattle.osgi_space_sources.specs.laws.Adding.{any-at, none-more, none-whole}
+-- The wire is not of the revision; its package's wires tell; or it is for no package.
+use Rattle.std.proofs.Common.{◌≡◌, ◌≢◌, ◌∙◌, inl, Any, sym, ap, subst}
+use Rattle.osgi_base.specs.declared.ids.RevisionId.{RevisionId}
+use Rattle.osgi_resolver_hopeless.proofs.Answering.{no}
+use Rattle.osgi_resolver_hopeless.proofs.Tested.{some-none}
+use Rattle.osgi_resolver_hopeless.proofs.TwoProviders.{other-provider}
+use Rattle.osgi_space.proofs.Numbering.{named, source-number}
+use Rattle.osgi_space_rows.specs.Agree.{id}
+use Rattle.osgi_space_rows.specs.Names.{name_numbered}
+use Rattle.osgi_space_rows.specs.Rows.{RowLists, imports_for}
+use Rattle.osgi_space_rows.specs.declared.rows.Import.{Import}
+use Rattle.osgi_world.specs.Wirings.{IsExport}
 use Rattle.osgi_resolver_hopeless.proofs.providers.has_other_provider.Goals as goal
 
-pub loop-row-preserved : goal.loop-row-preserved
-loop-row-preserved c =
-    let rows = c.imports_of-imports.result.now in
-    let i = c.loop-row.row-index in
-    let within = c.loop-row-test.true in
-    none-more (IsContested c.args.rows.now c.args.revision c.args.provider) rows i _ within (get_or_default rows i _ _ within) c.loop-row.invariant (λ d. not_true _ c.if-is_contested.false (c.is_contested.ensures.contested.1 d))
+pub returns-then-wired-revision : goal.returns-then-wired-revision
+returns-then-wired-revision c = record { other = λ W is. no (λ o. c.if-wired-revision.true (ap (λ (r : RevisionId). r.0) o.holder)) }
 
-pub returns-then-is_contested : goal.returns-then-is_contested
-returns-then-is_contested c =
-    let rows = c.imports_of-imports.result.now in
-    let i = c.loop-row.row-index in
-    let within = c.loop-row-test.true in
-    let Q = IsContested c.args.rows.now c.args.revision c.args.provider in
-    let any : Any Q rows = any-at Q rows i _ within (get_or_default rows i _ _ within) (c.is_contested.ensures.contested.0 c.if-is_contested.true) in
-    record { other = yes ((some-contested c.args.rows.now c.args.revision c.args.provider).0 (subst (λ xs. Any Q xs) c.imports_of-imports.ensures.rows any)) }
+pub returns-in-Some : goal.returns-in-Some
+returns-in-Some c = record {
+  other = λ W is.
+      let world = c.args.rows.now in
+      let N = name_numbered world.names in
+      let r = c.args.revision in
+      let w = c.args.wired in
+      let n = c.in-Some.number in
+      let at = (c.exported_number.ensures.number n).0 c.in-Some.is in
+      let export : IsExport world.known w.wire.capability.owner w.wire.capability.index (N n) = subst (λ p. IsExport world.known w.wire.capability.owner w.wire.capability.index p) (sym (named world.names at.0 n at.2)) at.1 in
+      let other = other-provider world.known W N world.rows is r w n export (ap id c.if-wired-revision.false) in
+      let Q : Import → Type 0 = λ row. row.provider ≢ w.wire.capability.provider.0 in
+      let rows : c.imports_for.result.now ≡ imports_for world.rows r.0 n = c.imports_for.ensures.rows ∙ ap (λ (R : RowLists). imports_for R r.0 n) c.rows.ensures.rows in (
+        λ t. other.0 (subst (λ xs. Any Q xs) rows (c.has_another.ensures.another.0 t)),
+        λ o. c.has_another.ensures.another.1 (subst (λ xs. Any Q xs) (sym rows) (other.1 o)),
+      );
+}
 
-pub returns : goal.returns
-returns c =
-    let rows = c.imports_of-imports.result.now in
-    let Q = IsContested c.args.rows.now c.args.revision c.args.provider in
-    let none : ¬ Any Q rows = none-whole Q rows c.loop-row.row-index c.loop-row-test.false c.loop-row.invariant in
-    record { other = no (λ other. none (subst (λ xs. Any Q xs) (sym c.imports_of-imports.ensures.rows) ((some-contested c.args.rows.now c.args.revision c.args.provider).1 other))) }
+pub returns-in-None : goal.returns-in-None
+returns-in-None c = record {
+  other = λ W is. no (λ o.
+      let number = source-number c.args.rows.now W is c.exported_number.ensures.numbered (inl o.other_wire) in
+      some-none c.exported_number.result number.0 c.in-None.is ((c.exported_number.ensures.number number.0).1 (o.name, o.export, number.1)));
+}

@@ -1,0 +1,67 @@
+//! Whether what a wire takes may not be on offer any more, once a host is decided.
+
+ghost use Rattle.std.specs.Prelude.{◌≡◌, ◌≢◌, ◌↔◌, Any, IfOk, IsTrue};
+ghost use Rattle.osgi_resolver_hopeless.specs.computed.Clashing.{HasLostAt};
+ghost use Rattle.osgi_resolver_hopeless.specs.computed.Losing.{IsReplacing, ReplacesOwn};
+ghost use Rattle.osgi_resolver_hopeless.specs.computed.Stuck.{IsMemberOf};
+ghost use Rattle.osgi_resolver_path.specs.Standing.{made};
+ghost use Rattle.osgi_resolver_theory.specs.States.{State};
+ghost use Rattle.osgi_space_rows.specs.declared.rows.Required.{Required};
+ghost use Rattle.osgi_world.specs.declared.problem.Problem.{Problem};
+
+use osgi_base::RevisionId;
+use osgi_resolver_path::Path;
+use osgi_space_rows::{Import, Rows};
+use std::alloc::{AllocError, Global};
+
+/// Whether the wire goes from the revision to another one, for a package that the revision exports itself.
+fn is_replacing(rows: &Rows, revision: u32, row: Import) -> bool
+    ensures replacing { IsTrue result ↔ IsReplacing rows.now revision row }
+{
+    if row.provider == revision {
+        return false;
+    }
+    !rows.exports_for(revision, row.imported).is_empty()
+}
+
+/// Whether the revision imports from elsewhere a package that it exports itself.
+fn replaces_own(rows: &Rows, revision: u32) -> bool
+    ensures replaces { IsTrue result ↔ ReplacesOwn rows.now revision }
+{
+    let imports = rows.imports_of(revision);
+    for row in imports {
+        if is_replacing(rows, revision, *row) {
+            return true;
+        }
+    }
+    false
+}
+
+/// Whether a wire for a required bundle goes to the revision.
+fn is_required(rows: &Rows, revision: u32) -> bool
+    ensures required { IsTrue result ↔ Any (λ (row : Required). row.provider ≡ revision) rows.now.required }
+{
+    let required = rows.required();
+    for row in required {
+        if row.provider == revision {
+            return true;
+        }
+    }
+    false
+}
+
+/// Whether a wire to the host, which is a member, or to what reaches it may take what is not on offer. It is not so where no
+/// bundle wire goes to the host, it imports nothing that it exports, and no fragment can be attached to it.
+pub fn may_lose(alloc: Global, path: &Path, host: RevisionId) -> Result<bool, AllocError>
+    ensures all { IfOk result (λ answer. (P : Problem) → IsMemberOf path.now P host → State P (made P path.now) → HasLostAt P (made P path.now) host → IsTrue answer) }
+{
+    let rows = path.rows().rows();
+    if is_required(rows, host.0) {
+        return Ok(true);
+    }
+    if replaces_own(rows, host.0) {
+        return Ok(true);
+    }
+    let fragments = path.offers().fragments_for(alloc, host)?;
+    Ok(!fragments.as_slice().is_empty())
+}
