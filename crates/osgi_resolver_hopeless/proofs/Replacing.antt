@@ -10,8 +10,7 @@ use Rattle.osgi_resolver_theory.proofs.States.{member-new}
 use Rattle.osgi_resolver_theory.proofs.Views.{got-candidate}
 use Rattle.osgi_resolver_theory.specs.States.{State}
 use Rattle.osgi_space_rows.specs.Agree.{AreRowsOf, id}
-use Rattle.osgi_space_rows.specs.Rows.{Imports, OwnExport, Reexports, Requires, RowLists, imports_of}
-use Rattle.osgi_space_rows.specs.declared.rows.Import.{Import}
+use Rattle.osgi_space_rows.specs.Rows.{OwnExport, Reexports, Requires, RowLists, imports_of}
 use Rattle.osgi_space_rows.specs.declared.rows.Required.{Required}
 use Rattle.osgi_space_sources.proofs.Rows.{some-imported}
 use Rattle.osgi_space_sources.specs.computed.Reach.{Reach, starts, steps}

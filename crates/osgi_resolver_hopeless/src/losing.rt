@@ -1,6 +1,6 @@
 //! Whether what a wire takes may not be on offer any more, once a host is decided.
 
-ghost use Rattle.std.specs.Prelude.{◌≡◌, ◌≢◌, ◌↔◌, Any, IfOk, IsTrue};
+ghost use Rattle.std.specs.Prelude.{◌≡◌, ◌↔◌, Any, IfOk, IsTrue};
 ghost use Rattle.osgi_resolver_hopeless.specs.computed.Clashing.{HasLostAt};
 ghost use Rattle.osgi_resolver_hopeless.specs.computed.Losing.{IsReplacing, ReplacesOwn};
 ghost use Rattle.osgi_resolver_hopeless.specs.computed.Stuck.{IsMemberOf};

@@ -1,5 +1,4 @@
 -- Nothing can be lost, or one of the wires of members is.
-use Rattle.std.proofs.Common.{refl}
 use Rattle.osgi_space_rules.proofs.OneValue.{not_true}
 use Rattle.osgi_resolver_hopeless.proofs.offer.has_lost_at.Goals as goal
 

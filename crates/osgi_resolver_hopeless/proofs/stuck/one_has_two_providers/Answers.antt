@@ -1,5 +1,5 @@
 -- The next member, and the first that has two providers.
-use Rattle.std.proofs.Common.{◌↔◌, IsTrue, sym, subst, get_or}
+use Rattle.std.proofs.Common.{sym, subst, get_or}
 use Rattle.osgi_base.specs.declared.ids.RevisionId.{RevisionId}
 use Rattle.osgi_space_rules.proofs.Grow.{at_in, each_done, each_step}
 use Rattle.osgi_space_rules.proofs.Items.{no_revision, there}
