@@ -38,3 +38,8 @@ denied false is t a = false≢true (is.1 a)
 pub granted : (b : Bool) {A : Type 0} → IsTrue b ↔ A → ¬ IsTrue (not b) → A
 granted true is n = is.0 refl
 granted false is n = absurd (n refl)
+
+-- an answer says that something is not so, which is so
+pub refuted : (b : Bool) {A : Type 0} → IsTrue b ↔ ¬ A → A → IsTrue (not b)
+refuted true is a = absurd (is.0 refl a)
+refuted false is a = refl

@@ -12,6 +12,8 @@ pub mod Replacing
 pub mod Clashes
 pub mod Backwards
 pub mod Worklist
+pub mod Through
+pub mod Passing
 pub mod Reasons
 pub mod Newly
 pub mod Tested

@@ -12,6 +12,7 @@ use Rattle.osgi_resolver_theory.specs.Reasons.{IsAnew, IsTouched, Stuck}
 use Rattle.osgi_resolver_hopeless.proofs.Answering.{known-is}
 use Rattle.osgi_resolver_hopeless.proofs.Newly.{newly, newly-amiss}
 use Rattle.osgi_resolver_hopeless.proofs.Reasons.{hopeless-reason}
+use Rattle.osgi_resolver_hopeless.proofs.Through.{clash-through}
 use Rattle.osgi_resolver_hopeless.specs.Before.{IsHopefulBefore}
 use Rattle.osgi_resolver_hopeless.specs.computed.Clashing.{HasClashAt, HasLost, HasLostAt, IsLostBy}
 use Rattle.osgi_resolver_path.specs.Last.{IsLast}
@@ -113,7 +114,7 @@ module _ (P : Problem) (D : Made) (d : Decision) (v : ℕ) (x : OneMore P D d v)
   given-reason (reasons.stuck s) = stuck s.0 s.1 (stuck-touched P D d v x hopeful s.0 s.1 (stuck-of P ((d, v) ∷ D) s.0 s.2)) (stuck-now s.0 s.2)
   given-reason (reasons.rivals r) = rivals-given r
   given-reason (reasons.lost l) = lost-given l
-  given-reason (reasons.clash c) = let l = clash-leads P D d v x hopeful c.member c.seen_by c.used c.implied c.clash in clash (record { clash = c; leads = l.2 }) l.1
+  given-reason (reasons.clash c) = let l = clash-leads P D d v x hopeful c.member c.seen_by c.used c.implied c.clash in clash (record { clash = c; leads = l.2; through = clash-through P D d v x hopeful c.member c.seen_by c.used c.implied c.clash }) l.1
 
   pub given : (E : Made) → E ≡ ((d, v) ∷ D) → Hopeless P E → Given P D d v E
   given E e h = subst (Given P D d v) (sym e) (given-reason (hopeless-reason P ((d, v) ∷ D) x.problem (subst (Hopeless P) e h)))

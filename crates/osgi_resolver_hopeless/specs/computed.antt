@@ -3,6 +3,7 @@ pub mod Stuck
 pub mod Providers
 pub mod Rivals
 pub mod Open
+pub mod Through
 pub mod Clashing
 pub mod Leading
 pub mod Losing

@@ -10,7 +10,7 @@ ghost use Rattle.osgi_world.specs.DueDecisions.{members};
 ghost use Rattle.osgi_world.specs.Lists.{In};
 ghost use Rattle.osgi_world.specs.declared.problem.Problem.{Problem};
 
-use crate::leading::leading_to;
+use crate::concerned::concerned_by;
 use crate::settled::{numbers, unsettled};
 use osgi_base::RevisionId;
 use osgi_resolver_path::Path;
@@ -99,7 +99,8 @@ pub fn has_clash(alloc: Global, path: &Path, unsettled: &RevisionSet) -> Result<
 }
 
 /// Whether a member's implied constraint that comes from settled revisions alone clashes. True only where it is so, and true
-/// wherever such a member leads to the host. It is looked for only where a package may have several sources.
+/// wherever such a member leads to the host, and the constraint comes through it. It is looked for only where a package may have
+/// several sources.
 pub fn has_clash_at(alloc: Global, path: &Path, host: RevisionId) -> Result<bool, AllocError>
     ensures clash { IfOk result (λ answer. (P : Problem) → IsProblemOf path.now P → In host (members P (made P path.now)) → IsTrue answer → HasClash P (made P path.now)) }
     ensures all { IfOk result (λ answer. (P : Problem) → IsProblemOf path.now P → In host (members P (made P path.now)) → HasClashAt P (made P path.now) host → IsTrue answer) }
@@ -108,6 +109,6 @@ pub fn has_clash_at(alloc: Global, path: &Path, host: RevisionId) -> Result<bool
         return Ok(false);
     }
     let unsettled = unsettled(alloc, path)?;
-    let leading = leading_to(alloc, path, host)?;
-    Ok(has_clash_among(alloc, path, &unsettled, leading.items.as_slice())?)
+    let asked = concerned_by(alloc, path, &unsettled, host)?;
+    Ok(has_clash_among(alloc, path, &unsettled, asked.as_slice())?)
 }

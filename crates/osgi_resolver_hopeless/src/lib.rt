@@ -2,6 +2,7 @@
 #![tactic(auto)]
 
 mod clashing;
+mod concerned;
 mod hopeless;
 mod leading;
 mod losing;

@@ -38,7 +38,7 @@ fn replaces_own(rows: &Rows, revision: u32) -> bool
 }
 
 /// Whether a wire for a required bundle goes to the revision.
-fn is_required(rows: &Rows, revision: u32) -> bool
+pub fn is_required(rows: &Rows, revision: u32) -> bool
     ensures required { IsTrue result ↔ Any (λ (row : Required). row.provider ≡ revision) rows.now.required }
 {
     let required = rows.required();

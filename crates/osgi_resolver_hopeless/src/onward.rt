@@ -76,7 +76,8 @@ fn is_at_once(alloc: Global, path: &Path, last: Last) -> Result<bool, AllocError
 }
 
 /// Whether a settled provider that is the host or reaches it does not have on offer what a wire takes, or a constraint of a member
-/// that leads to the host, which comes from settled revisions alone, clashes. It is asked once the host, a member, is decided.
+/// that leads to the host, which comes from settled revisions alone and through the host, clashes. It is asked once the host, a
+/// member, is decided.
 fn has_settled_reason(alloc: Global, path: &Path, host: RevisionId) -> Result<bool, AllocError>
     ensures reason { IfOk result (λ answer. (P : Problem) → IsMemberOf path.now P host → IsTrue answer → Reason P (made P path.now)) }
     ensures all { IfOk result (λ answer. (P : Problem) → IsMemberOf path.now P host → State P (made P path.now) → HasSettledReason P path.now host → IsTrue answer) }

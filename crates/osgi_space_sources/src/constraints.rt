@@ -147,7 +147,7 @@ fn add_next(
 }
 
 /// The constraints that these wires and these sources of packages imply, and those that follow from them.
-pub(crate) fn constraints_from(
+pub fn constraints_from(
     alloc: Global,
     rows: &Rows,
     among: Among,

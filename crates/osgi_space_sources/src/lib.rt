@@ -16,7 +16,7 @@ mod uses;
 pub use among::Among;
 pub use bundles::reached_bundles;
 pub use clash::clashes;
-pub use constraints::constraints_of;
+pub use constraints::{constraints_from, constraints_of};
 pub use disputed::{
     Possible, note_fragment, note_fragments, note_imports, note_known, possible_sources,
 };
@@ -25,4 +25,4 @@ pub use given::Given;
 pub use package_sources::{imports_elsewhere, sources_of};
 pub use revision_set::RevisionSet;
 pub use space::space_of;
-pub use uses::{all_keep_uses, keeps_uses};
+pub use uses::{all_keep_uses, are_kept, keeps_uses};

@@ -73,8 +73,8 @@ fn is_violated(
     clashes(alloc, rows, revision, pair)
 }
 
-/// Whether no constraint in the list is violated.
-fn are_kept(
+/// Whether the revision violates no constraint in the list: the packages, each with the revision that sees it.
+pub fn are_kept(
     alloc: Global,
     rows: &Rows,
     disputed: &BTreeSet<u32>,

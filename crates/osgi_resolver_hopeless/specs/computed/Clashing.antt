@@ -17,6 +17,7 @@ use Rattle.osgi_resolver_theory.specs.Reasons.{LeadsTo, Reaches}
 use Rattle.osgi_space_sources.specs.computed.Clashes.{KeepsUsesAmong}
 use Rattle.osgi_space_rows.specs.Rows.{RowLists, Requires, imports_of, required_by}
 use Rattle.osgi_resolver_hopeless.specs.computed.Open.{Has}
+use Rattle.osgi_resolver_hopeless.specs.computed.Through.{ComesThrough}
 
 -- the provider is not in the set, and does not have the capability on offer
 abbrev pub IsLost : List Known → List Wiring → List ℕ → Wired → Type 0
@@ -61,10 +62,11 @@ pub record HasClash (P : Problem) (D : Made) : Type 0 where
   pub implied : Implied P.world.known (partial P D) (IsSettled P D) member seen_by used
   pub clash : Clash P.world.known (partial P D) member seen_by used
 
--- a member that leads to h has one
+-- a member that leads to h has one that comes through h
 pub record HasClashAt (P : Problem) (D : Made) (h : RevisionId) : Type 0 where
   pub clash : HasClash P D
   pub leads : LeadsTo P D clash.member h
+  pub through : ComesThrough P D h clash.member clash.seen_by clash.used
 
 -- r has a row of a wire for a package, or of one for a required bundle
 abbrev pub IsWired : RowLists → ℕ → Type 0

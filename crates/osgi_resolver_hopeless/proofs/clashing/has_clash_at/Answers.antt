@@ -1,9 +1,7 @@
--- Without a disputed package nothing clashes; else those that lead to the host are asked.
+-- Without a disputed package nothing clashes; else those whom the host concerns are asked.
 use Rattle.std.proofs.Common.{ℕ, subst, sym}
-use Rattle.osgi_space.proofs.Ids.{contains-in, in-contains}
 use Rattle.osgi_resolver_hopeless.proofs.Answering.{known-is}
 use Rattle.osgi_resolver_hopeless.proofs.Clashes.{none-disputed}
-use Rattle.osgi_resolver_hopeless.proofs.Backwards.{back-member, leads-back}
 use Rattle.osgi_resolver_path.specs.Standing.{IsProblemOf, made}
 use Rattle.osgi_space_rows.specs.Agree.{AreRowsOf, id}
 use Rattle.osgi_space_rows.specs.Names.{name_numbered}
@@ -27,16 +25,16 @@ returns-then-is_empty c = record {
 pub has_clash_among-requires : goal.has_clash_among-requires
 has_clash_among-requires c = record { unsettled = c.in_ok-unsettled.ensures.unsettled }
 
+pub concerned_by-requires : goal.concerned_by-requires
+concerned_by-requires c = record { unsettled = c.in_ok-unsettled.ensures.unsettled }
+
 pub returns : goal.returns
 returns c =
-    let items = c.in_ok-leading.leading.items.items in
     let are_members : (P : Problem) → IsProblemOf c.args.path.now P → In c.args.host (members P (made P c.args.path.now)) → (n : ℕ) → In n c.as_slice.result.now → In (id n) (members P (made P c.args.path.now)) = λ P L there n i.
-    back-member P L.is (made P c.args.path.now) c.args.host there ((c.in_ok-leading.ensures.leading P L n).0 (in-contains items n (subst (In n) c.as_slice.ensures.value i))) in
+    c.in_ok-asked.ensures.members P L there n (subst (In n) c.as_slice.ensures.value i) in
     record {
       clash = λ P L there t. c.in_ok-has_clash_among.ensures.clash P L (are_members P L there) t;
       all = λ P L there h.
-          let n = h.clash.member.0 in
-          let back = leads-back P L.is (made P c.args.path.now) c.args.host there h.leads in
-          let among = subst (In n) (sym c.as_slice.ensures.value) (contains-in items n ((c.in_ok-leading.ensures.leading P L n).1 back)) in
+          let among = subst (In h.clash.member.0) (sym c.as_slice.ensures.value) (c.in_ok-asked.ensures.all P L there h) in
           c.in_ok-has_clash_among.ensures.all P L h.clash among;
     }
