@@ -37,7 +37,7 @@ abbrev pub count_up : ℕ → ℕ → List ℕ
 count_up first zero = []
 count_up first (suc n) = first ∷ count_up (first + 1) n
 
--- the items of lists, item_numbers along them
+-- the items of each list, numbered along the lists from the first number
 abbrev pub item_numbers : ℕ → List (List ℕ) → List (List ℕ)
 item_numbers first [] = []
 item_numbers first (xs ∷ lists) = count_up first (length xs) ∷ item_numbers (first + length xs) lists
