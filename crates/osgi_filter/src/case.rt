@@ -41,12 +41,13 @@ fn order_without_case(a: &[u8], b: &[u8]) -> Ordering
 }
 
 impl Case {
-    /// Whether two names are the same.
+    /// Whether two names are the same. It is asked of each attribute that an item looks at.
+    #[inline(always)]
     pub fn is_same(self, a: &Text, b: &Text) -> bool
         ensures same { result ≡ same_name self a.now b.now }
     {
         match self {
-            Case::Keep => a == b,
+            Case::Keep => *a == *b,
             Case::Fold => a.bytes().eq_ignore_ascii_case(b.bytes()),
         }
     }

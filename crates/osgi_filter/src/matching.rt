@@ -5,18 +5,20 @@ ghost use Rattle.std.specs.Option.{option_copied};
 ghost use Rattle.osgi_model.specs.Matching.{Matches};
 ghost use Rattle.osgi_model.specs.computed.MatchReader as reader;
 ghost use Rattle.osgi_filter.specs.Names.{same_name};
+ghost use Rattle.osgi_filter.specs.computed.NameOrder.{AreInOrder};
 ghost use Rattle.osgi_filter.specs.declared.matching.TheConstants.{LARGE_TABLE, SMALL_TABLE};
 
 use crate::case::Case;
-use crate::named::Named;
+use crate::name_order::put_in_order;
+use crate::named::value_of;
 use crate::passing::passes;
 use osgi_model::{Attribute, Attributes, Filter, Test, Value};
 
 /// So few attributes are looked through for each item.
-const FEW_ATTRIBUTES: usize = 32;
+const FEW_ATTRIBUTES: usize = 64;
 
-/// For fewer items attributes are not put in order.
-const MANY_ITEMS: u32 = 8;
+/// For fewer items attributes are not put in order: that costs about as much as so many items that look through all.
+const MANY_ITEMS: u32 = 64;
 
 /// How many attributes are put in order in a small table.
 const SMALL_TABLE: usize = 1024;
@@ -36,23 +38,25 @@ fn item_passes(test: &Test, given: Option<&Value>) -> bool
 }
 
 #[cycle(matches)]
-fn is_match(filter: &Filter, named: &Named) -> bool
-    ensures matches { result ≡ reader.matches (same_name named.now.1) named.now.0 filter.now }
+fn is_match(filter: &Filter, attributes: &[Attribute], case: Case, places: &[u16]) -> bool
+    requires order { AreInOrder case attributes.now places.now }
+    ensures matches { result ≡ reader.matches (same_name case) attributes.now filter.now }
 {
     match filter {
-        Filter::And(filters) => all_match(filters.items(), named),
-        Filter::Or(filters) => one_matches(filters.items(), named),
-        Filter::Not(filter) => !is_match(filter.get(), named),
-        Filter::Item { name, test } => item_passes(test, named.value(name)),
+        Filter::And(filters) => all_match(filters.items(), attributes, case, places),
+        Filter::Or(filters) => one_matches(filters.items(), attributes, case, places),
+        Filter::Not(filter) => !is_match(filter.get(), attributes, case, places),
+        Filter::Item { name, test } => item_passes(test, value_of(name, attributes, case, places)),
     }
 }
 
 #[cycle(matches)]
-fn all_match(filters: &[Filter], named: &Named) -> bool
-    ensures matches { result ≡ reader.all_of (map (reader.matches (same_name named.now.1) named.now.0) filters.now) }
+fn all_match(filters: &[Filter], attributes: &[Attribute], case: Case, places: &[u16]) -> bool
+    requires order { AreInOrder case attributes.now places.now }
+    ensures matches { result ≡ reader.all_of (map (reader.matches (same_name case) attributes.now) filters.now) }
 {
     for filter in filters {
-        if !is_match(filter, named) {
+        if !is_match(filter, attributes, case, places) {
             return false;
         }
     }
@@ -60,11 +64,12 @@ fn all_match(filters: &[Filter], named: &Named) -> bool
 }
 
 #[cycle(matches)]
-fn one_matches(filters: &[Filter], named: &Named) -> bool
-    ensures matches { result ≡ reader.one_of (map (reader.matches (same_name named.now.1) named.now.0) filters.now) }
+fn one_matches(filters: &[Filter], attributes: &[Attribute], case: Case, places: &[u16]) -> bool
+    requires order { AreInOrder case attributes.now places.now }
+    ensures matches { result ≡ reader.one_of (map (reader.matches (same_name case) attributes.now) filters.now) }
 {
     for filter in filters {
-        if is_match(filter, named) {
+        if is_match(filter, attributes, case, places) {
             return true;
         }
     }
@@ -101,7 +106,9 @@ fn is_match_by_small_table(filter: &Filter, attributes: &[Attribute], case: Case
     ensures matches { result ≡ reader.matches (same_name case) attributes.now filter.now }
 {
     let mut table = [0; SMALL_TABLE];
-    is_match(filter, &Named::in_order(attributes, case, &mut table))
+    let places = &mut table[..attributes.len()];
+    put_in_order(attributes, case, places);
+    is_match(filter, attributes, case, places)
 }
 
 #[inline(never)]
@@ -110,7 +117,9 @@ fn is_match_by_large_table(filter: &Filter, attributes: &[Attribute], case: Case
     ensures matches { result ≡ reader.matches (same_name case) attributes.now filter.now }
 {
     let mut table = [0; LARGE_TABLE];
-    is_match(filter, &Named::in_order(attributes, case, &mut table))
+    let places = &mut table[..attributes.len()];
+    put_in_order(attributes, case, places);
+    is_match(filter, attributes, case, places)
 }
 
 /// Whether the filter matches the attributes: `&` asks for all of its operands, `|` for one, `!` for none, and an item
@@ -122,7 +131,7 @@ pub fn matches(filter: &Filter, attributes: &Attributes, case: Case) -> bool
     let attributes = attributes.items();
     let count = attributes.len();
     if count <= FEW_ATTRIBUTES || LARGE_TABLE < count || items_left(filter, MANY_ITEMS) > 0 {
-        return is_match(filter, &Named::scanned(attributes, case));
+        return is_match(filter, attributes, case, &[]);
     }
     if count <= SMALL_TABLE {
         is_match_by_small_table(filter, attributes, case)

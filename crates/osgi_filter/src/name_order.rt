@@ -60,6 +60,7 @@ pub fn put_in_order(attributes: &[Attribute], case: Case, places: &mut [u16])
 }
 
 /// The value of the first attribute of the name, by halving.
+#[inline(never)]
 pub fn first_value<'a>(
     attributes: &'a [Attribute],
     case: Case,

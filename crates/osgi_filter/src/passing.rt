@@ -4,6 +4,7 @@ ghost use Rattle.std.specs.Prelude.{◌≡◌, map};
 ghost use Rattle.osgi_model.specs.computed.MatchReader as reader;
 
 use crate::approx::is_approx;
+use crate::ordered::{number_passes, version_passes};
 use crate::pieces::stand;
 use crate::wanted::Wanted;
 use osgi_base::Text;
@@ -26,11 +27,17 @@ fn text_passes(test: &Test, given: &Text) -> bool
 pub fn passes(test: &Test, given: &Value) -> bool
     ensures passes { result ≡ reader.passes test.now given.now }
 {
-    does_pass(&mut Wanted::new(test), given)
+    match given {
+        Value::Text(text) => text_passes(test, text),
+        Value::Long(number) => number_passes(test, *number),
+        Value::Version(version) => version_passes(test, version),
+        Value::List(values) => one_passes(&mut Wanted::new(test), values.items()),
+    }
 }
 
+/// Whether an element passes, which may be a list too.
 #[cycle(passes)]
-fn does_pass(wanted: &mut Wanted, given: &Value) -> bool
+fn element_passes(wanted: &mut Wanted, given: &Value) -> bool
     ensures passes { result ≡ reader.passes wanted.old given.now }
     ensures same { wanted.new ≡ wanted.old }
 {
@@ -48,7 +55,7 @@ fn one_passes(wanted: &mut Wanted, values: &[Value]) -> bool
     ensures same { wanted.new ≡ wanted.old }
 {
     for value in values {
-        if does_pass(wanted, value) {
+        if element_passes(wanted, value) {
             return true;
         }
     }

@@ -1,18 +1,17 @@
-//! A test with what its text reads as, which is read once for all values that are asked.
+//! A test with what its text reads as, which is read once for all elements of a list.
 
 ghost use Rattle.std.specs.Prelude.{◌≡◌, Some};
-ghost use Rattle.std.specs.Option.{option_and_then, option_copied, option_map};
-ghost use Rattle.std.specs.Ordering.{int_cmp};
+ghost use Rattle.std.specs.Option.{option_and_then, option_map};
 ghost use Rattle.osgi_model.specs.computed.LongReader.{long_of};
 ghost use Rattle.osgi_model.specs.computed.MatchReader.{long_order, order_passes, version_order};
 ghost use Rattle.osgi_version.specs.VersionReading.{parts_of};
 ghost use Rattle.osgi_version.specs.VersionValues.{order, parts};
 ghost use Rattle.osgi_filter.specs.computed.Spelled.{spelled};
-ghost use Rattle.osgi_filter.specs.computed.Wanted.{passes_by_order, read_by, text_of};
+ghost use Rattle.osgi_filter.specs.computed.Ordered.{read_by};
 
+use crate::ordered::{compare_number, number_of, passes_by_order, text_of};
 use crate::spelled::{SpelledVersion, read_version};
-use osgi_base::Text;
-use osgi_model::{Test, read_long};
+use osgi_model::Test;
 use osgi_version::Version;
 use std::cmp::Ordering;
 use std::marker::Model;
@@ -41,7 +40,8 @@ impl<'a> Model for Wanted<'a> {
     ghost use Rattle.osgi_model.specs.declared.filter.Test.{Test};
     ghost use Rattle.osgi_version.specs.VersionReading.{parts_of};
     ghost use Rattle.osgi_filter.specs.computed.Spelled.{spelled};
-    ghost use Rattle.osgi_filter.specs.computed.Wanted.{IsReadAs, read_by};
+    ghost use Rattle.osgi_filter.specs.computed.Ordered.{read_by};
+    ghost use Rattle.osgi_filter.specs.computed.Wanted.{IsReadAs};
 
     ghost Value = { Test };
 
@@ -50,29 +50,6 @@ impl<'a> Model for Wanted<'a> {
     ghost view = { λ w. w.test.now };
 
     ghost invariant = { λ w. IsReadAs (λ read. read ≡ read_by long_of w.test.now) w.number × IsReadAs (λ read. option_map spelled read ≡ read_by parts_of w.test.now) w.version };
-}
-
-/// The text that a test compares values with.
-fn text_of(test: &Test) -> Option<&Text>
-    ensures text { option_copied result ≡ text_of test.now }
-{
-    match test {
-        Test::Equal(text) => Some(text),
-        Test::Approx(text) => Some(text),
-        Test::AtLeast(text) => Some(text),
-        Test::AtMost(text) => Some(text),
-        Test::Present => None,
-        Test::Pieces(_) => None,
-    }
-}
-
-fn number_of(test: &Test) -> Option<i64>
-    ensures number { result ≡ read_by long_of test.now }
-{
-    match text_of(test) {
-        Some(text) => read_long(text.bytes()),
-        None => None,
-    }
 }
 
 fn version_of(test: &Test) -> Option<SpelledVersion>
@@ -84,33 +61,12 @@ fn version_of(test: &Test) -> Option<SpelledVersion>
     }
 }
 
-/// How a number stands to the one that was read.
-fn compare_number(given: i64, read: Option<i64>) -> Option<Ordering>
-    ensures order { result ≡ option_and_then (λ number. Some (int_cmp given number)) read }
-{
-    let number = read?;
-    Some(given.cmp(&number))
-}
-
 /// How a version stands to the one that was read.
 fn compare_version(given: &Version, read: Option<SpelledVersion>) -> Option<Ordering>
     ensures order { result ≡ option_and_then (λ version. Some (order (parts given.now) version)) (option_map spelled read.entry) }
 {
     let version = read?;
     Some(version.order_of(given))
-}
-
-/// Whether a value passes that stands so to what the test's text reads as.
-fn passes_by_order(test: &Test, order: Option<Ordering>) -> bool
-    ensures passes { result ≡ passes_by_order order test.now }
-{
-    match test {
-        Test::Equal(_) | Test::Approx(_) => order.is_some_and(|o| o.is_eq()),
-        Test::AtLeast(_) => order.is_some_and(|o| o.is_ge()),
-        Test::AtMost(_) => order.is_some_and(|o| o.is_le()),
-        Test::Present => true,
-        Test::Pieces(_) => false,
-    }
 }
 
 impl<'a> Wanted<'a> {

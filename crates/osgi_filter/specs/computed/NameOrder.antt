@@ -1,5 +1,5 @@
 -- The places of attributes in order of their names. No public promise speaks of this.
-use Rattle.std.specs.Prelude.{ℕ, zero, suc, ◌≡◌, ⊤, List, [], ◌∷◌, ◌++◌, Option, None, Some, length, slice_get}
+use Rattle.std.specs.Prelude.{ℕ, zero, suc, ◌≡◌, List, [], ◌∷◌, ◌++◌, length, slice_get}
 use Rattle.std.specs.Cmp.Lexicographic.{slice_cmp}
 use Rattle.std.specs.List.Sorted.{IsPermutation, IsSortedBy}
 use Rattle.std.specs.Option.{option_map_or}
@@ -27,7 +27,6 @@ pub record IsNameOrder (case : Case) (attributes : List Attribute) (places : Lis
   pub each_once : IsPermutation (places_of (length attributes)) places
   pub in_order : IsSortedBy (λ one other. is_lt (place_cmp case attributes one other)) places
 
--- places that are given are in such an order
-abbrev pub AreInOrder : Case → List Attribute → Option (List ℕ) → Type 0
-AreInOrder case attributes None = ⊤
-AreInOrder case attributes (Some places) = IsNameOrder case attributes places
+-- places are in such an order where they are given at all
+abbrev pub AreInOrder : Case → List Attribute → List ℕ → Type 0
+AreInOrder case attributes places = (places ≡ [] → ⊥) → IsNameOrder case attributes places

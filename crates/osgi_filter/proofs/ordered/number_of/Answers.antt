@@ -3,7 +3,7 @@ use Rattle.std.proofs.Common.{◌≡◌, ap, sym, ◌∙◌}
 use Rattle.std.specs.Option.{option_and_then}
 use Rattle.osgi_model.specs.laws.Longs.{read_is}
 use Rattle.osgi_model.specs.computed.LongReader.{long_of}
-use Rattle.osgi_filter.proofs.wanted.number_of.Goals as goal
+use Rattle.osgi_filter.proofs.ordered.number_of.Goals as goal
 
 pub returns-in-Some : goal.returns-in-Some
 returns-in-Some c =
