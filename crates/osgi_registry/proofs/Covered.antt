@@ -10,7 +10,8 @@ use Rattle.std.proofs.lemmas.Bool.{eq-eqb, eqb-true, or_cases, or_left, or_right
 use Rattle.std.proofs.lemmas.List.Elements.{All-cons, All-head, All-nil, All-push, All-tail}
 use Rattle.osgi_base.specs.declared.ids.BundleId.{BundleId}
 use Rattle.osgi_base.specs.declared.ids.ServiceId.{ServiceId}
-use Rattle.osgi_registry.specs.computed.Belonging.{AreAmong, AreCovered, belongs, BelongsSame, Bundles, concerns, Empties, IsCovered, services_of, Sets}
+use Rattle.osgi_registry.specs.computed.Concerns.{AreAmong, AreCovered, concerns, IsCovered}
+use Rattle.osgi_registry_index.specs.Belonging.{belongs, BelongsSame, Bundles, Empties, services_of, Sets}
 use Rattle.osgi_registry.specs.Rows.{count_of, is_owned, is_service, LiveService, service_number, used_less, used_more, with_count, without, without_user}
 
 -- ---- a change of the index

@@ -10,10 +10,11 @@ use Rattle.std.proofs.lemmas.List.Elements.{All-head, All-tail}
 use Rattle.osgi_base.specs.declared.ids.ServiceId.{ServiceId}
 use Rattle.osgi_ops.specs.declared.service.Service.{Service}
 use Rattle.osgi_registry.specs.computed.Kept.{AreKept, IsUnder}
-use Rattle.osgi_registry.specs.computed.Slots.{AreCurrent, Forgets, PutsAtMost, service_in}
+use Rattle.osgi_registry.specs.computed.LiveSlots.{AreCurrent, service_in}
+use Rattle.osgi_registry_index.specs.Slots.{Forgets, PutsAtMost}
 use Rattle.osgi_registry.specs.Rows.{LiveService, service_number}
 use Rattle.osgi_registry.proofs.Keys.{found_by}
-use Rattle.osgi_registry.proofs.Slotted.{kept_id}
+use Rattle.osgi_registry_index.proofs.Slotted.{kept_id}
 
 -- what is found, as a service
 abbrev pub service_of : Option LiveService → Option Service

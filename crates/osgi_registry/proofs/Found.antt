@@ -20,14 +20,15 @@ use Rattle.osgi_model.specs.declared.filter.Filter.{Filter}
 use Rattle.osgi_ops.specs.Classes.{AreRanked, Fits, has_class, ids_of, IsFound, IsOf, IsOpenTo, rank_cmp}
 use Rattle.osgi_ops.specs.declared.service.Service.{Service}
 use Rattle.osgi_world.specs.declared.world.World.{World}
-use Rattle.osgi_registry.specs.declared.place.Place.{Place}
+use Rattle.osgi_registry_index.specs.declared.place.Place.{Place}
 use Rattle.osgi_registry.specs.computed.Finding.{AnswersIn, AnswersTold, does_fit, IsFirst, IsFirstFound, is_open}
 use Rattle.osgi_registry.specs.computed.Kept.{AreKept}
-use Rattle.osgi_registry.specs.computed.Places.{Classes, IsIndexOf, place_cmp, place_of, places_at, service_at}
-use Rattle.osgi_registry.specs.computed.Slots.{service_in, services_at}
+use Rattle.osgi_registry.specs.computed.LivePlaces.{IsIndexOf}
+use Rattle.osgi_registry_index.specs.Places.{Classes, place_cmp, place_of, places_at, service_at}
+use Rattle.osgi_registry.specs.computed.LiveSlots.{service_in, services_at}
 use Rattle.osgi_registry.specs.Rows.{IsAskedFor, IsOpenBy, LiveService, services_in}
 use Rattle.osgi_registry.proofs.Entries.{pairs_head, pairs_tail}
-use Rattle.osgi_registry.proofs.Exact.{place_itself}
+use Rattle.osgi_registry_index.proofs.Exact.{place_itself}
 use Rattle.osgi_registry.proofs.Ranked.{are_listed, AreListed, every_listed, ids_are, IsListed, ordered}
 
 -- what a test answered of a service that was read

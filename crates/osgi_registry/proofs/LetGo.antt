@@ -8,9 +8,9 @@ use Rattle.std.proofs.lemmas.Bool.{eq-eqb, eqb-true, or_cases}
 use Rattle.std.proofs.lemmas.List.Elements.{All-cons, All-head, All-nil, All-tail}
 use Rattle.osgi_base.specs.declared.ids.BundleId.{BundleId}
 use Rattle.osgi_base.specs.declared.ids.ServiceId.{ServiceId}
-use Rattle.osgi_registry.specs.computed.Belonging.{AreAmong, concerns}
+use Rattle.osgi_registry.specs.computed.Concerns.{AreAmong, concerns}
 use Rattle.osgi_registry.specs.Rows.{change, is_owned, is_service, LiveService, others, released, service_number, without, without_user}
-use Rattle.osgi_registry.proofs.Belongs.{same_number}
+use Rattle.osgi_registry_index.proofs.Belongs.{same_number}
 
 -- the services of this id are the bundle's, or are not
 abbrev pub AreOwned : BundleId → ServiceId → Bool → List LiveService → Type 0

@@ -1,20 +1,12 @@
 -- Lemmas on the registry.
-pub mod Belongs
 pub mod Changed
-pub mod Counting
 pub mod Covered
 pub mod Current
 pub mod Entries
-pub mod Exact
-pub mod Forgotten
 pub mod Found
-pub mod Holds
 pub mod Keys
 pub mod LetGo
 pub mod Objects
 pub mod Owned
 pub mod Placed
-pub mod Pushes
 pub mod Ranked
-pub mod Slotted
-pub mod Twins

@@ -18,10 +18,10 @@ use Rattle.std.proofs.lemmas.Map.Lookups.{btree_set_from_contains, exact_unsigne
 use Rattle.osgi_base.specs.declared.ids.BundleId.{BundleId}
 use Rattle.osgi_base.specs.declared.ids.ServiceId.{ServiceId}
 use Rattle.osgi_ops.specs.declared.service.Service.{Service}
-use Rattle.osgi_registry.specs.computed.Belonging.{AreAmong, concerns, live_among, owns}
+use Rattle.osgi_registry.specs.computed.Concerns.{AreAmong, concerns, live_among, owns}
 use Rattle.osgi_registry.specs.computed.Kept.{AreKept, IsBefore, IsUnder}
 use Rattle.osgi_registry.specs.Rows.{ids_of, is_owned, LiveService, row_at, service_number, services_in}
-use Rattle.osgi_registry.proofs.Belongs.{same_number}
+use Rattle.osgi_registry_index.proofs.Belongs.{same_number}
 use Rattle.osgi_registry.proofs.Entries.{pairs_head, pairs_tail}
 
 abbrev pub number_of : ServiceId → ℕ

@@ -8,15 +8,16 @@ use Rattle.std.proofs.lemmas.List.{get_or-map, length-map}
 use Rattle.std.proofs.lemmas.List.Elements.{All-cons, All-head, All-map, All-tail}
 use Rattle.std.proofs.lemmas.List.Folds.{Any-from_list_any, list_any-append, list_any_at, list_any_none}
 use Rattle.osgi_base.specs.declared.ids.ServiceId.{ServiceId}
-use Rattle.osgi_registry.specs.declared.place.Place.{Place}
+use Rattle.osgi_registry_index.specs.declared.place.Place.{Place}
 use Rattle.osgi_registry.specs.computed.Kept.{AreKept, IsBefore, IsUnder}
-use Rattle.osgi_registry.specs.computed.Places.{Classes, holds, HoldsSame, is_placed, IsFresh, IsIndexOf, Moves, place_of, Puts, same_place, StandsUnder}
+use Rattle.osgi_registry.specs.computed.LivePlaces.{is_placed, IsIndexOf}
+use Rattle.osgi_registry_index.specs.Places.{Classes, holds, HoldsSame, IsFresh, Moves, place_of, Puts, same_place, StandsUnder}
 use Rattle.osgi_ops.specs.Classes.{has_class, is_among}
 use Rattle.osgi_registry.specs.Rows.{change, service_number, is_service, LiveService, services_in, without}
 use Rattle.osgi_registry.proofs.Changed.{others_differ, uses_set}
 use Rattle.osgi_registry.proofs.Entries.{pairs_head, pairs_tail}
-use Rattle.osgi_registry.proofs.Exact.{place_exact, place_itself}
-use Rattle.osgi_registry.proofs.Holds.{added_held, moved_held, taken_held}
+use Rattle.osgi_registry_index.proofs.Exact.{place_exact, place_itself}
+use Rattle.osgi_registry_index.proofs.Holds.{added_held, moved_held, taken_held}
 
 -- what is held alike is an index alike
 pub index_same : (old new : Classes) (rows : List LiveService) → IsIndexOf old rows → HoldsSame old new → IsIndexOf new rows

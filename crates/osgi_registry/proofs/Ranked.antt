@@ -8,16 +8,17 @@ use Rattle.std.specs.Map.{keys_of, values_of}
 use Rattle.std.proofs.lemmas.List.Elements.{All-contains, All-cons, All-head, All-nil, All-tail, Contains-append_right, Contains-get_or}
 use Rattle.std.proofs.lemmas.List.Folds.{Any-from_list_any, list_any_at}
 use Rattle.std.proofs.lemmas.List.Kept.{AllPairs-cons}
-use Rattle.osgi_registry.specs.declared.place.Place.{Place}
+use Rattle.osgi_registry_index.specs.declared.place.Place.{Place}
 use Rattle.osgi_registry.specs.computed.Kept.{AreKept}
-use Rattle.osgi_registry.specs.computed.Places.{Classes, IsIndexOf, place_cmp, place_of, places_at, service_at}
-use Rattle.osgi_registry.specs.computed.Slots.{service_in, services_at}
+use Rattle.osgi_registry.specs.computed.LivePlaces.{IsIndexOf}
+use Rattle.osgi_registry_index.specs.Places.{Classes, place_cmp, place_of, places_at, service_at}
+use Rattle.osgi_registry.specs.computed.LiveSlots.{service_in, services_at}
 use Rattle.osgi_ops.specs.Classes.{has_class, ids_of, rank_cmp}
 use Rattle.osgi_ops.specs.declared.service.Service.{Service}
 use Rattle.osgi_registry.specs.Rows.{LiveService, row_at, service_number, services_in}
 use Rattle.osgi_registry.proofs.Current.{service_by, service_of}
 use Rattle.osgi_registry.proofs.Entries.{pairs_head, pairs_tail, row_by_key}
-use Rattle.osgi_registry.proofs.Exact.{place_exact, place_itself}
+use Rattle.osgi_registry_index.proofs.Exact.{place_exact, place_itself}
 use Rattle.osgi_registry.proofs.Owned.{each_found, rising_rows}
 use Rattle.osgi_registry.proofs.Placed.{Contains-services, held_at, IsAt, row_held}
 

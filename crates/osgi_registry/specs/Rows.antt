@@ -1,7 +1,6 @@
 -- The registry as contracts see it: the live services in rows, and what calls answer and change by them.
-use Rattle.std.specs.Prelude.{ℕ, ◌≡◌, ◌==◌, ◌+◌, ◌-◌, ◌<◌, ◌≤◌, nat_le, Bool, true, not, if◌then◌else◌, List, [], ◌∷◌, Option, None, Some, Result, Ok, Err, All, Contains, IsSomeAnd, find, filter, map, length, unwrap_or}
+use Rattle.std.specs.Prelude.{ℕ, ◌≡◌, ◌==◌, ◌+◌, ◌-◌, ◌<◌, ◌≤◌, nat_le, Bool, true, not, if◌then◌else◌, List, [], Option, None, Some, Result, Ok, Err, All, Contains, IsSomeAnd, find, filter, map, length}
 use Rattle.std.specs.List.Sorted.{IsStrictlyIncreasing}
-use Rattle.std.specs.Map.{lookup}
 use Rattle.std.specs.Option.{option_map_or, option_or}
 use Rattle.osgi_base.specs.declared.ids.BundleId.{BundleId}
 use Rattle.osgi_base.specs.declared.ids.ServiceId.{ServiceId}
@@ -15,6 +14,7 @@ use Rattle.osgi_ops.specs.declared.refusal.Refusal.{Refusal}
 use Rattle.osgi_ops.specs.declared.refusal.Refusal.TheVariants.{NoSuchService, BadProperties, NotOwner, TooMany}
 use Rattle.osgi_ops.specs.declared.scope.Scope.{Scope}
 use Rattle.osgi_ops.specs.declared.service.Service.{Service}
+pub use Rattle.osgi_registry_index.specs.Counts.{count_of, with_count}
 
 -- a live service, its scope, and how often each user holds it, by the user's id
 pub record LiveService : Type 0 where
@@ -71,15 +71,6 @@ pub record IsAskedFor (IsAsked : Service → Type 0) (services : List Service) (
   pub asked : IsAsked service
 
 -- ---- uses
-
--- how often the user holds it
-abbrev pub count_of : BundleId → List (ℕ × ℕ) → ℕ
-count_of user uses = unwrap_or (lookup (λ other. user.0 == other) uses) 0
-
--- the uses with this count of the user. A user's place stays, and a new user goes last
-abbrev pub with_count : BundleId → ℕ → List (ℕ × ℕ) → List (ℕ × ℕ)
-with_count user count [] = (user.0, count) ∷ []
-with_count user count (first ∷ rest) = if user.0 == first.0 then (first.0, count) ∷ rest else first ∷ with_count user count rest
 
 abbrev pub used_more : BundleId → LiveService → LiveService
 used_more user row = record row { uses = with_count user (count_of user row.uses + 1) row.uses }

@@ -1,7 +1,6 @@
 -- What private functions and proofs cite. No public promise cites these.
-pub mod Belonging
+pub mod Concerns
 pub mod Finding
 pub mod Kept
-pub mod Places
-pub mod Slots
-pub mod Uses
+pub mod LivePlaces
+pub mod LiveSlots

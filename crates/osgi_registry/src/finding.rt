@@ -9,17 +9,18 @@ ghost use Rattle.osgi_base.specs.declared.ids.BundleId.{BundleId};
 ghost use Rattle.osgi_ops.specs.Assignable.{IsAssignable};
 ghost use Rattle.osgi_ops.specs.Classes.{ids_of};
 ghost use Rattle.osgi_registry.specs.computed.Finding as spec;
-ghost use Rattle.osgi_registry.specs.computed.Places.{place_cmp, service_at};
-ghost use Rattle.osgi_registry.specs.computed.Slots.{AreCurrent, services_at};
+ghost use Rattle.osgi_registry_index.specs.Places.{place_cmp, service_at};
+ghost use Rattle.osgi_registry.specs.computed.LiveSlots.{AreCurrent, services_at};
+ghost use Rattle.osgi_registry_index.specs.Slots.{slots_in};
 
 use crate::assignability::Assignability;
 use crate::live::Live;
-use crate::place::Place;
 use crate::service_test::ServiceTest;
 use osgi_base::{BundleId, List, ServiceId, Text};
 use osgi_filter::{Case, matches};
 use osgi_model::Filter;
 use osgi_ops::Service;
+use osgi_registry_index::Place;
 use std::alloc::{AllocError, Global};
 use std::collections::BTreeSet;
 use std::convert::Infallible;
@@ -139,7 +140,7 @@ pub fn all_fit(
     places: &BTreeSet<Place>,
     asked: &Filter,
 ) -> Result<List<ServiceId>, AllocError>
-    requires current { AreCurrent live.slots.now.slots.items live.rows.now.entries }
+    requires current { AreCurrent (slots_in live.slots.now) live.rows.now.entries }
     ensures all { IfOk result (λ all. all ≡ ids_of (filter (spec.does_fit (Some asked.now)) (services_at live.entry.rows.now.entries places.now.keys))) }
     ensures ordered { OnOk result (IsStrictlySortedBy place_cmp places.now.keys) }
 {

@@ -1,15 +1,14 @@
 //! A live service with the counts of its uses.
 
-ghost use Rattle.std.specs.Prelude.{◌≡◌, ◌+◌, ◌<◌, ◌≤◌, ◌^◌, ◌-◌, nat_lt, [], IfOk, OnOk, OnErr};
+ghost use Rattle.std.specs.Prelude.{◌≡◌, ◌<◌, ◌≤◌, ◌-◌, nat_lt, [], IfOk, OnOk, OnErr};
 ghost use Rattle.std.specs.Bool.{OnTrue, OnFalse};
 ghost use Rattle.osgi_ops.specs.Properties.{with_framework};
 ghost use Rattle.osgi_registry.specs.Rows.{count_of, used_less, used_more, without_user};
 
-use crate::properties::FrameworkTexts;
-use crate::uses::Uses;
 use osgi_base::{BundleId, Shared};
 use osgi_model::Attributes;
 use osgi_ops::{Scope, Service};
+use osgi_registry_index::{FrameworkTexts, Uses};
 use std::alloc::{AllocError, Global};
 use std::marker::Model;
 

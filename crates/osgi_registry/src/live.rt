@@ -1,12 +1,13 @@
 //! The live services by their ids.
 
 ghost use Rattle.std.specs.Prelude.{◌≡◌, option_copied};
-ghost use Rattle.osgi_registry.specs.computed.Slots.{AreCurrent, service_in};
+ghost use Rattle.osgi_registry.specs.computed.LiveSlots.{AreCurrent, service_in};
+ghost use Rattle.osgi_registry_index.specs.Slots.{slots_in};
 
 use crate::held::Held;
-use crate::id_slots::IdSlots;
 use osgi_base::ServiceId;
 use osgi_ops::Service;
+use osgi_registry_index::IdSlots;
 use std::collections::BTreeMap;
 
 /// The rows of the live services by their ids, and the services of many of them where they are found sooner.
@@ -19,7 +20,7 @@ pub struct Live<'a> {
 impl<'a> Live<'a> {
     /// The service of the id, if it is live.
     pub fn service(self, id: ServiceId) -> Option<&'a Service>
-        requires current { AreCurrent self.slots.now.slots.items self.rows.now.entries }
+        requires current { AreCurrent (slots_in self.slots.now) self.rows.now.entries }
         ensures service { option_copied result ≡ service_in self.entry.rows.now.entries id.0 }
     {
         if let Some(service) = self.slots.get(id) {

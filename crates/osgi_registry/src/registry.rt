@@ -1,6 +1,6 @@
 //! The registry.
 
-ghost use Rattle.std.specs.Prelude.{◌≡◌, Bool, List, ℕ, filter, map, true, ◌+◌, ◌<◌, [], ◌∷◌, ◌++◌, nat_lt, length, slice_get, None, Some, false, All, IfNone, IfOk, IfSome, OnOk, OnErr};
+ghost use Rattle.std.specs.Prelude.{◌≡◌, Bool, List, ℕ, filter, map, true, ◌+◌, ◌<◌, [], ◌∷◌, ◌++◌, nat_lt, length, slice_get, None, Some, false, All, IfOk, IfSome, OnOk, OnErr};
 ghost use Rattle.osgi_base.specs.declared.ids.BundleId.{BundleId};
 ghost use Rattle.osgi_ops.specs.Classes.{AreRanked, IsFound, IsOf, IsOpenTo};
 ghost use Rattle.std.specs.Bool.{OnTrue, OnFalse};
@@ -11,24 +11,20 @@ ghost use Rattle.std.specs.Ordering.{nat_cmp};
 ghost use Rattle.osgi_base.specs.declared.ids.ServiceId.{ServiceId};
 ghost use Rattle.osgi_ops.specs.declared.op.Op.TheVariants as op;
 ghost use Rattle.osgi_ops.specs.declared.reply.Reply.TheVariants as answers;
-ghost use Rattle.osgi_registry.specs.computed.Belonging.{AreAmong, concerns, live_among, owns};
+ghost use Rattle.osgi_registry.specs.computed.Concerns.{AreAmong, concerns, live_among, owns};
 ghost use Rattle.osgi_registry.specs.Rows.{AreInOrder, change, change_refusal, DiffersAtMostInProperties, ids_of, is_owned, is_service, IsAskedFor, modify_refusal, IsOpenBy, new_row, object_at, register_refusal, released, row_at, services_in, use_count, used_less, used_more, with_properties, with_service, without, without_user};
 ghost use Rattle.osgi_registry.specs.Stands.{StandsAfter, StandsCleaned, StandsFor};
 
 use crate::assignability::Assignability;
-use crate::bundle_services::BundleServices;
-use crate::class_index::ClassIndex;
 use crate::finding::{Asked, Told, all_fit, all_of};
 use crate::held::{Held, modified};
-use crate::id_slots::IdSlots;
 use crate::live::Live;
-use crate::place::Place;
-use crate::properties::{FrameworkTexts, has_twins};
 use crate::service_test::first_passing;
 use crate::services::Services;
 use osgi_base::{BundleId, List, ServiceId, Shared, Text};
 use osgi_model::{Attributes, Filter};
 use osgi_ops::{MAX_SERVICES, Many, Refusal, Scope, Service};
+use osgi_registry_index::{BundleServices, ClassIndex, FrameworkTexts, IdSlots, Place, has_twins};
 use std::alloc::{AllocError, Global};
 use std::collections::BTreeMap;
 use std::marker::Model;
@@ -63,6 +59,9 @@ impl Model for Registry {
     ghost use Rattle.std.specs.Map.{values_of};
     ghost use Rattle.osgi_registry.specs.computed.Kept.{IsKept};
     ghost use Rattle.osgi_registry.specs.Rows.{RegistryRows};
+    ghost use Rattle.osgi_registry_index.specs.Belonging.{bundles_in};
+    ghost use Rattle.osgi_registry_index.specs.Places.{classes_in};
+    ghost use Rattle.osgi_registry_index.specs.Slots.{slots_in};
     ghost use Rattle.std.specs.Coded.{codes};
     ghost use Rattle.osgi_model.specs.contracts.value.Value as value;
 
@@ -72,7 +71,7 @@ impl Model for Registry {
 
     ghost view = { λ r. record { rows = values_of r.services.entries; issued = r.issued } };
 
-    ghost invariant = { λ r. IsKept r.issued r.services.entries r.slots.slots.items r.index.classes r.bundles.bundles };
+    ghost invariant = { λ r. IsKept r.issued r.services.entries (slots_in r.slots) (classes_in r.index) (bundles_in r.bundles) };
 }
 
 impl Registry {

@@ -1,18 +1,17 @@
 //! Tests of services, and the first service that passes one.
 
-ghost use Rattle.std.specs.Prelude.{◌≡◌, ℕ, List, Bool, true, IfOk, OnOk};
-ghost use Rattle.std.specs.Bool.{OnTrue};
+ghost use Rattle.std.specs.Prelude.{Bool, IfOk, OnOk};
 ghost use Rattle.std.specs.List.Sorted.{IsStrictlySortedBy};
-ghost use Rattle.std.specs.Option.{option_copied};
 ghost use Rattle.osgi_ops.specs.declared.service.Service as declared;
 ghost use Rattle.osgi_registry.specs.computed.Finding as spec;
-ghost use Rattle.osgi_registry.specs.computed.Places.{place_cmp};
-ghost use Rattle.osgi_registry.specs.computed.Slots.{AreCurrent, services_at};
+ghost use Rattle.osgi_registry_index.specs.Places.{place_cmp};
+ghost use Rattle.osgi_registry.specs.computed.LiveSlots.{AreCurrent, services_at};
+ghost use Rattle.osgi_registry_index.specs.Slots.{slots_in};
 
 use crate::live::Live;
-use crate::place::Place;
 use osgi_base::ServiceId;
 use osgi_ops::Service;
+use osgi_registry_index::Place;
 use std::collections::BTreeSet;
 
 /// A test of services, which may fail.
@@ -36,7 +35,7 @@ pub fn first_passing<T: ServiceTest>(
     places: &BTreeSet<Place>,
     test: &T,
 ) -> Result<Option<ServiceId>, T::Error>
-    requires current { AreCurrent live.slots.now.slots.items live.rows.now.entries }
+    requires current { AreCurrent (slots_in live.slots.now) live.rows.now.entries }
     requires can { T.can_ask test.now }
     ensures first { IfOk result (spec.IsFirstFound (T.answers test.now) (services_at live.entry.rows.now.entries places.now.keys)) }
     ensures ordered { OnOk result (IsStrictlySortedBy place_cmp places.now.keys) }

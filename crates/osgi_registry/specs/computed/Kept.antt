@@ -3,9 +3,11 @@ use Rattle.std.specs.Prelude.{ℕ, ◌≡◌, ◌-◌, ◌^◌, ◌<◌, ◌≤�
 use Rattle.std.specs.Map.{values_of}
 use Rattle.osgi_ops.specs.declared.limits.TheConstants.{MAX_SERVICES}
 use Rattle.osgi_ops.specs.declared.service.Service.{Service}
-use Rattle.osgi_registry.specs.computed.Belonging.{AreCovered, Bundles}
-use Rattle.osgi_registry.specs.computed.Places.{Classes, IsIndexOf}
-use Rattle.osgi_registry.specs.computed.Slots.{AreCurrent}
+use Rattle.osgi_registry.specs.computed.Concerns.{AreCovered}
+use Rattle.osgi_registry_index.specs.Belonging.{Bundles}
+use Rattle.osgi_registry.specs.computed.LivePlaces.{IsIndexOf}
+use Rattle.osgi_registry_index.specs.Places.{Classes}
+use Rattle.osgi_registry.specs.computed.LiveSlots.{AreCurrent}
 use Rattle.osgi_registry.specs.Rows.{LiveService, service_number}
 
 -- a row under its id, which was given

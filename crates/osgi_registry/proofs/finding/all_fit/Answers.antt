@@ -6,7 +6,7 @@ use Rattle.std.proofs.lemmas.Map.Iter.{rest_more}
 use Rattle.osgi_ops.specs.Classes.{ids_of}
 use Rattle.osgi_registry.proofs.Found.{next_service, none_more, one_more}
 use Rattle.osgi_registry.specs.computed.Finding as spec
-use Rattle.osgi_registry.specs.computed.Slots.{services_at}
+use Rattle.osgi_registry.specs.computed.LiveSlots.{services_at}
 use Rattle.osgi_registry.proofs.finding.all_fit.Goals as goal
 
 pub loop-place-preserved-in_default : goal.loop-place-preserved-in_default

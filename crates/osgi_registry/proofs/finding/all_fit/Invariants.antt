@@ -3,7 +3,7 @@ use Rattle.std.proofs.Common.{◌≡◌, ◌++◌}
 use Rattle.std.specs.Prelude.{filter, Some}
 use Rattle.osgi_ops.specs.Classes.{ids_of}
 use Rattle.osgi_registry.specs.computed.Finding as spec
-use Rattle.osgi_registry.specs.computed.Slots.{services_at}
+use Rattle.osgi_registry.specs.computed.LiveSlots.{services_at}
 use Rattle.osgi_registry.proofs.finding.all_fit.Given as goal
 
 abbrev pub invariant-loop-place : goal.invariant-loop-place

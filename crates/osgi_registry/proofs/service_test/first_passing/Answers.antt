@@ -4,7 +4,7 @@ use Rattle.std.specs.Prelude.{false, None, Some}
 use Rattle.std.specs.Map.Iter.{deref}
 use Rattle.std.proofs.lemmas.List.Elements.{All-push}
 use Rattle.std.proofs.lemmas.Map.Iter.{rest_more}
-use Rattle.osgi_registry.specs.computed.Slots.{services_at}
+use Rattle.osgi_registry.specs.computed.LiveSlots.{services_at}
 use Rattle.osgi_registry.proofs.Found.{next_service}
 use Rattle.osgi_registry.proofs.service_test.first_passing.Goals as goal
 

@@ -2,7 +2,7 @@
 use Rattle.std.proofs.Common.{◌≡◌, ◌++◌, List}
 use Rattle.std.specs.Prelude.{false, All}
 use Rattle.osgi_ops.specs.declared.service.Service.{Service}
-use Rattle.osgi_registry.specs.computed.Slots.{services_at}
+use Rattle.osgi_registry.specs.computed.LiveSlots.{services_at}
 use Rattle.osgi_registry.proofs.service_test.first_passing.Given as goal
 
 abbrev pub invariant-loop-place : goal.invariant-loop-place

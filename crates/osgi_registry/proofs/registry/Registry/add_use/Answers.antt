@@ -10,6 +10,9 @@ use Rattle.osgi_registry.proofs.Entries.{found_under, row_absent, row_present}
 use Rattle.osgi_registry.proofs.Keys.{found_by, set_by}
 use Rattle.osgi_registry.proofs.Placed.{index_kept}
 use Rattle.osgi_registry.specs.Rows.{row_at, service_number, used_more}
+use Rattle.osgi_registry_index.specs.Places.{classes_in}
+use Rattle.osgi_registry_index.specs.Belonging.{bundles_in}
+use Rattle.osgi_registry_index.specs.Slots.{slots_in}
 use Rattle.osgi_registry.proofs.registry.Registry.add_use.Goals as goal
 
 pub returns-in_default-clause-absent : goal.returns-in_default-clause-absent
@@ -27,7 +30,7 @@ invariant_of-self-in_err-add c =
       rows = c.self.invariant.rows;
       index = c.self.invariant.index;
       current = c.self.invariant.current;
-      covered = covered_same c.self.inside.bundles.bundles c.add.new.self.bundles (values_of c.self.inside.services.entries) c.in_err-add.ensures.unchanged c.self.invariant.covered;
+      covered = covered_same (bundles_in c.self.inside.bundles) (bundles_in c.add.new.self) (values_of c.self.inside.services.entries) c.in_err-add.ensures.unchanged c.self.invariant.covered;
     })
 
 pub returns-in_err-add-clause-unchanged : goal.returns-in_err-add-clause-unchanged
@@ -45,7 +48,7 @@ invariant_of-self-in_err-add_use c =
       rows = c.self.invariant.rows;
       index = c.self.invariant.index;
       current = c.self.invariant.current;
-      covered = covered_grown c.self.inside.bundles.bundles c.add.new.self.bundles c.args.user c.args.service (values_of c.self.inside.services.entries) c.in_ok-add.ensures.added c.self.invariant.covered;
+      covered = covered_grown (bundles_in c.self.inside.bundles) (bundles_in c.add.new.self) c.args.user c.args.service (values_of c.self.inside.services.entries) c.in_ok-add.ensures.added c.self.invariant.covered;
     })
 
 pub returns-in_err-add_use-clause-unchanged : goal.returns-in_err-add_use-clause-unchanged
@@ -62,11 +65,11 @@ invariant_of-self-2 c =
     rw (set_by c.args.service.0 _ _ _ (c.get_mut.follows.holds c.add_use.new.self).0)
     (record {
       rows = kept_set _ c.args.service.0 _ _ c.self.invariant.rows (ap (λ s. s.service.0) c.add_use.ensures.service ∙ sym (found_under _ _ _ _ c.self.invariant.rows.under found).key);
-      index = index_kept _ c.args.service c.in-Some.held.now c.add_use.new.self _ c.self.inside.index.classes c.self.invariant.rows c.self.invariant.index c.add_use.ensures.service found;
-      current = current_kept _ c.args.service c.in-Some.held.now c.add_use.new.self _ c.self.inside.slots.slots.items c.self.invariant.rows c.self.invariant.current c.add_use.ensures.service found;
+      index = index_kept _ c.args.service c.in-Some.held.now c.add_use.new.self _ (classes_in c.self.inside.index) c.self.invariant.rows c.self.invariant.index c.add_use.ensures.service found;
+      current = current_kept _ c.args.service c.in-Some.held.now c.add_use.new.self _ (slots_in c.self.inside.slots) c.self.invariant.rows c.self.invariant.current c.add_use.ensures.service found;
       covered =
-          let old = c.self.inside.bundles.bundles in
-          let new = c.add.new.self.bundles in
+          let old = bundles_in c.self.inside.bundles in
+          let new = bundles_in c.add.new.self in
           let number = sym (found_under _ _ _ _ c.self.invariant.rows.under found).key in
           covered_set new c.args.service.0 c.in-Some.held.now c.add_use.new.self c.self.inside.services.entries found
           (covered_used new c.args.user c.in-Some.held.now c.add_use.new.self c.in_ok-add_use.ensures.used (belongs_now old new c.args.user c.args.service c.args.user.0 (service_number c.in-Some.held.now) c.in_ok-add.ensures.added refl number))

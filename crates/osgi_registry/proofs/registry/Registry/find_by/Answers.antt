@@ -6,8 +6,8 @@ use Rattle.std.specs.Option.{option_copied}
 use Rattle.osgi_ops.specs.Classes.{IsFound, IsOpenTo}
 use Rattle.osgi_registry.proofs.Found.{asked_found, if_found, none_found}
 use Rattle.osgi_registry.specs.computed.Finding.{AnswersIn, IsFirstFound}
-use Rattle.osgi_registry.specs.computed.Places.{place_cmp}
-use Rattle.osgi_registry.specs.computed.Slots.{services_at}
+use Rattle.osgi_registry_index.specs.Places.{classes_in, place_cmp}
+use Rattle.osgi_registry.specs.computed.LiveSlots.{services_at}
 use Rattle.osgi_registry.specs.Rows.{services_in}
 use Rattle.osgi_registry.proofs.registry.Registry.find_by.Goals as goal
 
@@ -15,7 +15,7 @@ pub returns-in_default : goal.returns-in_default
 returns-in_default g c = record {
   found =
       rw (← c.self.view_is)
-      (none_found c.self.inside.issued c.self.inside.index.classes c.args.class.now c.self.inside.services.entries c.self.invariant.rows c.self.invariant.index [] (sym c.in_default.ensures.places)
+      (none_found c.self.inside.issued (classes_in c.self.inside.index) c.args.class.now c.self.inside.services.entries c.self.invariant.rows c.self.invariant.index [] (sym c.in_default.ensures.places)
       (IsOpenTo (g.A.Assignability.world c.args.assignability.now) c.args.asker c.args.class.now (option_copied c.args.filter)) (λ s is. is.0.0) refl);
 }
 
@@ -31,5 +31,5 @@ returns g c =
           (if_found c.first_passing.result (IsFirstFound (AnswersIn world c.args.asker filter) (services_at entries places)) (IsFound (IsOpenTo world c.args.asker c.args.class.now filter) (services_in (values_of entries)))
           (IsStrictlySortedBy place_cmp places) c.first_passing.ensures.ordered c.first_passing.ensures.first
           (λ found sorted.
-          asked_found c.self.inside.issued c.self.inside.index.classes c.args.class.now entries c.self.invariant.rows c.self.invariant.index places (sym c.in-Some.ensures.places) found sorted world c.args.asker filter));
+          asked_found c.self.inside.issued (classes_in c.self.inside.index) c.args.class.now entries c.self.invariant.rows c.self.invariant.index places (sym c.in-Some.ensures.places) found sorted world c.args.asker filter));
     }

@@ -10,6 +10,9 @@ use Rattle.osgi_registry.proofs.Entries.{found_under, row_absent}
 use Rattle.osgi_registry.proofs.Keys.{found_by, set_by}
 use Rattle.osgi_registry.proofs.Placed.{index_kept}
 use Rattle.osgi_registry.specs.Rows.{is_service, row_at, without_user}
+use Rattle.osgi_registry_index.specs.Places.{classes_in}
+use Rattle.osgi_registry_index.specs.Belonging.{bundles_in}
+use Rattle.osgi_registry_index.specs.Slots.{slots_in}
 use Rattle.osgi_registry.proofs.registry.Registry.forget.Goals as goal
 
 pub returns-in_default-clause-rows : goal.returns-in_default-clause-rows
@@ -26,11 +29,11 @@ invariant_of-self-2 c =
     rw (set_by c.args.service.0 _ _ _ (c.get_mut.follows.holds c.forget.new.self).0)
     (record {
       rows = kept_set _ c.args.service.0 _ _ c.self.invariant.rows (ap (λ s. s.service.0) same ∙ sym (found_under _ _ _ _ c.self.invariant.rows.under found).key);
-      index = index_kept _ c.args.service c.in-Some.held.now c.forget.new.self _ c.self.inside.index.classes c.self.invariant.rows c.self.invariant.index same found;
-      current = current_kept _ c.args.service c.in-Some.held.now c.forget.new.self _ c.self.inside.slots.slots.items c.self.invariant.rows c.self.invariant.current same found;
+      index = index_kept _ c.args.service c.in-Some.held.now c.forget.new.self _ (classes_in c.self.inside.index) c.self.invariant.rows c.self.invariant.index same found;
+      current = current_kept _ c.args.service c.in-Some.held.now c.forget.new.self _ (slots_in c.self.inside.slots) c.self.invariant.rows c.self.invariant.current same found;
       covered =
-          covered_set c.self.inside.bundles.bundles c.args.service.0 c.in-Some.held.now c.forget.new.self c.self.inside.services.entries found
-          (covered_forgotten c.self.inside.bundles.bundles c.args.user c.in-Some.held.now c.forget.new.self c.forget.ensures.forgotten) c.self.invariant.covered;
+          covered_set (bundles_in c.self.inside.bundles) c.args.service.0 c.in-Some.held.now c.forget.new.self c.self.inside.services.entries found
+          (covered_forgotten (bundles_in c.self.inside.bundles) c.args.user c.in-Some.held.now c.forget.new.self c.forget.ensures.forgotten) c.self.invariant.covered;
     })
 
 pub returns-clause-rows : goal.returns-clause-rows

@@ -9,11 +9,11 @@ use Rattle.osgi_ops.specs.declared.limits.TheConstants.{MAX_SERVICES}
 use Rattle.osgi_registry.proofs.Covered.{covered_grown, covered_push, covered_same}
 use Rattle.osgi_registry.proofs.Current.{current_push}
 use Rattle.osgi_registry.proofs.Entries.{inserted, kept_push, values-push}
-use Rattle.osgi_registry.proofs.Holds.{undone}
+use Rattle.osgi_registry_index.proofs.Holds.{undone}
 use Rattle.osgi_registry.proofs.Placed.{fresh_id, fresh_place, index_same, placed_push}
-use Rattle.osgi_registry.specs.computed.Belonging.{Sets}
-use Rattle.osgi_registry.specs.computed.Places.{HoldsSame, IsFresh, place_of, Puts}
-use Rattle.osgi_registry.specs.computed.Slots.{PutsAtMost}
+use Rattle.osgi_registry_index.specs.Belonging.{bundles_in, Sets}
+use Rattle.osgi_registry_index.specs.Places.{classes_in, HoldsSame, IsFresh, place_of, Puts}
+use Rattle.osgi_registry_index.specs.Slots.{PutsAtMost, slots_in}
 use Rattle.osgi_registry.specs.Rows.{service_number}
 use Rattle.osgi_registry.proofs.registry.Registry.insert.Goals as goal
 
@@ -21,7 +21,7 @@ pub add_all-requires : goal.add_all-requires
 add_all-requires c =
     let next : c.args.service.service.0 ≡ c.self.inside.issued + 1 = rw (← c.self.view_is) at c.requires.next in
     rw c.of-place.ensures.place
-    (fresh_place c.self.inside.index.classes (values_of c.self.inside.services.entries) (place_of c.args.service) c.self.invariant.index
+    (fresh_place (classes_in c.self.inside.index) (values_of c.self.inside.services.entries) (place_of c.args.service) c.self.invariant.index
     (fresh_id c.self.inside.issued c.self.inside.services.entries (place_of c.args.service) c.self.invariant.rows.under (omega (arith, next))))
 
 pub invariant_of-self : goal.invariant_of-self
@@ -29,22 +29,22 @@ invariant_of-self c = record {
   rows = c.self.invariant.rows;
   index = c.self.invariant.index;
   current = c.self.invariant.current;
-  covered = covered_same c.self.inside.bundles.bundles c.add.new.self.bundles (values_of c.self.inside.services.entries) c.in_err-add.ensures.unchanged c.self.invariant.covered;
+  covered = covered_same (bundles_in c.self.inside.bundles) (bundles_in c.add.new.self) (values_of c.self.inside.services.entries) c.in_err-add.ensures.unchanged c.self.invariant.covered;
 }
 
 pub invariant_of-self-in_err-add_all : goal.invariant_of-self-in_err-add_all
 invariant_of-self-in_err-add_all c = record {
   rows = c.self.invariant.rows;
-  index = index_same c.self.inside.index.classes c.add_all.new.self.classes (values_of c.self.inside.services.entries) c.self.invariant.index c.in_err-add_all.ensures.unchanged;
+  index = index_same (classes_in c.self.inside.index) (classes_in c.add_all.new.self) (values_of c.self.inside.services.entries) c.self.invariant.index c.in_err-add_all.ensures.unchanged;
   current = c.self.invariant.current;
-  covered = covered_grown c.self.inside.bundles.bundles c.add.new.self.bundles c.args.service.owner c.args.service.service (values_of c.self.inside.services.entries) c.in_ok-add.ensures.added c.self.invariant.covered;
+  covered = covered_grown (bundles_in c.self.inside.bundles) (bundles_in c.add.new.self) c.args.service.owner c.args.service.service (values_of c.self.inside.services.entries) c.in_ok-add.ensures.added c.self.invariant.covered;
 }
 
 pub invariant_of-self-in-Err : goal.invariant_of-self-in-Err
 invariant_of-self-in-Err c =
-    let old = c.self.inside.index.classes in
-    let mid = c.add_all.new.self.classes in
-    let new = c.take_all.new.self.classes in
+    let old = classes_in c.self.inside.index in
+    let mid = classes_in c.add_all.new.self in
+    let new = classes_in c.take_all.new.self in
     let rows = values_of c.self.inside.services.entries in
     let place = place_of c.args.service in
     let next : c.args.service.service.0 ≡ c.self.inside.issued + 1 = rw (← c.self.view_is) at c.requires.next in
@@ -63,7 +63,7 @@ invariant_of-self-in-Err c =
       rows = c.self.invariant.rows;
       index = index_same old new rows c.self.invariant.index same;
       current = c.self.invariant.current;
-      covered = covered_grown c.self.inside.bundles.bundles c.add.new.self.bundles c.args.service.owner c.args.service.service rows c.in_ok-add.ensures.added c.self.invariant.covered;
+      covered = covered_grown (bundles_in c.self.inside.bundles) (bundles_in c.add.new.self) c.args.service.owner c.args.service.service rows c.in_ok-add.ensures.added c.self.invariant.covered;
     })
 
 pub invariant_of-self-2 : goal.invariant_of-self-2
@@ -73,8 +73,8 @@ invariant_of-self-2 c =
     let room : length (values_of c.self.inside.services.entries) < MAX_SERVICES = rw (← c.self.view_is) at c.requires.room in
     let entries : c.insert.new.self.entries ≡ c.self.inside.services.entries ++ (c.self.inside.issued + 1, c.in_ok-held.held) ∷ []
     = c.in_default.ensures.entries ∙ ap (λ id. insert_entry nat_cmp c.self.inside.services.entries id c.in_ok-held.held) next ∙ inserted c.self.inside.issued c.self.inside.services.entries c.in_ok-held.held c.self.invariant.rows.under in
-    let old = c.self.inside.index.classes in
-    let new = c.add_all.new.self.classes in
+    let old = classes_in c.self.inside.index in
+    let new = classes_in c.add_all.new.self in
     let rows = values_of c.self.inside.services.entries in
     let row = c.in_ok-held.held in
     let is : c.args.service ≡ row.service = sym (ap (λ r. r.service) c.in_ok-held.ensures.service) in
@@ -82,8 +82,8 @@ invariant_of-self-2 c =
     let added : Puts old new row.service.classes (place_of row.service) true
     = subst (λ l. Puts old new l (place_of row.service) true) (c.items.ensures.items ∙ ap (λ s. s.classes) c.service.ensures.service)
     (subst (λ q. Puts old new c.items.result.now q true) place c.in_ok-add_all.ensures.added) in
-    let slots = c.self.inside.slots.slots.items in
-    let filled = c.put.new.self.slots.items in
+    let slots = slots_in c.self.inside.slots in
+    let filled = slots_in c.put.new.self in
     let number : service_number row ≡ c.self.inside.issued + 1 = ap service_number c.in_ok-held.ensures.service ∙ next in
     let shared : c.in_ok-shared.shared ≡ row.service = c.in_ok-shared.ensures.same ∙ c.shared.ensures.service in
     rw (entries, next)
@@ -99,8 +99,8 @@ invariant_of-self-2 c =
           (subst (λ s. PutsAtMost slots filled s) shared c.put.ensures.put) c.self.invariant.current;
       covered =
           rw (values-push c.self.inside.services.entries (c.self.inside.issued + 1) row)
-          (covered_push c.self.inside.bundles.bundles c.add.new.self.bundles rows row
-          (subst (λ s. Sets c.self.inside.bundles.bundles c.add.new.self.bundles s.owner s.service true) is c.in_ok-add.ensures.added) (ap (λ r. r.uses) c.in_ok-held.ensures.service) c.self.invariant.covered);
+          (covered_push (bundles_in c.self.inside.bundles) (bundles_in c.add.new.self) rows row
+          (subst (λ s. Sets (bundles_in c.self.inside.bundles) (bundles_in c.add.new.self) s.owner s.service true) is c.in_ok-add.ensures.added) (ap (λ r. r.uses) c.in_ok-held.ensures.service) c.self.invariant.covered);
     })
 
 pub returns-clause-rows : goal.returns-clause-rows

@@ -1,7 +1,7 @@
 -- A service that the bundle owns, or another.
 use Rattle.std.proofs.Common.{subst, sym, ap, ◌∙◌}
 use Rattle.osgi_registry.proofs.LetGo.{among_change, among_without, AreOwned, released_change, released_without}
-use Rattle.osgi_registry.specs.computed.Belonging.{AreAmong}
+use Rattle.osgi_registry.specs.computed.Concerns.{AreAmong}
 use Rattle.osgi_registry.specs.Rows.{released}
 use Rattle.osgi_registry.proofs.registry.Registry.let_go.Goals as goal
 

@@ -2,7 +2,7 @@
 use Rattle.std.proofs.Common.{sym, subst, ◌∙◌, arith}
 use Rattle.std.proofs.lemmas.List.{drop_all}
 use Rattle.osgi_registry.proofs.LetGo.{none_concerns, released_none}
-use Rattle.osgi_registry.specs.computed.Belonging.{AreAmong}
+use Rattle.osgi_registry.specs.computed.Concerns.{AreAmong}
 use Rattle.osgi_registry.proofs.registry.Registry.let_go_all.Goals as goal
 
 pub returns : goal.returns

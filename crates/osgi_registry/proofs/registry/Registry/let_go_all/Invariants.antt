@@ -1,6 +1,6 @@
 -- What is released in the end stays the same, and the services that are left are all that concern the bundle.
 use Rattle.std.proofs.Common.{◌≡◌, drop}
-use Rattle.osgi_registry.specs.computed.Belonging.{AreAmong}
+use Rattle.osgi_registry.specs.computed.Concerns.{AreAmong}
 use Rattle.osgi_registry.specs.Rows.{released}
 use Rattle.osgi_registry.proofs.registry.Registry.let_go_all.Given as goal
 

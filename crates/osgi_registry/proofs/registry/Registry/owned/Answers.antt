@@ -2,7 +2,7 @@
 use Rattle.std.proofs.Common.{◌≡◌, ap, subst, ◌∙◌, map}
 use Rattle.std.specs.Prelude.{filter, IfOk}
 use Rattle.osgi_registry.proofs.Owned.{owned_services}
-use Rattle.osgi_registry.specs.computed.Belonging.{live_among}
+use Rattle.osgi_registry.specs.computed.Concerns.{live_among}
 use Rattle.osgi_registry.specs.laws.Changing.{rows_rise}
 use Rattle.osgi_registry.specs.Rows.{is_owned, services_in}
 use Rattle.osgi_registry.proofs.registry.Registry.owned.Goals as goal

@@ -1,7 +1,7 @@
 -- They are all that the bundle owns.
 use Rattle.std.proofs.Common.{◌≡◌, ap, sym, subst, ◌∙◌, arith, filter}
 use Rattle.std.proofs.lemmas.List.{take_all}
-use Rattle.osgi_registry.specs.computed.Belonging.{AreAmong, owns}
+use Rattle.osgi_registry.specs.computed.Concerns.{AreAmong, owns}
 use Rattle.osgi_registry.specs.Rows.{ids_of, is_owned}
 use Rattle.osgi_registry.proofs.Owned.{owned_exact}
 use Rattle.osgi_registry.proofs.registry.Registry.owned_among.Goals as goal

@@ -1,6 +1,6 @@
 -- Those so far that the bundle owns.
 use Rattle.std.proofs.Common.{◌≡◌, filter, take}
-use Rattle.osgi_registry.specs.computed.Belonging.{owns}
+use Rattle.osgi_registry.specs.computed.Concerns.{owns}
 use Rattle.osgi_registry.proofs.registry.Registry.owned_among.Given as goal
 
 abbrev pub invariant-loop-service : goal.invariant-loop-service

@@ -11,9 +11,10 @@ use Rattle.osgi_registry.proofs.Current.{current_changed}
 use Rattle.osgi_registry.proofs.Entries.{row_absent, row_present}
 use Rattle.osgi_registry.proofs.Keys.{found_by, set_by}
 use Rattle.osgi_registry.proofs.Placed.{any_found, fresh_move, index_same, only_one, placed_change, stands}
-use Rattle.osgi_registry.specs.computed.Places.{Moves, place_of}
-use Rattle.osgi_registry.specs.computed.Slots.{PutsAtMost}
+use Rattle.osgi_registry_index.specs.Places.{classes_in, Moves, place_of}
+use Rattle.osgi_registry_index.specs.Slots.{PutsAtMost, slots_in}
 use Rattle.osgi_registry.specs.Rows.{is_service, LiveService, row_at, service_number, with_service}
+use Rattle.osgi_registry_index.specs.Belonging.{bundles_in}
 use Rattle.osgi_registry.proofs.registry.Registry.replace.Goals as goal
 
 -- the rows have it where the entries do
@@ -53,7 +54,7 @@ returns-in_err-shared-clause-unchanged c =
 pub move_all-requires-clause-stands : goal.move_all-requires-clause-stands
 move_all-requires-clause-stands c =
     rw (c.items.ensures.items, c.of.ensures.place, c.service-now.ensures.service)
-    (stands c.self.inside.index.classes c.args.service.service.0 c.in-Some.held.now c.self.inside.services.entries c.self.invariant.index (found_by c.args.service.service.0 _ _ c.in-Some.ensures.value))
+    (stands (classes_in c.self.inside.index) c.args.service.service.0 c.in-Some.held.now c.self.inside.services.entries c.self.invariant.index (found_by c.args.service.service.0 _ _ c.in-Some.ensures.value))
 
 pub move_all-requires-clause-fresh : goal.move_all-requires-clause-fresh
 move_all-requires-clause-fresh c =
@@ -61,14 +62,14 @@ move_all-requires-clause-fresh c =
     let found : lookup (nat_eq id.0) c.self.inside.services.entries ≡ Some c.in-Some.held.now = found_by id.0 _ _ c.in-Some.ensures.value in
     let is : c.of-place.result.service ≡ id.0 = ap (λ p. p.service) c.of-place.ensures.place in
     rw (c.of.ensures.place, c.service-now.ensures.service)
-    (fresh_move c.self.inside.issued id c.in-Some.held.now c.self.inside.services.entries c.self.inside.index.classes c.of-place.result c.self.invariant.rows c.self.invariant.index found is)
+    (fresh_move c.self.inside.issued id c.in-Some.held.now c.self.inside.services.entries (classes_in c.self.inside.index) c.of-place.result c.self.invariant.rows c.self.invariant.index found is)
 
 pub invariant_of-self-in_err-move_all : goal.invariant_of-self-in_err-move_all
 invariant_of-self-in_err-move_all c =
     rw (written_same c.args.service.service.0 c.in-Some.held.now c.in-Some.held.now _ _ refl c.in-Some.ensures.value (c.get_mut.follows.holds c.in-Some.held.now).0)
     (record {
       rows = c.self.invariant.rows;
-      index = index_same c.self.inside.index.classes c.move_all.new.self.classes (values_of c.self.inside.services.entries) c.self.invariant.index c.in_err-move_all.ensures.unchanged;
+      index = index_same (classes_in c.self.inside.index) (classes_in c.move_all.new.self) (values_of c.self.inside.services.entries) c.self.invariant.index c.in_err-move_all.ensures.unchanged;
       current = c.self.invariant.current;
       covered = c.self.invariant.covered;
     })
@@ -83,8 +84,8 @@ returns-in_err-move_all-clause-unchanged c =
 
 pub invariant_of-self-2 : goal.invariant_of-self-2
 invariant_of-self-2 c =
-    let old = c.self.inside.index.classes in
-    let new = c.move_all.new.self.classes in
+    let old = classes_in c.self.inside.index in
+    let new = classes_in c.move_all.new.self in
     let row = c.in-Some.held.now in
     let id = c.args.service.service in
     let changed = c.args.service in
@@ -103,9 +104,9 @@ invariant_of-self-2 c =
     let moved : Moves old new row.service.classes (place_of row.service) (place_of changed)
     = subst (λ l. Moves old new l (place_of row.service) (place_of changed)) among
     (subst (λ q. Moves old new c.items.result.now q (place_of changed)) from (subst (λ q. Moves old new c.items.result.now c.of.result q) to c.in_ok-move_all.ensures.moved)) in
-    let slots = c.self.inside.slots.slots.items in
-    let emptied = c.forget.new.self.slots.items in
-    let filled = c.put.new.self.slots.items in
+    let slots = slots_in c.self.inside.slots in
+    let emptied = slots_in c.forget.new.self in
+    let filled = slots_in c.put.new.self in
     let shared : c.in_ok-shared.shared ≡ c.replace.new.self.service = c.in_ok-shared.ensures.same ∙ next ∙ ap (λ r. r.service) is in
     let only = only_one _ id row _ rows.under rows.rising found in
     rw (set_by id.0 _ _ _ (c.get_mut.follows.holds c.replace.new.self).0)
@@ -119,8 +120,8 @@ invariant_of-self-2 c =
           current_changed slots emptied filled id.0 row c.replace.new.self c.self.inside.services.entries c.self.invariant.current c.forget.ensures.forgotten
           (subst (λ s. PutsAtMost emptied filled s) shared c.put.ensures.put) (ap (λ r. r.service.service.0) (sym is)) found;
       covered =
-          covered_set c.self.inside.bundles.bundles id.0 row c.replace.new.self c.self.inside.services.entries found
-          (covered_alike c.self.inside.bundles.bundles row c.replace.new.self (ap (λ r. r.service.service.0) (sym is) ∙ key) (ap (λ r. r.service.owner) (sym is) ∙ owner) (ap (λ r. r.uses) (sym is))) c.self.invariant.covered;
+          covered_set (bundles_in c.self.inside.bundles) id.0 row c.replace.new.self c.self.inside.services.entries found
+          (covered_alike (bundles_in c.self.inside.bundles) row c.replace.new.self (ap (λ r. r.service.service.0) (sym is) ∙ key) (ap (λ r. r.service.owner) (sym is) ∙ owner) (ap (λ r. r.uses) (sym is))) c.self.invariant.covered;
     })
 
 pub returns-clause-rows : goal.returns-clause-rows

@@ -8,7 +8,7 @@ use Rattle.osgi_ops.specs.declared.service.Service.{Service}
 use Rattle.osgi_registry.proofs.Entries.{row_absent, row_present}
 use Rattle.osgi_registry.proofs.Keys.{found_by}
 use Rattle.osgi_registry.proofs.Owned.{live_more}
-use Rattle.osgi_registry.specs.computed.Belonging.{live_among}
+use Rattle.osgi_registry.specs.computed.Concerns.{live_among}
 use Rattle.osgi_registry.specs.Rows.{LiveService, row_at}
 use Rattle.osgi_registry.proofs.registry.Registry.services_of.Goals as goal
 

@@ -1,6 +1,6 @@
 -- The services so far.
 use Rattle.std.proofs.Common.{◌≡◌, map, take}
-use Rattle.osgi_registry.specs.computed.Belonging.{live_among}
+use Rattle.osgi_registry.specs.computed.Concerns.{live_among}
 use Rattle.osgi_registry.proofs.registry.Registry.services_of.Given as goal
 
 abbrev pub invariant-loop-id : goal.invariant-loop-id

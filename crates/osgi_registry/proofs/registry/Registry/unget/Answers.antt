@@ -14,6 +14,9 @@ use Rattle.osgi_ops.specs.declared.reply.Reply.TheVariants as answers
 use Rattle.osgi_registry.specs.Rows.{row_at, used_less}
 use Rattle.osgi_registry.specs.Stands.{StandsFor}
 use Rattle.osgi_registry.specs.laws.Standing.{all_held, stands_ungot, stands_unreturned}
+use Rattle.osgi_registry_index.specs.Places.{classes_in}
+use Rattle.osgi_registry_index.specs.Belonging.{bundles_in}
+use Rattle.osgi_registry_index.specs.Slots.{slots_in}
 use Rattle.osgi_registry.proofs.registry.Registry.unget.Goals as goal
 
 pub returns-in_default-clause-answer : goal.returns-in_default-clause-answer
@@ -27,11 +30,11 @@ invariant_of-self-2 c =
     rw (set_by c.args.service.0 _ _ _ (c.get_mut.follows.holds c.take_use.new.self).0)
     (record {
       rows = kept_set _ c.args.service.0 _ _ c.self.invariant.rows (ap (λ s. s.service.0) c.take_use.ensures.service ∙ sym (found_under _ _ _ _ c.self.invariant.rows.under found).key);
-      index = index_kept _ c.args.service c.in-Some.held.now c.take_use.new.self _ c.self.inside.index.classes c.self.invariant.rows c.self.invariant.index c.take_use.ensures.service found;
-      current = current_kept _ c.args.service c.in-Some.held.now c.take_use.new.self _ c.self.inside.slots.slots.items c.self.invariant.rows c.self.invariant.current c.take_use.ensures.service found;
+      index = index_kept _ c.args.service c.in-Some.held.now c.take_use.new.self _ (classes_in c.self.inside.index) c.self.invariant.rows c.self.invariant.index c.take_use.ensures.service found;
+      current = current_kept _ c.args.service c.in-Some.held.now c.take_use.new.self _ (slots_in c.self.inside.slots) c.self.invariant.rows c.self.invariant.current c.take_use.ensures.service found;
       covered =
-          covered_set c.self.inside.bundles.bundles c.args.service.0 c.in-Some.held.now c.take_use.new.self c.self.inside.services.entries found
-          (covered_returned c.self.inside.bundles.bundles c.args.user c.in-Some.held.now c.take_use.new.self c.take_use.result c.take_use.ensures.answer c.take_use.ensures.used c.take_use.ensures.unchanged) c.self.invariant.covered;
+          covered_set (bundles_in c.self.inside.bundles) c.args.service.0 c.in-Some.held.now c.take_use.new.self c.self.inside.services.entries found
+          (covered_returned (bundles_in c.self.inside.bundles) c.args.user c.in-Some.held.now c.take_use.new.self c.take_use.result c.take_use.ensures.answer c.take_use.ensures.used c.take_use.ensures.unchanged) c.self.invariant.covered;
     })
 
 pub returns-clause-answer : goal.returns-clause-answer
