@@ -54,6 +54,11 @@ impl<'w> Walker for Walk<'w> {
         self.path.values()
     }
 
+    /// It knows none to be hopeless before it stands there.
+    fn next_value(&self, from: u64) -> u64 {
+        from
+    }
+
     fn longer(&mut self, value: u64) -> Result<(), AllocError> {
         self.path.longer(value)
     }

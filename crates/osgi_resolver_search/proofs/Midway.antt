@@ -1,5 +1,5 @@
 -- A search between two words that are not hopeless: what its moves keep.
-use Rattle.std.proofs.Common.{◌≡◌, ℕ, ◌+◌, ◌<◌, ◌≤◌, Bool, true, false, List, [], ◌∷◌, ◌++◌, Option, None, Some, MatchOption, sym, ◌∙◌, subst, arith}
+use Rattle.std.proofs.Common.{◌≡◌, ℕ, zero, suc, ◌+◌, ◌-◌, ◌<◌, ◌≤◌, Bool, true, false, List, [], ◌∷◌, ◌++◌, Option, None, Some, MatchOption, refl, sym, ◌∙◌, subst, arith}
 use Rattle.std.specs.Bool.{Decides}
 use Rattle.osgi_world.specs.Candidates.{IsProblem}
 use Rattle.osgi_world.specs.declared.problem.Problem.{Problem}
@@ -10,6 +10,7 @@ use Rattle.osgi_resolver_theory.specs.Search.{IsAt, HasTried}
 use Rattle.osgi_resolver_theory.proofs.Words.{hopeless-more, word-prefix, word-next}
 use Rattle.osgi_resolver_theory.proofs.Search.{tried-hopeless, tried-all, at-value, ended-none, ended-effort}
 use Rattle.osgi_resolver_theory.proofs.Left.{left, left-shorter, front-same}
+use Rattle.osgi_resolver_search.specs.Passing.{AreHopelessBetween}
 
 -- the walker, whose problem is Q, stands at w, which is not hopeless, and the values of w below v are tried, if those of `start`
 -- were tried as far
@@ -20,6 +21,38 @@ pub record IsMidway (P Q : Problem) (start w : List ℕ) (v values : ℕ) : Type
   pub range : v ≤ values
   pub width_is : values ≡ width P (made_by P w)
   pub tried : (n : ℕ) → HasTried P start 0 n → HasTried P w v n
+
+-- ---- values that are passed over
+
+tried-on : (P : Problem) → IsProblem P → (w : List ℕ) (n v d : ℕ) → HasTried P w v n → AreHopelessBetween P w v (v + d) → HasTried P w (v + d) n
+tried-on P L w n v zero t h = subst (λ x. HasTried P w x n) (let e : v ≡ v + 0 = omega arith in e) t
+tried-on P L w n v (suc d) t h =
+    subst (λ x. HasTried P w x n) (let e : (v + d) + 1 ≡ v + suc d = omega arith in e)
+    (tried-hopeless P L w (v + d) n (tried-on P L w n v d t (λ x above below. h x above (omega (arith, below)))) (h (v + d) (omega arith) (omega arith)))
+
+-- each value between is hopeless
+pub midway-on : (P Q : Problem) (start w : List ℕ) (v u k : ℕ) → IsProblem P → IsMidway P Q start w v k → v ≤ u → u ≤ width Q (made_by Q w) → AreHopelessBetween Q w v u → IsMidway P Q start w u k
+midway-on P Q start w v u k L m above inside none =
+    let there : AreHopelessBetween P w v u = subst (λ (X : Problem). AreHopelessBetween X w v u) m.same none in
+    let most : u ≤ width P (made_by P w) = subst (λ (X : Problem). u ≤ width X (made_by X w)) m.same inside in
+    let whole : v + (u - v) ≡ u = omega (arith, above) in
+    record {
+      same = m.same;
+      word = m.word;
+      hopeful = m.hopeful;
+      range = (let size = m.width_is in omega (arith, most, size));
+      width_is = m.width_is;
+      tried = λ n t. subst (λ x. HasTried P w x n) whole (tried-on P L w n v (u - v) (m.tried n t) (subst (λ x. AreHopelessBetween P w v x) (sym whole) there));
+    }
+
+-- and fewer values are left
+pub left-on : (P : Problem) (w : List ℕ) (v u k : ℕ) → v ≤ u → left P w v < k → left P w u < k
+left-on P w v u k above less = omega (arith, above, less)
+
+-- ---- one value after another
+
+pub midway-start : (P : Problem) (w : List ℕ) (k : ℕ) → IsWord P w → ¬ IsHopeless P w → k ≡ width P (made_by P w) → IsMidway P P w w 0 k
+midway-start P w k word hopeful size = record { same = refl; word = word; hopeful = hopeful; range = omega arith; width_is = size; tried = λ n t. t }
 
 hopeful-of : (P Q : Problem) (w x : List ℕ) (b : Bool) → Q ≡ P → w ≡ x → b ≡ false → Decides b (IsHopeless Q w) → IsHopeless P x → ⊥
 hopeful-of P Q w x b e f no' d h =

@@ -1,2 +1,3 @@
--- How a search ends.
+-- How a search ends, and what it may pass over.
 pub mod Outcomes
+pub mod Passing

@@ -20,7 +20,7 @@ pub fn advance<W: Walker>(walker: &mut W) -> Result<bool, AllocError>
         MatchBool more (IsAt (W.problem walker.old) (W.word walker.new) n) (((w : List ℕ) → ¬ IsGood (W.problem walker.old) w) × IsEffort (W.problem walker.old) n)) }
 {
     let mut values = walker.values();
-    let mut value = 0;
+    let mut value = walker.next_value(0);
     loop {
         if value < values {
             walker.longer(value)?;
@@ -28,13 +28,13 @@ pub fn advance<W: Walker>(walker: &mut W) -> Result<bool, AllocError>
                 return Ok(true);
             }
             walker.shorter();
-            value += 1;
+            value = walker.next_value(value + 1);
         } else {
             match walker.shorter() {
                 None => return Ok(false),
                 Some(last) => {
                     values = walker.values();
-                    value = last + 1;
+                    value = walker.next_value(last + 1);
                 }
             }
         }

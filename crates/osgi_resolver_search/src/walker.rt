@@ -1,10 +1,11 @@
 //! What stands at a word of a problem, and moves from word to word.
 
-ghost use Rattle.std.specs.Prelude.{◌≡◌, ℕ, ◌<◌, List, [], ◌∷◌, ◌++◌, IfOk, OnOk, MatchOption};
+ghost use Rattle.std.specs.Prelude.{◌≡◌, ℕ, ◌<◌, ◌≤◌, List, [], ◌∷◌, ◌++◌, IfOk, OnOk, MatchOption};
 ghost use Rattle.std.specs.Bool.{Decides};
 ghost use Rattle.osgi_world.specs.declared.problem.Problem.{Problem};
 ghost use Rattle.osgi_world.specs.ChoiceWords.{IsComplete, made_by, width};
 ghost use Rattle.osgi_world.specs.Hopeless.{IsHopeless};
+ghost use Rattle.osgi_resolver_search.specs.Passing.{AreHopelessBetween};
 
 use std::alloc::AllocError;
 
@@ -30,6 +31,13 @@ pub trait Walker {
     /// How many values the next decision has; none where no decision is left.
     fn values(&self) -> u64
         ensures values { result ≡ width (problem self.now) (made_by (problem self.now) (word self.now)) };
+
+    /// The first value of the next decision, from this one on, that is not known to make the word hopeless; the number of values
+    /// where each that is left is known to. A hopeless word counts for nothing, so a search may pass over the values between.
+    fn next_value(&self, from: u64) -> u64
+        requires from { from ≤ width (problem self.now) (made_by (problem self.now) (word self.now)) }
+        ensures range { (from ≤ result) × (result ≤ width (problem self.now) (made_by (problem self.now) (word self.now))) }
+        ensures hopeless { AreHopelessBetween (problem self.now) (word self.now) from result };
 
     /// Makes the next decision with this value. If memory runs out, nothing is said of where it stands.
     fn longer(&mut self, value: u64) -> Result<(), AllocError>
