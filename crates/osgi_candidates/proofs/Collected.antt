@@ -2,7 +2,7 @@
 use Rattle.std.proofs.Common.{◌≡◌, ◌⊎◌, inl, inr, ℕ, ◌+◌, ◌<◌, List, [], get_or, length, map, reverse, take, sym, ◌∙◌, ap, subst}
 use Rattle.std.specs.BTreeSet.{BTreeSet, insert_key, IsOrdered}
 use Rattle.osgi_base.specs.declared.ids.RevisionId.{RevisionId}
-use Rattle.osgi_candidates.specs.computed.Collecting.{AreCandidates, Collects, Extends, IsAt, IsAtOf, IsGood, IsOf}
+use Rattle.osgi_candidates.specs.computed.Collecting.{AreCandidates, Collects, Extends, IsAt, IsAtOf, IsAtSome, IsGood, IsOf}
 use Rattle.osgi_candidates.specs.computed.Fitting.{IsFit, bare}
 use Rattle.osgi_candidates.specs.computed.Ranking.{IsRankOf, capability_of, ranked_cmp}
 use Rattle.osgi_candidates.specs.declared.names.Place.{Place}
@@ -59,10 +59,6 @@ module _ (w : World) (q : ReqRef) where
       extends_like a d (λ c. IsAtOf p (take i hosts) c ⊎ IsOf p h c) (IsAtOf p (take (i + 1) hosts))
       (λ c t is. elim ((in_more hosts i h within at c.provider).0 t.0) [ inl o ↦ inl (o, t.1) | inr e ↦ inr (e, t.1) ])
       (extends_two a b d (IsAtOf p (take i hosts)) (IsOf p h) x y)
-
-  -- the capabilities at the places
-  abbrev pub IsAtSome : List Place → CapRef → Type 0
-  IsAtSome places c = (p : Place) × In p places × IsAt p c
 
   pub places_none : (set : BTreeSet Ranked) → Extends w q set set (IsAtSome [])
   places_none set = extends_none set (IsAtSome []) (λ c t. absurd t.1)

@@ -13,6 +13,7 @@ use Rattle.osgi_candidates.specs.Following.{AreOwnersKnown, Covers, CoversFirst}
 use Rattle.osgi_candidates.specs.computed.Halfway.{IsHalfway}
 use Rattle.osgi_candidates.specs.computed.Holding.{AreHeld, IsElsewhere}
 use Rattle.osgi_candidates.specs.computed.InUses.{AreInUse, HasRevision, IsUsedBy}
+use Rattle.osgi_candidates.specs.computed.Texts.{IsTextOf}
 use Rattle.osgi_candidates.specs.computed.Names.{AddsKnown, AreNames, AreOnce, HasNone, capability_added, fragment_added}
 use Rattle.osgi_candidates.specs.declared.held.HeldWirings.{HeldWirings}
 use Rattle.osgi_candidates.specs.declared.names.KnownNames.{KnownNames}
@@ -96,6 +97,10 @@ module _ (K : List Known) (k : Known) (once : AreOnce (K ++ k ∷ [])) where
       | inl o ↦ adds.capabilities.kept n p (are.capabilities id x o n p a)
       | inr s ↦ adds.capabilities.added n p (subst (λ z. capability_added z n p) s.0 a)
     ];
+    texts = λ id x e n a t p is. elim (looked id x e) [
+      | inl o ↦ adds.texts.kept n a t p (are.texts id x o n a t p is)
+      | inr s ↦ adds.texts.added n a t p (subst (λ z. IsTextOf z n a t p) s.0 is)
+    ];
     fragments = λ id x e n r a. elim (looked id x e) [
       | inl o ↦ adds.fragments.kept n r (are.fragments id x o n r a)
       | inr s ↦ adds.fragments.added n r (subst (λ z. fragment_added z n r) s.0 a)
@@ -125,6 +130,7 @@ module _ (K : List Known) (k : Known) (once : AreOnce (K ++ k ∷ [])) where
 pub names_empty : (names : KnownNames) → HasNone names → AreNames [] names
 names_empty names none = record {
   capabilities = λ id k e. absurd (cc e);
+  texts = λ id k e. absurd (cc e);
   fragments = λ id k e. absurd (cc e);
   revisions = λ n r. (λ i. absurd (subst (λ xs. In r xs) (none.revisions n) i), λ x. absurd (cc x.0));
 }

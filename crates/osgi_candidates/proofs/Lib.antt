@@ -1,5 +1,6 @@
 -- Lemmas on candidates.
 pub mod Naming
+pub mod ByText
 pub mod Following
 pub mod Standing
 pub mod Using

@@ -5,24 +5,27 @@ use Rattle.std.proofs.lemmas.Slice.Eq.{bytes_eq-Decides}
 use Rattle.std.specs.Prelude.{Bool, true, false, IsSome, IsTrue, bytes_eq, option_and_then, Option, None, Some, slice_get}
 use Rattle.std.specs.Option.{option_map, option_map_or}
 use Rattle.osgi_base.specs.declared.ids.RevisionId.{RevisionId}
-use Rattle.osgi_candidates.specs.computed.Collecting.{Asks, Collects, Extends, IsAt, IsAtOf, IsOf}
+use Rattle.osgi_candidates.specs.computed.Collecting.{Asks, Collects, Extends, IsAt, IsAtOf, IsAtSome, IsOf}
 use Rattle.osgi_candidates.specs.computed.Fitting.{IsFit, bare}
 use Rattle.osgi_candidates.specs.computed.Names.{AreNames, values_of}
+use Rattle.osgi_candidates.specs.computed.Texts.{AsksText, IsListed, attribute_cmp, key_cmp}
 use Rattle.osgi_candidates.specs.declared.names.KnownNames.{KnownNames}
 use Rattle.osgi_candidates.specs.declared.names.Place.{Place}
 use Rattle.osgi_candidates.specs.declared.ranked.Ranked.{Ranked}
-use Rattle.osgi_candidates.proofs.Collected.{IsAtSome, extends_like, extends_two}
+use Rattle.osgi_candidates.specs.declared.texts.TextKey.{TextKey}
+use Rattle.osgi_candidates.proofs.Collected.{extends_like, extends_two}
 use Rattle.osgi_candidates.proofs.Tested.{matching_is}
 use Rattle.osgi_resolver_theory.proofs.Lists.{and-cases}
 use Rattle.osgi_resolver_theory.proofs.Values.{find-some, rev-eq}
 use Rattle.std.specs.BTreeSet.{BTreeSet}
+use Rattle.osgi_space_rows.specs.computed.Groups as groups
 use Rattle.osgi_version.specs.RangeValues.{is_within, range_parts}
 use Rattle.osgi_version.specs.VersionValues.{parts}
 use Rattle.std.specs.Prelude.{is_none}
 use Rattle.osgi_world.specs.Candidates.{CanBeAsked, IsCandidate}
 use Rattle.osgi_world.specs.Lists.{In}
 use Rattle.osgi_world.specs.Lookups.{IsKnown, SatisfiesAs, dynamic_count, is_dynamic, is_effective, is_host_of, known_at, requirement_at, requirement_count, revision_at, symbolic_name}
-use Rattle.osgi_world.specs.Satisfaction.{is_host_for, matches_host}
+use Rattle.osgi_world.specs.Satisfaction.{Satisfies, is_host_for, matches_host}
 use Rattle.osgi_world.specs.declared.capability.Capability.{Capability}
 use Rattle.osgi_world.specs.declared.requirement.Requirement.{Requirement}
 use Rattle.osgi_world.specs.declared.revision.Revision.{Revision}
@@ -109,7 +112,7 @@ module _ (w : World) (fit : IsFit w) (names : KnownNames) (are : AreNames w.know
 
   -- ---- places
 
-  place-of : CapRef → Place
+  abbrev place-of : CapRef → Place
   place-of c = record { owner = c.owner; index = c.index }
 
   capability-known : (r : RevisionId) (i : ℕ) (a : Capability) (k : Option Known) → known_at w.known r ≡ k → option_and_then (λ (v : Revision). slice_get v.capabilities i) (option_map (λ (x : Known). x.revision) k) ≡ Some a →
@@ -131,11 +134,55 @@ module _ (w : World) (fit : IsFit w) (names : KnownNames) (are : AreNames w.know
       let named : s.capability.name ≡ n.name = sym (as-name _ s.requirement s.capability s.provider asks.plain s.satisfies) ∙ ap (λ (y : Requirement). y.name) same in
       are.capabilities c.owner k.0 k.1 n.name (record { owner = c.owner; index = c.index }) (s.capability, k.2, named, id)
 
-  pub collects_all : (q : ReqRef) (n : Requirement) → Asks w q n → (none found : BTreeSet Ranked) → none.keys ≡ [] → Extends w q none found (IsAtSome w q (values_of names.capabilities n.name)) → Collects w q found
-  collects_all q n asks none found empty x = record {
+  -- where each candidate was tried, all are there
+  collects_tried : (q : ReqRef) (Tried : CapRef → Type 0) → ((c : CapRef) → IsCandidate (bare w) q c → Tried c) → (none found : BTreeSet Ranked) → none.keys ≡ [] → Extends w q none found Tried → Collects w q found
+  collects_tried q Tried tried none found empty x = record {
     good = x.good (λ r i. absurd (subst (λ l. In r l) empty i));
-    all = λ c is. x.stored c ((record { owner = c.owner; index = c.index }), place_stands q n asks c is, (refl, refl)) is;
+    all = λ c is. x.stored c (tried c is) is;
   }
+
+  pub collects_all : (q : ReqRef) (n : Requirement) → Asks w q n → (none found : BTreeSet Ranked) → none.keys ≡ [] → Extends w q none found (IsAtSome (values_of names.capabilities n.name)) → Collects w q found
+  collects_all q n asks = collects_tried q (IsAtSome (values_of names.capabilities n.name)) (λ c is. (place-of c, place_stands q n asks c is, (refl, refl)))
+
+  -- ---- places of a text
+
+  as-satisfied : (b : Bool) (n : Requirement) (c : Capability) (v : Revision) → b ≡ false → SatisfiesAs b n c v → Satisfies n c v.name v.version
+  as-satisfied false n c v e s = s
+  as-satisfied true n c v e s = absurd (cc e)
+
+  text_stands : (q : ReqRef) (n : Requirement) (k : TextKey) → Asks w q n → AsksText n k → (c : CapRef) → IsCandidate (bare w) q c → IsListed names.texts k.attribute.name k.attribute.attribute k.text (place-of c)
+  text_stands q n k asks text c x =
+      let s = x.satisfies in
+      let known = capability-known c.owner c.index s.capability (known_at w.known c.owner) refl s.capability_is in
+      let found = find-some (λ (y : Known). y.id.0 == c.owner.0) w.known known.0 known.1 in
+      let id : c.owner ≡ known.0.id = sym (rev-eq known.0.id c.owner found.1) in
+      let same = some-same s.requirement n (requirement_at w.known q) s.requirement_is asks.requirement in
+      let is : Satisfies n s.capability s.provider.name s.provider.version = subst (λ y. Satisfies y s.capability s.provider.name s.provider.version) same (as-satisfied _ s.requirement s.capability s.provider asks.plain s.satisfies) in
+      are.texts c.owner known.0 known.1 k.attribute.name k.attribute.attribute k.text (place-of c) (record {
+        capability = s.capability;
+        stands = known.2;
+        owner = id;
+        name = sym is.name ∙ sym text.name;
+        has = text.asked s.capability s.provider.name s.provider.version is;
+      })
+
+  -- the capabilities in the three places where those with a text stand
+  abbrev IsAtText : TextKey → CapRef → Type 0
+  IsAtText k c = (IsAtSome (groups.values_of key_cmp names.texts.texts k) c ⊎ IsAtSome (groups.values_of attribute_cmp names.texts.others k.attribute) c) ⊎ IsAtSome (values_of names.texts.many k.attribute.name) c
+
+  pub collects_text : (q : ReqRef) (n : Requirement) (k : TextKey) → Asks w q n → AsksText n k → (none one two found : BTreeSet Ranked) → none.keys ≡ [] → Extends w q none one (IsAtSome (groups.values_of key_cmp names.texts.texts k)) → Extends w q one two (IsAtSome (groups.values_of attribute_cmp names.texts.others k.attribute)) →
+      Extends w q two found (IsAtSome (values_of names.texts.many k.attribute.name)) → Collects w q found
+  collects_text q n k asks text none one two found empty x y z =
+      let T = IsAtSome (groups.values_of key_cmp names.texts.texts k) in
+      let O = IsAtSome (groups.values_of attribute_cmp names.texts.others k.attribute) in
+      let M = IsAtSome (values_of names.texts.many k.attribute.name) in
+      collects_tried q (IsAtText k) (λ c is. elim (text_stands q n k asks text c is) [
+        | inl here ↦ inl (inl (place-of c, here, (refl, refl)))
+        | inr rest ↦ elim rest [
+          | inl o ↦ inl (inr (place-of c, o, (refl, refl)))
+          | inr m ↦ inr (place-of c, m, (refl, refl))
+        ]
+      ]) none found empty (extends_two w q none two found (λ c. T c ⊎ O c) M (extends_two w q none one two T O x y) z)
 
 -- ---- requirements that can be asked
 

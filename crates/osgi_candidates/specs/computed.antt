@@ -1,4 +1,5 @@
 -- What private functions and proofs cite, and what `Covers` is made of.
+pub mod Texts
 pub mod Names
 pub mod Holding
 pub mod InUses

@@ -12,6 +12,7 @@ mod offer_index;
 mod offers;
 mod ranked;
 mod ranking;
+mod texts;
 
 pub use choices::problem;
 pub use offer_index::OfferIndex;

@@ -1,9 +1,10 @@
-//! What is known, by names: the capabilities, the revisions, and the current fragments.
+//! What is known, by names: the capabilities, also by their texts, the revisions, and the current fragments.
 
 ghost use Rattle.std.specs.Prelude.{◌++◌, List, OnOk};
 ghost use Rattle.osgi_candidates.specs.computed.Names.{AddsKnown, AreNames, AreOnce, GrowsBy, HasNone, ListsCapabilities, fragment_added};
 ghost use Rattle.osgi_world.specs.declared.world.Known.{Known};
 
+use crate::texts::TextIndex;
 use osgi_base::{RevisionId, Text};
 use osgi_space_rows::Grouped;
 use osgi_world::Known;
@@ -16,10 +17,11 @@ pub struct Place {
     pub index: u32,
 }
 
-/// The capabilities of the revisions that were added by their names, the revisions by their symbolic names, and the current
-/// fragments among them by the symbolic name of their host.
+/// The capabilities of the revisions that were added by their names, and those by their texts that have any, the revisions by their
+/// symbolic names, and the current fragments among them by the symbolic name of their host.
 pub struct KnownNames {
     pub capabilities: Grouped<Text, Place>,
+    pub texts: TextIndex,
     pub revisions: Grouped<Text, RevisionId>,
     pub fragments: Grouped<Text, RevisionId>,
 }
@@ -29,6 +31,7 @@ impl Drop for KnownNames {
     fn drop(self) {
         let KnownNames {
             capabilities: _,
+            texts: _,
             revisions: _,
             fragments: _,
         } = self;
@@ -41,6 +44,7 @@ impl KnownNames {
     {
         KnownNames {
             capabilities: Grouped::new(alloc),
+            texts: TextIndex::new(alloc),
             revisions: Grouped::new(alloc),
             fragments: Grouped::new(alloc),
         }
@@ -54,6 +58,7 @@ impl KnownNames {
         self.revisions.push(name, known.id)?;
         add_fragment(alloc, &mut self.fragments, known)?;
         add_capabilities(alloc, &mut self.capabilities, known)?;
+        self.texts.add(alloc, known)?;
         Ok(())
     }
 

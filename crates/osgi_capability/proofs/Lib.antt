@@ -1,2 +1,3 @@
 -- Lemmas.
 pub mod Meaning
+pub mod Asking

@@ -1,2 +1,3 @@
--- What is computed of a requirement and a capability. What it means stands in `Satisfaction` of `osgi_model`.
+-- When a capability has a text that is asked for, and whether it satisfies a requirement, as it is computed.
+pub mod HavingText
 pub mod computed

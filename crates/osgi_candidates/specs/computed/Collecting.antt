@@ -58,3 +58,7 @@ IsAtOf p hosts c = In c.provider hosts × IsAt p c
 -- that one, as the provider has it
 abbrev pub IsOf : Place → RevisionId → CapRef → Type 0
 IsOf p provider c = (c.provider ≡ provider) × IsAt p c
+
+-- the capability at one of the places
+abbrev pub IsAtSome : List Place → CapRef → Type 0
+IsAtSome places c = (p : Place) × In p places × IsAt p c

@@ -3,6 +3,7 @@ use Rattle.std.specs.Prelude.{◌≡◌, ◌⊎◌, ◌↔◌, ℕ, IsTrue, List
 use Rattle.osgi_base.specs.computed.Texts.{text_cmp}
 use Rattle.osgi_base.specs.declared.ids.RevisionId.{RevisionId}
 use Rattle.osgi_candidates.specs.declared.names.KnownNames.{KnownNames}
+use Rattle.osgi_candidates.specs.computed.Texts.{AddsTexts, HasNoTexts, IsListed, IsTextOf}
 use Rattle.osgi_candidates.specs.declared.names.Place.{Place}
 use Rattle.osgi_world.specs.Lists.{In, Two}
 use Rattle.osgi_world.specs.Lookups.{IsKnown, known_at, symbolic_name}
@@ -21,6 +22,7 @@ place_at owner index = record { owner = owner; index = index }
 
 pub record HasNone (names : KnownNames) : Type 0 where
   pub capabilities : (n : List ℕ) → values_of names.capabilities n ≡ []
+  pub texts : HasNoTexts names.texts
   pub revisions : (n : List ℕ) → values_of names.revisions n ≡ []
   pub fragments : (n : List ℕ) → values_of names.fragments n ≡ []
 
@@ -43,6 +45,7 @@ ListsCapabilities k old new = GrowsBy old new (capability_added k)
 -- the names with one more known revision
 pub record AddsKnown (k : Known) (old new : KnownNames) : Type 0 where
   pub capabilities : GrowsBy old.capabilities new.capabilities (capability_added k)
+  pub texts : AddsTexts old.texts new.texts (IsTextOf k)
   pub fragments : GrowsBy old.fragments new.fragments (fragment_added k)
   pub revisions : (n : List ℕ) (r : RevisionId) → In r (values_of new.revisions n) ↔ (In r (values_of old.revisions n) ⊎ (n ≡ k.revision.name) × (r ≡ k.id))
 
@@ -50,9 +53,10 @@ pub record AddsKnown (k : Known) (old new : KnownNames) : Type 0 where
 abbrev pub AreOnce : List Known → Type 0
 AreOnce K = ¬ Two (λ (k l : Known). k.id ≡ l.id) K
 
--- each capability and each current fragment stands under its name, perhaps beside others; the revisions under a name are exactly
--- those that have it. Of several revisions with one id the first counts
+-- each capability and each current fragment stands under its name, and each capability where its texts are sought, perhaps beside
+-- others; the revisions under a name are exactly those that have it. Of several revisions with one id the first counts
 pub record AreNames (K : List Known) (names : KnownNames) : Type 0 where
   pub capabilities : (id : RevisionId) (k : Known) → known_at K id ≡ Some k → (n : List ℕ) (p : Place) → capability_added k n p → In p (values_of names.capabilities n)
+  pub texts : (id : RevisionId) (k : Known) → known_at K id ≡ Some k → (n a t : List ℕ) (p : Place) → IsTextOf k n a t p → IsListed names.texts n a t p
   pub fragments : (id : RevisionId) (k : Known) → known_at K id ≡ Some k → (n : List ℕ) (r : RevisionId) → fragment_added k n r → In r (values_of names.fragments n)
   pub revisions : (n : List ℕ) (r : RevisionId) → In r (values_of names.revisions n) ↔ (IsKnown K r × (symbolic_name K r ≡ n))

@@ -1,4 +1,4 @@
--- The capabilities, the fragment and the name of the revision are added.
+-- The capabilities, their texts, the fragment and the name of the revision are added.
 use Rattle.std.proofs.Common.{◌≡◌, ap, subst, ◌∙◌}
 use Rattle.osgi_base.specs.computed.Texts.{text_cmp}
 use Rattle.osgi_candidates.proofs.Naming.{adds_in}
@@ -14,6 +14,7 @@ returns c =
     record {
       added = record {
         capabilities = c.in_ok-add_capabilities.ensures.added;
+        texts = c.in_ok-add.ensures.added;
         fragments = c.in_ok-add_fragment.ensures.added;
         revisions = adds_in c.args.self.now.revisions c.push.new.self k.revision.name k.id adds;
       };
