@@ -1,6 +1,6 @@
 -- What items ask for is there where a capability satisfies a requirement.
-use Rattle.std.proofs.Common.{◌≡◌, ℕ, zero, suc, ◌+◌, ◌<◌, List, [], ◌∷◌, ◌∙◌, get_or, length, map, sym, subst, arith}
-use Rattle.std.specs.Prelude.{Bool, false, true, IfSome, IsTrue, Option, None, Some, bytes_eq}
+use Rattle.std.proofs.Common.{◌≡◌, ℕ, zero, suc, ◌<◌, List, [], ◌∷◌, ◌∙◌, get_or, length, map, sym, subst, arith}
+use Rattle.std.specs.Prelude.{Bool, false, IfSome, IsTrue, Option, None, Some, bytes_eq}
 use Rattle.std.specs.Cmp.{first_so, second_so}
 use Rattle.std.proofs.lemmas.Bool.{false≢true}
 use Rattle.osgi_capability.specs.HavingText.{HasText, has_text}

@@ -1,5 +1,5 @@
 -- The filter that asks for a text is one of those that all have to match.
-use Rattle.std.proofs.Common.{◌≡◌, IsTrue, subst}
+use Rattle.std.proofs.Common.{IsTrue, subst}
 use Rattle.std.specs.Prelude.{Bool, bytes_eq}
 use Rattle.osgi_capability.proofs.Asking.{all_at}
 use Rattle.osgi_model.specs.computed.MatchReader.{matches}
