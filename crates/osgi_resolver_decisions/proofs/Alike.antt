@@ -1,5 +1,5 @@
 -- Two imports of one package that ask for nothing else have the same candidates.
-use Rattle.std.proofs.Common.{◌≡◌, ◌↔◌, ℕ, false, IsTrue, List, [], refl, sym, ◌∙◌, ap, subst}
+use Rattle.std.proofs.Common.{◌≡◌, ℕ, false, IsTrue, List, [], sym, ◌∙◌, ap, subst}
 use Rattle.std.proofs.lemmas.Bool.{false≢true}
 use Rattle.std.proofs.lemmas.List.Elements.{All-weaker}
 use Rattle.std.proofs.lemmas.Slice.Eq.{bytes_eq-Decides}
@@ -8,18 +8,16 @@ use Rattle.std.specs.Prelude.{All, Bool, IfSome, IsSome, Option, None, Some, byt
 use Rattle.osgi_candidates.proofs.Proposed.{has_requirement}
 use Rattle.osgi_model.specs.Matching.{OneOf, attribute_value}
 use Rattle.osgi_model.specs.declared.value.Attribute.{Attribute}
-use Rattle.osgi_resolver_decisions.specs.computed.Known.{IsProblemIn}
 use Rattle.osgi_resolver_decisions.specs.computed.Plain.{IsPlain, IsPlainFor}
 use Rattle.osgi_resolver_theory.proofs.Preferred.{candidates-one}
 use Rattle.osgi_resolver_theory.proofs.Values.{some-inj}
-use Rattle.osgi_version.specs.RangeValues.{is_within, range_parts}
+use Rattle.osgi_version.specs.RangeValues.{is_within}
 use Rattle.osgi_version.specs.Ranges.{RangeParts}
 use Rattle.osgi_version.specs.VersionValues.{parts}
 use Rattle.osgi_version.specs.declared.version.Version.{Version}
 use Rattle.osgi_world.specs.Candidates.{CanBeAsked, IsCandidate, IsProblem, candidates}
-use Rattle.osgi_world.specs.Lists.{In}
-use Rattle.osgi_world.specs.Lookups.{SatisfiesAs, SatisfiesAt, capability_namespace, is_dynamic, requirement_at}
-use Rattle.osgi_world.specs.Satisfaction.{IsGiven, IsOrdinary, Satisfies, SatisfiesImport, is_bundle, is_package, version_in}
+use Rattle.osgi_world.specs.Lookups.{SatisfiesAs, SatisfiesAt, capability_namespace, is_dynamic}
+use Rattle.osgi_world.specs.Satisfaction.{IsGiven, Satisfies, SatisfiesImport, is_bundle, is_package, version_in}
 use Rattle.osgi_world.specs.Satisfaction.IsGiven.{ordinary, version, bundle_version, bundle_name}
 use Rattle.osgi_world.specs.declared.capability.Capability.{Capability}
 use Rattle.osgi_world.specs.declared.problem.Problem.{Problem}
@@ -27,7 +25,6 @@ use Rattle.osgi_world.specs.declared.requirement.Requirement.{Requirement}
 use Rattle.osgi_world.specs.declared.wiring.CapRef.{CapRef}
 use Rattle.osgi_world.specs.declared.wiring.ReqRef.{ReqRef}
 use Rattle.osgi_world.specs.declared.world.Known.{Known}
-use Rattle.osgi_world.specs.declared.world.World.{World}
 
 -- what holds of an answer, if there is one, is changed
 pub some-like : {X : Type 0} (A B : X → Type 0) (o : Option X) → ((x : X) → A x → B x) → IfSome o A → IfSome o B

@@ -3,7 +3,6 @@
 
 ghost use Rattle.std.specs.Prelude.{◌≡◌, ◌↔◌, ◌<◌, [], IfOk, IsTrue};
 ghost use Rattle.std.specs.List.{list_any};
-ghost use Rattle.osgi_world.specs.Candidates.{CanBeAsked, candidates, matching};
 ghost use Rattle.osgi_world.specs.Lookups.{is_current, requirement_count, IsNeeded};
 ghost use Rattle.osgi_world.specs.Payloads.{own_requirements};
 ghost use Rattle.osgi_world.specs.declared.problem.Problem.{Problem};

@@ -1,6 +1,6 @@
 //! Imports that ask for a package and for nothing else: those of one package have the same candidates.
 
-ghost use Rattle.std.specs.Prelude.{◌≡◌, ◌↔◌, IsTrue};
+ghost use Rattle.std.specs.Prelude.{◌≡◌, IsTrue};
 ghost use Rattle.osgi_world.specs.Candidates.{CanBeAsked, candidates};
 ghost use Rattle.osgi_world.specs.declared.problem.Problem.{Problem};
 ghost use Rattle.osgi_resolver_decisions.specs.computed.Known.{IsProblemIn};
