@@ -83,7 +83,8 @@ pub fn is_decided(lists: &Lists, course: &Course, member: RevisionId) -> bool
     }
 }
 
-/// The members that have an attachment, a bundle requirement or an import left to decide.
+/// The members that have an attachment, a bundle requirement or an import left to decide. Those before the place of the last are
+/// decided, and are not looked at.
 pub fn undecided(
     alloc: Global,
     lists: &Lists,
@@ -93,9 +94,10 @@ pub fn undecided(
     ensures undecided { IfOk result (λ list. (P : Problem) → IsProblemIn lists.now.offers P → IsLearnt lists.now course.now → IsAt P course.now → (r : RevisionId) → In r list.items ↔ In r (members P (decided_in course.now)) × ¬ IsDecided P (decided_in course.now) r) }
 {
     let mut list = Vec::new(alloc);
-    for (place, member) in course.ids.iter().enumerate() {
-        if !is_decided_at(lists, course, place, *member) {
-            list.push(*member)?;
+    for place in course.last..course.ids.len() {
+        let member = course.ids[place];
+        if !is_decided_at(lists, course, place, member) {
+            list.push(member)?;
         }
     }
     Ok(list)

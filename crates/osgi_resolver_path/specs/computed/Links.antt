@@ -10,7 +10,7 @@ abbrev pub holder_by : ℕ → Step → List ℕ
 holder_by n (attached host fragment) = []
 holder_by n (wired r w) = cond (w.capability.provider.0 == n) (r.0 ∷ []) []
 
--- those that the steps do, of which the last one stands first
+-- those that the steps do: the last step stands first, and who was wired last stands last
 abbrev pub holders_of : ℕ → List Step → List ℕ
 holders_of n [] = []
 holders_of n (s ∷ steps) = holders_of n steps ++ holder_by n s

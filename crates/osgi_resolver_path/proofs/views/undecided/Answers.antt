@@ -1,24 +1,39 @@
--- One member more, and all of them.
-use Rattle.std.proofs.Common.{◌≡◌, ◌↔◌, ◌∷◌, [], ◌++◌, ◌∙◌, List, sym, subst, arith, take, ◌+◌, get_or, Some}
+-- The members before the last one that is opened are decided; then one member more, and all of them.
+use Rattle.std.proofs.Common.{◌≡◌, ◌↔◌, ◌<◌, inl, inr, ℕ, zero, suc, ◌∷◌, [], ◌++◌, ◌∙◌, List, sym, ap, subst, arith, take, ◌+◌, reverse, Some}
 use Rattle.std.specs.Prelude.{slice_get}
 use Rattle.std.proofs.lemmas.List.{take_all}
 use Rattle.osgi_base.specs.declared.ids.RevisionId.{RevisionId}
 use Rattle.osgi_world.specs.Hopeless.{IsDecided}
 use Rattle.osgi_world.specs.Lists.{In}
 use Rattle.osgi_resolver_path.specs.computed.Views.{decided_in}
-use Rattle.osgi_resolver_path.proofs.Decided.{get-in, get-some, more-kept, more-left}
+use Rattle.osgi_resolver_path.specs.computed.Courses.{lists_of}
+use Rattle.osgi_resolver_path.proofs.Decided.{decided-before, get-in, get-some, more-kept, more-left}
 use Rattle.osgi_resolver_path.proofs.views.undecided.Goals as goal
 use Rattle.osgi_resolver_path.proofs.views.undecided.Goals.{then-not-is_decided_at+in_ok-push, else-not-is_decided_at}
+
+-- the place of one of the first items
+take-get : {X : Type 0} (xs : List X) (k : ℕ) (x : X) → In x (take k xs) → (n : ℕ) × (n < k) × (slice_get xs n ≡ Some x)
+take-get [] zero x i = elim i [ ]
+take-get [] (suc k) x i = elim i [ ]
+take-get (y ∷ ys) zero x i = elim i [ ]
+take-get (y ∷ ys) (suc k) x (inl e) = (0, omega arith, ap Some (sym e))
+take-get (y ∷ ys) (suc k) x (inr i) = let r = take-get ys k x i in (suc r.0, (let h = r.1 in omega (arith, h)), r.2)
+
+pub loop-place-init : goal.loop-place-init
+loop-place-init c P in_it learnt at r = (
+  λ here. let none : ⊥ = subst (λ (l : List RevisionId). In r l) c.new-list.ensures.items here in absurd none,
+  λ both.
+      let course = c.args.course.now in
+      let found = take-get course.ids.items course.last r both.0 in
+      absurd (both.1 (decided-before P in_it.is (reverse course.marks.items) (lists_of course) at found.0 r found.2 found.1)),
+)
 
 pub loop-place-preserved : goal.loop-place-preserved
 loop-place-preserved c P in_it learnt at r =
     let ids = c.args.course.now.ids.items in
     let place = c.loop-place.place in
-    let zero : RevisionId = record { 0 = 0 } in
-    let items = c.deref-member-items.result.now in
-    let same : items ≡ ids = c.deref-member-items.ensures.value in
-    let m = get_or items place zero in
-    let there : slice_get ids place ≡ Some m = subst (λ (l : List RevisionId). slice_get l place ≡ Some m) same (get-some items place zero (omega arith)) in
+    let m = c.index-member.result.now in
+    let there : slice_get ids place ≡ Some m = get-some ids place m (omega arith) ∙ ap Some (sym c.index-member.ensures) in
     let T = λ (r : RevisionId). ¬ IsDecided P (decided_in c.args.course.now) r in
     let decides = c.is_decided_at.ensures.decided P in_it (learnt.members m (get-in ids place m there)) at there in
     let so = c.loop-place.invariant P in_it learnt at in
