@@ -1,6 +1,6 @@
 -- What stands under the texts of capabilities, and what one more capability adds.
-use Rattle.std.proofs.Common.{◌≡◌, ◌⊎◌, inl, inr, ℕ, zero, suc, ◌+◌, ◌<◌, length, List, [], ◌∷◌, ◌++◌, get_or, map, take, refl, sym, ◌∙◌, ap, subst, arith}
-use Rattle.std.specs.Prelude.{Bool, true, false, cond, IsTrue, Option, None, Some, slice_get, bytes_eq, find}
+use Rattle.std.proofs.Common.{◌≡◌, ◌⊎◌, inl, inr, ℕ, ◌+◌, ◌<◌, length, List, [], ◌∷◌, get_or, map, take, refl, sym, ◌∙◌, ap, subst, arith}
+use Rattle.std.specs.Prelude.{Bool, true, false, cond, IsTrue, Option, Some, slice_get, bytes_eq, find}
 use Rattle.std.specs.BTreeMap.{is_at}
 use Rattle.std.specs.Cmp.{IsTotalOrder}
 use Rattle.std.specs.Option.{option_map}
@@ -8,9 +8,8 @@ use Rattle.std.specs.declared.cmp.Ordering.{Ordering}
 use Rattle.std.proofs.lemmas.Cmp.{eq_by_cmp_equiv, on_total, then_total}
 use Rattle.std.proofs.lemmas.Slice.Eq.{bytes_eq-Decides}
 use Rattle.osgi_base.specs.computed.Texts.{text_cmp}
-use Rattle.osgi_base.specs.declared.ids.RevisionId.{RevisionId}
 use Rattle.osgi_candidates.specs.computed.Names.{place_at}
-use Rattle.osgi_candidates.specs.computed.Texts.{AddsTexts, AsksText, IsListed, IsSomeText, IsSomeValue, IsTextOf, IsTextOfOne, IsValueText, attribute_cmp, attribute_key, key_cmp, text_key}
+use Rattle.osgi_candidates.specs.computed.Texts.{AddsTexts, AsksText, IsSomeText, IsSomeValue, IsTextOf, IsTextOfOne, IsValueText, attribute_cmp, attribute_key, key_cmp, text_key}
 use Rattle.osgi_candidates.specs.declared.names.Place.{Place}
 use Rattle.osgi_candidates.specs.declared.texts.TextIndex.{TextIndex}
 use Rattle.osgi_candidates.specs.declared.texts.TextKey.{TextKey}

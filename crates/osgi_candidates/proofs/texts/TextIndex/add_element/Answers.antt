@@ -1,5 +1,5 @@
 -- A text stands under itself, and another value under the attribute.
-use Rattle.std.proofs.Common.{List, ℕ, refl, subst}
+use Rattle.std.proofs.Common.{refl, subst}
 use Rattle.osgi_candidates.specs.computed.Texts.{attribute_cmp, attribute_key, key_cmp, text_key}
 use Rattle.osgi_candidates.specs.declared.texts.TextIndex.{TextIndex}
 use Rattle.osgi_candidates.proofs.ByText.{adds_other, adds_text, text_value}
