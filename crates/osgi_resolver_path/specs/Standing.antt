@@ -24,6 +24,10 @@ pub record IsProblemOf (s : Standing) (P : Problem) : Type 0 where
 abbrev pub made : Problem → Standing → Made
 made P s = made_by P s.word
 
+-- it is so with the problem and with what is decided: whichever of its problems is taken
+abbrev pub At : Standing → (Problem → Made → Type 0) → Type 0
+At s F = (P : Problem) → IsProblemOf s P → F P (made P s)
+
 -- the next decision has this value
 pub record HasValue (s : Standing) (value : ℕ) : Type 0 where
   pub problem : Problem

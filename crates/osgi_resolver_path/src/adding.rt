@@ -6,7 +6,6 @@ ghost use Rattle.osgi_base.specs.declared.ids.RevisionId.{RevisionId};
 ghost use Rattle.osgi_world.specs.Decisions.{attaching, choose, is_yes, pick};
 ghost use Rattle.osgi_world.specs.DueDecisions.{fragments_of, payload};
 ghost use Rattle.osgi_world.specs.Lists.{In};
-ghost use Rattle.osgi_world.specs.Lookups.{requirement_count};
 ghost use Rattle.osgi_world.specs.Partial as partial;
 ghost use Rattle.osgi_world.specs.Partial.{wires_for, wiring};
 ghost use Rattle.osgi_world.specs.Payloads.{own_requirements, requirements_of};
@@ -45,7 +44,8 @@ fn add_picked(
     requirement: ReqRef,
     candidates: &[CapRef],
 ) -> Result<(), AllocError>
-    ensures added { OnOk result (wires.new ≡ wires.old ++ map (wire_to requirement) (filter (λ c. is_yes (value_in values.now (pick host requirement c))) candidates.now)) }
+    ensures added { OnOk result (wires.new ≡ wires.old ++ map (wire_to requirement) (filter (λ c.
+        is_yes (value_in values.now (pick host requirement c))) candidates.now)) }
 {
     for capability in candidates {
         if is_picked(values, host, requirement, *capability) {
@@ -105,7 +105,10 @@ fn add_requirement(
     requirement: ReqRef,
 ) -> Result<(), AllocError>
     requires right { AreRight lists.now }
-    ensures added { OnOk result ((P : Problem) (course : Course) → IsReadyWith P lists.now values.now course → In host course.ids.items → In requirement (payload P (decided_in course) host) → wires.new ≡ wires.old ++ wires_for P (decided_in course) host requirement) }
+    ensures added { OnOk result ((P : Problem) (course : Course)
+        → IsReadyWith P lists.now values.now course → In host course.ids.items
+        → In requirement (payload P (decided_in course) host)
+        → wires.new ≡ wires.old ++ wires_for P (decided_in course) host requirement) }
 {
     if !lists.offers.known().is_effective(requirement) {
         return Ok(());
@@ -128,7 +131,10 @@ fn add_owner(
     owner: RevisionId,
 ) -> Result<(), AllocError>
     requires right { AreRight lists.now }
-    ensures added { OnOk result ((P : Problem) (course : Course) → IsReadyWith P lists.now values.now course → In host course.ids.items → IsOwner P course host owner → wires.new ≡ wires.old ++ flat_map (wires_for P (decided_in course) host) (own_requirements P.world.known owner)) }
+    ensures added { OnOk result ((P : Problem) (course : Course)
+        → IsReadyWith P lists.now values.now course → In host course.ids.items
+        → IsOwner P course host owner
+        → wires.new ≡ wires.old ++ flat_map (wires_for P (decided_in course) host) (own_requirements P.world.known owner)) }
 {
     for index in 0..lists.offers.known().requirement_count(owner) {
         let requirement = ReqRef {
@@ -149,7 +155,10 @@ fn add_owners(
     owners: &[RevisionId],
 ) -> Result<(), AllocError>
     requires right { AreRight lists.now }
-    ensures added { OnOk result ((P : Problem) (course : Course) → IsReadyWith P lists.now values.now course → In host course.ids.items → ((o : RevisionId) → In o owners.now → IsOwner P course host o) → wires.new ≡ wires.old ++ flat_map (wires_for P (decided_in course) host) (requirements_of P.world.known owners.now)) }
+    ensures added { OnOk result ((P : Problem) (course : Course)
+        → IsReadyWith P lists.now values.now course → In host course.ids.items
+        → ((o : RevisionId) → In o owners.now → IsOwner P course host o)
+        → wires.new ≡ wires.old ++ flat_map (wires_for P (decided_in course) host) (requirements_of P.world.known owners.now)) }
 {
     for owner in owners {
         add_owner(wires, lists, values, host, *owner)?;
@@ -172,7 +181,9 @@ fn attached(
     member: RevisionId,
 ) -> Result<Vec<RevisionId>, AllocError>
     requires right { AreRight lists.now }
-    ensures attached { IfOk result (λ list. (P : Problem) (course : Course) → IsReadyWith P lists.now values.now course → In member course.ids.items → list.items ≡ fragments_of P (decided_in course) member) }
+    ensures attached { IfOk result (λ list. (P : Problem) (course : Course)
+        → IsReadyWith P lists.now values.now course → In member course.ids.items
+        → list.items ≡ fragments_of P (decided_in course) member) }
 {
     let mut fragments = Vec::new(alloc);
     for fragment in lists.fragments_for(member) {
@@ -191,7 +202,9 @@ fn wiring_of(
     member: RevisionId,
 ) -> Result<Wiring, AllocError>
     requires right { AreRight lists.now }
-    ensures wiring { IfOk result (λ made. (P : Problem) (course : Course) → IsReadyWith P lists.now values.now course → In member course.ids.items → made ≡ wiring P (decided_in course) member) }
+    ensures wiring { IfOk result (λ made. (P : Problem) (course : Course)
+        → IsReadyWith P lists.now values.now course → In member course.ids.items
+        → made ≡ wiring P (decided_in course) member) }
 {
     let fragments = attached(alloc, lists, values, member)?;
     let mut wires = List::new(alloc)?;
@@ -207,7 +220,8 @@ fn wiring_of(
 /// The wirings that the decisions add.
 pub fn added(alloc: Global, lists: &Lists, course: &Course) -> Result<List<Wiring>, AllocError>
     requires right { AreRight lists.now }
-    ensures added { IfOk result (λ list. (P : Problem) → IsReady P lists.now course.now → list ≡ partial.added P (decided_in course.now)) }
+    ensures added { IfOk result (λ list. (P : Problem) → IsReady P lists.now course.now
+        → list ≡ partial.added P (decided_in course.now)) }
 {
     let values = Values::of(alloc, course.marks.as_slice())?;
     let mut list = List::new(alloc)?;

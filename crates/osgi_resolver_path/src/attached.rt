@@ -35,7 +35,8 @@ pub fn attached_among(
     host: RevisionId,
     fragments: &[RevisionId],
 ) -> Result<Vec<RevisionId>, AllocError>
-    ensures attached { IfOk result (λ list. (D : Made) → AreAttached rows.now D host → list.items ≡ filter (λ f. is_yes (value_made D (attaching host f))) fragments.now) }
+    ensures attached { IfOk result (λ list. (D : Made) → AreAttached rows.now D host
+        → list.items ≡ filter (λ f. is_yes (value_made D (attaching host f))) fragments.now) }
 {
     let mut list = Vec::new(alloc);
     if fragments.is_empty() {
@@ -57,7 +58,8 @@ fn is_attached(
     value: u64,
     fragment: RevisionId,
 ) -> bool
-    ensures attached { (D : Made) (host : RevisionId) → AreNumbers attached.now D host → result ≡ is_yes (value_made ((attaching host decided, value) ∷ D) (attaching host fragment)) }
+    ensures attached { (D : Made) (host : RevisionId) → AreNumbers attached.now D host
+        → result ≡ is_yes (value_made ((attaching host decided, value) ∷ D) (attaching host fragment)) }
 {
     if decided.0 == fragment.0 {
         is_first(Some(value))
@@ -76,7 +78,9 @@ pub fn owners_of(
     decided: RevisionId,
     value: u64,
 ) -> Result<Vec<RevisionId>, AllocError>
-    ensures owners { IfOk result (λ owners. (P : Problem) (D : Made) → IsProblemIn offers.now P → AreAttached rows.now D host → owners.items ≡ host ∷ fragments_of P ((attaching host decided, value) ∷ D) host) }
+    ensures owners { IfOk result (λ owners. (P : Problem) (D : Made) → IsProblemIn offers.now P
+        → AreAttached rows.now D host
+        → owners.items ≡ host ∷ fragments_of P ((attaching host decided, value) ∷ D) host) }
 {
     let attached = attached_numbers(alloc, rows, host)?;
     let fragments = offers.fragments_for(alloc, host)?;

@@ -32,7 +32,8 @@ fn is_in_force(offers: &Offers, revision: RevisionId) -> bool
 /// Whether the revision does not join: it is in force, or a member.
 fn stays(offers: &Offers, course: &Course, revision: RevisionId) -> bool
     requires placed { ArePlaces course.now.places course.now.ids.items }
-    ensures stays { result ≡ is_in_force offers.now.wirings revision || list_any (λ k. k.0 == revision.0) course.now.ids.items }
+    ensures stays { result ≡ is_in_force offers.now.wirings revision || list_any (λ k.
+        k.0 == revision.0) course.now.ids.items }
 {
     is_in_force(offers, revision) || course.has(revision)
 }
@@ -40,7 +41,8 @@ fn stays(offers: &Offers, course: &Course, revision: RevisionId) -> bool
 /// Who joins the members by a step: the provider of a wire, if it is neither in force nor a member.
 pub fn joining_of(offers: &Offers, course: &Course, step: Option<Step>) -> Option<RevisionId>
     requires placed { ArePlaces course.now.places course.now.ids.items }
-    ensures joining { (P : Problem) → IsProblemIn offers.now P → course.now.ids.items ++ option_to_list result ≡ pull_in P course.now.ids.items (flat_map provider_of (steps_in step)) }
+    ensures joining { (P : Problem) → IsProblemIn offers.now P
+        → course.now.ids.items ++ option_to_list result ≡ pull_in P course.now.ids.items (flat_map provider_of (steps_in step)) }
     ensures new { IsNoMember result course.now.ids.items }
 {
     let Some(Step::Wired { wire, .. }) = step else {
@@ -103,7 +105,8 @@ pub fn first_of(
     ensures offers { lists.new.offers ≡ lists.old.offers }
     ensures right { AreRight lists.new }
     ensures nothing_lost { KnowsAll lists.old lists.new }
-    ensures first { IfOk result (λ list. (P : Problem) → IsProblemIn lists.old.offers P → IsTrue (is_current P.world.known member) → decisions_in list.items ≡ first_due P member) }
+    ensures first { IfOk result (λ list. (P : Problem) → IsProblemIn lists.old.offers P
+        → IsTrue (is_current P.world.known member) → decisions_in list.items ≡ first_due P member) }
 {
     lists.learn(alloc, member)?;
     Ok(Vec::from_slice(alloc, lists.first_of(member))?)

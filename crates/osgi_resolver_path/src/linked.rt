@@ -130,7 +130,8 @@ impl<'w> Linked<'w> {
     /// Takes back what was added last. It takes no memory.
     pub fn undo(&mut self)
         requires step { 0 < length self.old.steps }
-        ensures undone { (s : Step) (steps : List Step) → self.old.steps ≡ s ∷ steps → self.new ≡ record self.old { steps = steps } }
+        ensures undone { (s : Step) (steps : List Step) → self.old.steps ≡ s ∷ steps
+            → self.new ≡ record self.old { steps = steps } }
     {
         self.spaces.undo();
         let provider = self.trail.pop().unwrap();

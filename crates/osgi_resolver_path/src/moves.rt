@@ -42,7 +42,8 @@ fn asks_with(
     ensures offers { lists.new.offers ≡ lists.old.offers }
     ensures right { AreRight lists.new }
     ensures nothing_lost { KnowsAll lists.old lists.new }
-    ensures asks { IfOk result (λ asks. (P : Problem) (D : Made) → IsProblemIn lists.old.offers P → AreAttached rows.now D host →
+    ensures asks { IfOk result (λ asks. (P : Problem) (D : Made) → IsProblemIn lists.old.offers P
+        → AreAttached rows.now D host →
         All (λ (o : RevisionId). IsTrue (is_current P.world.known o)) (owners_with P D host fragment value) → decisions_in asks.items ≡ asks_of P host (owners_with P D host fragment value)) }
 {
     let owners = owners_of(alloc, &lists.offers, rows, host, fragment, value)?;
@@ -63,7 +64,9 @@ pub fn asks_after(
     ensures offers { lists.new.offers ≡ lists.old.offers }
     ensures right { AreRight lists.new }
     ensures nothing_lost { KnowsAll lists.old lists.new }
-    ensures asks { IfOk result (λ asks. (P : Problem) (D : Made) → IsProblemIn lists.old.offers P → AreAttached rows.now D (decisions.host (decision_of decision)) → IsAskedAfter P D (decision_of decision) value (decisions_in asks.items)) }
+    ensures asks { IfOk result (λ asks. (P : Problem) (D : Made) → IsProblemIn lists.old.offers P
+        → AreAttached rows.now D (decisions.host (decision_of decision))
+        → IsAskedAfter P D (decision_of decision) value (decisions_in asks.items)) }
 {
     match decision {
         DecisionRef::Attach { host, fragment } => {
@@ -91,7 +94,8 @@ fn learn_attached(alloc: Global, lists: &mut Lists, step: Option<Step>) -> Resul
     ensures offers { lists.new.offers ≡ lists.old.offers }
     ensures right { AreRight lists.new }
     ensures nothing_lost { KnowsAll lists.old lists.new }
-    ensures known { OnOk result ((h f : RevisionId) → steps_in step ≡ attached h f ∷ [] → Knows lists.new f) }
+    ensures known { OnOk result ((h f : RevisionId) → steps_in step ≡ attached h f ∷ []
+        → Knows lists.new f) }
 {
     if let Some(Step::Attached { fragment, .. }) = step {
         lists.learn(alloc, fragment)?;
@@ -132,7 +136,9 @@ fn more_after(
     ensures offers { lists.new.offers ≡ lists.old.offers }
     ensures right { AreRight lists.new }
     ensures nothing_lost { KnowsAll lists.old lists.new }
-    ensures more { IfOk result (λ more. (P : Problem) (ids : List RevisionId) → IsProblemIn lists.old.offers P → IsRight P (reverse course.now.marks.items) (record (lists_of course.now) { ids = ids }) →
+    ensures more { IfOk result (λ more. (P : Problem) (ids : List RevisionId)
+        → IsProblemIn lists.old.offers P
+        → IsRight P (reverse course.now.marks.items) (record (lists_of course.now) { ids = ids }) →
         IsNextOf P course.now ids decision value → IsOpenedBy P course.now decision value more) }
 {
     if course.marks.len() + 1 < course.queue.len() {
@@ -184,7 +190,8 @@ fn decide(
     ensures spaces { OnOk result (spaces.new ≡ record spaces.old { steps = steps_in mark.step ++ spaces.old.steps }) }
     ensures marks { OnOk result (course.new.marks.items ≡ course.old.marks.items ++ mark ∷ []) }
     ensures decided { OnOk result (IsDecidedBy lists.old.offers course.old course.new mark) }
-    ensures members { (course.new.ids.items ≡ course.old.ids.items) × (course.new.places ≡ course.old.places) }
+    ensures members { (course.new.ids.items ≡ course.old.ids.items)
+        × (course.new.places ≡ course.old.places) }
     ensures spaces_unchanged { OnErr result (spaces.new ≡ spaces.old) }
     ensures unchanged { OnErr result (IsSameCourse course.old course.new) }
 {
@@ -224,7 +231,8 @@ pub fn learn_new(
     ensures offers { lists.new.offers ≡ lists.old.offers }
     ensures right { AreRight lists.new }
     ensures nothing_lost { KnowsAll lists.old lists.new }
-    ensures attached { OnOk result ((h f : RevisionId) → steps_in step ≡ attached h f ∷ [] → Knows lists.new f) }
+    ensures attached { OnOk result ((h f : RevisionId) → steps_in step ≡ attached h f ∷ []
+        → Knows lists.new f) }
     ensures joined { OnOk result ((r : RevisionId) → joining ≡ Some r → Knows lists.new r) }
 {
     learn_attached(alloc, lists, step)?;

@@ -67,8 +67,11 @@ pub fn longer(
 pub fn shorter(spaces: &mut Linked, course: &mut Course) -> Option<Mark>
     requires steps { spaces.old.steps ≡ steps_of (reverse course.old.marks.items) }
     ensures places { course.new.places ≡ course.old.places }
-    ensures taken { MatchOption result ((course.old.marks.items ≡ []) × ((spaces.new ≡ spaces.old) × IsSameCourse course.old course.new))
-        (λ (mark : Mark). (course.old.marks.items ≡ course.new.marks.items ++ mark ∷ []) × ((lists_of course.new ≡ taken_back mark (lists_of course.old)) × (spaces.new ≡ record spaces.old { steps = steps_of (reverse course.new.marks.items) }))) }
+    ensures taken { MatchOption result ((course.old.marks.items ≡ [])
+        × ((spaces.new ≡ spaces.old) × IsSameCourse course.old course.new))
+        (λ (mark : Mark). (course.old.marks.items ≡ course.new.marks.items ++ mark ∷ [])
+        × ((lists_of course.new ≡ taken_back mark (lists_of course.old))
+        × (spaces.new ≡ record spaces.old { steps = steps_of (reverse course.new.marks.items) }))) }
 {
     let Some(mark) = course.marks.pop() else {
         return None;
@@ -90,7 +93,8 @@ pub fn begin(alloc: Global, lists: &mut Lists, root: RevisionId) -> Result<Cours
     ensures learnt { IfOk result (IsLearnt lists.new) }
     ensures placed { IfOk result (λ course. ArePlaces course.places course.ids.items) }
     ensures marks { IfOk result (λ course. course.marks.items ≡ []) }
-    ensures begins { IfOk result (λ course. (P : Problem) → IsProblemIn lists.old.offers P → P.root ≡ root → IsRight P [] (lists_of course)) }
+    ensures begins { IfOk result (λ course. (P : Problem) → IsProblemIn lists.old.offers P
+        → P.root ≡ root → IsRight P [] (lists_of course)) }
 {
     lists.learn(alloc, root)?;
     let queue = first_of(alloc, lists, root)?;

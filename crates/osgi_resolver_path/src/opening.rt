@@ -1,6 +1,6 @@
 //! The decisions that come next where all those that were due are made.
 
-ghost use Rattle.std.specs.Prelude.{◌≡◌, ◌+◌, ◌<◌, ◌⊎◌, ◌++◌, List, IfOk, length};
+ghost use Rattle.std.specs.Prelude.{◌≡◌, ◌+◌, ◌<◌, ◌++◌, List, IfOk, length};
 ghost use Rattle.osgi_world.specs.Decisions as decisions;
 ghost use Rattle.osgi_world.specs.Decisions.{Made};
 ghost use Rattle.osgi_world.specs.DueDecisions.{members};
@@ -34,8 +34,11 @@ pub fn open(
     ensures offers { lists.new.offers ≡ lists.old.offers }
     ensures right { AreRight lists.new }
     ensures nothing_lost { KnowsAll lists.old lists.new }
-    ensures opened { IfOk result (λ r. (P : Problem) (D : Made) (qs : List decisions.Decision) → IsProblemIn lists.old.offers P → State P D → ids.now ≡ members P D → length qs ≡ length D →
-        IsOpened P D ids.now (qs ++ decisions_in more.decisions.items) more.last → IsOpened P D ids.now (qs ++ decisions_in r.decisions.items) r.last) }
+    ensures opened { IfOk result (λ r. (P : Problem) (D : Made) (qs : List decisions.Decision)
+        → IsProblemIn lists.old.offers P → State P D → ids.now ≡ members P D
+        → length qs ≡ length D →
+        IsOpened P D ids.now (qs ++ decisions_in more.decisions.items) more.last
+        → IsOpened P D ids.now (qs ++ decisions_in r.decisions.items) r.last) }
     ensures waits { IfOk result (λ r. Waits r (length ids.now)) }
 {
     let More {

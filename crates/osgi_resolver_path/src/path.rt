@@ -17,7 +17,7 @@ ghost use Rattle.osgi_space_rows.specs.Worlds.{AreRowsIn};
 ghost use Rattle.osgi_resolver_path.specs.Last.{IsLast};
 ghost use Rattle.osgi_resolver_decisions.specs.Sure.{AreSure, LacksCandidate};
 ghost use Rattle.osgi_resolver_decisions.specs.DecisionOf.{decision_of};
-ghost use Rattle.osgi_resolver_path.specs.Standing.{HasValue, IsProblemOf, made};
+ghost use Rattle.osgi_resolver_path.specs.Standing.{At, HasValue, IsProblemOf, made};
 ghost use Rattle.osgi_resolver_path.specs.Wires.{IsWiredTo, wired_in};
 ghost use Rattle.osgi_resolver_path.specs.declared.wired.Wired.{Wired};
 
@@ -90,7 +90,8 @@ impl<'w> Path<'w> {
         requires offers { offers ≡ world.now }
         requires known { rows.known ≡ world.now.known }
         requires rows { AreRowsIn rows world.now.wirings }
-        ensures empty { IfOk result (λ path. path ≡ record { world = world.now; root = root; word = [] }) }
+        ensures empty { IfOk result (λ path.
+            path ≡ record { world = world.now; root = root; word = [] }) }
     {
         let mut lists = Lists::new(alloc, offers);
         let spaces = Linked::over(alloc, world, rows);
@@ -123,7 +124,7 @@ impl<'w> Path<'w> {
 
     /// How many values the next decision has; none where no decision is left.
     pub fn values(&self) -> u64
-        ensures values { (P : Problem) → IsProblemOf self.now P → result ≡ width P (made P self.now) }
+        ensures values { At self.now (λ P D. result ≡ width P D) }
     {
         match self.course.next() {
             Some(decision) => step::arity(&self.lists, decision),
@@ -133,7 +134,7 @@ impl<'w> Path<'w> {
 
     /// Whether no decision is left.
     pub fn is_complete(&self) -> bool
-        ensures complete { (P : Problem) → IsProblemOf self.now P → Decides result (IsComplete P self.now.word) }
+        ensures complete { At self.now (λ P _. Decides result (IsComplete P self.now.word)) }
     {
         self.course.next().is_none()
     }
@@ -155,7 +156,9 @@ impl<'w> Path<'w> {
 
     /// Takes the last decision back, and gives its value; None where none is made.
     pub fn shorter(&mut self) -> Option<u64>
-        ensures word { MatchOption result ((self.old.word ≡ []) × (self.new ≡ self.old)) (λ value. self.old ≡ record self.new { word = self.new.word ++ value ∷ [] }) }
+        ensures word { MatchOption result ((self.old.word ≡ [])
+            × (self.new ≡ self.old)) (λ value.
+            self.old ≡ record self.new { word = self.new.word ++ value ∷ [] }) }
     {
         let mark = moving::shorter(&mut self.spaces, &mut self.course)?;
         Some(mark.value)
@@ -178,7 +181,7 @@ impl<'w> Path<'w> {
     /// The rows of the wirings that are there, with what is decided.
     pub fn rows(&self) -> &WorldRows<'w>
         ensures known { result.now.known ≡ self.now.world.known }
-        ensures rows { (P : Problem) → IsProblemOf self.now P → AreRowsIn result.now (partial.partial P (made P self.now)) }
+        ensures rows { At self.now (λ P D. AreRowsIn result.now (partial.partial P D)) }
     {
         self.spaces.rows()
     }
@@ -186,28 +189,30 @@ impl<'w> Path<'w> {
     /// The same rows, with the packages that may be disputed in them.
     pub fn disputed_rows(&self) -> &DisputedRows<'w>
         ensures known { result.now.known ≡ self.now.world.known }
-        ensures rows { (P : Problem) → IsProblemOf self.now P → AreRowsIn result.now (partial.partial P (made P self.now)) }
+        ensures rows { At self.now (λ P D. AreRowsIn result.now (partial.partial P D)) }
     {
         self.spaces.disputed_rows()
     }
 
     /// The root, and the revisions that were pulled in, in order.
     pub fn members(&self) -> &[RevisionId]
-        ensures members { (P : Problem) → IsProblemOf self.now P → result.now ≡ members P (made P self.now) }
+        ensures members { At self.now (λ P D. result.now ≡ members P D) }
     {
         self.course.ids.as_slice()
     }
 
     /// The members that have an attachment, a bundle requirement or an import left to decide.
     pub fn undecided(&self, alloc: Global) -> Result<Vec<RevisionId>, AllocError>
-        ensures undecided { IfOk result (λ list. (P : Problem) → IsProblemOf self.now P → (r : RevisionId) → In r list.items ↔ In r (members P (made P self.now)) × ¬ IsDecided P (made P self.now) r) }
+        ensures undecided { IfOk result (λ list. At self.now (λ P D. (r : RevisionId)
+            → In r list.items ↔ In r (members P D) × ¬ IsDecided P D r)) }
     {
         views::undecided(alloc, &self.lists, &self.course)
     }
 
     /// Whether the member has no attachment, bundle requirement or import left to decide.
     pub fn is_decided(&self, member: RevisionId) -> bool
-        ensures decided { (P : Problem) → IsProblemOf self.now P → In member (members P (made P self.now)) → Decides result (IsDecided P (made P self.now) member) }
+        ensures decided { At self.now (λ P D. In member (members P D)
+            → Decides result (IsDecided P D member)) }
     {
         views::is_decided(&self.lists, &self.course, member)
     }
@@ -218,7 +223,8 @@ impl<'w> Path<'w> {
         alloc: Global,
         member: RevisionId,
     ) -> Result<Vec<RevisionId>, AllocError>
-        ensures fragments { IfOk result (λ list. (P : Problem) → IsProblemOf self.now P → In member (members P (made P self.now)) → list.items ≡ fragments_of P (made P self.now) member) }
+        ensures fragments { IfOk result (λ list. At self.now (λ P D. In member (members P D)
+            → list.items ≡ fragments_of P D member)) }
     {
         let fragments = self.lists.fragments_for(member);
         attached_among(alloc, self.spaces.rows().rows(), member, fragments)
@@ -226,7 +232,10 @@ impl<'w> Path<'w> {
 
     /// The candidates of an effective requirement of a member's payload.
     pub fn candidates(&self, requirement: ReqRef) -> &[CapRef]
-        ensures candidates { (P : Problem) (m : RevisionId) → IsProblemOf self.now P → In m (members P (made P self.now)) → In requirement (payload P (made P self.now) m) → IsTrue (is_effective P.world.known requirement) → result.now ≡ candidates P requirement }
+        ensures candidates { (P : Problem) (m : RevisionId) → IsProblemOf self.now P
+            → In m (members P (made P self.now)) → In requirement (payload P (made P self.now) m)
+            → IsTrue (is_effective P.world.known requirement)
+            → result.now ≡ candidates P requirement }
     {
         self.lists.candidates(requirement)
     }
@@ -234,28 +243,34 @@ impl<'w> Path<'w> {
     /// Whether each requirement that is needed of an owner of a member's payload has a candidate, and may have one wire alone.
     /// Where the answer is false, that need not be so.
     pub fn is_sure(&self, owner: RevisionId) -> bool
-        ensures sure { IsTrue result → (P : Problem) (m : RevisionId) → IsProblemOf self.now P → In m (members P (made P self.now)) → (owner ≡ m) ⊎ In owner (fragments_of P (made P self.now) m) → AreSure P owner }
+        ensures sure { IsTrue result → (P : Problem) (m : RevisionId) → IsProblemOf self.now P
+            → In m (members P (made P self.now)) → (owner ≡ m)
+            ⊎ In owner (fragments_of P (made P self.now) m) → AreSure P owner }
     {
         self.lists.is_sure(owner)
     }
 
     /// Whether a requirement that is needed of an owner of a member's payload has no candidate. It was found out when the owner came.
     pub fn lacks_candidate(&self, owner: RevisionId) -> bool
-        ensures lacks { (P : Problem) (m : RevisionId) → IsProblemOf self.now P → In m (members P (made P self.now)) → (owner ≡ m) ⊎ In owner (fragments_of P (made P self.now) m) → IsTrue result ↔ LacksCandidate P owner }
+        ensures lacks { (P : Problem) (m : RevisionId) → IsProblemOf self.now P
+            → In m (members P (made P self.now)) → (owner ≡ m)
+            ⊎ In owner (fragments_of P (made P self.now) m) → IsTrue result
+            ↔ LacksCandidate P owner }
     {
         self.lists.lacks_candidate(owner)
     }
 
     /// The marks of the decisions that are made. Their wires are those of the members.
     pub fn marks(&self) -> &[Mark]
-        ensures wires { (P : Problem) → IsProblemOf self.now P → (w : Wired) → In w (wired_in result.now) ↔ In w.revision (members P (made P self.now)) × HasWire (partial.partial P (made P self.now)) w.revision w.wire }
+        ensures wires { At self.now (λ P D. (w : Wired) → In w (wired_in result.now)
+            ↔ In w.revision (members P D) × HasWire (partial.partial P D) w.revision w.wire) }
     {
         self.course.marks.as_slice()
     }
 
     /// The members that have a wire to this revision, each once for each such wire.
     pub fn wired_to(&self, provider: RevisionId) -> &[u32]
-        ensures wired { (P : Problem) → IsProblemOf self.now P → (n : ℕ) → In n result.now ↔ IsWiredTo P (made P self.now) provider n }
+        ensures wired { At self.now (λ P D. (n : ℕ) → In n result.now ↔ IsWiredTo P D provider n) }
     {
         self.spaces.wired_to(provider)
     }
@@ -269,21 +284,22 @@ impl<'w> Path<'w> {
 
     /// The last decision that was made; None where none is made.
     pub fn last(&self) -> Option<Last>
-        ensures last { MatchOption result (self.now.word ≡ []) (λ last. (P : Problem) → IsProblemOf self.now P → IsLast P self.now last) }
+        ensures last { MatchOption result (self.now.word ≡ []) (λ last. At self.now (λ P _.
+            IsLast P self.now last)) }
     {
         last::last_of(&self.course)
     }
 
     /// The value with which a decision was made, if it was made.
     pub fn value_of(&self, decision: DecisionRef) -> Option<u64>
-        ensures value { (P : Problem) → IsProblemOf self.now P → result ≡ value_made (made P self.now) (decision_of decision) }
+        ensures value { At self.now (λ P D. result ≡ value_made D (decision_of decision)) }
     {
         growing::value_of(self.course.marks.as_slice(), decision)
     }
 
     /// The wirings that the decisions add.
     pub fn added(&self, alloc: Global) -> Result<List<Wiring>, AllocError>
-        ensures added { IfOk result (λ list. (P : Problem) → IsProblemOf self.now P → list ≡ partial.added P (made P self.now)) }
+        ensures added { IfOk result (λ list. At self.now (λ P D. list ≡ partial.added P D)) }
     {
         adding::added(alloc, &self.lists, &self.course)
     }

@@ -65,7 +65,8 @@ fn chosen(host: RevisionId, requirement: ReqRef, candidates: &[CapRef], value: u
 /// What the value adds.
 pub fn step_of(lists: &Lists, decision: DecisionRef, value: u64) -> Option<Step>
     requires right { AreRight lists.now }
-    ensures adds { (P : Problem) → IsProblemIn lists.now.offers P → IsListed lists.now P decision → steps_in result ≡ adds P (decision_of decision) value }
+    ensures adds { (P : Problem) → IsProblemIn lists.now.offers P → IsListed lists.now P decision
+        → steps_in result ≡ adds P (decision_of decision) value }
 {
     match decision {
         DecisionRef::Attach { host, fragment } => first_alone(
@@ -86,7 +87,8 @@ pub fn step_of(lists: &Lists, decision: DecisionRef, value: u64) -> Option<Step>
 /// How many values the decision has.
 pub fn arity(lists: &Lists, decision: DecisionRef) -> u64
     requires right { AreRight lists.now }
-    ensures arity { (P : Problem) → IsProblemIn lists.now.offers P → IsListed lists.now P decision → result ≡ decisions.arity P (decision_of decision) }
+    ensures arity { (P : Problem) → IsProblemIn lists.now.offers P → IsListed lists.now P decision
+        → result ≡ decisions.arity P (decision_of decision) }
 {
     match decision {
         DecisionRef::Attach { .. } | DecisionRef::Pick { .. } => 2,

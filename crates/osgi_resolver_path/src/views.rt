@@ -52,7 +52,9 @@ fn is_spatial_next(offers: &Offers, course: &Course) -> bool
 /// Whether the member at this place is decided.
 fn is_decided_at(lists: &Lists, course: &Course, place: usize, member: RevisionId) -> bool
     requires right { AreRight lists.now }
-    ensures decided { (P : Problem) → IsProblemIn lists.now.offers P → Knows lists.now member → IsAt P course.now → slice_get course.now.ids.items place ≡ Some member → Decides result (IsDecided P (decided_in course.now) member) }
+    ensures decided { (P : Problem) → IsProblemIn lists.now.offers P → Knows lists.now member
+        → IsAt P course.now → slice_get course.now.ids.items place ≡ Some member
+        → Decides result (IsDecided P (decided_in course.now) member) }
 {
     if place < course.last {
         return true;
@@ -75,7 +77,9 @@ fn place_of(course: &Course, member: RevisionId) -> Option<usize>
 pub fn is_decided(lists: &Lists, course: &Course, member: RevisionId) -> bool
     requires right { AreRight lists.now }
     requires placed { ArePlaces course.now.places course.now.ids.items }
-    ensures decided { (P : Problem) → IsProblemIn lists.now.offers P → Knows lists.now member → IsAt P course.now → In member course.now.ids.items → Decides result (IsDecided P (decided_in course.now) member) }
+    ensures decided { (P : Problem) → IsProblemIn lists.now.offers P → Knows lists.now member
+        → IsAt P course.now → In member course.now.ids.items
+        → Decides result (IsDecided P (decided_in course.now) member) }
 {
     match place_of(course, member) {
         Some(place) => is_decided_at(lists, course, place, member),
@@ -91,7 +95,9 @@ pub fn undecided(
     course: &Course,
 ) -> Result<Vec<RevisionId>, AllocError>
     requires right { AreRight lists.now }
-    ensures undecided { IfOk result (λ list. (P : Problem) → IsProblemIn lists.now.offers P → IsLearnt lists.now course.now → IsAt P course.now → (r : RevisionId) → In r list.items ↔ In r (members P (decided_in course.now)) × ¬ IsDecided P (decided_in course.now) r) }
+    ensures undecided { IfOk result (λ list. (P : Problem) → IsProblemIn lists.now.offers P
+        → IsLearnt lists.now course.now → IsAt P course.now → (r : RevisionId) → In r list.items
+        ↔ In r (members P (decided_in course.now)) × ¬ IsDecided P (decided_in course.now) r) }
 {
     let mut list = Vec::new(alloc);
     for place in course.last..course.ids.len() {
