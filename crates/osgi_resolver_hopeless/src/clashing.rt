@@ -2,7 +2,7 @@
 
 ghost use Rattle.std.specs.Prelude.{◌↔◌, ℕ, IfOk, IsTrue};
 ghost use Rattle.osgi_space_sources.specs.computed.Disputes.{AreDisputed};
-ghost use Rattle.osgi_resolver_hopeless.specs.computed.Clashing.{HasClash, HasClashAt, IsBroken, IsWired};
+ghost use Rattle.osgi_resolver_hopeless.specs.computed.Clashing.{HasClash, HasClashAt, IsBroken};
 ghost use Rattle.osgi_resolver_hopeless.specs.computed.Open.{AreUnsettled};
 ghost use Rattle.osgi_resolver_path.specs.Standing.{IsProblemOf, made};
 ghost use Rattle.osgi_space_rows.specs.Agree.{id};
@@ -15,39 +15,12 @@ use crate::settled::{numbers, unsettled};
 use osgi_base::RevisionId;
 use osgi_resolver_path::Path;
 use osgi_space_rows::Rows;
-use osgi_space_sources::{Among, RevisionSet, keeps_uses};
+use osgi_space_sources::{Among, RevisionSet, one_breaks_uses};
 use std::alloc::{AllocError, Global};
 use std::collections::BTreeSet;
 
-/// Whether the revision has a wire for a package or for a required bundle.
-fn is_wired(rows: &Rows, revision: u32) -> bool
-    ensures wired { IsTrue result ↔ IsWired rows.now revision }
-{
-    if !rows.imports_of(revision).is_empty() {
-        return true;
-    }
-    !rows.required_by(revision).is_empty()
-}
-
-/// Whether the revision has such a wire, and a violated constraint that comes from other revisions than these alone.
-fn is_broken(
-    alloc: Global,
-    rows: &Rows,
-    disputed: &BTreeSet<u32>,
-    unsettled: &RevisionSet,
-    revision: u32,
-) -> Result<bool, AllocError>
-    requires disputed { AreDisputed rows.now disputed.now }
-    ensures broken { IfOk result (λ answer. IsTrue answer ↔ IsBroken rows.now unsettled.now revision) }
-{
-    if !is_wired(rows, revision) {
-        return Ok(false);
-    }
-    let among = Among::AllBut(unsettled);
-    Ok(!keeps_uses(alloc, rows, disputed, among, revision)?)
-}
-
-/// Whether it is so with one of these revisions.
+/// Whether one of these revisions has a wire for a package or for a required bundle, and a violated constraint that comes from other
+/// revisions than the unsettled ones alone.
 fn is_one_broken(
     alloc: Global,
     rows: &Rows,
@@ -58,12 +31,8 @@ fn is_one_broken(
     requires disputed { AreDisputed rows.now disputed.now }
     ensures broken { IfOk result (λ answer. IsTrue answer ↔ ((n : ℕ) × In n revisions.now × IsBroken rows.now unsettled.now n)) }
 {
-    for revision in revisions {
-        if is_broken(alloc, rows, disputed, unsettled, *revision)? {
-            return Ok(true);
-        }
-    }
-    Ok(false)
+    let among = Among::AllBut(unsettled);
+    Ok(one_breaks_uses(alloc, rows, disputed, among, revisions)?)
 }
 
 /// Whether a member's implied constraint that comes from settled revisions alone clashes. True only where it is so, and true

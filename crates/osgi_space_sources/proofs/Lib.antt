@@ -8,3 +8,6 @@ mod Worklist
 mod Alone
 mod Carried
 mod Using
+mod Whole
+mod Tracing
+mod Leading

@@ -9,3 +9,5 @@ pub mod Givens
 pub mod Adds
 pub mod Exact
 pub mod Collected
+pub mod Leads
+pub mod Traces

@@ -56,7 +56,7 @@ fn add_uses(
 }
 
 /// Whether the exporter's exports of the package may use packages: its own do, or it has fragments, whose exports may.
-fn may_use(rows: &Rows, exporter: u32, package: u32) -> bool
+pub(crate) fn may_use(rows: &Rows, exporter: u32, package: u32) -> bool
     ensures uses { IsTrue result ↔ MayUse rows.now exporter «package» }
 {
     if !rows.uses_of(exporter, package).is_empty() {

@@ -2,18 +2,23 @@
 #![tactic(auto)]
 
 mod among;
+mod breaking;
 mod bundles;
 mod clash;
 mod constraints;
 mod disputed;
 mod found;
 mod given;
+mod lead;
+mod leads;
 mod package_sources;
 mod revision_set;
 mod space;
+mod trace;
 mod uses;
 
 pub use among::Among;
+pub use breaking::one_breaks_uses;
 pub use bundles::reached_bundles;
 pub use clash::clashes;
 pub use constraints::{constraints_from, constraints_of};

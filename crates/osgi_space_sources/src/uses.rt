@@ -93,7 +93,7 @@ pub fn are_kept(
 }
 
 /// Whether the revision has a wire for a package or for a required bundle.
-fn has_wires(rows: &Rows, revision: u32) -> bool
+pub(crate) fn has_wires(rows: &Rows, revision: u32) -> bool
     ensures wires { IsTrue result ↔ HasWires rows.now revision }
 {
     if !rows.imports_of(revision).is_empty() {

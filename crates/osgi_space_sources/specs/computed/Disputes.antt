@@ -23,6 +23,10 @@ HoldsAll old new = (p x : ℕ) → IsNoted old p x → IsNoted new p x
 abbrev pub AreNoted : RowLists → Possible → Type 0
 AreNoted R possible = (p x : ℕ) → IsPossible R p x → IsNoted possible p x
 
+-- the package is among these
+abbrev pub IsDisputed : BTreeSet ℕ → ℕ → Type 0
+IsDisputed disputed p = IsTrue (contains nat_cmp disputed p)
+
 -- of a package that is not among these there is at most one possible source
 abbrev pub AreDisputed : RowLists → BTreeSet ℕ → Type 0
 AreDisputed R disputed = (p x y : ℕ) → IsPossible R p x → IsPossible R p y → (x ≡ y) ⊎ IsTrue (contains nat_cmp disputed p)

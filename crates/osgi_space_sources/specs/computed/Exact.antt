@@ -10,6 +10,7 @@ use Rattle.std.proofs.Common.{refl, sym, ap, ◌∙◌, subst}
 use Rattle.std.proofs.lemmas.Bool.Decides.{Decides-and, Decides-like}
 use Rattle.std.proofs.lemmas.Cmp.{eq_by_cmp_equiv, nat_cmp_total}
 use Rattle.osgi_space_sources.specs.declared.given.Given.{Given}
+use Rattle.osgi_space_sources.specs.declared.lead.Lead.{Lead}
 
 tied : (r : Ordering) → is_eq r ≡ true → r ≡ Equal
 tied Less same = absurd (cc same)
@@ -34,3 +35,19 @@ pub exact_given : (a b : Given) → Decides (eq_by_cmp given_cmp a b) (a ≡ b)
 exact_given a b =
     let same = tied_then (nat_cmp a.package b.package) (nat_cmp a.source b.source) in
     (λ t. (both a b).0 (same ∙ t), λ e. sym same ∙ (both a b).1 e)
+
+-- by export, then by source
+abbrev pub lead_cmp : Lead → Lead → Ordering
+lead_cmp = then_cmp (on (λ l. l.export) given_cmp) (on (λ l. l.source) given_cmp)
+
+both_parts : (a b : Lead) → Decides (eq_by_cmp given_cmp a.export b.export && eq_by_cmp given_cmp a.source b.source) (a ≡ b)
+both_parts a b =
+    Decides-like (eq_by_cmp given_cmp a.export b.export && eq_by_cmp given_cmp a.source b.source)
+    (λ e. λ i. record { export = e.0 i; source = e.1 i })
+    (λ e. (ap (λ (l : Lead). l.export) e, ap (λ (l : Lead). l.source) e))
+    (Decides-and _ _ (exact_given a.export b.export) (exact_given a.source b.source))
+
+pub exact_lead : (a b : Lead) → Decides (eq_by_cmp lead_cmp a b) (a ≡ b)
+exact_lead a b =
+    let same = tied_then (given_cmp a.export b.export) (given_cmp a.source b.source) in
+    (λ t. (both_parts a b).0 (same ∙ t), λ e. sym same ∙ (both_parts a b).1 e)

@@ -1,0 +1,39 @@
+-- The next export is traced; when none is left, all are.
+use Rattle.std.proofs.Common.{◌≡◌, List, arith, subst, sym, Contains}
+use Rattle.osgi_space_sources.specs.computed.Amongst.{IsAmong}
+use Rattle.osgi_space_sources.specs.computed.Disputes.{IsDisputed}
+use Rattle.osgi_space_sources.specs.computed.Traces.{IsTraced}
+use Rattle.osgi_space_sources.specs.declared.found.Found.{Found}
+use Rattle.osgi_space_sources.specs.declared.given.Given.{Given}
+use Rattle.osgi_space_sources.proofs.Tracing.{traced-kept}
+use Rattle.osgi_space_sources.proofs.Whole.{done-all, done-next, done-start, grown-kept}
+use Rattle.osgi_space_sources.proofs.trace.trace_from.Goals as goal
+
+pub loop-next-init : goal.loop-next-init
+loop-next-init c =
+    let t = c.of-trace.result in
+    record {
+      collected = c.of-trace.ensures.collected;
+      begins = λ h at. subst (λ (found : Found Given). Contains found.items.items h) (sym c.of-trace.ensures.exports) at;
+      traced = done-start (IsTraced c.args.rows.now (IsAmong c.args.among) (IsDisputed c.args.disputed.now) t) t.exports.items.items;
+    }
+
+pub loop-next-preserved : goal.loop-next-preserved
+loop-next-preserved c =
+    let R = c.args.rows.now in
+    let A = IsAmong c.args.among in
+    let D = IsDisputed c.args.disputed.now in
+    let old = c.loop-next.trace in
+    let new = c.trace_export.new.trace in
+    let keeps = c.in_ok-trace_export.ensures.kept in
+    record {
+      collected = keeps.collected;
+      begins = λ h at. grown-kept old.exports.items.items new.exports.items.items keeps.exports h (c.loop-next.invariant.begins h at);
+      traced = done-next (IsTraced R A D old) (IsTraced R A D new) old.exports.items.items new.exports.items.items c.loop-next.next c.index-export.result.now (omega arith) c.index-export.ensures keeps.exports
+          (traced-kept R A D old new keeps) c.loop-next.invariant.traced c.in_ok-trace_export.ensures.traced;
+    }
+
+pub returns-then-next-len-clause-traced : goal.returns-then-next-len-clause-traced
+returns-then-next-len-clause-traced c =
+    let t = c.loop-next.trace in
+    done-all (IsTraced c.args.rows.now (IsAmong c.args.among) (IsDisputed c.args.disputed.now) t) t.exports.items.items c.loop-next.next (omega arith) c.loop-next.invariant.traced

@@ -1,0 +1,273 @@
+//! Whether one of many revisions violates a constraint.
+
+ghost use Rattle.std.specs.Prelude.{◌↔◌, ℕ, Any, Contains, IfOk, OnOk, IsTrue};
+ghost use Rattle.osgi_space_sources.specs.computed.Amongst.{IsAmong};
+ghost use Rattle.osgi_space_sources.specs.computed.Clashes.{BreaksUses};
+ghost use Rattle.osgi_space_sources.specs.computed.Collected.{IsCollected};
+ghost use Rattle.osgi_space_sources.specs.computed.Disputes.{AreDisputed, IsDisputed};
+ghost use Rattle.osgi_space_sources.specs.computed.Exact.{given_cmp};
+ghost use Rattle.osgi_space_sources.specs.computed.Givens.{IsSeen};
+ghost use Rattle.osgi_space_sources.specs.computed.Leads.{AreLeads, Agrees, IsUnder, KeepsAll, StartsWith};
+ghost use Rattle.osgi_space_sources.specs.declared.given.Given.{Given};
+
+use crate::among::Among;
+use crate::constraints::may_use;
+use crate::found::{FEW, Found, is_listed};
+use crate::given::Given;
+use crate::leads::leads_of;
+use crate::package_sources::sources_of;
+use crate::space::space_of;
+use crate::uses::{has_wires, keeps_uses};
+use osgi_space_rows::{Grouped, Rows};
+use std::alloc::{AllocError, Global};
+use std::collections::BTreeSet;
+
+// ---- the exports that revisions see
+
+/// Adds the source's export of the package, if constraints may come from it and it may use packages.
+fn add_start(
+    found: &mut Found<Given>,
+    rows: &Rows,
+    among: Among,
+    given: Given,
+) -> Result<(), AllocError>
+    requires collected { IsCollected given_cmp found.old }
+    ensures collected { OnOk result (IsCollected given_cmp found.new) }
+    ensures kept { OnOk result (KeepsAll found.old found.new) }
+    ensures added { OnOk result (StartsWith rows.now (IsAmong among.entry) found.new given) }
+{
+    if !may_use(rows, given.source, given.package) {
+        return Ok(());
+    }
+    if !among.has(given.source) {
+        return Ok(());
+    }
+    found.add(given)?;
+    Ok(())
+}
+
+fn add_all(
+    found: &mut Found<Given>,
+    rows: &Rows,
+    among: Among,
+    givens: &[Given],
+) -> Result<(), AllocError>
+    requires collected { IsCollected given_cmp found.old }
+    ensures collected { OnOk result (IsCollected given_cmp found.new) }
+    ensures kept { OnOk result (KeepsAll found.old found.new) }
+    ensures added { OnOk result ((h : Given) → Contains givens.now h → StartsWith rows.now (IsAmong among.entry) found.new h) }
+{
+    for given in givens {
+        add_start(found, rows, among, *given)?;
+    }
+    Ok(())
+}
+
+/// Adds the exports that the revision sees.
+fn add_seen(
+    alloc: Global,
+    found: &mut Found<Given>,
+    rows: &Rows,
+    among: Among,
+    revision: u32,
+) -> Result<(), AllocError>
+    requires collected { IsCollected given_cmp found.old }
+    ensures collected { OnOk result (IsCollected given_cmp found.new) }
+    ensures kept { OnOk result (KeepsAll found.old found.new) }
+    ensures added { OnOk result ((h : Given) → IsSeen rows.now revision h → StartsWith rows.now (IsAmong among.entry) found.new h) }
+{
+    let givens = space_of(alloc, rows, revision)?;
+    add_all(found, rows, among, givens.as_slice())?;
+    Ok(())
+}
+
+/// The exports that these revisions see, from which constraints may come.
+fn starts_of(
+    alloc: Global,
+    rows: &Rows,
+    among: Among,
+    revisions: &[u32],
+) -> Result<Found<Given>, AllocError>
+    ensures collected { IfOk result (λ found. IsCollected given_cmp found) }
+    ensures starts { IfOk result (λ found. (n : ℕ) (h : Given) → Contains revisions.now n → IsSeen rows.now n h → StartsWith rows.now (IsAmong among.entry) found h) }
+{
+    let mut found = Found::new(alloc);
+    for revision in revisions {
+        add_seen(alloc, &mut found, rows, among, *revision)?;
+    }
+    Ok(found)
+}
+
+// ---- one revision
+
+/// Adds what stands under the export.
+fn add_leads(
+    found: &mut Found<Given>,
+    leads: &Grouped<Given, Given>,
+    export: Given,
+) -> Result<(), AllocError>
+    requires collected { IsCollected given_cmp found.old }
+    ensures collected { OnOk result (IsCollected given_cmp found.new) }
+    ensures kept { OnOk result (KeepsAll found.old found.new) }
+    ensures added { OnOk result ((s : Given) → IsUnder leads.now export s → Contains found.new.items.items s) }
+{
+    for source in leads.of(&export) {
+        found.add(*source)?;
+    }
+    Ok(())
+}
+
+/// What stands under these exports.
+fn leads_under(
+    alloc: Global,
+    leads: &Grouped<Given, Given>,
+    exports: &[Given],
+) -> Result<Found<Given>, AllocError>
+    ensures leads { IfOk result (λ found. (h s : Given) → Contains exports.now h → IsUnder leads.now h s → Contains found.items.items s) }
+{
+    let mut found = Found::new(alloc);
+    for export in exports {
+        add_leads(&mut found, leads, *export)?;
+    }
+    Ok(found)
+}
+
+/// Whether it is a source of its package for the revision, or the package has none for it.
+fn agrees(alloc: Global, rows: &Rows, revision: u32, source: Given) -> Result<bool, AllocError>
+    ensures agrees { IfOk result (λ answer. IsTrue answer → Agrees rows.now revision source) }
+{
+    let found = sources_of(alloc, rows, revision, source.package)?;
+    let sources = found.as_slice();
+    if sources.is_empty() {
+        return Ok(true);
+    }
+    Ok(is_listed(sources, source))
+}
+
+/// Whether it is so with all of these.
+fn all_agree(
+    alloc: Global,
+    rows: &Rows,
+    revision: u32,
+    sources: &[Given],
+) -> Result<bool, AllocError>
+    ensures agree { IfOk result (λ answer. IsTrue answer → (s : Given) → Contains sources.now s → Agrees rows.now revision s) }
+{
+    for source in sources {
+        if !agrees(alloc, rows, revision, *source)? {
+            return Ok(false);
+        }
+    }
+    Ok(true)
+}
+
+/// Whether the revision has all sources to which the exports that it sees lead, or none of their packages. Then it violates no
+/// constraint.
+fn plainly_keeps_uses(
+    alloc: Global,
+    rows: &Rows,
+    leads: &Grouped<Given, Given>,
+    revision: u32,
+) -> Result<bool, AllocError>
+    ensures keeps { IfOk result (λ answer. IsTrue answer → (h s : Given) → IsSeen rows.now revision h → IsUnder leads.now h s → Agrees rows.now revision s) }
+{
+    let givens = space_of(alloc, rows, revision)?;
+    let sources = leads_under(alloc, leads, givens.as_slice())?;
+    Ok(all_agree(alloc, rows, revision, sources.items.as_slice())?)
+}
+
+/// Whether the revision has a wire, and a violated constraint that comes from these revisions alone.
+fn breaks_uses(
+    alloc: Global,
+    rows: &Rows,
+    disputed: &BTreeSet<u32>,
+    among: Among,
+    revision: u32,
+) -> Result<bool, AllocError>
+    requires disputed { AreDisputed rows.now disputed.now }
+    ensures breaks { IfOk result (λ answer. IsTrue answer ↔ BreaksUses rows.now (IsAmong among.entry) revision) }
+{
+    if !has_wires(rows, revision) {
+        return Ok(false);
+    }
+    Ok(!keeps_uses(alloc, rows, disputed, among, revision)?)
+}
+
+/// The same by what exports lead to.
+fn breaks_uses_by(
+    alloc: Global,
+    rows: &Rows,
+    disputed: &BTreeSet<u32>,
+    among: Among,
+    leads: &Grouped<Given, Given>,
+    revision: u32,
+) -> Result<bool, AllocError>
+    requires disputed { AreDisputed rows.now disputed.now }
+    requires leads { AreLeads rows.now (IsAmong among) (IsDisputed disputed.now) leads.now revision }
+    ensures breaks { IfOk result (λ answer. IsTrue answer ↔ BreaksUses rows.now (IsAmong among.entry) revision) }
+{
+    if plainly_keeps_uses(alloc, rows, leads, revision)? {
+        return Ok(false);
+    }
+    breaks_uses(alloc, rows, disputed, among, revision)
+}
+
+// ---- all of them
+
+fn one_breaks_alone(
+    alloc: Global,
+    rows: &Rows,
+    disputed: &BTreeSet<u32>,
+    among: Among,
+    revisions: &[u32],
+) -> Result<bool, AllocError>
+    requires disputed { AreDisputed rows.now disputed.now }
+    ensures breaks { IfOk result (λ answer. IsTrue answer ↔ Any (BreaksUses rows.now (IsAmong among.entry)) revisions.now) }
+{
+    for revision in revisions {
+        if breaks_uses(alloc, rows, disputed, among, *revision)? {
+            return Ok(true);
+        }
+    }
+    Ok(false)
+}
+
+fn one_breaks_by(
+    alloc: Global,
+    rows: &Rows,
+    disputed: &BTreeSet<u32>,
+    among: Among,
+    leads: &Grouped<Given, Given>,
+    revisions: &[u32],
+) -> Result<bool, AllocError>
+    requires disputed { AreDisputed rows.now disputed.now }
+    requires leads { (n : ℕ) → Contains revisions.now n → AreLeads rows.now (IsAmong among) (IsDisputed disputed.now) leads.now n }
+    ensures breaks { IfOk result (λ answer. IsTrue answer ↔ Any (BreaksUses rows.now (IsAmong among.entry)) revisions.now) }
+{
+    for revision in revisions {
+        if breaks_uses_by(alloc, rows, disputed, among, leads, *revision)? {
+            return Ok(true);
+        }
+    }
+    Ok(false)
+}
+
+/// Whether one of the revisions has a wire, and a violated constraint that comes from the revisions of `among` alone. Of many
+/// revisions, what the exports that they see lead to is found once for all of them.
+pub fn one_breaks_uses(
+    alloc: Global,
+    rows: &Rows,
+    disputed: &BTreeSet<u32>,
+    among: Among,
+    revisions: &[u32],
+) -> Result<bool, AllocError>
+    requires disputed { AreDisputed rows.now disputed.now }
+    ensures breaks { IfOk result (λ answer. IsTrue answer ↔ Any (BreaksUses rows.now (IsAmong among.entry)) revisions.now) }
+{
+    if disputed.is_empty() || revisions.len() <= FEW {
+        return one_breaks_alone(alloc, rows, disputed, among, revisions);
+    }
+    let starts = starts_of(alloc, rows, among, revisions)?;
+    let leads = leads_of(alloc, rows, disputed, among, starts)?;
+    one_breaks_by(alloc, rows, disputed, among, &leads, revisions)
+}

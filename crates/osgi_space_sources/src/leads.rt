@@ -1,0 +1,88 @@
+//! The sources of disputed packages to which exports lead.
+
+ghost use Rattle.std.specs.Prelude.{◌↔◌, Contains, IfOk, OnOk};
+ghost use Rattle.osgi_space_sources.specs.computed.Adds.{Adds};
+ghost use Rattle.osgi_space_sources.specs.computed.Amongst.{IsAmong};
+ghost use Rattle.osgi_space_sources.specs.computed.Collected.{IsCollected};
+ghost use Rattle.osgi_space_sources.specs.computed.Disputes.{IsDisputed};
+ghost use Rattle.osgi_space_sources.specs.computed.Exact.{given_cmp, lead_cmp};
+ghost use Rattle.osgi_space_sources.specs.computed.Leads.{IsLead, IsUnder, LeadsBack};
+ghost use Rattle.osgi_space_sources.specs.computed.Reach.{Reach};
+ghost use Rattle.osgi_space_sources.specs.declared.given.Given.{Given};
+ghost use Rattle.osgi_space_sources.specs.declared.lead.Lead.{Lead};
+
+use crate::among::Among;
+use crate::found::Found;
+use crate::given::Given;
+use crate::lead::Lead;
+use crate::trace::{Trace, trace_from};
+use osgi_space_rows::{Grouped, Rows};
+use std::alloc::{AllocError, Global};
+use std::collections::BTreeSet;
+
+/// Adds that those who use the export lead to the source, too.
+fn add_users(
+    leads: &mut Found<Lead>,
+    users: &Grouped<Given, Given>,
+    lead: Lead,
+) -> Result<(), AllocError>
+    requires collected { IsCollected lead_cmp leads.old }
+    ensures collected { OnOk result (IsCollected lead_cmp leads.new) }
+    ensures added { OnOk result (Adds (LeadsBack users.now lead) leads.old.items.items leads.new.items.items) }
+{
+    for user in users.of(&lead.export) {
+        leads.add(Lead {
+            export: *user,
+            source: lead.source,
+        })?;
+    }
+    Ok(())
+}
+
+/// What the exports lead to, and those that use them, and so on.
+fn carried_back(
+    leads: Found<Lead>,
+    users: &Grouped<Given, Given>,
+) -> Result<Found<Lead>, AllocError>
+    requires collected { IsCollected lead_cmp leads }
+    ensures carried { IfOk result (λ all. (l : Lead) → Contains all.items.items l ↔ Reach (Contains leads.items.items) (LeadsBack users.now) l) }
+{
+    let mut all = leads;
+    for next in 0..usize::MAX {
+        if next >= all.items.len() {
+            return Ok(all);
+        }
+        let lead = all.items[next];
+        add_users(&mut all, users, lead)?;
+    }
+    Ok(all)
+}
+
+/// The sources by the exports that lead to them.
+fn by_export(alloc: Global, leads: &[Lead]) -> Result<Grouped<Given, Given>, AllocError>
+    ensures grouped { IfOk result (λ grouped. (l : Lead) → Contains leads.now l → IsUnder grouped l.export l.source) }
+{
+    let mut grouped = Grouped::new(alloc);
+    for lead in leads {
+        grouped.push(lead.export, lead.source)?;
+    }
+    Ok(grouped)
+}
+
+/// The sources of disputed packages to which these exports lead: of each constraint that follows from an export, those of its package
+/// for the one that sees it. Others may stand there, too.
+pub fn leads_of(
+    alloc: Global,
+    rows: &Rows,
+    disputed: &BTreeSet<u32>,
+    among: Among,
+    exports: Found<Given>,
+) -> Result<Grouped<Given, Given>, AllocError>
+    requires collected { IsCollected given_cmp exports }
+    ensures leads { IfOk result (λ leads. (h s : Given) → Contains exports.items.items h → IsLead rows.now (IsAmong among.entry) h s → IsDisputed disputed.now s.package → IsUnder leads h s) }
+{
+    let traced = trace_from(alloc, rows, disputed, among, exports)?;
+    let Trace { users, leads, .. } = traced;
+    let all = carried_back(leads, &users)?;
+    Ok(by_export(alloc, all.items.as_slice())?)
+}
