@@ -77,6 +77,10 @@ module _ (s : Standing) (P : Problem) (L : IsProblemOf s P) (last : Last) (x : I
 
 -- ---- its kinds
 
+-- on a wire of m
+pub pick-is : (d : DecisionRef) (h m : RevisionId) (q : ReqRef) (c : CapRef) → d ≡ Pick h q c → h ≡ m → decision_of d ≡ pick m q c
+pick-is d h m q c is own = ap decision_of is ∙ ap (λ (r : RevisionId). pick r q c) own
+
 module _ (P : Problem) (D : Made) (m : RevisionId) (d : DecisionRef) (v : ℕ) where
   pub host-is : (e : DecisionRef) → d ≡ e → m ≡ host (decision_of d) → host (decision_of e) ≡ m
   host-is e is same = sym (same ∙ ap (λ (r : DecisionRef). host (decision_of r)) is)

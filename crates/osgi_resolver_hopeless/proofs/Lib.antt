@@ -18,3 +18,4 @@ pub mod Reasons
 pub mod Newly
 pub mod Tested
 pub mod Latest
+pub mod Picks

@@ -1,6 +1,6 @@
 -- What a wire takes of a host that is decided is on offer, where no bundle wire goes to the host, it imports nothing that it exports,
 -- and no fragment can be attached to it.
-use Rattle.std.proofs.Common.{◌≡◌, ◌≢◌, ◌<◌, ◌↔◌, inl, inr, ℕ, true, List, [], Any, refl, sym, ◌∙◌, ap, subst}
+use Rattle.std.proofs.Common.{◌≡◌, ◌≢◌, ◌<◌, ◌↔◌, inl, inr, ℕ, true, List, [], Any, refl, sym, ◌∙◌, ap, subst, Contains}
 use Rattle.osgi_base.specs.declared.ids.RevisionId.{RevisionId}
 use Rattle.osgi_resolver_hopeless.proofs.Settling.{reach-from}
 use Rattle.osgi_resolver_hopeless.specs.computed.Clashing.{HasLostAt}
@@ -14,7 +14,7 @@ use Rattle.osgi_space_rows.specs.Rows.{OwnExport, Reexports, Requires, RowLists,
 use Rattle.osgi_space_rows.specs.declared.rows.Required.{Required}
 use Rattle.osgi_space_sources.proofs.Rows.{some-imported}
 use Rattle.osgi_space_sources.specs.computed.Reach.{Reach, starts, steps}
-use Rattle.osgi_space_sources.specs.laws.Adding.{any-of}
+use Rattle.osgi_space_sources.specs.laws.Adding.{any-in, any-of}
 use Rattle.osgi_world.specs.Candidates.{IsCandidate, IsProblem, matching}
 use Rattle.osgi_world.specs.Decisions.{Made}
 use Rattle.osgi_world.specs.DueDecisions.{members}
@@ -35,6 +35,12 @@ some-replacing R r =
       λ any. let at = some.0 any in (at.0, at.1, at.2, at.3.0, at.3.1),
       λ own. some.1 (own.0, own.1, own.2, (own.3, own.4)),
     )
+
+-- whose bundle wire goes to h
+pub row-required : (R : RowLists) (h : ℕ) → Any (λ (row : Required). row.provider ≡ h) R.required → (r : ℕ) × Requires R r h
+row-required R h any =
+    let row = any.1 in
+    (row.revision, (row.reexport, subst (λ (x : ℕ). Contains R.required (record { revision = row.revision; provider = x; reexport = row.reexport })) any.4 (any-in (λ (i : Required). i.provider ≡ h) R.required any)))
 
 -- where h is reached, a bundle wire goes to it
 pub reached-required : (R : RowLists) (r h : ℕ) → Reach (Requires R r) (Reexports R) h → Any (λ (row : Required). row.provider ≡ h) R.required

@@ -131,11 +131,11 @@ pub fn concerned_by(
     ensures all { IfOk result (λ list. (P : Problem) → IsProblemOf path.now P → In host (members P (made P path.now)) → (h : HasClashAt P (made P path.now) host) → In h.clash.member.0 list.items) }
 {
     let leading = leading_to(alloc, path, host)?;
-    let rows = path.disputed_rows();
-    let wires = rows.world_rows().rows();
-    if is_required(wires, host.0) {
+    if is_required(path, host) {
         return Ok(leading.items);
     }
+    let rows = path.disputed_rows();
+    let wires = rows.world_rows().rows();
     let imports = imports_to(alloc, wires, leading.items.as_slice(), host.0)?;
     let among = Among::AllBut(unsettled);
     let through = constraints_from(alloc, wires, among, imports.as_slice(), &[])?;

@@ -1,12 +1,15 @@
 //! Whether what a wire takes may not be on offer any more, once a host is decided.
 
-ghost use Rattle.std.specs.Prelude.{◌≡◌, ◌↔◌, Any, IfOk, IsTrue};
+ghost use Rattle.std.specs.Prelude.{◌↔◌, IfOk, IsTrue};
+ghost use Rattle.osgi_base.specs.declared.ids.RevisionId.{RevisionId};
 ghost use Rattle.osgi_resolver_hopeless.specs.computed.Clashing.{HasLostAt};
 ghost use Rattle.osgi_resolver_hopeless.specs.computed.Losing.{IsReplacing, ReplacesOwn};
 ghost use Rattle.osgi_resolver_hopeless.specs.computed.Stuck.{IsMemberOf};
 ghost use Rattle.osgi_resolver_path.specs.Standing.{made};
 ghost use Rattle.osgi_resolver_theory.specs.States.{State};
-ghost use Rattle.osgi_space_rows.specs.declared.rows.Required.{Required};
+ghost use Rattle.osgi_space_rows.specs.Rows.{Requires};
+ghost use Rattle.osgi_world.specs.Partial.{partial};
+ghost use Rattle.osgi_world.specs.Wirings.{BundleWire};
 ghost use Rattle.osgi_world.specs.declared.problem.Problem.{Problem};
 
 use osgi_base::RevisionId;
@@ -37,13 +40,28 @@ fn replaces_own(rows: &Rows, revision: u32) -> bool
     false
 }
 
-/// Whether a wire for a required bundle goes to the revision.
-pub fn is_required(rows: &Rows, revision: u32) -> bool
-    ensures required { IsTrue result ↔ Any (λ (row : Required). row.provider ≡ revision) rows.now.required }
+/// Whether the revision has a wire for a required bundle to this one.
+fn has_bundle_wire(rows: &Rows, revision: u32, bundle: u32) -> bool
+    ensures wire { IsTrue result ↔ Requires rows.now revision bundle }
 {
-    let required = rows.required();
-    for row in required {
-        if row.provider == revision {
+    for row in rows.required_by(revision) {
+        if row.provider == bundle {
+            return true;
+        }
+    }
+    false
+}
+
+/// Whether a wire for a required bundle goes to the host, which is a member. Only who has a wire to it is asked.
+pub fn is_required(path: &Path, host: RevisionId) -> bool
+    ensures required { (P : Problem) → IsMemberOf path.now P host → IsTrue result ↔ ((r : RevisionId) × BundleWire P.world.known (partial P (made P path.now)) r host) }
+{
+    let rows = path.rows().rows();
+    if rows.required().is_empty() {
+        return false;
+    }
+    for holder in path.wired_to(host) {
+        if has_bundle_wire(rows, *holder, host.0) {
             return true;
         }
     }
@@ -55,11 +73,10 @@ pub fn is_required(rows: &Rows, revision: u32) -> bool
 pub fn may_lose(alloc: Global, path: &Path, host: RevisionId) -> Result<bool, AllocError>
     ensures all { IfOk result (λ answer. (P : Problem) → IsMemberOf path.now P host → State P (made P path.now) → HasLostAt P (made P path.now) host → IsTrue answer) }
 {
-    let rows = path.rows().rows();
-    if is_required(rows, host.0) {
+    if is_required(path, host) {
         return Ok(true);
     }
-    if replaces_own(rows, host.0) {
+    if replaces_own(path.rows().rows(), host.0) {
         return Ok(true);
     }
     let fragments = path.offers().fragments_for(alloc, host)?;

@@ -14,11 +14,8 @@ pub fn exported_number(rows: &WorldRows, capability: CapRef) -> Option<u32>
     ensures numbered { AreNumbered rows.now.names rows.now.rows }
 {
     let names = rows.names();
-    let Some(package) = rows
+    let package = rows
         .known()
-        .exported_package(capability.owner, capability.index)
-    else {
-        return None;
-    };
+        .exported_package(capability.owner, capability.index)?;
     names.number(package)
 }

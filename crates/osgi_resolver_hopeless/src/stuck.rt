@@ -1,16 +1,20 @@
 //! Whether a member makes what is decided hopeless by itself.
 
-ghost use Rattle.std.specs.Prelude.{◌≡◌, ◌↔◌, IfOk, IsTrue, Some};
+ghost use Rattle.std.specs.Prelude.{◌≡◌, ◌↔◌, ◌∷◌, [], ◌++◌, IfOk, IsTrue, List, Some};
 ghost use Rattle.osgi_resolver_hopeless.specs.computed.Stuck.{HasNamesake, IsAmiss, IsAmissBy, CannotBeMet, IsFragmentAmiss, IsMemberOf, IsNewlyAmiss, IsOtherFragment, IsStuck, IsStuckBy, OtherProvider, SameName, TwoProviders};
 ghost use Rattle.osgi_resolver_decisions.specs.DecisionOf.{decision_of};
 ghost use Rattle.osgi_resolver_path.specs.Last.{IsLast};
 ghost use Rattle.osgi_resolver_path.specs.Standing.{IsProblemOf, made};
 ghost use Rattle.osgi_resolver_path.specs.declared.wired.Wired.{Wired};
+ghost use Rattle.osgi_world.specs.Candidates.{candidates};
+ghost use Rattle.osgi_world.specs.Decisions.{pick};
+ghost use Rattle.osgi_world.specs.Lookups.{is_effective};
 ghost use Rattle.osgi_world.specs.Partial.{partial};
 ghost use Rattle.osgi_world.specs.DueDecisions.{fragments_of, members, payload};
 ghost use Rattle.osgi_world.specs.Lists.{In, Two};
 ghost use Rattle.osgi_base.specs.declared.ids.RevisionId.{RevisionId};
 ghost use Rattle.osgi_world.specs.declared.problem.Problem.{Problem};
+ghost use Rattle.osgi_world.specs.declared.wiring.CapRef.{CapRef};
 
 use crate::offer::is_attached;
 use crate::place::known_at;
@@ -109,12 +113,31 @@ fn is_attached_amiss(path: &Path, member: RevisionId, fragment: RevisionId, valu
     is_fragment_amiss(path, member, fragment)
 }
 
-/// Whether a decision on a wire of the requirement has the value no, and the requirement can get no wire any more.
-fn is_refused_amiss(path: &Path, member: RevisionId, requirement: ReqRef, value: u64) -> bool
-    ensures amiss { (P : Problem) → IsMemberOf path.now P member → In requirement (payload P (made P path.now) member)
-        → IsTrue result ↔ (value ≡ 1) × In requirement (payload P (made P path.now) member) × CannotBeMet P (made P path.now) member requirement }
+/// Whether the decision is the one on the last candidate of the member's requirement.
+fn is_on_last(path: &Path, decision: DecisionRef, member: RevisionId, requirement: ReqRef) -> bool
+    ensures last { (P : Problem) → IsMemberOf path.now P member → In requirement (payload P (made P path.now) member) → IsTrue (is_effective P.world.known requirement)
+        → IsTrue result ↔ ((before : List CapRef) × (c : CapRef) × (candidates P requirement ≡ before ++ c ∷ []) × (decision_of decision ≡ pick member requirement c)) }
 {
-    if value != 1 {
+    let Some(capability) = path.candidates(requirement).last() else {
+        return false;
+    };
+    decision.is_same(DecisionRef::Pick {
+        host: member,
+        requirement,
+        capability: *capability,
+    })
+}
+
+/// Whether the last decision, which is on a wire of the requirement, has the value no, and the requirement can get no wire any
+/// more. The wires are decided in the order of their candidates, so they are asked only after the decision on the last of these.
+fn is_refused_amiss(path: &Path, last: Last, member: RevisionId, requirement: ReqRef) -> bool
+    ensures amiss { (P : Problem) (c : CapRef) → IsMemberOf path.now P member → IsLast P path.now last → decision_of last.decision ≡ pick member requirement c → In requirement (payload P (made P path.now) member)
+        → IsTrue result ↔ (last.value ≡ 1) × In requirement (payload P (made P path.now) member) × CannotBeMet P (made P path.now) member requirement }
+{
+    if last.value != 1 {
+        return false;
+    }
+    if !is_on_last(path, last.decision, member, requirement) {
         return false;
     }
     cannot_be_met(path, member, requirement)
@@ -134,7 +157,7 @@ fn is_amiss_by(path: &Path, last: Last, member: RevisionId) -> bool
         }
         DecisionRef::Choose { .. } => false,
         DecisionRef::Pick { requirement, .. } => {
-            is_refused_amiss(path, member, requirement, last.value)
+            is_refused_amiss(path, last, member, requirement)
         }
     }
 }

@@ -3,7 +3,7 @@ use Rattle.std.proofs.Common.{◌≡◌, ◌==◌, ◌∙◌, ◌↔◌, ℕ, in
 use Rattle.std.proofs.lemmas.Bool.{eq-eqb}
 use Rattle.osgi_base.specs.declared.ids.RevisionId.{RevisionId}
 use Rattle.osgi_resolver_hopeless.proofs.Answering.{known-is}
-use Rattle.osgi_resolver_hopeless.proofs.Backwards.{back-member, holder-member, leads-back}
+use Rattle.osgi_resolver_hopeless.proofs.Backwards.{back-member, leads-back}
 use Rattle.osgi_resolver_hopeless.proofs.Passing.{through-clash}
 use Rattle.osgi_resolver_hopeless.proofs.Settling.{settled-away}
 use Rattle.osgi_resolver_hopeless.specs.computed.Leading.{LeadsBack}
@@ -15,7 +15,6 @@ use Rattle.osgi_space_rows.specs.Names.{name_numbered}
 use Rattle.osgi_space_rows.specs.Rows.{RowLists, imports_of}
 use Rattle.osgi_space_rows.specs.Worlds.{WorldLists}
 use Rattle.osgi_space_rows.specs.declared.rows.Import.{Import}
-use Rattle.osgi_space_rows.specs.declared.rows.Required.{Required}
 use Rattle.osgi_space_rules.proofs.OneValue.{not_true}
 use Rattle.osgi_space_sources.specs.computed.Clashes.{IsClash}
 use Rattle.osgi_space_sources.specs.computed.Disputes.{AreDisputed}
@@ -71,9 +70,8 @@ returns c =
           subst (AreRowsOf P.world.known (partial P D) N) (sym same)
           (subst (λ K. AreRowsOf K (partial P D) N lists.rows) (known-is c.args.path.now P L lists.known c.disputed_rows-rows.ensures.known) (c.disputed_rows-rows.ensures.rows P L)) in
           let leading = c.in_ok-leading.ensures.leading P L in
-          let alone : (r : RevisionId) → ¬ BundleWire P.world.known (partial P D) r host = λ r b.
-          let at = (is.requires r.0 host.0).1 b in
-          not_true _ c.if-is_required.false (c.is_required.ensures.required.1 (any-of (λ (row : Required). row.provider ≡ host.0) R.required (record { revision = r.0; provider = host.0; reexport = at.0 }) at.1 refl)) in
+          let alone : (r : RevisionId) → ¬ BundleWire P.world.known (partial P D) r host =
+          λ r b. not_true _ c.if-is_required.false ((c.is_required.ensures.required P (record { problem = L; member = there })).1 (r, b)) in
           let imports = c.in_ok-imports.imports.items in
           let all : (row : Import) → Contains R.imports row → row.provider ≡ host.0 → IsWiredTo P D host row.revision → Contains imports row = λ row at to w.
           let wired = contains-in items row.revision ((leading row.revision).1 (steps (starts refl) w)) in

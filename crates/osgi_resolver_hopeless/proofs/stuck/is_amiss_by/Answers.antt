@@ -2,10 +2,9 @@
 use Rattle.std.proofs.Common.{◌≡◌, ◌∙◌, ap, refl, sym, subst}
 use Rattle.osgi_base.specs.declared.ids.RevisionId.{RevisionId}
 use Rattle.osgi_resolver_hopeless.proofs.Answering.{no}
-use Rattle.osgi_resolver_hopeless.proofs.Latest.{attach-by, choose-by, host-is, last-attached, last-picked, other-by, pick-by}
+use Rattle.osgi_resolver_hopeless.proofs.Latest.{attach-by, choose-by, host-is, last-attached, last-picked, other-by, pick-by, pick-is}
 use Rattle.osgi_resolver_path.specs.Standing.{made}
 use Rattle.osgi_resolver_decisions.specs.DecisionOf.{decision_of}
-use Rattle.osgi_resolver_decisions.specs.declared.decision_ref.DecisionRef.TheVariants.{Attach, Choose, Pick}
 use Rattle.osgi_space_rows.specs.Agree.{id}
 use Rattle.osgi_world.specs.Decisions.{host}
 use Rattle.osgi_world.specs.DueDecisions.{fragments_of, payload}
@@ -43,6 +42,7 @@ returns-in-Pick c = record {
       let q = c.in-Pick.requirement in
       let own : m ≡ host (decision_of d) = sym (ap id c.if-host-member.false) ∙ c.host.ensures.host in
       let h = host-is P (made P s) m d c.args.last.value _ c.in-Pick.is own in
+      let is = pick-is d _ m q _ c.in-Pick.is h in
       pick-by P (made P s) m d c.args.last.value _ q _ _ c.in-Pick.is h
-      (c.is_refused_amiss.ensures.amiss P M (subst (λ (r : RevisionId). In q (payload P (made P s) r)) h (last-picked s P M.problem c.args.last x _ q _ c.in-Pick.is)));
+      (c.is_refused_amiss.ensures.amiss P _ M x is (subst (λ (r : RevisionId). In q (payload P (made P s) r)) h (last-picked s P M.problem c.args.last x _ q _ c.in-Pick.is)));
 }
