@@ -4,11 +4,10 @@ ghost use Rattle.std.specs.Prelude.{◌↔◌, ℕ, IfOk, IsTrue};
 ghost use Rattle.osgi_space_sources.specs.computed.Disputes.{AreDisputed};
 ghost use Rattle.osgi_resolver_hopeless.specs.computed.Clashing.{HasClash, HasClashAt, IsBroken};
 ghost use Rattle.osgi_resolver_hopeless.specs.computed.Open.{AreUnsettled};
-ghost use Rattle.osgi_resolver_path.specs.Standing.{IsProblemOf, made};
+ghost use Rattle.osgi_resolver_path.specs.Standing.{At};
 ghost use Rattle.osgi_space_rows.specs.Agree.{id};
 ghost use Rattle.osgi_world.specs.DueDecisions.{members};
 ghost use Rattle.osgi_world.specs.Lists.{In};
-ghost use Rattle.osgi_world.specs.declared.problem.Problem.{Problem};
 
 use crate::concerned::concerned_by;
 use crate::settled::{numbers, unsettled};
@@ -32,7 +31,8 @@ fn is_one_broken(
     revisions: &[u32],
 ) -> Result<bool, AllocError>
     requires disputed { AreDisputed rows.now disputed.now }
-    ensures broken { IfOk result (λ answer. IsTrue answer ↔ ((n : ℕ) × In n revisions.now × IsBroken rows.now unsettled.now n)) }
+    ensures broken { IfOk result (λ answer. IsTrue answer
+        ↔ ((n : ℕ) × In n revisions.now × IsBroken rows.now unsettled.now n)) }
 {
     let among = Among::AllBut(unsettled);
     Ok(one_breaks_uses(alloc, rows, disputed, among, revisions)?)
@@ -46,10 +46,12 @@ fn has_clash_among(
     unsettled: &RevisionSet,
     numbers: &[u32],
 ) -> Result<bool, AllocError>
-    requires unsettled { (P : Problem) → IsProblemOf path.now P → AreUnsettled P (made P path.now) unsettled.now }
-    ensures clash { IfOk result (λ answer. (P : Problem) → IsProblemOf path.now P → ((n : ℕ) → In n numbers.now → In (id n) (members P (made P path.now)))
-        → IsTrue answer → HasClash P (made P path.now)) }
-    ensures all { IfOk result (λ answer. (P : Problem) → IsProblemOf path.now P → (h : HasClash P (made P path.now)) → In h.member.0 numbers.now → IsTrue answer) }
+    requires unsettled { At path.now (λ P D. AreUnsettled P D unsettled.now) }
+    ensures clash { IfOk result (λ answer. At path.now (λ P D. ((n : ℕ) → In n numbers.now
+        → In (id n) (members P D))
+        → IsTrue answer → HasClash P D)) }
+    ensures all { IfOk result (λ answer. At path.now (λ P D. (h : HasClash P D)
+        → In h.member.0 numbers.now → IsTrue answer)) }
 {
     let rows = path.disputed_rows();
     Ok(is_one_broken(
@@ -63,8 +65,8 @@ fn has_clash_among(
 
 /// Whether a member's implied constraint that comes from settled revisions alone clashes.
 pub fn has_clash(alloc: Global, path: &Path, unsettled: &RevisionSet) -> Result<bool, AllocError>
-    requires unsettled { (P : Problem) → IsProblemOf path.now P → AreUnsettled P (made P path.now) unsettled.now }
-    ensures clash { IfOk result (λ answer. (P : Problem) → IsProblemOf path.now P → IsTrue answer ↔ HasClash P (made P path.now)) }
+    requires unsettled { At path.now (λ P D. AreUnsettled P D unsettled.now) }
+    ensures clash { IfOk result (λ answer. At path.now (λ P D. IsTrue answer ↔ HasClash P D)) }
 {
     let members = numbers(alloc, path.members())?;
     Ok(has_clash_among(alloc, path, unsettled, members.as_slice())?)
@@ -74,8 +76,10 @@ pub fn has_clash(alloc: Global, path: &Path, unsettled: &RevisionSet) -> Result<
 /// wherever such a member leads to the host, and the constraint comes through it. It is looked for only where a package may have
 /// several sources.
 pub fn has_clash_at(alloc: Global, path: &Path, host: RevisionId) -> Result<bool, AllocError>
-    ensures clash { IfOk result (λ answer. (P : Problem) → IsProblemOf path.now P → In host (members P (made P path.now)) → IsTrue answer → HasClash P (made P path.now)) }
-    ensures all { IfOk result (λ answer. (P : Problem) → IsProblemOf path.now P → In host (members P (made P path.now)) → HasClashAt P (made P path.now) host → IsTrue answer) }
+    ensures clash { IfOk result (λ answer. At path.now (λ P D. In host (members P D) → IsTrue answer
+        → HasClash P D)) }
+    ensures all { IfOk result (λ answer. At path.now (λ P D. In host (members P D)
+        → HasClashAt P D host → IsTrue answer)) }
 {
     if path.disputed_rows().disputed().is_empty() {
         return Ok(false);

@@ -5,13 +5,12 @@ ghost use Rattle.osgi_space_sources.specs.computed.Clashes.{IsClash};
 ghost use Rattle.osgi_space_sources.specs.computed.Disputes.{AreDisputed};
 ghost use Rattle.osgi_resolver_hopeless.specs.computed.Clashing.{HasClashAt};
 ghost use Rattle.osgi_resolver_hopeless.specs.computed.Open.{AreUnsettled};
-ghost use Rattle.osgi_resolver_path.specs.Standing.{IsProblemOf, made};
+ghost use Rattle.osgi_resolver_path.specs.Standing.{At};
 ghost use Rattle.osgi_space_rows.specs.Agree.{id};
 ghost use Rattle.osgi_space_rows.specs.Rows.{imports_of};
 ghost use Rattle.osgi_space_rows.specs.declared.rows.Import.{Import};
 ghost use Rattle.osgi_world.specs.DueDecisions.{members};
 ghost use Rattle.osgi_world.specs.Lists.{In};
-ghost use Rattle.osgi_world.specs.declared.problem.Problem.{Problem};
 
 use crate::leading::leading_to;
 use crate::losing::is_required;
@@ -24,7 +23,8 @@ use std::collections::BTreeSet;
 
 /// Adds the wire, if it goes to the host.
 fn add_import(list: &mut Vec<Import>, row: Import, host: u32) -> Result<(), AllocError>
-    ensures kept { OnOk result ((other : Import) → In other list.old.items → In other list.new.items) }
+    ensures kept { OnOk result ((other : Import) → In other list.old.items
+        → In other list.new.items) }
     ensures added { OnOk result (row.provider ≡ host → In row list.new.items) }
 {
     if row.provider != host {
@@ -42,7 +42,8 @@ fn add_imports(
     host: u32,
 ) -> Result<(), AllocError>
     ensures kept { OnOk result ((row : Import) → In row list.old.items → In row list.new.items) }
-    ensures added { OnOk result ((row : Import) → In row (imports_of rows.now revision) → row.provider ≡ host → In row list.new.items) }
+    ensures added { OnOk result ((row : Import) → In row (imports_of rows.now revision)
+        → row.provider ≡ host → In row list.new.items) }
 {
     for row in rows.imports_of(revision) {
         add_import(list, *row, host)?;
@@ -57,7 +58,8 @@ fn imports_to(
     revisions: &[u32],
     host: u32,
 ) -> Result<Vec<Import>, AllocError>
-    ensures imports { IfOk result (λ list. (n : ℕ) (row : Import) → In n revisions.now → In row (imports_of rows.now n) → row.provider ≡ host → In row list.items) }
+    ensures imports { IfOk result (λ list. (n : ℕ) (row : Import) → In n revisions.now
+        → In row (imports_of rows.now n) → row.provider ≡ host → In row list.items) }
 {
     let mut list = Vec::new(alloc);
     for revision in revisions {
@@ -76,7 +78,8 @@ fn is_touched(
     revision: u32,
 ) -> Result<bool, AllocError>
     requires disputed { AreDisputed rows.now disputed.now }
-    ensures touched { IfOk result (λ answer. (revision ≡ host) ⊎ Any (IsClash rows.now revision) pairs.now → IsTrue answer) }
+    ensures touched { IfOk result (λ answer. (revision ≡ host)
+        ⊎ Any (IsClash rows.now revision) pairs.now → IsTrue answer) }
 {
     if revision == host {
         return Ok(true);
@@ -86,7 +89,8 @@ fn is_touched(
 
 /// Adds the revision, if it is so.
 fn add_touched(list: &mut Vec<u32>, touched: bool, revision: u32) -> Result<(), AllocError>
-    ensures those { OnOk result ((n : ℕ) → In n list.new.items → In n list.old.items ⊎ (n ≡ revision)) }
+    ensures those { OnOk result ((n : ℕ) → In n list.new.items → In n list.old.items
+        ⊎ (n ≡ revision)) }
     ensures kept { OnOk result ((n : ℕ) → In n list.old.items → In n list.new.items) }
     ensures added { OnOk result (IsTrue touched → In revision list.new.items) }
 {
@@ -108,7 +112,8 @@ fn clashing(
 ) -> Result<Vec<u32>, AllocError>
     requires disputed { AreDisputed rows.now disputed.now }
     ensures those { IfOk result (λ list. (n : ℕ) → In n list.items → In n revisions.now) }
-    ensures all { IfOk result (λ list. (n : ℕ) → In n revisions.now → (n ≡ host) ⊎ Any (IsClash rows.now n) pairs.now → In n list.items) }
+    ensures all { IfOk result (λ list. (n : ℕ) → In n revisions.now → (n ≡ host)
+        ⊎ Any (IsClash rows.now n) pairs.now → In n list.items) }
 {
     let mut list = Vec::new(alloc);
     for revision in revisions {
@@ -126,9 +131,11 @@ pub fn concerned_by(
     unsettled: &RevisionSet,
     host: RevisionId,
 ) -> Result<Vec<u32>, AllocError>
-    requires unsettled { (P : Problem) → IsProblemOf path.now P → AreUnsettled P (made P path.now) unsettled.now }
-    ensures members { IfOk result (λ list. (P : Problem) → IsProblemOf path.now P → In host (members P (made P path.now)) → (n : ℕ) → In n list.items → In (id n) (members P (made P path.now))) }
-    ensures all { IfOk result (λ list. (P : Problem) → IsProblemOf path.now P → In host (members P (made P path.now)) → (h : HasClashAt P (made P path.now) host) → In h.clash.member.0 list.items) }
+    requires unsettled { At path.now (λ P D. AreUnsettled P D unsettled.now) }
+    ensures members { IfOk result (λ list. At path.now (λ P D. In host (members P D) → (n : ℕ)
+        → In n list.items → In (id n) (members P D))) }
+    ensures all { IfOk result (λ list. At path.now (λ P D. In host (members P D)
+        → (h : HasClashAt P D host) → In h.clash.member.0 list.items)) }
 {
     let leading = leading_to(alloc, path, host)?;
     if is_required(path, host) {

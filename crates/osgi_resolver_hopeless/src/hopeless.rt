@@ -3,8 +3,7 @@
 ghost use Rattle.std.specs.Prelude.{IfOk};
 ghost use Rattle.std.specs.Bool.{Decides};
 ghost use Rattle.osgi_world.specs.Hopeless.{IsHopeless};
-ghost use Rattle.osgi_world.specs.declared.problem.Problem.{Problem};
-ghost use Rattle.osgi_resolver_path.specs.Standing.{IsProblemOf};
+ghost use Rattle.osgi_resolver_path.specs.Standing.{At};
 
 use crate::clashing::has_clash;
 use crate::offer::has_lost;
@@ -16,7 +15,8 @@ use std::alloc::{AllocError, Global};
 
 /// Whether no wirings that extend those of the world are left to decide, as far as what is settled shows.
 pub fn is_hopeless(alloc: Global, path: &Path) -> Result<bool, AllocError>
-    ensures hopeless { IfOk result (λ b. (P : Problem) → IsProblemOf path.now P → Decides b (IsHopeless P path.now.word)) }
+    ensures hopeless { IfOk result (λ b. At path.now (λ P _.
+        Decides b (IsHopeless P path.now.word))) }
 {
     if has_stuck_member(alloc, path)? {
         return Ok(true);

@@ -3,12 +3,10 @@
 ghost use Rattle.std.specs.Prelude.{◌↔◌, ℕ, Contains, IfOk, OnOk};
 ghost use Rattle.std.specs.Ordering.{nat_cmp};
 ghost use Rattle.osgi_resolver_hopeless.specs.computed.Leading.{LeadsBack};
-ghost use Rattle.osgi_resolver_path.specs.Standing.{IsProblemOf, made};
+ghost use Rattle.osgi_resolver_path.specs.Standing.{At};
 ghost use Rattle.osgi_resolver_path.specs.Wires.{IsWiredTo};
-ghost use Rattle.osgi_space_rows.specs.Agree.{id};
 ghost use Rattle.osgi_space_sources.specs.computed.Adds.{Adds};
 ghost use Rattle.osgi_space_sources.specs.computed.Collected.{IsCollected};
-ghost use Rattle.osgi_world.specs.declared.problem.Problem.{Problem};
 
 use osgi_base::RevisionId;
 use osgi_resolver_path::Path;
@@ -19,7 +17,8 @@ use std::alloc::{AllocError, Global};
 fn add_wired(found: &mut Found<u32>, path: &Path, revision: RevisionId) -> Result<(), AllocError>
     requires collected { IsCollected nat_cmp found.old }
     ensures collected { OnOk result (IsCollected nat_cmp found.new) }
-    ensures added { OnOk result ((P : Problem) → IsProblemOf path.now P → Adds (IsWiredTo P (made P path.now) revision) found.old.items.items found.new.items.items) }
+    ensures added { OnOk result (At path.now (λ P D.
+        Adds (IsWiredTo P D revision) found.old.items.items found.new.items.items)) }
 {
     for member in path.wired_to(revision) {
         found.add(*member)?;
@@ -29,7 +28,8 @@ fn add_wired(found: &mut Found<u32>, path: &Path, revision: RevisionId) -> Resul
 
 /// The host, the members that have a wire to it, those that have a wire to one of these, and so on.
 pub fn leading_to(alloc: Global, path: &Path, host: RevisionId) -> Result<Found<u32>, AllocError>
-    ensures leading { IfOk result (λ found. (P : Problem) → IsProblemOf path.now P → (n : ℕ) → Contains found.items.items n ↔ LeadsBack P (made P path.now) host n) }
+    ensures leading { IfOk result (λ found. At path.now (λ P D. (n : ℕ)
+        → Contains found.items.items n ↔ LeadsBack P D host n)) }
 {
     let mut found = Found::new(alloc);
     found.add(host.0)?;

@@ -4,13 +4,11 @@ ghost use Rattle.std.specs.Prelude.{◌↔◌, IfOk, IsTrue};
 ghost use Rattle.osgi_base.specs.declared.ids.RevisionId.{RevisionId};
 ghost use Rattle.osgi_resolver_hopeless.specs.computed.Clashing.{HasLostAt};
 ghost use Rattle.osgi_resolver_hopeless.specs.computed.Losing.{IsReplacing, ReplacesOwn};
-ghost use Rattle.osgi_resolver_hopeless.specs.computed.Stuck.{IsMemberOf};
-ghost use Rattle.osgi_resolver_path.specs.Standing.{made};
+ghost use Rattle.osgi_resolver_hopeless.specs.computed.Stuck.{AtMember};
 ghost use Rattle.osgi_resolver_theory.specs.States.{State};
 ghost use Rattle.osgi_space_rows.specs.Rows.{Requires};
 ghost use Rattle.osgi_world.specs.Partial.{partial};
 ghost use Rattle.osgi_world.specs.Wirings.{BundleWire};
-ghost use Rattle.osgi_world.specs.declared.problem.Problem.{Problem};
 
 use osgi_base::RevisionId;
 use osgi_resolver_path::Path;
@@ -54,7 +52,8 @@ fn has_bundle_wire(rows: &Rows, revision: u32, bundle: u32) -> bool
 
 /// Whether a wire for a required bundle goes to the host, which is a member. Only who has a wire to it is asked.
 pub fn is_required(path: &Path, host: RevisionId) -> bool
-    ensures required { (P : Problem) → IsMemberOf path.now P host → IsTrue result ↔ ((r : RevisionId) × BundleWire P.world.known (partial P (made P path.now)) r host) }
+    ensures required { AtMember path.now host (λ P D. IsTrue result
+        ↔ ((r : RevisionId) × BundleWire P.world.known (partial P D) r host)) }
 {
     let rows = path.rows().rows();
     if rows.required().is_empty() {
@@ -71,7 +70,8 @@ pub fn is_required(path: &Path, host: RevisionId) -> bool
 /// Whether a wire to the host, which is a member, or to what reaches it may take what is not on offer. It is not so where no
 /// bundle wire goes to the host, it imports nothing that it exports, and no fragment can be attached to it.
 pub fn may_lose(alloc: Global, path: &Path, host: RevisionId) -> Result<bool, AllocError>
-    ensures all { IfOk result (λ answer. (P : Problem) → IsMemberOf path.now P host → State P (made P path.now) → HasLostAt P (made P path.now) host → IsTrue answer) }
+    ensures all { IfOk result (λ answer. AtMember path.now host (λ P D. State P D
+        → HasLostAt P D host → IsTrue answer)) }
 {
     if is_required(path, host) {
         return Ok(true);

@@ -4,8 +4,8 @@ ghost use Rattle.std.specs.Prelude.{◌≡◌, ◌↔◌, ℕ, List, IfOk, IsTru
 ghost use Rattle.osgi_space_sources.specs.computed.RowSources.{Owns};
 ghost use Rattle.osgi_resolver_hopeless.specs.computed.Clashing.{AreWires, HasLost, HasLostAt, IsLost, IsLostAt, IsLostBy, MayReach};
 ghost use Rattle.osgi_resolver_hopeless.specs.computed.Open.{AreUnsettled};
-ghost use Rattle.osgi_resolver_hopeless.specs.computed.Stuck.{IsMemberOf};
-ghost use Rattle.osgi_resolver_path.specs.Standing.{IsProblemOf, made};
+ghost use Rattle.osgi_resolver_hopeless.specs.computed.Stuck.{AtMember};
+ghost use Rattle.osgi_resolver_path.specs.Standing.{At, made};
 ghost use Rattle.osgi_resolver_path.specs.Wires.{wired_in};
 ghost use Rattle.osgi_resolver_path.specs.declared.wired.Wired.{Wired};
 ghost use Rattle.osgi_resolver_theory.specs.States.{State};
@@ -14,7 +14,6 @@ ghost use Rattle.osgi_space_rows.specs.Worlds.{AreRowsIn};
 ghost use Rattle.osgi_world.specs.Lists.{In};
 ghost use Rattle.osgi_world.specs.Partial.{partial};
 ghost use Rattle.osgi_world.specs.Wirings.{HasWire, ImportsElsewhere, IsExport, OnOffer};
-ghost use Rattle.osgi_world.specs.declared.problem.Problem.{Problem};
 ghost use Rattle.osgi_world.specs.declared.wiring.Wiring.{Wiring};
 
 use crate::losing::may_lose;
@@ -52,7 +51,9 @@ fn owns(rows: &Rows, revision: u32, owner: u32) -> bool
 /// Whether the capability is an export of a package that its provider imports from elsewhere.
 fn is_replaced(rows: &WorldRows, capability: CapRef) -> bool
     ensures replaced { (W : List Wiring) → AreRowsIn rows.now W
-        → IsTrue result ↔ ((p : List ℕ) × IsExport rows.now.known capability.owner capability.index p × ImportsElsewhere rows.now.known W capability.provider p) }
+        → IsTrue result
+        ↔ ((p : List ℕ) × IsExport rows.now.known capability.owner capability.index p
+        × ImportsElsewhere rows.now.known W capability.provider p) }
 {
     if rows.rows().imports_of(capability.provider.0).is_empty() {
         return false;
@@ -65,7 +66,8 @@ fn is_replaced(rows: &WorldRows, capability: CapRef) -> bool
 
 /// Whether the provider has the capability on offer.
 fn is_on_offer(rows: &WorldRows, capability: CapRef) -> bool
-    ensures offer { (W : List Wiring) → AreRowsIn rows.now W → IsTrue result ↔ OnOffer rows.now.known W capability }
+    ensures offer { (W : List Wiring) → AreRowsIn rows.now W → IsTrue result
+        ↔ OnOffer rows.now.known W capability }
 {
     if capability.index as usize >= rows.known().capability_count(capability.owner) {
         return false;
@@ -78,7 +80,8 @@ fn is_on_offer(rows: &WorldRows, capability: CapRef) -> bool
 
 /// Whether the wire goes to a provider that is not in the set, and does not have the capability on offer.
 fn is_lost(rows: &WorldRows, unsettled: &RevisionSet, wired: Wired) -> bool
-    ensures lost { (W : List Wiring) → AreRowsIn rows.now W → IsTrue result ↔ IsLost rows.now.known W unsettled.now wired }
+    ensures lost { (W : List Wiring) → AreRowsIn rows.now W → IsTrue result
+        ↔ IsLost rows.now.known W unsettled.now wired }
 {
     let capability = wired.wire.capability;
     if unsettled.has(capability.provider.0) {
@@ -89,7 +92,8 @@ fn is_lost(rows: &WorldRows, unsettled: &RevisionSet, wired: Wired) -> bool
 
 /// Whether it is so with the wire of a decision, if it made one.
 fn is_wire_lost(rows: &WorldRows, unsettled: &RevisionSet, wired: Option<Wired>) -> bool
-    ensures lost { (W : List Wiring) → AreRowsIn rows.now W → IsTrue result ↔ ((w : Wired) × (wired ≡ Some w) × IsLost rows.now.known W unsettled.now w) }
+    ensures lost { (W : List Wiring) → AreRowsIn rows.now W → IsTrue result
+        ↔ ((w : Wired) × (wired ≡ Some w) × IsLost rows.now.known W unsettled.now w) }
 {
     match wired {
         Some(wired) => is_lost(rows, unsettled, wired),
@@ -99,7 +103,8 @@ fn is_wire_lost(rows: &WorldRows, unsettled: &RevisionSet, wired: Option<Wired>)
 
 /// Whether it is so with the wire of one of the decisions.
 fn is_one_lost(rows: &WorldRows, unsettled: &RevisionSet, marks: &[Mark]) -> bool
-    ensures lost { (W : List Wiring) → AreRowsIn rows.now W → IsTrue result ↔ ((w : Wired) × In w (wired_in marks.now) × IsLost rows.now.known W unsettled.now w) }
+    ensures lost { (W : List Wiring) → AreRowsIn rows.now W → IsTrue result
+        ↔ ((w : Wired) × In w (wired_in marks.now) × IsLost rows.now.known W unsettled.now w) }
 {
     for mark in marks {
         if is_wire_lost(rows, unsettled, mark.wired()) {
@@ -111,8 +116,8 @@ fn is_one_lost(rows: &WorldRows, unsettled: &RevisionSet, marks: &[Mark]) -> boo
 
 /// Whether the provider of a member's wire is settled, and does not have the capability on offer.
 pub fn has_lost(path: &Path, unsettled: &RevisionSet) -> bool
-    requires unsettled { (P : Problem) → IsProblemOf path.now P → AreUnsettled P (made P path.now) unsettled.now }
-    ensures lost { (P : Problem) → IsProblemOf path.now P → IsTrue result ↔ HasLost P (made P path.now) }
+    requires unsettled { At path.now (λ P D. AreUnsettled P D unsettled.now) }
+    ensures lost { At path.now (λ P D. IsTrue result ↔ HasLost P D) }
 {
     is_one_lost(path.rows(), unsettled, path.marks())
 }
@@ -121,7 +126,9 @@ pub fn has_lost(path: &Path, unsettled: &RevisionSet) -> bool
 
 /// Whether the wire's provider is settled, and does not have the capability on offer.
 fn is_lost_now(alloc: Global, path: &Path, wired: Wired) -> Result<bool, AllocError>
-    ensures lost { IfOk result (λ answer. (P : Problem) → IsProblemOf path.now P → HasWire (partial P (made P path.now)) wired.revision wired.wire → IsTrue answer ↔ IsLostBy P (made P path.now) wired.wire) }
+    ensures lost { IfOk result (λ answer. At path.now (λ P D.
+        HasWire (partial P D) wired.revision wired.wire → IsTrue answer
+        ↔ IsLostBy P D wired.wire)) }
 {
     if is_on_offer(path.rows(), wired.wire.capability) {
         return Ok(false);
@@ -131,8 +138,9 @@ fn is_lost_now(alloc: Global, path: &Path, wired: Wired) -> Result<bool, AllocEr
 
 /// Whether it is so with the wire that a decision made, if it made one.
 pub fn is_new_lost(alloc: Global, path: &Path, wired: Option<Wired>) -> Result<bool, AllocError>
-    ensures lost { IfOk result (λ answer. (P : Problem) → IsProblemOf path.now P → ((w : Wired) → wired ≡ Some w → HasWire (partial P (made P path.now)) w.revision w.wire)
-        → IsTrue answer ↔ ((w : Wired) × (wired ≡ Some w) × IsLostBy P (made P path.now) w.wire)) }
+    ensures lost { IfOk result (λ answer. At path.now (λ P D. ((w : Wired) → wired ≡ Some w
+        → HasWire (partial P D) w.revision w.wire)
+        → IsTrue answer ↔ ((w : Wired) × (wired ≡ Some w) × IsLostBy P D w.wire))) }
 {
     match wired {
         Some(wired) => Ok(is_lost_now(alloc, path, wired)?),
@@ -159,8 +167,12 @@ fn is_lost_at(
     wired: Wired,
     host: RevisionId,
 ) -> Result<bool, AllocError>
-    ensures lost { IfOk result (λ answer. (P : Problem) → IsProblemOf path.now P → HasWire (partial P (made P path.now)) wired.revision wired.wire → IsTrue answer → IsLostBy P (made P path.now) wired.wire) }
-    ensures all { IfOk result (λ answer. (P : Problem) → IsProblemOf path.now P → HasWire (partial P (made P path.now)) wired.revision wired.wire → IsLostAt P (made P path.now) host wired.wire → IsTrue answer) }
+    ensures lost { IfOk result (λ answer. At path.now (λ P D.
+        HasWire (partial P D) wired.revision wired.wire → IsTrue answer
+        → IsLostBy P D wired.wire)) }
+    ensures all { IfOk result (λ answer. At path.now (λ P D.
+        HasWire (partial P D) wired.revision wired.wire → IsLostAt P D host wired.wire
+        → IsTrue answer)) }
 {
     if !may_reach(path.rows().rows(), wired, host) {
         return Ok(false);
@@ -175,9 +187,11 @@ fn is_wire_lost_at(
     wired: Option<Wired>,
     host: RevisionId,
 ) -> Result<bool, AllocError>
-    ensures lost { IfOk result (λ answer. (P : Problem) → IsProblemOf path.now P → (w : Wired) → wired ≡ Some w → HasWire (partial P (made P path.now)) w.revision w.wire → IsTrue answer → IsLostBy P (made P path.now) w.wire) }
+    ensures lost { IfOk result (λ answer. At path.now (λ P D. (w : Wired) → wired ≡ Some w
+        → HasWire (partial P D) w.revision w.wire → IsTrue answer → IsLostBy P D w.wire)) }
     ensures made { IfOk result (λ answer. IsTrue answer → (w : Wired) × (wired ≡ Some w)) }
-    ensures all { IfOk result (λ answer. (P : Problem) → IsProblemOf path.now P → (w : Wired) → wired ≡ Some w → HasWire (partial P (made P path.now)) w.revision w.wire → IsLostAt P (made P path.now) host w.wire → IsTrue answer) }
+    ensures all { IfOk result (λ answer. At path.now (λ P D. (w : Wired) → wired ≡ Some w
+        → HasWire (partial P D) w.revision w.wire → IsLostAt P D host w.wire → IsTrue answer)) }
 {
     match wired {
         Some(wired) => Ok(is_lost_at(alloc, path, wired, host)?),
@@ -193,8 +207,10 @@ fn is_one_lost_at(
     marks: &[Mark],
     host: RevisionId,
 ) -> Result<bool, AllocError>
-    ensures lost { IfOk result (λ answer. (P : Problem) → IsProblemOf path.now P → AreWires P (made P path.now) (wired_in marks.now) → IsTrue answer → HasLost P (made P path.now)) }
-    ensures all { IfOk result (λ answer. (P : Problem) → IsProblemOf path.now P → AreWires P (made P path.now) (wired_in marks.now) → HasLostAt P (made P path.now) host → IsTrue answer) }
+    ensures lost { IfOk result (λ answer. At path.now (λ P D. AreWires P D (wired_in marks.now)
+        → IsTrue answer → HasLost P D)) }
+    ensures all { IfOk result (λ answer. At path.now (λ P D. AreWires P D (wired_in marks.now)
+        → HasLostAt P D host → IsTrue answer)) }
 {
     for mark in marks {
         if is_wire_lost_at(alloc, path, mark.wired(), host)? {
@@ -207,8 +223,9 @@ fn is_one_lost_at(
 /// The same of all wires that are decided. They are looked through only where the host, which is a member, or what reaches it may
 /// lack what a wire takes.
 pub fn has_lost_at(alloc: Global, path: &Path, host: RevisionId) -> Result<bool, AllocError>
-    ensures lost { IfOk result (λ answer. (P : Problem) → IsProblemOf path.now P → IsTrue answer → HasLost P (made P path.now)) }
-    ensures all { IfOk result (λ answer. (P : Problem) → IsMemberOf path.now P host → State P (made P path.now) → HasLostAt P (made P path.now) host → IsTrue answer) }
+    ensures lost { IfOk result (λ answer. At path.now (λ P D. IsTrue answer → HasLost P D)) }
+    ensures all { IfOk result (λ answer. AtMember path.now host (λ P D. State P D
+        → HasLostAt P D host → IsTrue answer)) }
 {
     if !may_lose(alloc, path, host)? {
         return Ok(false);

@@ -7,12 +7,11 @@ ghost use Rattle.osgi_resolver_hopeless.specs.Before.{IsHopefulBefore};
 ghost use Rattle.osgi_resolver_hopeless.specs.computed.Onward.{HasNewRivals, HasTouchedStuck, IsAtOnce, HasSettledReason};
 ghost use Rattle.osgi_resolver_hopeless.specs.computed.Reasons.{Reason};
 ghost use Rattle.osgi_resolver_hopeless.specs.computed.Rivals.{HasRivals, IsCurrentSingleton};
-ghost use Rattle.osgi_resolver_hopeless.specs.computed.Stuck.{IsMemberOf};
+ghost use Rattle.osgi_resolver_hopeless.specs.computed.Stuck.{AtMember};
 ghost use Rattle.osgi_resolver_path.specs.Last.{IsLast};
-ghost use Rattle.osgi_resolver_path.specs.Standing.{IsProblemOf, made};
+ghost use Rattle.osgi_resolver_path.specs.Standing.{At};
 ghost use Rattle.osgi_resolver_theory.specs.States.{State};
 ghost use Rattle.osgi_world.specs.Hopeless.{IsHopeless};
-ghost use Rattle.osgi_world.specs.declared.problem.Problem.{Problem};
 
 use crate::clashing::has_clash_at;
 use crate::hopeless::is_hopeless;
@@ -27,7 +26,8 @@ use std::alloc::{AllocError, Global};
 /// Whether the host of the last decision, or who joined by it, is stuck. Two providers count only of the package that the wire is
 /// for that the decision made: there were no two before, where the word before was not hopeless.
 fn is_touched_stuck(alloc: Global, path: &Path, last: Last) -> Result<bool, AllocError>
-    ensures stuck { IfOk result (λ answer. (P : Problem) → IsProblemOf path.now P → IsLast P path.now last → IsTrue answer ↔ HasTouchedStuck P path.now last) }
+    ensures stuck { IfOk result (λ answer. At path.now (λ P _. IsLast P path.now last
+        → IsTrue answer ↔ HasTouchedStuck P path.now last)) }
 {
     if is_stuck_by(alloc, path, last.decision.host(), last.wired)? {
         return Ok(true);
@@ -40,7 +40,8 @@ fn is_touched_stuck(alloc: Global, path: &Path, last: Last) -> Result<bool, Allo
 
 /// Whether the revision, if there is one, is a current singleton.
 fn is_singleton(path: &Path, revision: Option<RevisionId>) -> bool
-    ensures singleton { IsTrue result ↔ ((r : RevisionId) × (revision ≡ Some r) × IsCurrentSingleton path.now.world.known r) }
+    ensures singleton { IsTrue result ↔ ((r : RevisionId) × (revision ≡ Some r)
+        × IsCurrentSingleton path.now.world.known r) }
 {
     match revision {
         Some(revision) => is_current_singleton(known_at(path), revision),
@@ -50,8 +51,9 @@ fn is_singleton(path: &Path, revision: Option<RevisionId>) -> bool
 
 /// Whether two rivals are in use. True only where it is so, and true wherever one of them is newly in use by the last decision.
 fn has_new_rivals(alloc: Global, path: &Path, last: Last) -> Result<bool, AllocError>
-    ensures rivals { IfOk result (λ answer. (P : Problem) → IsProblemOf path.now P → IsTrue answer → HasRivals P (made P path.now)) }
-    ensures all { IfOk result (λ answer. (P : Problem) → IsProblemOf path.now P → HasNewRivals P path.now last → IsTrue answer) }
+    ensures rivals { IfOk result (λ answer. At path.now (λ P D. IsTrue answer → HasRivals P D)) }
+    ensures all { IfOk result (λ answer. At path.now (λ P _. HasNewRivals P path.now last
+        → IsTrue answer)) }
 {
     let joined = is_singleton(path, last.joined);
     let attached = is_singleton(path, last.fragment);
@@ -63,8 +65,10 @@ fn has_new_rivals(alloc: Global, path: &Path, last: Last) -> Result<bool, AllocE
 
 /// Whether the last decision gives a reason by what it touches, newly uses or adds.
 fn is_at_once(alloc: Global, path: &Path, last: Last) -> Result<bool, AllocError>
-    ensures reason { IfOk result (λ answer. (P : Problem) → IsProblemOf path.now P → IsLast P path.now last → IsTrue answer → Reason P (made P path.now)) }
-    ensures all { IfOk result (λ answer. (P : Problem) → IsProblemOf path.now P → IsLast P path.now last → IsAtOnce P path.now last → IsTrue answer) }
+    ensures reason { IfOk result (λ answer. At path.now (λ P D. IsLast P path.now last
+        → IsTrue answer → Reason P D)) }
+    ensures all { IfOk result (λ answer. At path.now (λ P _. IsLast P path.now last
+        → IsAtOnce P path.now last → IsTrue answer)) }
 {
     if is_touched_stuck(alloc, path, last)? {
         return Ok(true);
@@ -79,8 +83,10 @@ fn is_at_once(alloc: Global, path: &Path, last: Last) -> Result<bool, AllocError
 /// that leads to the host, which comes from settled revisions alone and through the host, clashes. It is asked once the host, a
 /// member, is decided.
 fn has_settled_reason(alloc: Global, path: &Path, host: RevisionId) -> Result<bool, AllocError>
-    ensures reason { IfOk result (λ answer. (P : Problem) → IsMemberOf path.now P host → IsTrue answer → Reason P (made P path.now)) }
-    ensures all { IfOk result (λ answer. (P : Problem) → IsMemberOf path.now P host → State P (made P path.now) → HasSettledReason P path.now host → IsTrue answer) }
+    ensures reason { IfOk result (λ answer. AtMember path.now host (λ P D. IsTrue answer
+        → Reason P D)) }
+    ensures all { IfOk result (λ answer. AtMember path.now host (λ P D. State P D
+        → HasSettledReason P path.now host → IsTrue answer)) }
 {
     if has_lost_at(alloc, path, host)? {
         return Ok(true);
@@ -91,7 +97,8 @@ fn has_settled_reason(alloc: Global, path: &Path, host: RevisionId) -> Result<bo
 /// Whether what is decided is hopeless, where it was not before the last decision. It looks only for reasons that this decision
 /// can have given; for clashes those members are asked that lead to its host, once this is decided.
 pub fn has_become_hopeless(alloc: Global, path: &Path) -> Result<bool, AllocError>
-    ensures hopeless { IfOk result (λ b. (P : Problem) → IsProblemOf path.now P → IsHopefulBefore P path.now.word → Decides b (IsHopeless P path.now.word)) }
+    ensures hopeless { IfOk result (λ b. At path.now (λ P _. IsHopefulBefore P path.now.word
+        → Decides b (IsHopeless P path.now.word))) }
 {
     let Some(last) = path.last() else {
         return Ok(is_hopeless(alloc, path)?);

@@ -10,7 +10,9 @@ use osgi_world::CapRef;
 
 /// The number of the package that the capability is an export of, if it is one.
 pub fn exported_number(rows: &WorldRows, capability: CapRef) -> Option<u32>
-    ensures number { (n : ℕ) → (result ≡ Some n) ↔ ((p : List ℕ) × IsExport rows.now.known capability.owner capability.index p × HasNumber rows.now.names p n) }
+    ensures number { (n : ℕ) → (result ≡ Some n)
+        ↔ ((p : List ℕ) × IsExport rows.now.known capability.owner capability.index p
+        × HasNumber rows.now.names p n) }
     ensures numbered { AreNumbered rows.now.names rows.now.rows }
 {
     let names = rows.names();

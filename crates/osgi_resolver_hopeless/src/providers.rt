@@ -15,7 +15,8 @@ use osgi_space_rows::{Import, Rows, WorldRows};
 
 /// Whether the first of the revision's wires for the package goes to another provider.
 fn first_differs(rows: &Rows, revision: u32, package: u32, provider: u32) -> bool
-    ensures differs { IsTrue result ↔ FirstDiffers (imports_for rows.now revision «package») provider }
+    ensures differs { IsTrue result
+        ↔ FirstDiffers (imports_for rows.now revision «package») provider }
 {
     match rows.imports_for(revision, package) {
         [row, ..] => row.provider != provider,
@@ -56,7 +57,8 @@ fn has_another(imports: &[Import], provider: u32) -> bool
 /// Whether the wire is one of the revision, which has another provider of the same package. Only its wires for that package are
 /// looked at.
 pub fn has_other_provider(rows: &WorldRows, revision: RevisionId, wired: Wired) -> bool
-    ensures other { (W : List Wiring) → AreRowsIn rows.now W → IsTrue result ↔ OtherProvider rows.now.known W revision wired }
+    ensures other { (W : List Wiring) → AreRowsIn rows.now W → IsTrue result
+        ↔ OtherProvider rows.now.known W revision wired }
 {
     if wired.revision.0 != revision.0 {
         return false;

@@ -10,7 +10,7 @@ ghost use Rattle.osgi_resolver_hopeless.specs.computed.Onward.{HasNewRivals};
 ghost use Rattle.osgi_resolver_path.specs.declared.last.Last.{Last};
 ghost use Rattle.osgi_world.specs.Consistency.{AreRivals};
 ghost use Rattle.osgi_resolver_hopeless.specs.computed.Rivals.{HasRival, HasRivals, IsCurrentSingleton, IsOther, IsPresent};
-ghost use Rattle.osgi_resolver_path.specs.Standing.{IsProblemOf, made};
+ghost use Rattle.osgi_resolver_path.specs.Standing.{At, IsProblemOf};
 ghost use Rattle.osgi_space_rows.specs.Agree.{id};
 ghost use Rattle.osgi_world.specs.DueDecisions.{fragments_of, members};
 ghost use Rattle.osgi_world.specs.Lists.{In};
@@ -31,7 +31,8 @@ pub fn is_current_singleton(known: &KnownIndex, revision: RevisionId) -> bool
 
 /// Whether one of the revisions is a current singleton.
 fn has_current_singleton(known: &KnownIndex, revisions: &[RevisionId]) -> bool
-    ensures some { IsTrue result ↔ ((r : RevisionId) × In r revisions.now × IsCurrentSingleton known.now r) }
+    ensures some { IsTrue result ↔ ((r : RevisionId) × In r revisions.now
+        × IsCurrentSingleton known.now r) }
 {
     for revision in revisions {
         if is_current_singleton(known, *revision) {
@@ -43,7 +44,9 @@ fn has_current_singleton(known: &KnownIndex, revisions: &[RevisionId]) -> bool
 
 /// Whether a fragment that is attached to one of these members is a current singleton.
 fn is_one_attached(alloc: Global, path: &Path, hosts: &[RevisionId]) -> Result<bool, AllocError>
-    ensures some { IfOk result (λ answer. (P : Problem) → IsProblemOf path.now P → ((m : RevisionId) → In m hosts.now → In m (members P (made P path.now))) → (m r : RevisionId) → In m hosts.now → In r (fragments_of P (made P path.now) m) → IsCurrentSingleton path.now.world.known r → IsTrue answer) }
+    ensures some { IfOk result (λ answer. At path.now (λ P D. ((m : RevisionId) → In m hosts.now
+        → In m (members P D)) → (m r : RevisionId) → In m hosts.now → In r (fragments_of P D m)
+        → IsCurrentSingleton path.now.world.known r → IsTrue answer)) }
 {
     for host in hosts {
         let fragments = path.fragments(alloc, *host)?;
@@ -56,7 +59,8 @@ fn is_one_attached(alloc: Global, path: &Path, hosts: &[RevisionId]) -> Result<b
 
 /// Whether a member, or a fragment that is attached to one, is a current singleton.
 fn is_one_new(alloc: Global, path: &Path) -> Result<bool, AllocError>
-    ensures some { IfOk result (λ answer. (P : Problem) → IsProblemOf path.now P → (r : RevisionId) → IsNew P (made P path.now) r → IsCurrentSingleton path.now.world.known r → IsTrue answer) }
+    ensures some { IfOk result (λ answer. At path.now (λ P D. (r : RevisionId) → IsNew P D r
+        → IsCurrentSingleton path.now.world.known r → IsTrue answer)) }
 {
     let members = path.members();
     if has_current_singleton(known_at(path), members) {
@@ -68,7 +72,8 @@ fn is_one_new(alloc: Global, path: &Path) -> Result<bool, AllocError>
 fn add_all(found: &mut Found<u32>, revisions: &[RevisionId]) -> Result<(), AllocError>
     requires collected { IsCollected nat_cmp found.old }
     ensures collected { OnOk result (IsCollected nat_cmp found.new) }
-    ensures added { OnOk result (Adds (λ n. In (id n) revisions.now) found.old.items.items found.new.items.items) }
+    ensures added { OnOk result (Adds (λ n.
+        In (id n) revisions.now) found.old.items.items found.new.items.items) }
 {
     for revision in revisions {
         found.add(revision.0)?;
@@ -79,7 +84,8 @@ fn add_all(found: &mut Found<u32>, revisions: &[RevisionId]) -> Result<(), Alloc
 /// The members, and the fragments that are attached to them.
 fn new_revisions(alloc: Global, path: &Path) -> Result<Found<u32>, AllocError>
     ensures collected { IfOk result (λ new. IsCollected nat_cmp new) }
-    ensures new { IfOk result (λ new. (P : Problem) → IsProblemOf path.now P → (n : ℕ) → Contains new.items.items n ↔ IsNew P (made P path.now) (id n)) }
+    ensures new { IfOk result (λ new. At path.now (λ P D. (n : ℕ) → Contains new.items.items n
+        ↔ IsNew P D (id n))) }
 {
     let members = path.members();
     let mut new = Found::new(alloc);
@@ -139,7 +145,7 @@ fn has_rival(path: &Path, new: &Found<u32>, revision: RevisionId) -> bool
 
 /// Whether a member, or a fragment that is attached to one, has a rival in use.
 pub fn has_any_rivals(alloc: Global, path: &Path) -> Result<bool, AllocError>
-    ensures rivals { IfOk result (λ answer. (P : Problem) → IsProblemOf path.now P → IsTrue answer ↔ HasRivals P (made P path.now)) }
+    ensures rivals { IfOk result (λ answer. At path.now (λ P D. IsTrue answer ↔ HasRivals P D)) }
 {
     if !is_one_new(alloc, path)? {
         return Ok(false);
@@ -183,7 +189,8 @@ fn may_have_rival(path: &Path, revision: RevisionId) -> bool
 
 /// The same of the revision, if there is one.
 fn may_one_have_rival(path: &Path, revision: Option<RevisionId>) -> bool
-    ensures all { (r t : RevisionId) → revision ≡ Some r → AreRivals path.now.world.known r t → IsTrue result }
+    ensures all { (r t : RevisionId) → revision ≡ Some r → AreRivals path.now.world.known r t
+        → IsTrue result }
 {
     match revision {
         Some(revision) => may_have_rival(path, revision),
@@ -194,8 +201,9 @@ fn may_one_have_rival(path: &Path, revision: Option<RevisionId>) -> bool
 /// Whether two rivals are in use. True only where it is so, and true wherever one of them is newly in use by the last decision:
 /// all members are looked at only where what is new has a rival among all revisions that are known.
 pub fn has_rivals(alloc: Global, path: &Path) -> Result<bool, AllocError>
-    ensures rivals { IfOk result (λ answer. (P : Problem) → IsProblemOf path.now P → IsTrue answer → HasRivals P (made P path.now)) }
-    ensures all { IfOk result (λ answer. (P : Problem) (last : Last) → IsProblemOf path.now P → HasNewRivals P path.now last → IsTrue answer) }
+    ensures rivals { IfOk result (λ answer. At path.now (λ P D. IsTrue answer → HasRivals P D)) }
+    ensures all { IfOk result (λ answer. (P : Problem) (last : Last) → IsProblemOf path.now P
+        → HasNewRivals P path.now last → IsTrue answer) }
 {
     let Some(last) = path.last() else {
         return Ok(false);

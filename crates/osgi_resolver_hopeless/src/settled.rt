@@ -3,14 +3,13 @@
 ghost use Rattle.std.specs.Prelude.{◌↔◌, ℕ, Contains, IfOk, IsTrue};
 ghost use Rattle.std.specs.Bool.{Decides};
 ghost use Rattle.osgi_resolver_hopeless.specs.computed.Open.{AreUndecided, AreUnsettled};
-ghost use Rattle.osgi_resolver_path.specs.Standing.{IsProblemOf, made};
+ghost use Rattle.osgi_resolver_path.specs.Standing.{At};
 ghost use Rattle.osgi_space_rows.specs.Agree.{id};
 ghost use Rattle.osgi_world.specs.DueDecisions.{members};
 ghost use Rattle.osgi_world.specs.Hopeless.{IsDecided, IsSettled};
 ghost use Rattle.osgi_world.specs.Lists.{In};
 ghost use Rattle.osgi_world.specs.Partial.{partial};
 ghost use Rattle.osgi_world.specs.Wirings.{InForce};
-ghost use Rattle.osgi_world.specs.declared.problem.Problem.{Problem};
 
 use osgi_base::RevisionId;
 use osgi_resolver_path::Path;
@@ -19,7 +18,8 @@ use std::alloc::{AllocError, Global};
 
 /// Whether the revision, which is in force or a member, has no attachment, bundle requirement or import left to decide.
 fn is_decided(path: &Path, revision: RevisionId) -> bool
-    ensures decided { (P : Problem) → IsProblemOf path.now P → InForce (partial P (made P path.now)) revision → Decides result (IsDecided P (made P path.now) revision) }
+    ensures decided { At path.now (λ P D. InForce (partial P D) revision
+        → Decides result (IsDecided P D revision)) }
 {
     if path.is_decided(revision) {
         return true;
@@ -29,8 +29,9 @@ fn is_decided(path: &Path, revision: RevisionId) -> bool
 
 /// Whether it is so with all of these.
 fn are_decided(path: &Path, revisions: &[u32]) -> bool
-    ensures decided { (P : Problem) → IsProblemOf path.now P → ((n : ℕ) → In n revisions.now → InForce (partial P (made P path.now)) (id n))
-        → IsTrue result ↔ ((n : ℕ) → In n revisions.now → IsDecided P (made P path.now) (id n)) }
+    ensures decided { At path.now (λ P D. ((n : ℕ) → In n revisions.now
+        → InForce (partial P D) (id n))
+        → IsTrue result ↔ ((n : ℕ) → In n revisions.now → IsDecided P D (id n))) }
 {
     for revision in revisions {
         if !is_decided(path, RevisionId(*revision)) {
@@ -43,7 +44,8 @@ fn are_decided(path: &Path, revisions: &[u32]) -> bool
 /// Whether it is so with the revision, and with all bundles that it reaches along a bundle wire, and after it along those with
 /// reexport.
 pub fn is_settled(alloc: Global, path: &Path, revision: RevisionId) -> Result<bool, AllocError>
-    ensures settled { IfOk result (λ answer. (P : Problem) → IsProblemOf path.now P → InForce (partial P (made P path.now)) revision → IsTrue answer ↔ IsSettled P (made P path.now) revision) }
+    ensures settled { IfOk result (λ answer. At path.now (λ P D. InForce (partial P D) revision
+        → IsTrue answer ↔ IsSettled P D revision)) }
 {
     if !is_decided(path, revision) {
         return Ok(false);
@@ -58,8 +60,10 @@ pub fn is_settled(alloc: Global, path: &Path, revision: RevisionId) -> Result<bo
 
 /// Whether the member has a bundle wire, and is not settled.
 fn is_unsettled_by_wire(alloc: Global, path: &Path, member: RevisionId) -> Result<bool, AllocError>
-    ensures unsettled { IfOk result (λ answer. (P : Problem) → IsProblemOf path.now P → In member (members P (made P path.now)) → IsTrue answer → ¬ IsSettled P (made P path.now) member) }
-    ensures decided { IfOk result (λ answer. (P : Problem) → IsProblemOf path.now P → In member (members P (made P path.now)) → IsDecided P (made P path.now) member → ¬ IsTrue answer → IsSettled P (made P path.now) member) }
+    ensures unsettled { IfOk result (λ answer. At path.now (λ P D. In member (members P D)
+        → IsTrue answer → ¬ IsSettled P D member)) }
+    ensures decided { IfOk result (λ answer. At path.now (λ P D. In member (members P D)
+        → IsDecided P D member → ¬ IsTrue answer → IsSettled P D member)) }
 {
     if path.rows().rows().required_by(member.0).is_empty() {
         return Ok(false);
@@ -69,7 +73,8 @@ fn is_unsettled_by_wire(alloc: Global, path: &Path, member: RevisionId) -> Resul
 
 /// The numbers of the revisions.
 pub fn numbers(alloc: Global, revisions: &[RevisionId]) -> Result<Vec<u32>, AllocError>
-    ensures numbers { IfOk result (λ list. (n : ℕ) → Contains list.items n ↔ In (id n) revisions.now) }
+    ensures numbers { IfOk result (λ list. (n : ℕ) → Contains list.items n
+        ↔ In (id n) revisions.now) }
 {
     let mut numbers = Vec::with_capacity(alloc, revisions.len())?;
     for revision in revisions {
@@ -80,7 +85,7 @@ pub fn numbers(alloc: Global, revisions: &[RevisionId]) -> Result<Vec<u32>, Allo
 
 /// The members that are not decided.
 fn undecided(alloc: Global, path: &Path) -> Result<RevisionSet, AllocError>
-    ensures undecided { IfOk result (λ set. (P : Problem) → IsProblemOf path.now P → AreUndecided P (made P path.now) set) }
+    ensures undecided { IfOk result (λ set. At path.now (λ P D. AreUndecided P D set)) }
 {
     let undecided = path.undecided(alloc)?;
     let numbers = numbers(alloc, undecided.as_slice())?;
@@ -89,7 +94,7 @@ fn undecided(alloc: Global, path: &Path) -> Result<RevisionSet, AllocError>
 
 /// The members that are not settled: those that are not decided, and those that reach such along bundle wires.
 pub fn unsettled(alloc: Global, path: &Path) -> Result<RevisionSet, AllocError>
-    ensures unsettled { IfOk result (λ set. (P : Problem) → IsProblemOf path.now P → AreUnsettled P (made P path.now) set) }
+    ensures unsettled { IfOk result (λ set. At path.now (λ P D. AreUnsettled P D set)) }
 {
     let mut set = undecided(alloc, path)?;
     if path.rows().rows().required().is_empty() {

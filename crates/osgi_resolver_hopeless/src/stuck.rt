@@ -1,10 +1,10 @@
 //! Whether a member makes what is decided hopeless by itself.
 
 ghost use Rattle.std.specs.Prelude.{◌≡◌, ◌↔◌, ◌∷◌, [], ◌++◌, IfOk, IsTrue, List, Some};
-ghost use Rattle.osgi_resolver_hopeless.specs.computed.Stuck.{HasNamesake, IsAmiss, IsAmissBy, CannotBeMet, IsFragmentAmiss, IsMemberOf, IsNewlyAmiss, IsOtherFragment, IsStuck, IsStuckBy, OtherProvider, SameName, TwoProviders};
+ghost use Rattle.osgi_resolver_hopeless.specs.computed.Stuck.{AtMember, HasNamesake, IsAmiss, IsAmissBy, CannotBeMet, IsFragmentAmiss, IsMemberOf, IsNewlyAmiss, IsOtherFragment, IsStuck, IsStuckBy, OtherProvider, SameName, TwoProviders};
 ghost use Rattle.osgi_resolver_decisions.specs.DecisionOf.{decision_of};
 ghost use Rattle.osgi_resolver_path.specs.Last.{IsLast};
-ghost use Rattle.osgi_resolver_path.specs.Standing.{IsProblemOf, made};
+ghost use Rattle.osgi_resolver_path.specs.Standing.{At, made};
 ghost use Rattle.osgi_resolver_path.specs.declared.wired.Wired.{Wired};
 ghost use Rattle.osgi_world.specs.Candidates.{candidates};
 ghost use Rattle.osgi_world.specs.Decisions.{pick};
@@ -33,14 +33,16 @@ fn has_two_versions(
     path: &Path,
     fragments: &[RevisionId],
 ) -> Result<bool, AllocError>
-    ensures two { IfOk result (λ answer. IsTrue answer ↔ Two (SameName path.now.world.known) fragments.now) }
+    ensures two { IfOk result (λ answer. IsTrue answer
+        ↔ Two (SameName path.now.world.known) fragments.now) }
 {
     Ok(!are_names_single(alloc, known_at(path), fragments)?)
 }
 
 /// Whether the member has a requirement that can get no wire any more, or two fragments of one symbolic name.
 fn is_amiss(alloc: Global, path: &Path, member: RevisionId) -> Result<bool, AllocError>
-    ensures amiss { IfOk result (λ answer. (P : Problem) → IsMemberOf path.now P member → IsTrue answer ↔ IsAmiss P (made P path.now) member) }
+    ensures amiss { IfOk result (λ answer. AtMember path.now member (λ P D. IsTrue answer
+        ↔ IsAmiss P D member)) }
 {
     let fragments = path.fragments(alloc, member)?;
     if is_unmet(path, member, fragments.as_slice()) {
@@ -51,7 +53,8 @@ fn is_amiss(alloc: Global, path: &Path, member: RevisionId) -> Result<bool, Allo
 
 /// Whether this wire, if there is one, is one of the member, which has another provider of the same package.
 fn has_two_with(path: &Path, member: RevisionId, wired: Option<Wired>) -> bool
-    ensures other { (P : Problem) → IsProblemOf path.now P → IsTrue result ↔ ((w : Wired) × (wired ≡ Some w) × OtherProvider P.world.known (partial P (made P path.now)) member w) }
+    ensures other { At path.now (λ P D. IsTrue result
+        ↔ ((w : Wired) × (wired ≡ Some w) × OtherProvider P.world.known (partial P D) member w)) }
 {
     match wired {
         Some(wired) => has_other_provider(path.rows(), member, wired),
@@ -68,7 +71,8 @@ fn is_other_fragment(
     fragment: RevisionId,
     other: RevisionId,
 ) -> bool
-    ensures other { (P : Problem) → IsMemberOf path.now P member → IsTrue result ↔ IsOtherFragment P (made P path.now) member fragment other }
+    ensures other { AtMember path.now member (λ P D. IsTrue result
+        ↔ IsOtherFragment P D member fragment other) }
 {
     if other.0 == fragment.0 {
         return false;
@@ -78,7 +82,8 @@ fn is_other_fragment(
 
 /// Whether the member has another fragment of this one's symbolic name. It is looked for among all revisions of that name.
 fn has_namesake(path: &Path, member: RevisionId, fragment: RevisionId) -> bool
-    ensures namesake { (P : Problem) → IsMemberOf path.now P member → In fragment (fragments_of P (made P path.now) member) → IsTrue result ↔ HasNamesake P (made P path.now) member fragment }
+    ensures namesake { AtMember path.now member (λ P D. In fragment (fragments_of P D member)
+        → IsTrue result ↔ HasNamesake P D member fragment) }
 {
     let Some(says) = known_at(path).revision(fragment) else {
         return false;
@@ -94,7 +99,8 @@ fn has_namesake(path: &Path, member: RevisionId, fragment: RevisionId) -> bool
 
 /// Whether a requirement of the member's fragment has no candidate, or another fragment of the member has its symbolic name.
 fn is_fragment_amiss(path: &Path, member: RevisionId, fragment: RevisionId) -> bool
-    ensures amiss { (P : Problem) → IsMemberOf path.now P member → In fragment (fragments_of P (made P path.now) member) → IsTrue result ↔ IsFragmentAmiss P (made P path.now) member fragment }
+    ensures amiss { AtMember path.now member (λ P D. In fragment (fragments_of P D member)
+        → IsTrue result ↔ IsFragmentAmiss P D member fragment) }
 {
     if is_owner_lacking(path, fragment) {
         return true;
@@ -104,8 +110,10 @@ fn is_fragment_amiss(path: &Path, member: RevisionId, fragment: RevisionId) -> b
 
 /// Whether the decision on the fragment has the value yes, and the fragment does not fit.
 fn is_attached_amiss(path: &Path, member: RevisionId, fragment: RevisionId, value: u64) -> bool
-    ensures amiss { (P : Problem) → IsMemberOf path.now P member → (value ≡ 0 → In fragment (fragments_of P (made P path.now) member))
-        → IsTrue result ↔ (value ≡ 0) × In fragment (fragments_of P (made P path.now) member) × IsFragmentAmiss P (made P path.now) member fragment }
+    ensures amiss { AtMember path.now member (λ P D. (value ≡ 0
+        → In fragment (fragments_of P D member))
+        → IsTrue result ↔ (value ≡ 0) × In fragment (fragments_of P D member)
+        × IsFragmentAmiss P D member fragment) }
 {
     if value != 0 {
         return false;
@@ -115,8 +123,11 @@ fn is_attached_amiss(path: &Path, member: RevisionId, fragment: RevisionId, valu
 
 /// Whether the decision is the one on the last candidate of the member's requirement.
 fn is_on_last(path: &Path, decision: DecisionRef, member: RevisionId, requirement: ReqRef) -> bool
-    ensures last { (P : Problem) → IsMemberOf path.now P member → In requirement (payload P (made P path.now) member) → IsTrue (is_effective P.world.known requirement)
-        → IsTrue result ↔ ((before : List CapRef) × (c : CapRef) × (candidates P requirement ≡ before ++ c ∷ []) × (decision_of decision ≡ pick member requirement c)) }
+    ensures last { AtMember path.now member (λ P D. In requirement (payload P D member)
+        → IsTrue (is_effective P.world.known requirement)
+        → IsTrue result ↔ ((before : List CapRef) × (c : CapRef)
+        × (candidates P requirement ≡ before ++ c ∷ [])
+        × (decision_of decision ≡ pick member requirement c))) }
 {
     let Some(capability) = path.candidates(requirement).last() else {
         return false;
@@ -131,8 +142,11 @@ fn is_on_last(path: &Path, decision: DecisionRef, member: RevisionId, requiremen
 /// Whether the last decision, which is on a wire of the requirement, has the value no, and the requirement can get no wire any
 /// more. The wires are decided in the order of their candidates, so they are asked only after the decision on the last of these.
 fn is_refused_amiss(path: &Path, last: Last, member: RevisionId, requirement: ReqRef) -> bool
-    ensures amiss { (P : Problem) (c : CapRef) → IsMemberOf path.now P member → IsLast P path.now last → decision_of last.decision ≡ pick member requirement c → In requirement (payload P (made P path.now) member)
-        → IsTrue result ↔ (last.value ≡ 1) × In requirement (payload P (made P path.now) member) × CannotBeMet P (made P path.now) member requirement }
+    ensures amiss { (P : Problem) (c : CapRef) → IsMemberOf path.now P member
+        → IsLast P path.now last → decision_of last.decision ≡ pick member requirement c
+        → In requirement (payload P (made P path.now) member)
+        → IsTrue result ↔ (last.value ≡ 1) × In requirement (payload P (made P path.now) member)
+        × CannotBeMet P (made P path.now) member requirement }
 {
     if last.value != 1 {
         return false;
@@ -146,7 +160,8 @@ fn is_refused_amiss(path: &Path, last: Last, member: RevisionId, requirement: Re
 /// Whether the last decision attached a fragment to the member that does not fit, or refused it a wire of a requirement that can
 /// get none any more.
 fn is_amiss_by(path: &Path, last: Last, member: RevisionId) -> bool
-    ensures amiss { (P : Problem) → IsMemberOf path.now P member → IsLast P path.now last → IsTrue result ↔ IsAmissBy P (made P path.now) (decision_of last.decision) last.value member }
+    ensures amiss { AtMember path.now member (λ P D. IsLast P path.now last → IsTrue result
+        ↔ IsAmissBy P D (decision_of last.decision) last.value member) }
 {
     if last.decision.host().0 != member.0 {
         return false;
@@ -165,7 +180,8 @@ fn is_amiss_by(path: &Path, last: Last, member: RevisionId) -> bool
 /// Whether the last decision gave the member a requirement that can get no wire any more, or two fragments of one symbolic name.
 /// Where no decision is made, all requirements and fragments are looked at.
 fn is_newly_amiss(alloc: Global, path: &Path, member: RevisionId) -> Result<bool, AllocError>
-    ensures amiss { IfOk result (λ answer. (P : Problem) → IsMemberOf path.now P member → IsTrue answer ↔ IsNewlyAmiss P (made P path.now) member) }
+    ensures amiss { IfOk result (λ answer. AtMember path.now member (λ P D. IsTrue answer
+        ↔ IsNewlyAmiss P D member)) }
 {
     let Some(last) = path.last() else {
         return Ok(is_amiss(alloc, path, member)?);
@@ -184,7 +200,8 @@ pub fn is_stuck_by(
     member: RevisionId,
     wired: Option<Wired>,
 ) -> Result<bool, AllocError>
-    ensures stuck { IfOk result (λ answer. (P : Problem) → IsMemberOf path.now P member → IsTrue answer ↔ IsStuckBy P (made P path.now) member wired) }
+    ensures stuck { IfOk result (λ answer. AtMember path.now member (λ P D. IsTrue answer
+        ↔ IsStuckBy P D member wired)) }
 {
     if is_newly_amiss(alloc, path, member)? {
         return Ok(true);
@@ -196,7 +213,8 @@ pub fn is_stuck_by(
 
 /// Whether one of the members has a requirement that can get no wire any more, or two fragments of one symbolic name.
 fn is_one_amiss(alloc: Global, path: &Path) -> Result<bool, AllocError>
-    ensures amiss { IfOk result (λ answer. (P : Problem) → IsProblemOf path.now P → IsTrue answer ↔ ((m : RevisionId) × In m (members P (made P path.now)) × IsAmiss P (made P path.now) m)) }
+    ensures amiss { IfOk result (λ answer. At path.now (λ P D. IsTrue answer
+        ↔ ((m : RevisionId) × In m (members P D) × IsAmiss P D m))) }
 {
     for member in path.members() {
         if is_amiss(alloc, path, *member)? {
@@ -208,7 +226,8 @@ fn is_one_amiss(alloc: Global, path: &Path) -> Result<bool, AllocError>
 
 /// Whether one of the members has two providers of one package.
 fn one_has_two_providers(path: &Path) -> bool
-    ensures two { (P : Problem) → IsProblemOf path.now P → IsTrue result ↔ ((m : RevisionId) × In m (members P (made P path.now)) × TwoProviders P.world.known (partial P (made P path.now)) m) }
+    ensures two { At path.now (λ P D. IsTrue result
+        ↔ ((m : RevisionId) × In m (members P D) × TwoProviders P.world.known (partial P D) m)) }
 {
     for member in path.members() {
         if has_two_providers(path.rows().rows(), member.0) {
@@ -220,7 +239,8 @@ fn one_has_two_providers(path: &Path) -> bool
 
 /// Whether one of the members is stuck. What takes all wires of a member to tell is asked last.
 pub fn has_stuck_member(alloc: Global, path: &Path) -> Result<bool, AllocError>
-    ensures stuck { IfOk result (λ answer. (P : Problem) → IsProblemOf path.now P → IsTrue answer ↔ ((m : RevisionId) × In m (members P (made P path.now)) × IsStuck P (made P path.now) m)) }
+    ensures stuck { IfOk result (λ answer. At path.now (λ P D. IsTrue answer
+        ↔ ((m : RevisionId) × In m (members P D) × IsStuck P D m))) }
 {
     if is_one_amiss(alloc, path)? {
         return Ok(true);

@@ -1,9 +1,9 @@
 //! Whether a requirement of a member can get no wire any more.
 
 ghost use Rattle.std.specs.Prelude.{◌≡◌, ◌↔◌, IsTrue};
-ghost use Rattle.osgi_resolver_hopeless.specs.computed.Stuck.{AreRefused, CannotBeMet, IsMemberOf, IsOwner, IsOwnerLacking, IsRefused, IsUnmet, OwnUnmet};
+ghost use Rattle.osgi_resolver_hopeless.specs.computed.Stuck.{AtMember, AreRefused, CannotBeMet, IsMemberOf, IsOwner, IsOwnerLacking, IsRefused, IsUnmet, OwnUnmet};
 ghost use Rattle.osgi_base.specs.declared.ids.RevisionId.{RevisionId};
-ghost use Rattle.osgi_resolver_path.specs.Standing.{IsProblemOf, made};
+ghost use Rattle.osgi_resolver_path.specs.Standing.{At, made};
 ghost use Rattle.osgi_world.specs.DueDecisions.{fragments_of, payload};
 ghost use Rattle.osgi_world.specs.Lists.{In};
 ghost use Rattle.osgi_world.specs.declared.problem.Problem.{Problem};
@@ -16,7 +16,8 @@ use osgi_world::{CapRef, ReqRef};
 
 /// Whether the requirement's decision on this capability is made, and is no.
 fn is_refused(path: &Path, member: RevisionId, requirement: ReqRef, capability: CapRef) -> bool
-    ensures refused { (P : Problem) → IsProblemOf path.now P → IsTrue result ↔ IsRefused (made P path.now) member requirement capability }
+    ensures refused { At path.now (λ P D. IsTrue result
+        ↔ IsRefused D member requirement capability) }
 {
     let pick = DecisionRef::Pick {
         host: member,
@@ -31,7 +32,8 @@ fn is_refused(path: &Path, member: RevisionId, requirement: ReqRef, capability: 
 
 /// Whether it is so with each of these capabilities.
 fn are_refused(path: &Path, member: RevisionId, requirement: ReqRef, candidates: &[CapRef]) -> bool
-    ensures refused { (P : Problem) → IsProblemOf path.now P → IsTrue result ↔ AreRefused (made P path.now) member requirement candidates.now }
+    ensures refused { At path.now (λ P D. IsTrue result
+        ↔ AreRefused D member requirement candidates.now) }
 {
     for capability in candidates {
         if !is_refused(path, member, requirement, *capability) {
@@ -43,8 +45,8 @@ fn are_refused(path: &Path, member: RevisionId, requirement: ReqRef, candidates:
 
 /// Whether the requirement of the member's payload is needed, and can get no wire any more.
 pub fn cannot_be_met(path: &Path, member: RevisionId, requirement: ReqRef) -> bool
-    ensures unmet { (P : Problem) → IsMemberOf path.now P member → In requirement (payload P (made P path.now) member)
-        → IsTrue result ↔ CannotBeMet P (made P path.now) member requirement }
+    ensures unmet { AtMember path.now member (λ P D. In requirement (payload P D member)
+        → IsTrue result ↔ CannotBeMet P D member requirement) }
 {
     let known = known_at(path);
     if !known.is_needed(requirement) {
@@ -62,8 +64,8 @@ pub fn cannot_be_met(path: &Path, member: RevisionId, requirement: ReqRef) -> bo
 
 /// Whether it is so with a requirement of this owner.
 fn is_owner_unmet(path: &Path, member: RevisionId, owner: RevisionId) -> bool
-    ensures unmet { (P : Problem) → IsMemberOf path.now P member → IsOwner P (made P path.now) member owner
-        → IsTrue result ↔ OwnUnmet P (made P path.now) member owner }
+    ensures unmet { AtMember path.now member (λ P D. IsOwner P D member owner
+        → IsTrue result ↔ OwnUnmet P D member owner) }
 {
     if path.is_sure(owner) {
         return false;
@@ -79,8 +81,8 @@ fn is_owner_unmet(path: &Path, member: RevisionId, owner: RevisionId) -> bool
 
 /// Whether it is so with a requirement of the member's payload, where these are its fragments.
 pub fn is_unmet(path: &Path, member: RevisionId, fragments: &[RevisionId]) -> bool
-    ensures unmet { (P : Problem) → IsMemberOf path.now P member → fragments.now ≡ fragments_of P (made P path.now) member
-        → IsTrue result ↔ IsUnmet P (made P path.now) member }
+    ensures unmet { AtMember path.now member (λ P D. fragments.now ≡ fragments_of P D member
+        → IsTrue result ↔ IsUnmet P D member) }
 {
     if is_owner_unmet(path, member, member) {
         return true;
@@ -98,7 +100,8 @@ pub fn is_unmet(path: &Path, member: RevisionId, fragments: &[RevisionId]) -> bo
 /// Whether a requirement of this owner is needed, and has no candidate. It was found out when the owner came, so a member that
 /// cannot be had costs the same each time that it is tried, however much it requires.
 pub fn is_owner_lacking(path: &Path, owner: RevisionId) -> bool
-    ensures lacking { (P : Problem) (m : RevisionId) → IsMemberOf path.now P m → IsOwner P (made P path.now) m owner → IsTrue result ↔ IsOwnerLacking P owner }
+    ensures lacking { (P : Problem) (m : RevisionId) → IsMemberOf path.now P m
+        → IsOwner P (made P path.now) m owner → IsTrue result ↔ IsOwnerLacking P owner }
 {
     path.lacks_candidate(owner)
 }

@@ -21,6 +21,10 @@ pub record IsMemberOf (s : Standing) (P : Problem) (m : RevisionId) : Type 0 whe
   pub problem : IsProblemOf s P
   pub member : In m (members P (made P s))
 
+-- it is so with the problem and with what is decided, where m is a member
+abbrev pub AtMember : Standing → RevisionId → (Problem → Made → Type 0) → Type 0
+AtMember s m F = (P : Problem) → IsMemberOf s P m → F P (made P s)
+
 -- ---- requirements that can get no wire any more
 
 -- the decision on this wire is made, and is no
