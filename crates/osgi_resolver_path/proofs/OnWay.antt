@@ -1,6 +1,6 @@
 -- What a path's invariant says of a problem.
 use Rattle.std.proofs.Common.{◌≡◌, ℕ, ◌<◌, ◌⊎◌, Bool, true, false, IsTrue, inl, inr, zero, suc, length, take, List, [], ◌∷◌, ◌++◌, map, reverse, Option, None, Some, if◌then◌else◌, refl, sym, ◌∙◌, ap, ap₂, subst, arith}
-use Rattle.std.specs.Prelude.{is_some, not, slice_get}
+use Rattle.std.specs.Prelude.{MatchOption, is_some, not, slice_get}
 use Rattle.std.proofs.lemmas.Bool.{false≢true}
 use Rattle.std.proofs.lemmas.List.{length-reverse}
 use Rattle.std.proofs.lemmas.Option.{slice_get_cases}
@@ -211,6 +211,11 @@ module _ (W : World) (root : RevisionId) (lists : Lists) (spaces : SpacesState) 
 
   pub complete-at : (P : Problem) → IsProblemOf s P → (o : Option DecisionRef) → o ≡ slice_get c.queue.items (length c.marks.items) → (b : Bool) → is_some o ≡ not b → (b ≡ true → IsComplete P s.word) × (IsComplete P s.word → b ≡ true)
   complete-at P of o at b e = complete-go P of o at b e
+
+  pub next-at : (o : Option DecisionRef) → o ≡ slice_get c.queue.items (length c.marks.items) →
+      MatchOption o ((P : Problem) → IsProblemOf s P → next_decision P (made P s) ≡ None) (λ d. (P : Problem) → IsProblemOf s P → next_decision P (made P s) ≡ Some (decision_of d))
+  next-at None at = λ P of. ap (λ x. next_decision P (made P x)) is ∙ next-none W root lists spaces c on P (there-of P of) (sym at)
+  next-at (Some d) at = λ P of. ap (λ x. next_decision P (made P x)) is ∙ next-some W root lists spaces c on P (there-of P of) d (sym at)
 
   pub members-at : (P : Problem) → IsProblemOf s P → c.ids.items ≡ members P (made P s)
   members-at P of = (stands-at P of).ids ∙ ap (members P) (sym (made-at P of))

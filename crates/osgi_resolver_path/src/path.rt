@@ -1,12 +1,12 @@
 //! The path of a search from the empty word to where it stands.
 
-ghost use Rattle.std.specs.Prelude.{◌≡◌, ◌↔◌, ◌⊎◌, ℕ, ◌∷◌, [], ◌++◌, IsTrue, IfOk, OnOk, OnErr, MatchOption};
+ghost use Rattle.std.specs.Prelude.{◌≡◌, ◌↔◌, ◌⊎◌, ℕ, ◌∷◌, [], ◌++◌, IsTrue, IfOk, OnOk, OnErr, MatchOption, None, Some};
 ghost use Rattle.std.specs.Bool.{Decides};
 ghost use Rattle.osgi_base.specs.declared.ids.RevisionId.{RevisionId};
 ghost use Rattle.osgi_world.specs.Candidates.{candidates};
 ghost use Rattle.osgi_world.specs.ChoiceWords.{IsComplete, width};
 ghost use Rattle.osgi_world.specs.Decisions.{value_made};
-ghost use Rattle.osgi_world.specs.DueDecisions.{fragments_of, members, payload};
+ghost use Rattle.osgi_world.specs.DueDecisions.{fragments_of, members, next_decision, payload};
 ghost use Rattle.osgi_world.specs.Hopeless.{IsDecided};
 ghost use Rattle.osgi_world.specs.Lists.{In};
 ghost use Rattle.osgi_world.specs.Lookups.{is_effective};
@@ -137,6 +137,14 @@ impl<'w> Path<'w> {
         ensures complete { At self.now (λ P _. Decides result (IsComplete P self.now.word)) }
     {
         self.course.next().is_none()
+    }
+
+    /// The next decision; None where none is left.
+    pub fn next(&self) -> Option<DecisionRef>
+        ensures next { MatchOption result (At self.now (λ P D. next_decision P D ≡ None))
+            (λ d. At self.now (λ P D. next_decision P D ≡ Some (decision_of d))) }
+    {
+        self.course.next()
     }
 
     /// Makes the next decision with this value. If memory runs out, nothing changes.
