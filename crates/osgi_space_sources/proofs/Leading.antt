@@ -1,5 +1,5 @@
 -- A revision that agrees with all to which the exports lead that it sees violates no constraint.
-use Rattle.std.proofs.Common.{◌≡◌, ◌⊎◌, inl, inr, ℕ, refl}
+use Rattle.std.proofs.Common.{inl, inr, ℕ, refl}
 use Rattle.osgi_space_rows.specs.Rows.{RowLists}
 use Rattle.osgi_space_rows.specs.declared.grouped.Grouped.{Grouped}
 use Rattle.osgi_space_sources.specs.computed.Clashes.{KeepsUsesAmong}

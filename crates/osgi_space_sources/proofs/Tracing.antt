@@ -1,5 +1,5 @@
 -- What stays traced as more is traced, and what a trace says of constraints.
-use Rattle.std.proofs.Common.{◌≡◌, ◌↔◌, ◌⊎◌, inl, inr, ℕ, List, [], ◌∷◌, ◌++◌, cond, true, refl, sym, ◌∙◌, ap, subst, append_assoc, append-nil, Contains}
+use Rattle.std.proofs.Common.{◌≡◌, ℕ, [], ◌∷◌, ◌++◌, cond, true, refl, sym, ◌∙◌, ap, subst, append_assoc, append-nil, Contains}
 use Rattle.std.proofs.lemmas.List.Elements.{Contains-append_left, Contains-push}
 use Rattle.std.specs.BTreeMap.{is_at}
 use Rattle.osgi_space_rows.specs.Rows.{RowLists}
@@ -72,13 +72,17 @@ uses-from R k g s uses named source = (
   subst (λ u. Sources R k.source u s.source) (sym named) (subst (λ e. Sources R e g.package s.source) uses.0 source),
 )
 
-module _ (R : RowLists) (A D : ℕ → Type 0) (t : Trace) (traced : AreTraced R A D t) (all : List Lead) (carried : (l : Lead) → Contains all l ↔ Reach (Contains t.leads.items.items) (LeadsBack t.users) l) where
+module _ (R : RowLists) (A D : ℕ → Type 0) (t : Trace) (traced : AreTraced R A D t) where
+  -- the lead is carried back from those that were noted
+  abbrev pub Led : Lead → Type 0
+  Led = Reach (Contains t.leads.items.items) (LeadsBack t.users)
+
   -- the constraint is a use by a traced export, and what that leads to, h leads to
   record Passes (h g : Given) : Type 0 where
     pub export : Given
     pub there : Contains t.exports.items.items export
     pub uses : IsUse R export.source export.package g
-    pub leads : (s : Given) → Contains all (record { export = export; source = s }) → Contains all (record { export = h; source = s })
+    pub leads : (s : Given) → Led (record { export = export; source = s }) → Led (record { export = h; source = s })
 
   passes : (h : Given) → Contains t.exports.items.items h → {g : Given} → FollowsFrom R A h g → Passes h g
   passes h at (starts uses) = record { export = h; there = at; uses = uses; leads = λ s led. led }
@@ -90,11 +94,11 @@ module _ (R : RowLists) (A D : ℕ → Type 0) (t : Trace) (traced : AreTraced R
         export = m;
         there = f.0;
         uses = uses;
-        leads = λ s led. p.leads s ((carried (record { export = p.export; source = s })).1 (steps ((carried (record { export = m; source = s })).0 led) (f.1, refl)));
+        leads = λ s led. p.leads s (steps led (f.1, refl));
       }
 
-  pub lead-there : (h s : Given) → Contains t.exports.items.items h → IsLead R A h s → D s.package → Contains all (record { export = h; source = s })
+  pub lead-there : (h s : Given) → Contains t.exports.items.items h → IsLead R A h s → D s.package → Led (record { export = h; source = s })
   lead-there h s at (g, follows, source) disputed =
       let p = passes h at follows in
       let to = traced p.export p.there s (uses-from R p.export g s p.uses source.0 source.1) in
-      p.leads s ((carried (record { export = p.export; source = s })).1 (starts (to.noted disputed)))
+      p.leads s (starts (to.noted disputed))

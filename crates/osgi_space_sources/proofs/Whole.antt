@@ -1,5 +1,7 @@
 -- Loops after which something holds of each item of a list, or of each that was found.
-use Rattle.std.proofs.Common.{◌≡◌, ◌⊎◌, inl, inr, ℕ, ◌+◌, ◌<◌, ◌≤◌, Bool, true, false, not, IsTrue, List, ◌++◌, length, get_or, take, refl, sym, ◌∙◌, ap, subst, arith, below_more, length-append, Contains}
+use Rattle.std.proofs.Common.{◌≡◌, inl, inr, ℕ, ◌+◌, ◌<◌, ◌≤◌, Bool, true, false, not, IsTrue, List, ◌++◌, length, get_or, take, refl, sym, ◌∙◌, ap, subst, arith, below_more, length-append, Contains}
+use Rattle.std.specs.Prelude.{Option, None, Some, unwrap_or}
+use Rattle.std.specs.Option.{ForSome}
 use Rattle.std.proofs.lemmas.Bool.{false≢true}
 use Rattle.std.proofs.lemmas.List.{get_or_append_left, get_or_default, take_all}
 use Rattle.std.proofs.lemmas.List.Elements.{Contains-append_left}
@@ -51,3 +53,16 @@ done-all P all next h done x c = done.done c.0 (omega (arith, c.1)) x c.2
 pub breaks-iff : (keeps : Bool) {W P : Type 0} → W → (IsTrue keeps → P) × (P → IsTrue keeps) → (IsTrue (not keeps) → W × ¬ P) × (W × ¬ P → IsTrue (not keeps))
 breaks-iff true w is = (λ t. absurd (false≢true t), λ breaks. absurd (breaks.1 (is.0 refl)))
 breaks-iff false w is = (λ t. (w, λ p. false≢true (is.1 p)), λ breaks. refl)
+
+-- it is so, since the opposite cannot be
+pub true-unless : (b : Bool) → ¬ ¬ IsTrue b → IsTrue b
+true-unless true not = refl
+true-unless false not = absurd (not (λ t. false≢true t))
+
+-- ---- what holds of a value that there may be
+
+pub for-one : {X : Type 0} (P : X → Type 0) (x : X) → P x → ForSome (Some x) P
+for-one P x p y e = subst P (ap (λ (o : Option _). unwrap_or o x) e) p
+
+pub for-none : {X : Type 0} (P : X → Type 0) → ForSome None P
+for-none P y e = let clash : None ≡ Some y = e in cc

@@ -1,6 +1,6 @@
 //! Whether one of many revisions violates a constraint.
 
-ghost use Rattle.std.specs.Prelude.{◌↔◌, ℕ, Any, Contains, IfOk, OnOk, IsTrue};
+ghost use Rattle.std.specs.Prelude.{◌≡◌, ◌↔◌, ◌⊎◌, ℕ, Any, Contains, IfOk, OnOk, IsTrue};
 ghost use Rattle.osgi_space_sources.specs.computed.Amongst.{IsAmong};
 ghost use Rattle.osgi_space_sources.specs.computed.Clashes.{BreaksUses};
 ghost use Rattle.osgi_space_sources.specs.computed.Collected.{IsCollected};
@@ -12,15 +12,18 @@ ghost use Rattle.osgi_space_sources.specs.declared.given.Given.{Given};
 
 use crate::among::Among;
 use crate::constraints::may_use;
-use crate::found::{FEW, Found, is_listed};
+use crate::found::{Found, is_listed};
 use crate::given::Given;
 use crate::leads::leads_of;
 use crate::package_sources::sources_of;
 use crate::space::space_of;
-use crate::uses::{has_wires, keeps_uses};
+use crate::uses::{has_disputed, has_wires, keeps_uses};
 use osgi_space_rows::{Grouped, Rows};
 use std::alloc::{AllocError, Global};
 use std::collections::BTreeSet;
+
+/// So many revisions for each disputed package are asked together, since a lead takes the time of a constraint.
+const ENOUGH: usize = 4;
 
 // ---- the exports that revisions see
 
@@ -212,6 +215,63 @@ fn breaks_uses_by(
     breaks_uses(alloc, rows, disputed, among, revision)
 }
 
+// ---- whom to ask
+
+/// Whether the revision may violate a constraint that comes from these revisions alone: it is one of them, has a wire, and sees a
+/// disputed package.
+fn may_break(
+    alloc: Global,
+    rows: &Rows,
+    disputed: &BTreeSet<u32>,
+    among: Among,
+    revision: u32,
+) -> Result<bool, AllocError>
+    requires disputed { AreDisputed rows.now disputed.now }
+    ensures may { IfOk result (λ answer. BreaksUses rows.now (IsAmong among.entry) revision → IsTrue answer) }
+{
+    if !among.has(revision) {
+        return Ok(false);
+    }
+    if !has_wires(rows, revision) {
+        return Ok(false);
+    }
+    let givens = space_of(alloc, rows, revision)?;
+    Ok(has_disputed(givens.as_slice(), disputed))
+}
+
+/// Adds the revision, if it may.
+fn add_that(list: &mut Vec<u32>, may: bool, revision: u32) -> Result<(), AllocError>
+    ensures those { OnOk result ((n : ℕ) → Contains list.new.items n → Contains list.old.items n ⊎ (n ≡ revision)) }
+    ensures kept { OnOk result ((n : ℕ) → Contains list.old.items n → Contains list.new.items n) }
+    ensures added { OnOk result (IsTrue may → Contains list.new.items revision) }
+{
+    if !may {
+        return Ok(());
+    }
+    list.push(revision)?;
+    Ok(())
+}
+
+/// Those of the revisions that may violate a constraint.
+fn those_to_ask(
+    alloc: Global,
+    rows: &Rows,
+    disputed: &BTreeSet<u32>,
+    among: Among,
+    revisions: &[u32],
+) -> Result<Vec<u32>, AllocError>
+    requires disputed { AreDisputed rows.now disputed.now }
+    ensures those { IfOk result (λ list. (n : ℕ) → Contains list.items n → Contains revisions.now n) }
+    ensures all { IfOk result (λ list. (n : ℕ) → Contains revisions.now n → BreaksUses rows.now (IsAmong among.entry) n → Contains list.items n) }
+{
+    let mut list = Vec::new(alloc);
+    for revision in revisions {
+        let may = may_break(alloc, rows, disputed, among, *revision)?;
+        add_that(&mut list, may, *revision)?;
+    }
+    Ok(list)
+}
+
 // ---- all of them
 
 fn one_breaks_alone(
@@ -252,8 +312,26 @@ fn one_breaks_by(
     Ok(false)
 }
 
-/// Whether one of the revisions has a wire, and a violated constraint that comes from the revisions of `among` alone. Of many
-/// revisions, what the exports that they see lead to is found once for all of them.
+/// The same; what the exports that they see lead to is found once for all of them.
+fn one_breaks_together(
+    alloc: Global,
+    rows: &Rows,
+    disputed: &BTreeSet<u32>,
+    among: Among,
+    revisions: &[u32],
+) -> Result<bool, AllocError>
+    requires disputed { AreDisputed rows.now disputed.now }
+    ensures breaks { IfOk result (λ answer. IsTrue answer ↔ Any (BreaksUses rows.now (IsAmong among.entry)) revisions.now) }
+{
+    let starts = starts_of(alloc, rows, among, revisions)?;
+    let Some(leads) = leads_of(alloc, rows, disputed, among, starts)? else {
+        return one_breaks_alone(alloc, rows, disputed, among, revisions);
+    };
+    one_breaks_by(alloc, rows, disputed, among, &leads, revisions)
+}
+
+/// Whether one of the revisions has a wire, and a violated constraint that comes from the revisions of `among` alone. Many, for few
+/// disputed packages, are asked together.
 pub fn one_breaks_uses(
     alloc: Global,
     rows: &Rows,
@@ -264,10 +342,9 @@ pub fn one_breaks_uses(
     requires disputed { AreDisputed rows.now disputed.now }
     ensures breaks { IfOk result (λ answer. IsTrue answer ↔ Any (BreaksUses rows.now (IsAmong among.entry)) revisions.now) }
 {
-    if disputed.is_empty() || revisions.len() <= FEW {
+    if disputed.is_empty() || disputed.len() > revisions.len() / ENOUGH {
         return one_breaks_alone(alloc, rows, disputed, among, revisions);
     }
-    let starts = starts_of(alloc, rows, among, revisions)?;
-    let leads = leads_of(alloc, rows, disputed, among, starts)?;
-    one_breaks_by(alloc, rows, disputed, among, &leads, revisions)
+    let asked = those_to_ask(alloc, rows, disputed, among, revisions)?;
+    Ok(one_breaks_together(alloc, rows, disputed, among, asked.as_slice())?)
 }

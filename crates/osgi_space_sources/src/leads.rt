@@ -1,6 +1,7 @@
 //! The sources of disputed packages to which exports lead.
 
-ghost use Rattle.std.specs.Prelude.{◌↔◌, Contains, IfOk, OnOk};
+ghost use Rattle.std.specs.Prelude.{Contains, IfOk, OnOk};
+ghost use Rattle.std.specs.Option.{ForSome};
 ghost use Rattle.osgi_space_sources.specs.computed.Adds.{Adds};
 ghost use Rattle.osgi_space_sources.specs.computed.Amongst.{IsAmong};
 ghost use Rattle.osgi_space_sources.specs.computed.Collected.{IsCollected};
@@ -8,6 +9,7 @@ ghost use Rattle.osgi_space_sources.specs.computed.Disputes.{IsDisputed};
 ghost use Rattle.osgi_space_sources.specs.computed.Exact.{given_cmp, lead_cmp};
 ghost use Rattle.osgi_space_sources.specs.computed.Leads.{IsLead, IsUnder, LeadsBack};
 ghost use Rattle.osgi_space_sources.specs.computed.Reach.{Reach};
+ghost use Rattle.osgi_space_sources.specs.computed.Traces.{AreCollected};
 ghost use Rattle.osgi_space_sources.specs.declared.given.Given.{Given};
 ghost use Rattle.osgi_space_sources.specs.declared.lead.Lead.{Lead};
 
@@ -15,7 +17,7 @@ use crate::among::Among;
 use crate::found::Found;
 use crate::given::Given;
 use crate::lead::Lead;
-use crate::trace::{Trace, trace_from};
+use crate::trace::{MOST_LEADS, Trace, trace_from};
 use osgi_space_rows::{Grouped, Rows};
 use std::alloc::{AllocError, Global};
 use std::collections::BTreeSet;
@@ -39,23 +41,26 @@ fn add_users(
     Ok(())
 }
 
-/// What the exports lead to, and those that use them, and so on.
+/// What the exports lead to, and those that use them, and so on; none, if that is too much.
 fn carried_back(
     leads: Found<Lead>,
     users: &Grouped<Given, Given>,
-) -> Result<Found<Lead>, AllocError>
+) -> Result<Option<Found<Lead>>, AllocError>
     requires collected { IsCollected lead_cmp leads }
-    ensures carried { IfOk result (λ all. (l : Lead) → Contains all.items.items l ↔ Reach (Contains leads.items.items) (LeadsBack users.now) l) }
+    ensures carried { IfOk result (λ carried. ForSome carried (λ all. (l : Lead) → Reach (Contains leads.items.items) (LeadsBack users.now) l → Contains all.items.items l)) }
 {
     let mut all = leads;
     for next in 0..usize::MAX {
         if next >= all.items.len() {
-            return Ok(all);
+            return Ok(Some(all));
+        }
+        if next >= MOST_LEADS {
+            return Ok(None);
         }
         let lead = all.items[next];
         add_users(&mut all, users, lead)?;
     }
-    Ok(all)
+    Ok(None)
 }
 
 /// The sources by the exports that lead to them.
@@ -69,20 +74,32 @@ fn by_export(alloc: Global, leads: &[Lead]) -> Result<Grouped<Given, Given>, All
     Ok(grouped)
 }
 
+/// The sources to which the exports that were traced lead, by the exports; none, if they are too many.
+fn leads_in(alloc: Global, trace: Trace) -> Result<Option<Grouped<Given, Given>>, AllocError>
+    requires collected { AreCollected trace }
+    ensures leads { IfOk result (λ found. ForSome found (λ leads. (l : Lead) → Reach (Contains trace.leads.items.items) (LeadsBack trace.users) l → IsUnder leads l.export l.source)) }
+{
+    let Trace { users, leads, .. } = trace;
+    let Some(all) = carried_back(leads, &users)? else {
+        return Ok(None);
+    };
+    Ok(Some(by_export(alloc, all.items.as_slice())?))
+}
+
 /// The sources of disputed packages to which these exports lead: of each constraint that follows from an export, those of its package
-/// for the one that sees it. Others may stand there, too.
+/// for the one that sees it. Others may stand there, too. None, if they are too many.
 pub fn leads_of(
     alloc: Global,
     rows: &Rows,
     disputed: &BTreeSet<u32>,
     among: Among,
     exports: Found<Given>,
-) -> Result<Grouped<Given, Given>, AllocError>
+) -> Result<Option<Grouped<Given, Given>>, AllocError>
     requires collected { IsCollected given_cmp exports }
-    ensures leads { IfOk result (λ leads. (h s : Given) → Contains exports.items.items h → IsLead rows.now (IsAmong among.entry) h s → IsDisputed disputed.now s.package → IsUnder leads h s) }
+    ensures leads { IfOk result (λ found. ForSome found (λ leads. (h s : Given) → Contains exports.items.items h → IsLead rows.now (IsAmong among.entry) h s → IsDisputed disputed.now s.package → IsUnder leads h s)) }
 {
-    let traced = trace_from(alloc, rows, disputed, among, exports)?;
-    let Trace { users, leads, .. } = traced;
-    let all = carried_back(leads, &users)?;
-    Ok(by_export(alloc, all.items.as_slice())?)
+    let Some(trace) = trace_from(alloc, rows, disputed, among, exports)? else {
+        return Ok(None);
+    };
+    Ok(leads_in(alloc, trace)?)
 }

@@ -1,6 +1,7 @@
 //! What exports use, traced from some of them on.
 
 ghost use Rattle.std.specs.Prelude.{◌≡◌, ℕ, Contains, IfOk, OnOk};
+ghost use Rattle.std.specs.Option.{ForSome};
 ghost use Rattle.osgi_space_rows.specs.Rows.{OwnUse};
 ghost use Rattle.osgi_space_sources.specs.computed.Amongst.{IsAmong};
 ghost use Rattle.osgi_space_sources.specs.computed.Collected.{IsCollected};
@@ -19,6 +20,9 @@ use crate::package_sources::sources_of;
 use osgi_space_rows::{Grouped, Rows};
 use std::alloc::{AllocError, Global};
 use std::collections::BTreeSet;
+
+/// How many leads are gathered at most, since they take memory.
+pub(crate) const MOST_LEADS: usize = 1 << 18;
 
 /// Exports, each a package with its exporter in the place of a source; by an export those that use it; and the sources of disputed
 /// packages that exports use.
@@ -184,26 +188,29 @@ fn trace_export(
     Ok(())
 }
 
-/// Traces these exports, those that they use, and so on.
+/// Traces these exports, those that they use, and so on; none, if they have too many leads.
 pub fn trace_from(
     alloc: Global,
     rows: &Rows,
     disputed: &BTreeSet<u32>,
     among: Among,
     exports: Found<Given>,
-) -> Result<Trace, AllocError>
+) -> Result<Option<Trace>, AllocError>
     requires collected { IsCollected given_cmp exports }
-    ensures collected { IfOk result AreCollected }
-    ensures exports { IfOk result (λ trace. (h : Given) → Contains exports.items.items h → Contains trace.exports.items.items h) }
-    ensures traced { IfOk result (AreTraced rows.now (IsAmong among.entry) (IsDisputed disputed.now)) }
+    ensures collected { IfOk result (λ traced. ForSome traced AreCollected) }
+    ensures exports { IfOk result (λ traced. ForSome traced (λ trace. (h : Given) → Contains exports.items.items h → Contains trace.exports.items.items h)) }
+    ensures traced { IfOk result (λ traced. ForSome traced (AreTraced rows.now (IsAmong among.entry) (IsDisputed disputed.now))) }
 {
     let mut trace = Trace::of(alloc, exports);
     for next in 0..usize::MAX {
         if next >= trace.exports.items.len() {
-            return Ok(trace);
+            return Ok(Some(trace));
+        }
+        if trace.leads.items.len() > MOST_LEADS {
+            return Ok(None);
         }
         let export = trace.exports.items[next];
         trace_export(alloc, &mut trace, rows, disputed, among, export)?;
     }
-    Ok(trace)
+    Ok(None)
 }

@@ -21,7 +21,7 @@ use std::alloc::{AllocError, Global};
 use std::collections::BTreeSet;
 
 /// Whether one of the packages is disputed.
-fn has_disputed(givens: &[Given], disputed: &BTreeSet<u32>) -> bool
+pub(crate) fn has_disputed(givens: &[Given], disputed: &BTreeSet<u32>) -> bool
     ensures disputed { IsTrue result ↔ Any (λ (g : Given). IsTrue (contains nat_cmp disputed.now g.package)) givens.now }
 {
     for given in givens {

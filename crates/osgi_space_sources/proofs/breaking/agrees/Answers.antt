@@ -1,7 +1,6 @@
 -- It is one of the sources, or there are none.
-use Rattle.std.proofs.Common.{◌≡◌, ◌==◌, inl, inr, ℕ, List, [], length, refl, sym, ◌∙◌, subst, arith, Contains}
+use Rattle.std.proofs.Common.{◌≡◌, inl, inr, List, [], refl, sym, ◌∙◌, subst, arith, Contains}
 use Rattle.osgi_space_sources.specs.declared.given.Given.{Given}
-use Rattle.osgi_space_sources.specs.computed.RowSources.{Sources}
 use Rattle.osgi_space_sources.proofs.Lengths.{empty-true}
 use Rattle.osgi_space_sources.proofs.breaking.agrees.Goals as goal
 

@@ -1,5 +1,5 @@
 -- The answer is true at the first that breaks a constraint.
-use Rattle.std.proofs.Common.{ℕ, get_or, refl, sym, Any}
+use Rattle.std.proofs.Common.{get_or, refl, sym, Any}
 use Rattle.std.proofs.lemmas.Bool.{false≢true}
 use Rattle.std.proofs.lemmas.List.{get_or_default}
 use Rattle.osgi_space_sources.specs.computed.Amongst.{IsAmong}

@@ -1,5 +1,5 @@
 -- One lead for each user.
-use Rattle.std.proofs.Common.{◌≡◌, ◌↔◌, List, ap, refl, sym, subst, Contains}
+use Rattle.std.proofs.Common.{◌≡◌, ◌↔◌, List, ap, sym, subst, Contains}
 use Rattle.std.proofs.lemmas.List.{get_or_default}
 use Rattle.osgi_space_rows.specs.computed.Groups.{values_of}
 use Rattle.osgi_space_rows.specs.declared.grouped.Grouped.{Grouped}

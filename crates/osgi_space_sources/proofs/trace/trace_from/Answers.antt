@@ -1,12 +1,13 @@
 -- The next export is traced; when none is left, all are.
-use Rattle.std.proofs.Common.{◌≡◌, List, arith, subst, sym, Contains}
+use Rattle.std.proofs.Common.{arith, subst, sym, Contains}
 use Rattle.osgi_space_sources.specs.computed.Amongst.{IsAmong}
 use Rattle.osgi_space_sources.specs.computed.Disputes.{IsDisputed}
-use Rattle.osgi_space_sources.specs.computed.Traces.{IsTraced}
+use Rattle.osgi_space_sources.specs.computed.Traces.{AreCollected, AreTraced, IsTraced}
 use Rattle.osgi_space_sources.specs.declared.found.Found.{Found}
 use Rattle.osgi_space_sources.specs.declared.given.Given.{Given}
+use Rattle.osgi_space_sources.specs.declared.trace.Trace.{Trace}
 use Rattle.osgi_space_sources.proofs.Tracing.{traced-kept}
-use Rattle.osgi_space_sources.proofs.Whole.{done-all, done-next, done-start, grown-kept}
+use Rattle.osgi_space_sources.proofs.Whole.{done-all, done-next, done-start, for-one, grown-kept}
 use Rattle.osgi_space_sources.proofs.trace.trace_from.Goals as goal
 
 pub loop-next-init : goal.loop-next-init
@@ -33,7 +34,13 @@ loop-next-preserved c =
           (traced-kept R A D old new keeps) c.loop-next.invariant.traced c.in_ok-trace_export.ensures.traced;
     }
 
-pub returns-then-next-len-clause-traced : goal.returns-then-next-len-clause-traced
-returns-then-next-len-clause-traced c =
+pub returns-then-next-len : goal.returns-then-next-len
+returns-then-next-len c =
     let t = c.loop-next.trace in
-    done-all (IsTraced c.args.rows.now (IsAmong c.args.among) (IsDisputed c.args.disputed.now) t) t.exports.items.items c.loop-next.next (omega arith) c.loop-next.invariant.traced
+    let before = c.loop-next.invariant in
+    record {
+      collected = for-one AreCollected t before.collected;
+      exports = for-one (λ (trace : Trace). (h : Given) → Contains c.args.exports.items.items h → Contains trace.exports.items.items h) t before.begins;
+      traced = for-one (AreTraced c.args.rows.now (IsAmong c.args.among) (IsDisputed c.args.disputed.now)) t
+          (done-all (IsTraced c.args.rows.now (IsAmong c.args.among) (IsDisputed c.args.disputed.now) t) t.exports.items.items c.loop-next.next (omega arith) before.traced);
+    }

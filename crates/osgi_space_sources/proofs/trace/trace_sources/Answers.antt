@@ -1,5 +1,5 @@
 -- One source more; what was traced stays so.
-use Rattle.std.proofs.Common.{ℕ, get_or}
+use Rattle.std.proofs.Common.{get_or}
 use Rattle.std.proofs.lemmas.List.{get_or_default}
 use Rattle.osgi_space_sources.specs.computed.Amongst.{IsAmong}
 use Rattle.osgi_space_sources.specs.computed.Disputes.{IsDisputed}

@@ -1,5 +1,5 @@
 -- One export more, with the one that uses it.
-use Rattle.std.proofs.Common.{inl, inr, refl}
+use Rattle.std.proofs.Common.{inr, refl}
 use Rattle.osgi_space_sources.proofs.Tracing.{under-kept, under-pushed}
 use Rattle.osgi_space_sources.proofs.trace.Trace.follow.Goals as goal
 
