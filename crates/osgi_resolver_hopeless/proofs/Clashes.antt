@@ -11,11 +11,11 @@ use Rattle.osgi_resolver_theory.proofs.Inside.{sources-inside}
 use Rattle.osgi_resolver_theory.proofs.Twos.{stable}
 use Rattle.osgi_resolver_theory.proofs.Views.{in_force-member}
 use Rattle.osgi_space_sources.proofs.Agreeing.{clash-disputed}
-use Rattle.osgi_space_sources.specs.computed.Clashes.{KeepsUsesAmong}
+use Rattle.osgi_space_sources.specs.computed.Clashes.{IsWired, KeepsUsesAmong}
 use Rattle.osgi_space_sources.specs.computed.Disputes.{AreDisputed}
 use Rattle.osgi_resolver_hopeless.proofs.Offering.{no-import-of}
 use Rattle.osgi_resolver_hopeless.proofs.Settling.{away-settled, row-there, settled-away}
-use Rattle.osgi_resolver_hopeless.specs.computed.Clashing.{HasClash, IsWired}
+use Rattle.osgi_resolver_hopeless.specs.computed.Clashing.{HasClash}
 use Rattle.osgi_resolver_hopeless.specs.computed.Open.{AreUnsettled, Has}
 use Rattle.osgi_space.proofs.Bridge.{clash-from, clash-to, implied-from, implied-to}
 use Rattle.osgi_space_rows.specs.Agree.{AreRowsOf}

@@ -2,7 +2,7 @@
 
 ghost use Rattle.std.specs.Prelude.{◌↔◌, ℕ, IfOk, IsTrue};
 ghost use Rattle.osgi_space_sources.specs.computed.Disputes.{AreDisputed};
-ghost use Rattle.osgi_resolver_hopeless.specs.computed.Clashing.{HasClash, HasClashAt, IsBroken, IsWired};
+ghost use Rattle.osgi_resolver_hopeless.specs.computed.Clashing.{HasClash, HasClashAt, IsBroken};
 ghost use Rattle.osgi_resolver_hopeless.specs.computed.Open.{AreUnsettled};
 ghost use Rattle.osgi_resolver_path.specs.Standing.{At};
 ghost use Rattle.osgi_space_rows.specs.Agree.{id};
@@ -14,65 +14,15 @@ use crate::settled::{numbers, unsettled};
 use osgi_base::RevisionId;
 use osgi_resolver_path::Path;
 use osgi_space_rows::Rows;
-use osgi_space_sources::{Among, RevisionSet, keeps_uses, one_breaks_uses};
+use osgi_space_sources::{Among, RevisionSet, one_breaks_uses};
 use std::alloc::{AllocError, Global};
 use std::collections::BTreeSet;
 
 /// So few members are all asked whether they clash, since to find those whom a host concerns would take longer.
 const FEW_MEMBERS: usize = 32;
 
-/// So many revisions are asked at once. Of fewer each is asked by itself, which ends with the first that is broken.
-const MANY: usize = 64;
-
-/// Whether the revision has a wire for a package or for a required bundle.
-fn is_wired(rows: &Rows, revision: u32) -> bool
-    ensures wired { IsTrue result ↔ IsWired rows.now revision }
-{
-    if !rows.imports_of(revision).is_empty() {
-        return true;
-    }
-    !rows.required_by(revision).is_empty()
-}
-
-/// Whether the revision has such a wire, and a violated constraint that comes from other revisions than these alone.
-fn is_broken(
-    alloc: Global,
-    rows: &Rows,
-    disputed: &BTreeSet<u32>,
-    unsettled: &RevisionSet,
-    revision: u32,
-) -> Result<bool, AllocError>
-    requires disputed { AreDisputed rows.now disputed.now }
-    ensures broken { IfOk result (λ answer. IsTrue answer ↔ IsBroken rows.now unsettled.now revision) }
-{
-    if !is_wired(rows, revision) {
-        return Ok(false);
-    }
-    let among = Among::AllBut(unsettled);
-    Ok(!keeps_uses(alloc, rows, disputed, among, revision)?)
-}
-
-/// Whether it is so with one of these revisions, each of which is asked by itself.
-fn is_one_broken_alone(
-    alloc: Global,
-    rows: &Rows,
-    disputed: &BTreeSet<u32>,
-    unsettled: &RevisionSet,
-    revisions: &[u32],
-) -> Result<bool, AllocError>
-    requires disputed { AreDisputed rows.now disputed.now }
-    ensures broken { IfOk result (λ answer. IsTrue answer
-        ↔ ((n : ℕ) × In n revisions.now × IsBroken rows.now unsettled.now n)) }
-{
-    for revision in revisions {
-        if is_broken(alloc, rows, disputed, unsettled, *revision)? {
-            return Ok(true);
-        }
-    }
-    Ok(false)
-}
-
-/// Whether it is so with one of these revisions.
+/// Whether one of these revisions has a wire for a package or for a required bundle, and a violated constraint that comes from other
+/// revisions than the unsettled ones alone.
 fn is_one_broken(
     alloc: Global,
     rows: &Rows,
@@ -84,9 +34,6 @@ fn is_one_broken(
     ensures broken { IfOk result (λ answer. IsTrue answer
         ↔ ((n : ℕ) × In n revisions.now × IsBroken rows.now unsettled.now n)) }
 {
-    if revisions.len() <= MANY {
-        return is_one_broken_alone(alloc, rows, disputed, unsettled, revisions);
-    }
     let among = Among::AllBut(unsettled);
     Ok(one_breaks_uses(alloc, rows, disputed, among, revisions)?)
 }

@@ -22,6 +22,10 @@ use osgi_space_rows::{Grouped, Rows};
 use std::alloc::{AllocError, Global};
 use std::collections::BTreeSet;
 
+/// More revisions than so many are asked together. Of fewer each is asked by itself, which ends with the first that violates a
+/// constraint.
+const MANY: usize = 64;
+
 /// So many revisions for each disputed package are asked together, since a lead takes the time of a constraint.
 const ENOUGH: usize = 4;
 
@@ -330,6 +334,12 @@ fn one_breaks_together(
     one_breaks_by(alloc, rows, disputed, among, &leads, revisions)
 }
 
+/// Whether so many revisions are asked one by one, where so many packages are disputed. What it answers decides only how fast they
+/// are asked.
+fn are_asked_alone(disputed: usize, revisions: usize) -> bool {
+    disputed == 0 || revisions <= MANY || disputed > revisions / ENOUGH
+}
+
 /// Whether one of the revisions has a wire, and a violated constraint that comes from the revisions of `among` alone. Many, for few
 /// disputed packages, are asked together.
 pub fn one_breaks_uses(
@@ -342,7 +352,7 @@ pub fn one_breaks_uses(
     requires disputed { AreDisputed rows.now disputed.now }
     ensures breaks { IfOk result (λ answer. IsTrue answer ↔ Any (BreaksUses rows.now (IsAmong among.entry)) revisions.now) }
 {
-    if disputed.is_empty() || disputed.len() > revisions.len() / ENOUGH {
+    if are_asked_alone(disputed.len(), revisions.len()) {
         return one_breaks_alone(alloc, rows, disputed, among, revisions);
     }
     let asked = those_to_ask(alloc, rows, disputed, among, revisions)?;

@@ -54,7 +54,7 @@ fn carried_back(
         if next >= all.items.len() {
             return Ok(Some(all));
         }
-        if next >= MOST_LEADS {
+        if all.items.len() > MOST_LEADS {
             return Ok(None);
         }
         let lead = all.items[next];

@@ -1,5 +1,5 @@
 -- What is settled and wrong: wires to what is not on offer, and constraints that clash.
-use Rattle.std.specs.Prelude.{◌≡◌, ◌↔◌, ℕ, ◌⊎◌, List, []}
+use Rattle.std.specs.Prelude.{◌≡◌, ◌↔◌, ℕ, ◌⊎◌, List}
 use Rattle.osgi_base.specs.declared.ids.RevisionId.{RevisionId}
 use Rattle.osgi_resolver_path.specs.declared.wired.Wired.{Wired}
 use Rattle.osgi_world.specs.Decisions.{Made}
@@ -14,8 +14,8 @@ use Rattle.osgi_world.specs.declared.wiring.Wire.{Wire}
 use Rattle.osgi_world.specs.declared.wiring.Wiring.{Wiring}
 use Rattle.osgi_world.specs.declared.world.Known.{Known}
 use Rattle.osgi_resolver_theory.specs.Reasons.{LeadsTo, Reaches}
-use Rattle.osgi_space_sources.specs.computed.Clashes.{KeepsUsesAmong}
-use Rattle.osgi_space_rows.specs.Rows.{RowLists, Requires, imports_of, required_by}
+use Rattle.osgi_space_sources.specs.computed.Clashes.{BreaksUses}
+use Rattle.osgi_space_rows.specs.Rows.{RowLists, Requires}
 use Rattle.osgi_resolver_hopeless.specs.computed.Open.{Has}
 use Rattle.osgi_resolver_hopeless.specs.computed.Through.{ComesThrough}
 
@@ -68,10 +68,6 @@ pub record HasClashAt (P : Problem) (D : Made) (h : RevisionId) : Type 0 where
   pub leads : LeadsTo P D clash.member h
   pub through : ComesThrough P D h clash.member clash.seen_by clash.used
 
--- r has a row of a wire for a package, or of one for a required bundle
-abbrev pub IsWired : RowLists → ℕ → Type 0
-IsWired R r = (¬ (imports_of R r ≡ [])) ⊎ ¬ (required_by R r ≡ [])
-
--- it has one, and a violated constraint that comes from revisions outside the set alone
+-- r has a wire, and a violated constraint that comes from revisions outside the set alone
 abbrev pub IsBroken : RowLists → List ℕ → ℕ → Type 0
-IsBroken R unsettled r = IsWired R r × ¬ KeepsUsesAmong R (λ x. ¬ Has unsettled x) r
+IsBroken R unsettled r = BreaksUses R (λ x. ¬ Has unsettled x) r
