@@ -18,9 +18,6 @@ use osgi_space_sources::{Among, RevisionSet, one_breaks_uses};
 use std::alloc::{AllocError, Global};
 use std::collections::BTreeSet;
 
-/// So few members are all asked whether they clash, since to find those whom a host concerns would take longer.
-const FEW_MEMBERS: usize = 32;
-
 /// Whether one of these revisions has a wire for a package or for a required bundle, and a violated constraint that comes from other
 /// revisions than the unsettled ones alone.
 fn is_one_broken(
@@ -85,9 +82,6 @@ pub fn has_clash_at(alloc: Global, path: &Path, host: RevisionId) -> Result<bool
         return Ok(false);
     }
     let unsettled = unsettled(alloc, path)?;
-    if path.members().len() <= FEW_MEMBERS {
-        return Ok(has_clash(alloc, path, &unsettled)?);
-    }
     let asked = concerned_by(alloc, path, &unsettled, host)?;
     Ok(has_clash_among(alloc, path, &unsettled, asked.as_slice())?)
 }
