@@ -19,6 +19,7 @@ use Rattle.osgi_model.specs.computed.MatchReader.{item_passes, one_of, passes}
 use Rattle.osgi_model.specs.declared.filter.Test.TheVariants.{Equal}
 use Rattle.osgi_model.specs.declared.value.Attribute.{Attribute}
 use Rattle.osgi_model.specs.declared.value.Value.{Value}
+use Rattle.osgi_model.specs.laws.Decided.{item_decides}
 use Rattle.osgi_resolver_theory.proofs.Lists.{in-append_left, in-append_right, or-cases}
 use Rattle.osgi_space_rules.proofs.Exact.{text_total}
 use Rattle.osgi_space_rules.proofs.Grow.{in_more}
@@ -169,7 +170,7 @@ has_attribute (x ∷ attributes) attribute text t = has_go x attributes attribut
 
 pub text_attributes : (old new : TextIndex) (place : Place) (c : Capability) → AddsTexts old new (IsSomeText place c.name c.attributes) → AddsTexts old new (IsTextOfOne place c)
 text_attributes old new place c x = adds_like old new (IsSomeText place c.name c.attributes) (IsTextOfOne place c) (λ n a t p one.
-    let y = has_attribute c.attributes a t one.has.has in
+    let y = has_attribute c.attributes a t ((item_decides (Equal t) (attribute_value bytes_eq a c.attributes)).1 one.has.has) in
     (y.0, y.1, record { name_is = one.name_is; attribute_is = sym y.2; place_is = one.place_is; passes = y.3 })) x
 
 -- ---- the capabilities of a known revision

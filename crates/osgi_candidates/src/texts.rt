@@ -47,7 +47,7 @@ pub fn text_key(alloc: Global, name: &Text, asked: AskedText<'_>) -> Result<Text
 
 /// The capabilities that are no bundles and no packages by the texts that they have: as the value of an attribute, or in one that
 /// is a list. Those that have another value in an attribute stand under the attribute, and those with too many values under their
-/// name. So each that has a text is found in three places.
+/// name. So each that has a text stands in one of three places.
 pub struct TextIndex {
     pub texts: Grouped<TextKey, Place>,
     pub others: Grouped<AttributeKey, Place>,

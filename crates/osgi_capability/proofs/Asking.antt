@@ -3,12 +3,14 @@ use Rattle.std.proofs.Common.{◌≡◌, ℕ, zero, suc, ◌<◌, List, [], ◌�
 use Rattle.std.specs.Prelude.{Bool, false, IfSome, IsTrue, Option, None, Some, bytes_eq}
 use Rattle.std.specs.Cmp.{first_so, second_so}
 use Rattle.std.proofs.lemmas.Bool.{false≢true}
-use Rattle.osgi_capability.specs.HavingText.{HasText, has_text}
-use Rattle.osgi_model.specs.Matching.{Matches}
+use Rattle.osgi_capability.specs.HavingText.{HasText}
+use Rattle.osgi_capability.specs.computed.HavingText.{has_text}
+use Rattle.osgi_model.specs.Matching.{Matches, attribute_value}
 use Rattle.osgi_model.specs.computed.MatchReader.{all_of, matches}
 use Rattle.osgi_model.specs.declared.filter.Filter.{Filter}
+use Rattle.osgi_model.specs.declared.filter.Test.TheVariants.{Equal}
 use Rattle.osgi_model.specs.declared.value.Attribute.{Attribute}
-use Rattle.osgi_model.specs.laws.Decided.{matches_decides}
+use Rattle.osgi_model.specs.laws.Decided.{item_decides, matches_decides}
 use Rattle.osgi_version.specs.declared.version.Version.{Version}
 use Rattle.osgi_world.specs.Satisfaction.{Satisfies, is_bundle, is_package}
 use Rattle.osgi_world.specs.declared.capability.Capability.{Capability}
@@ -32,5 +34,5 @@ satisfied_has q f attribute text is no_bundle no_package asks c name version s =
     record {
       no_bundle = subst (λ n. is_bundle n ≡ false) s.namespace no_bundle;
       no_package = subst (λ n. is_package n ≡ false) s.namespace no_package;
-      has = asks c.attributes ((matches_decides bytes_eq c.attributes f).1 fits);
+      has = (item_decides (Equal text) (attribute_value bytes_eq attribute c.attributes)).0 (asks c.attributes ((matches_decides bytes_eq c.attributes f).1 fits));
     }

@@ -1,7 +1,8 @@
 //! A text that a requirement asks for by its filter.
 
 ghost use Rattle.std.specs.Prelude.{◌≡◌, IfSome, IsTrue, List, bytes_eq, map, ℕ};
-ghost use Rattle.osgi_capability.specs.HavingText.{HasText, has_text};
+ghost use Rattle.osgi_capability.specs.HavingText.{HasText};
+ghost use Rattle.osgi_capability.specs.computed.HavingText.{has_text};
 ghost use Rattle.osgi_model.specs.computed.MatchReader.{all_of, matches};
 ghost use Rattle.osgi_model.specs.declared.value.Attribute.{Attribute};
 ghost use Rattle.osgi_version.specs.declared.version.Version.{Version};

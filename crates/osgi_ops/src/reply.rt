@@ -129,7 +129,8 @@ pub enum Reply {
     ServiceRows {
         rows: List<ServiceRow>,
     },
-    /// The wires of the bundle, in the order of its requirements, its own before its fragments', and its fragments.
+    /// The wires of the bundle, in the order of its requirements, its own before its fragments', those of one requirement in the
+    /// order of its candidates; and its fragments.
     Wires {
         rows: List<WireRow>,
         fragments: List<WireRow>,

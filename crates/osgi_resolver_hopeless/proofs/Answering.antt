@@ -43,3 +43,17 @@ granted false is n = absurd (n refl)
 pub refuted : (b : Bool) {A : Type 0} → IsTrue b ↔ ¬ A → A → IsTrue (not b)
 refuted true is a = absurd (is.0 refl a)
 refuted false is a = refl
+
+-- what is not so is turned to yes
+pub disproved : (b : Bool) {A : Type 0} → IsTrue b ↔ A → ¬ A → IsTrue (not b)
+disproved true is n = absurd (n (is.0 refl))
+disproved false is n = refl
+
+-- a flag that was asked turned
+pub flag-set : (b : Bool) → not b ≡ false → IsTrue b
+flag-set true e = refl
+flag-set false e = absurd (false≢true (sym e))
+
+pub flag-unset : (b : Bool) → not b ≡ true → ¬ IsTrue b
+flag-unset true e t = false≢true e
+flag-unset false e t = false≢true t

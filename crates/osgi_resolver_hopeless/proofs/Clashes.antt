@@ -1,5 +1,5 @@
 -- Constraints that come from settled revisions alone are those that come from no unsettled member.
-use Rattle.std.proofs.Common.{◌≡◌, ◌⊎◌, inl, inr, ℕ, List, [], ◌∷◌, length, refl, sym, subst, arith, IsTrue}
+use Rattle.std.proofs.Common.{◌≡◌, ℕ, List, [], ◌∷◌, length, refl, sym, subst, arith, IsTrue}
 use Rattle.std.proofs.lemmas.Bool.{false≢true}
 use Rattle.std.specs.BTreeSet.{BTreeSet, contains}
 use Rattle.std.specs.Ordering.{nat_cmp}
@@ -11,16 +11,14 @@ use Rattle.osgi_resolver_theory.proofs.Inside.{sources-inside}
 use Rattle.osgi_resolver_theory.proofs.Twos.{stable}
 use Rattle.osgi_resolver_theory.proofs.Views.{in_force-member}
 use Rattle.osgi_space_sources.proofs.Agreeing.{clash-disputed}
-use Rattle.osgi_space_sources.specs.computed.Clashes.{IsWired, KeepsUsesAmong}
+use Rattle.osgi_space_sources.specs.computed.Clashes.{KeepsUsesAmong}
 use Rattle.osgi_space_sources.specs.computed.Disputes.{AreDisputed}
-use Rattle.osgi_resolver_hopeless.proofs.Offering.{no-import-of}
-use Rattle.osgi_resolver_hopeless.proofs.Settling.{away-settled, row-there, settled-away}
+use Rattle.osgi_resolver_hopeless.proofs.Settling.{away-settled, settled-away}
 use Rattle.osgi_resolver_hopeless.specs.computed.Clashing.{HasClash}
 use Rattle.osgi_resolver_hopeless.specs.computed.Open.{AreUnsettled, Has}
 use Rattle.osgi_space.proofs.Bridge.{clash-from, clash-to, implied-from, implied-to}
 use Rattle.osgi_space_rows.specs.Agree.{AreRowsOf}
-use Rattle.osgi_space_rows.specs.Rows.{RowLists, imports_of, required_by}
-use Rattle.osgi_resolver_theory.proofs.Reasons.{alone-no_clash}
+use Rattle.osgi_space_rows.specs.Rows.{RowLists}
 use Rattle.osgi_world.specs.Candidates.{IsProblem}
 use Rattle.osgi_world.specs.Decisions.{Made}
 use Rattle.osgi_world.specs.DueDecisions.{members}
@@ -87,20 +85,3 @@ none-disputed P D N R is disputed are none h =
     let pair = implied-from P.world.known (partial P D) N R is {A = λ x. Unit {0}} (λ x s. tt) h.implied in
     let c = clash-from P.world.known (partial P D) N R is (subst (λ u. Clash P.world.known (partial P D) h.member h.seen_by u) (sym pair.1) h.clash) in
     none-in disputed pair.0 (without disputed.keys none) (clash-disputed R disputed are c)
-
--- what clashes has a wire for a package or a bundle
-pub clash-wired : (P : Problem) (D : Made) (N : ℕ → List ℕ) (R : RowLists) → AreRowsOf P.world.known (partial P D) N R → (h : HasClash P D) → IsWired R h.member.0
-clash-wired P D N R is h = elim (empty-or (imports_of R h.member.0)) [
-  | inr some ↦ inl some
-  | inl no_imports ↦ elim (empty-or (required_by R h.member.0)) [
-    | inr some ↦ inr some
-    | inl no_bundles ↦ absurd (alone-no_clash
-        (λ p y w. let row = is.imports_from h.member.0 y.0 p w in no-import-of R h.member.0 no_imports row.0 y.0 row.2)
-        (λ y b. row-there R h.member.0 y.0 ((is.requires h.member.0 y.0).1 b) no_bundles)
-        h.implied h.clash)
-  ]
-]
-  where
-    empty-or : {X : Type 0} (xs : List X) → (xs ≡ []) ⊎ ¬ (xs ≡ [])
-    empty-or [] = inl refl
-    empty-or (x ∷ xs) = inr (λ e. let f = e in cc)

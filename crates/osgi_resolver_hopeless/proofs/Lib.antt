@@ -13,6 +13,7 @@ pub mod Clashes
 pub mod Backwards
 pub mod Worklist
 pub mod Through
+pub mod Waiting
 pub mod Passing
 pub mod Reasons
 pub mod Newly

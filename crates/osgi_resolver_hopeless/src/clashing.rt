@@ -18,8 +18,7 @@ use osgi_space_sources::{Among, RevisionSet, one_breaks_uses};
 use std::alloc::{AllocError, Global};
 use std::collections::BTreeSet;
 
-/// Whether one of these revisions has a wire for a package or for a required bundle, and a violated constraint that comes from other
-/// revisions than the unsettled ones alone.
+/// Whether one of these revisions has a violated constraint that comes from other revisions than the unsettled ones alone.
 fn is_one_broken(
     alloc: Global,
     rows: &Rows,

@@ -18,6 +18,7 @@ use crate::hopeless::is_hopeless;
 use crate::offer::{has_lost_at, is_new_lost};
 use crate::place::known_at;
 use crate::rivals::{has_rivals, is_current_singleton};
+use crate::settled::reexports_open;
 use crate::stuck::is_stuck_by;
 use osgi_base::RevisionId;
 use osgi_resolver_path::{Last, Path};
@@ -81,13 +82,16 @@ fn is_at_once(alloc: Global, path: &Path, last: Last) -> Result<bool, AllocError
 
 /// Whether a settled provider that is the host or reaches it does not have on offer what a wire takes, or a constraint of a member
 /// that leads to the host, which comes from settled revisions alone and through the host, clashes. It is asked once the host, a
-/// member, is decided.
+/// member, is decided. Where the host reexports what is not decided, none that reaches it is settled.
 fn has_settled_reason(alloc: Global, path: &Path, host: RevisionId) -> Result<bool, AllocError>
     ensures reason { IfOk result (λ answer. AtMember path.now host (λ P D. IsTrue answer
         → Reason P D)) }
     ensures all { IfOk result (λ answer. AtMember path.now host (λ P D. State P D
         → HasSettledReason P path.now host → IsTrue answer)) }
 {
+    if reexports_open(path, host) {
+        return Ok(false);
+    }
     if has_lost_at(alloc, path, host)? {
         return Ok(true);
     }

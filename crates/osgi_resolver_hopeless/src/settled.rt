@@ -2,7 +2,8 @@
 
 ghost use Rattle.std.specs.Prelude.{◌↔◌, ℕ, Contains, IfOk, IsTrue};
 ghost use Rattle.std.specs.Bool.{Decides};
-ghost use Rattle.osgi_resolver_hopeless.specs.computed.Open.{AreUndecided, AreUnsettled};
+ghost use Rattle.osgi_resolver_hopeless.specs.computed.Open.{AreUndecided, AreUnsettled, IsOpenReexport, ReexportsOpen};
+ghost use Rattle.osgi_resolver_hopeless.specs.computed.Stuck.{AtMember};
 ghost use Rattle.osgi_resolver_path.specs.Standing.{At};
 ghost use Rattle.osgi_space_rows.specs.Agree.{id};
 ghost use Rattle.osgi_world.specs.DueDecisions.{members};
@@ -13,6 +14,7 @@ ghost use Rattle.osgi_world.specs.Wirings.{InForce};
 
 use osgi_base::RevisionId;
 use osgi_resolver_path::Path;
+use osgi_space_rows::Required;
 use osgi_space_sources::{RevisionSet, reached_bundles};
 use std::alloc::{AllocError, Global};
 
@@ -56,6 +58,30 @@ pub fn is_settled(alloc: Global, path: &Path, revision: RevisionId) -> Result<bo
     }
     let reached = reached_bundles(alloc, rows, revision.0)?;
     Ok(are_decided(path, reached.items.as_slice()))
+}
+
+/// Whether the row is that of a bundle which is reexported and not decided.
+fn is_open_reexport(path: &Path, row: Required) -> bool
+    ensures waits { At path.now (λ P D. InForce (partial P D) (id row.provider)
+        → IsTrue result ↔ IsOpenReexport P D row) }
+{
+    if !row.reexport {
+        return false;
+    }
+    !is_decided(path, RevisionId(row.provider))
+}
+
+/// Whether the revision, a member, reexports a bundle that is not decided. Then it is not settled, nor is any that reaches it.
+pub fn reexports_open(path: &Path, revision: RevisionId) -> bool
+    ensures waits { AtMember path.now revision (λ P D. IsTrue result
+        ↔ ReexportsOpen P D revision) }
+{
+    for row in path.rows().rows().required_by(revision.0) {
+        if is_open_reexport(path, *row) {
+            return true;
+        }
+    }
+    false
 }
 
 /// Whether the member has a bundle wire, and is not settled.

@@ -28,7 +28,7 @@ made P s = made_by P s.word
 abbrev pub At : Standing → (Problem → Made → Type 0) → Type 0
 At s F = (P : Problem) → IsProblemOf s P → F P (made P s)
 
--- the next decision has this value
+-- the value is in range for the next decision
 pub record HasValue (s : Standing) (value : ℕ) : Type 0 where
   pub problem : Problem
   pub of : IsProblemOf s problem

@@ -276,7 +276,7 @@ impl<'w> Path<'w> {
         self.course.marks.as_slice()
     }
 
-    /// The members that have a wire to this revision, each once for each such wire.
+    /// The members that have a wire to this revision.
     pub fn wired_to(&self, provider: RevisionId) -> &[u32]
         ensures wired { At self.now (λ P D. (n : ℕ) → In n result.now ↔ IsWiredTo P D provider n) }
     {

@@ -32,8 +32,8 @@ pub trait Walker {
     fn values(&self) -> u64
         ensures values { result ≡ width (problem self.now) (made_by (problem self.now) (word self.now)) };
 
-    /// The first value of the next decision, from this one on, that is not known to make the word hopeless; the number of values
-    /// where each that is left is known to. A hopeless word counts for nothing, so a search may pass over the values between.
+    /// This value of the next decision or a later one, or the number of values. With each value between, this one counted, the word
+    /// is hopeless, so a search may pass over them.
     fn next_value(&self, from: u64) -> u64
         requires from { from ≤ width (problem self.now) (made_by (problem self.now) (word self.now)) }
         ensures range { (from ≤ result) × (result ≤ width (problem self.now) (made_by (problem self.now) (word self.now))) }

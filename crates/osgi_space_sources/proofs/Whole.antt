@@ -50,9 +50,9 @@ done-all P all next h done x c = done.done c.0 (omega (arith, c.1)) x c.2
 -- ---- answers that are turned
 
 -- one keeps what it keeps, or breaks it
-pub breaks-iff : (keeps : Bool) {W P : Type 0} → W → (IsTrue keeps → P) × (P → IsTrue keeps) → (IsTrue (not keeps) → W × ¬ P) × (W × ¬ P → IsTrue (not keeps))
-breaks-iff true w is = (λ t. absurd (false≢true t), λ breaks. absurd (breaks.1 (is.0 refl)))
-breaks-iff false w is = (λ t. (w, λ p. false≢true (is.1 p)), λ breaks. refl)
+pub breaks-iff : (keeps : Bool) {P : Type 0} → (IsTrue keeps → P) × (P → IsTrue keeps) → (IsTrue (not keeps) → ¬ P) × (¬ P → IsTrue (not keeps))
+breaks-iff true is = (λ t. absurd (false≢true t), λ breaks. absurd (breaks (is.0 refl)))
+breaks-iff false is = (λ t p. false≢true (is.1 p), λ breaks. refl)
 
 -- it is so, since the opposite cannot be
 pub true-unless : (b : Bool) → ¬ ¬ IsTrue b → IsTrue b

@@ -139,7 +139,8 @@ fn leads_under(
     Ok(found)
 }
 
-/// Whether it is a source of its package for the revision, or the package has none for it.
+/// Whether it is a source of its package for the revision, or the package has none for it. Where the answer is false, that need not
+/// be so.
 fn agrees(alloc: Global, rows: &Rows, revision: u32, source: Given) -> Result<bool, AllocError>
     ensures agrees { IfOk result (λ answer. IsTrue answer → Agrees rows.now revision source) }
 {
@@ -151,7 +152,7 @@ fn agrees(alloc: Global, rows: &Rows, revision: u32, source: Given) -> Result<bo
     Ok(is_listed(sources, source))
 }
 
-/// Whether it is so with all of these.
+/// Whether it is so with all of these. Where the answer is false, that need not be so.
 fn all_agree(
     alloc: Global,
     rows: &Rows,
@@ -183,7 +184,7 @@ fn plainly_keeps_uses(
     Ok(all_agree(alloc, rows, revision, sources.items.as_slice())?)
 }
 
-/// Whether the revision has a wire, and a violated constraint that comes from these revisions alone.
+/// Whether the revision has a violated constraint that comes from these revisions alone.
 fn breaks_uses(
     alloc: Global,
     rows: &Rows,
@@ -194,9 +195,6 @@ fn breaks_uses(
     requires disputed { AreDisputed rows.now disputed.now }
     ensures breaks { IfOk result (λ answer. IsTrue answer ↔ BreaksUses rows.now (IsAmong among.entry) revision) }
 {
-    if !has_wires(rows, revision) {
-        return Ok(false);
-    }
     Ok(!keeps_uses(alloc, rows, disputed, among, revision)?)
 }
 
@@ -222,7 +220,7 @@ fn breaks_uses_by(
 // ---- whom to ask
 
 /// Whether the revision may violate a constraint that comes from these revisions alone: it is one of them, has a wire, and sees a
-/// disputed package.
+/// disputed package. Without wires it has all packages from itself.
 fn may_break(
     alloc: Global,
     rows: &Rows,
@@ -340,8 +338,8 @@ fn are_asked_alone(disputed: usize, revisions: usize) -> bool {
     disputed == 0 || revisions <= MANY || disputed > revisions / ENOUGH
 }
 
-/// Whether one of the revisions has a wire, and a violated constraint that comes from the revisions of `among` alone. Many, for few
-/// disputed packages, are asked together.
+/// Whether one of the revisions has a violated constraint that comes from the revisions of `among` alone. Many, for few disputed
+/// packages, are asked together.
 pub fn one_breaks_uses(
     alloc: Global,
     rows: &Rows,

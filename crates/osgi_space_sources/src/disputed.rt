@@ -29,7 +29,7 @@ impl Possible {
         }
     }
 
-    /// The packages that have more than one possible source.
+    /// At least the packages that have more than one possible source.
     pub fn disputed(&self) -> &BTreeSet<u32>
         ensures disputed { result.now ≡ self.now.disputed }
     {
@@ -129,7 +129,7 @@ pub fn possible_sources(alloc: Global, rows: &Rows) -> Result<Possible, AllocErr
     Ok(possible)
 }
 
-/// The packages that have more than one possible source.
+/// At least the packages that have more than one possible source.
 pub fn disputed_packages(alloc: Global, rows: &Rows) -> Result<BTreeSet<u32>, AllocError>
     ensures disputed { IfOk result (λ disputed. AreDisputed rows.now disputed) }
 {

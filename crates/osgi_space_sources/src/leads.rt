@@ -41,7 +41,7 @@ fn add_users(
     Ok(())
 }
 
-/// What the exports lead to, and those that use them, and so on; none, if that is too much.
+/// What the exports lead to, and those that use them, and so on; none, if that is too much: then nothing is said.
 fn carried_back(
     leads: Found<Lead>,
     users: &Grouped<Given, Given>,
@@ -87,7 +87,7 @@ fn leads_in(alloc: Global, trace: Trace) -> Result<Option<Grouped<Given, Given>>
 }
 
 /// The sources of disputed packages to which these exports lead: of each constraint that follows from an export, those of its package
-/// for the one that sees it. Others may stand there, too. None, if they are too many.
+/// for the one that sees it. Others may stand there, too. None, if they are too many; then nothing is said.
 pub fn leads_of(
     alloc: Global,
     rows: &Rows,

@@ -21,7 +21,7 @@ use osgi_space_rows::{Grouped, Rows};
 use std::alloc::{AllocError, Global};
 use std::collections::BTreeSet;
 
-/// How many leads are gathered at most, since they take memory.
+/// Once more leads than so many are gathered, none are answered, since they take memory.
 pub(crate) const MOST_LEADS: usize = 1 << 18;
 
 /// Exports, each a package with its exporter in the place of a source; by an export those that use it; and the sources of disputed
@@ -188,7 +188,8 @@ fn trace_export(
     Ok(())
 }
 
-/// Traces these exports, those that they use, and so on; none, if they have too many leads.
+/// Traces these exports, those that they use, and so on; none, if they have too many leads: then nothing is
+/// said.
 pub fn trace_from(
     alloc: Global,
     rows: &Rows,

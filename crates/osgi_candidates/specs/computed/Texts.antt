@@ -53,7 +53,7 @@ pub record AddsTexts (old new : TextIndex) (Added : List ℕ → List ℕ → Li
   pub kept : (n a t : List ℕ) (p : Place) → IsListed old n a t p → IsListed new n a t p
   pub added : (n a t : List ℕ) (p : Place) → Added n a t p → IsListed new n a t p
 
--- the value of this attribute is the text, or has it
+-- the value of this attribute passes a test for equality with the text
 pub record IsValueText (place : Place) (name attribute : List ℕ) (value : Value) (n a t : List ℕ) (p : Place) : Type 0 where
   pub name_is : n ≡ name
   pub attribute_is : a ≡ attribute

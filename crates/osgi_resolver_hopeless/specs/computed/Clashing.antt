@@ -68,6 +68,6 @@ pub record HasClashAt (P : Problem) (D : Made) (h : RevisionId) : Type 0 where
   pub leads : LeadsTo P D clash.member h
   pub through : ComesThrough P D h clash.member clash.seen_by clash.used
 
--- r has a wire, and a violated constraint that comes from revisions outside the set alone
+-- r has a violated constraint that comes from revisions outside the set alone
 abbrev pub IsBroken : RowLists → List ℕ → ℕ → Type 0
 IsBroken R unsettled r = BreaksUses R (λ x. ¬ Has unsettled x) r

@@ -42,7 +42,7 @@ pub data IsAtOnce (P : Problem) (s : Standing) (last : Last) : Type 0 where
   rivals : HasNewRivals P s last → IsAtOnce P s last
   lost : HasNewLost P s last → IsAtOnce P s last
 
--- a member has a wire to what is h or reaches it, is settled, and does not have the capability on offer; or an implied constraint of
+-- a member has a wire to a provider that is h or reaches it, is settled, and does not have the capability on offer; or an implied constraint of
 -- a member that leads to h, which comes from settled revisions alone and through h, clashes
 pub data HasSettledReason (P : Problem) (s : Standing) (h : RevisionId) : Type 0 where
   lost : HasLostAt P (made P s) h → HasSettledReason P s h

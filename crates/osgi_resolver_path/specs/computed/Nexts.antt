@@ -40,7 +40,7 @@ abbrev pub AreRowsBefore : RowLists → World → Course → DecisionRef → ℕ
 AreRowsBefore R offers c decision value = (P : Problem) (ids : List RevisionId) → IsProblemIn offers P → IsRight P (reverse c.marks.items) (record (lists_of c) { ids = ids }) → IsNextOf P c ids decision value →
     AreAttached R (made_of (reverse c.marks.items)) (host (decision_of decision))
 
--- nothing of it has changed
+-- its members, queue and marks are as before
 pub record IsSameCourse (old new : Course) : Type 0 where
   pub lists : lists_of new ≡ lists_of old
   pub marks : new.marks.items ≡ old.marks.items

@@ -1,6 +1,6 @@
 -- Clashes, as the code looks for them.
-use Rattle.std.specs.Prelude.{◌≡◌, ◌↔◌, ℕ, ◌⊎◌, List, [], Contains}
-use Rattle.osgi_space_rows.specs.Rows.{Imports, Requires, RowLists, imports_of, required_by}
+use Rattle.std.specs.Prelude.{◌≡◌, ◌↔◌, ℕ, ◌⊎◌, List, Contains}
+use Rattle.osgi_space_rows.specs.Rows.{Imports, Requires, RowLists}
 use Rattle.osgi_space_sources.specs.computed.RowSources.{Clash, Implied, Sources}
 use Rattle.osgi_space_sources.specs.declared.given.Given.{Given}
 
@@ -28,10 +28,6 @@ KeepsUses R r = KeepsUsesAmong R (λ x. Unit {0}) r
 abbrev pub HasWires : RowLists → ℕ → Type 0
 HasWires R r = ((p x : ℕ) × Imports R r p x) ⊎ ((c : ℕ) × Requires R r c)
 
--- r has a row of a wire for a package, or of one for a required bundle
-abbrev pub IsWired : RowLists → ℕ → Type 0
-IsWired R r = (¬ (imports_of R r ≡ [])) ⊎ ¬ (required_by R r ≡ [])
-
--- it has one, and a violated constraint that comes from revisions of A alone
+-- r has a violated constraint that comes from revisions of A alone
 abbrev pub BreaksUses : RowLists → (ℕ → Type 0) → ℕ → Type 0
-BreaksUses R A r = IsWired R r × ¬ KeepsUsesAmong R A r
+BreaksUses R A r = ¬ KeepsUsesAmong R A r

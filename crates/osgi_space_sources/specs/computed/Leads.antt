@@ -16,7 +16,8 @@ use Rattle.osgi_space_sources.specs.declared.lead.Lead.{Lead}
 abbrev pub FollowsFrom : RowLists → (ℕ → Type 0) → Given → Given → Type 0
 FollowsFrom R A h = Reach (IsUse R h.source h.package) (IsNext R A)
 
--- the export leads to the source: it is one of the package of a constraint that follows, for the revision that sees it
+-- the export leads to the source: a constraint follows from the export, and this is a source of its package for the revision that
+-- sees it
 abbrev pub IsLead : RowLists → (ℕ → Type 0) → Given → Given → Type 0
 IsLead R A h s = (g : Given) × FollowsFrom R A h g × IsSourceOf R g.source g.package s
 
@@ -36,7 +37,7 @@ KeepsAll old new = (g : Given) → Contains old.items.items g → Contains new.i
 abbrev pub StartsWith : RowLists → (ℕ → Type 0) → Found Given → Given → Type 0
 StartsWith R A found h = A h.source → MayUse R h.source h.package → Contains found.items.items h
 
--- under the exports that r sees stand the sources of packages of D to which they lead
+-- under each export by a revision of A that r sees stand the sources of packages of D to which it leads
 abbrev pub AreLeads : RowLists → (ℕ → Type 0) → (ℕ → Type 0) → Grouped Given Given → ℕ → Type 0
 AreLeads R A D leads r = (h s : Given) → IsSeen R r h → A h.source → IsLead R A h s → D s.package → IsUnder leads h s
 

@@ -2,7 +2,7 @@
 use Rattle.std.proofs.Common.{◌≡◌, ◌∙◌, ◌↔◌, ℕ, ap, subst, sym, IsTrue}
 use Rattle.osgi_space_sources.specs.computed.Disputes.{AreDisputed}
 use Rattle.osgi_resolver_hopeless.proofs.Answering.{known-is}
-use Rattle.osgi_resolver_hopeless.proofs.Clashes.{clash-breaks, clash-of, clash-wired}
+use Rattle.osgi_resolver_hopeless.proofs.Clashes.{clash-breaks, clash-of}
 use Rattle.osgi_resolver_hopeless.specs.computed.Clashing.{IsBroken}
 use Rattle.osgi_resolver_path.specs.Standing.{IsProblemOf, made}
 use Rattle.osgi_space_rows.specs.Agree.{AreRowsOf, id}
@@ -40,10 +40,10 @@ returns c = record {
   clash = λ P L there t.
       let rows = c.disputed_rows-rows.result.now in
       let some = (one c).0 t in
-      clash-of P L.is (made P c.args.path.now) c.args.unsettled.now (c.requires.unsettled P L) (name_numbered rows.names) rows.rows (agree c P L) (id some.0) (there some.0 some.1) some.2.1;
+      clash-of P L.is (made P c.args.path.now) c.args.unsettled.now (c.requires.unsettled P L) (name_numbered rows.names) rows.rows (agree c P L) (id some.0) (there some.0 some.1) some.2;
   all = λ P L h among.
       let D = made P c.args.path.now in
       let rows = c.disputed_rows-rows.result.now in
       let N = name_numbered rows.names in
-      (one c).1 (h.member.0, among, (clash-wired P D N rows.rows (agree c P L) h, clash-breaks P L.is D c.args.unsettled.now (c.requires.unsettled P L) N rows.rows (agree c P L) h));
+      (one c).1 (h.member.0, among, clash-breaks P L.is D c.args.unsettled.now (c.requires.unsettled P L) N rows.rows (agree c P L) h);
 }

@@ -1,9 +1,16 @@
--- A wire that is lost, or a clash.
+-- Nothing is settled by the host, a wire is lost, or a constraint clashes.
 use Rattle.std.proofs.Common.{refl}
+use Rattle.osgi_resolver_hopeless.proofs.Waiting.{none-settles}
 use Rattle.osgi_space_rules.proofs.OneValue.{not_true}
 use Rattle.osgi_resolver_hopeless.specs.computed.Onward as onward
 use Rattle.osgi_resolver_hopeless.specs.computed.Reasons.{clash, lost}
 use Rattle.osgi_resolver_hopeless.proofs.onward.has_settled_reason.Goals as goal
+
+pub returns-then-reexports_open : goal.returns-then-reexports_open
+returns-then-reexports_open c = record {
+  reason = λ P M t. let f = t in cc;
+  all = λ P M s h. absurd (none-settles P c.args.path.now c.args.host ((c.reexports_open.ensures.waits P M).0 c.if-reexports_open.true) h);
+}
 
 pub returns-then-branch : goal.returns-then-branch
 returns-then-branch c = record {

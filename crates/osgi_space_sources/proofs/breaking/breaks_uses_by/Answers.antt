@@ -11,4 +11,4 @@ returns-then-branch c =
     let R = c.args.rows.now in
     let disputed = c.args.disputed.now in
     let keeps = plain-keeps R (IsAmong c.args.among) (IsDisputed disputed) c.args.revision c.args.leads.now c.requires.leads (λ e u clash. clash-disputed R disputed c.requires.disputed clash) (c.in_ok-plainly_keeps_uses.ensures.keeps c.if-branch.true) in
-    record { breaks = (λ t. absurd (false≢true t), λ breaks. absurd (breaks.1 keeps)) }
+    record { breaks = (λ t. absurd (false≢true t), λ breaks. absurd (breaks keeps)) }

@@ -1,14 +1,14 @@
 -- Who sees no disputed package clashes with none.
-use Rattle.std.proofs.Common.{inl, inr, List, sym, subst, Contains, IsTrue}
+use Rattle.std.proofs.Common.{List, sym, subst, Contains, IsTrue}
 use Rattle.std.specs.BTreeSet.{contains}
 use Rattle.std.specs.Ordering.{nat_cmp}
 use Rattle.osgi_space_sources.specs.computed.Amongst.{IsAmong}
-use Rattle.osgi_space_sources.specs.computed.Clashes.{KeepsUsesAmong}
+use Rattle.osgi_space_sources.specs.computed.Clashes.{HasWires, KeepsUsesAmong}
 use Rattle.osgi_space_sources.specs.declared.given.Given.{Given}
 use Rattle.osgi_space_sources.specs.laws.Adding.{any-of}
 use Rattle.osgi_space_sources.specs.laws.Following.{none-implied}
 use Rattle.osgi_space_sources.proofs.Agreeing.{clash-disputed}
-use Rattle.osgi_space_sources.proofs.Alone.{import-there, required-there}
+use Rattle.osgi_space_sources.proofs.Alone.{agrees-with-itself}
 use Rattle.osgi_space_sources.proofs.Whole.{true-unless}
 use Rattle.osgi_space_sources.proofs.breaking.may_break.Goals as goal
 
@@ -19,17 +19,14 @@ returns-then-not-has c =
     let r = c.args.revision in
     let away : ¬ A r = λ there. let yes = c.has.ensures.among.1 there in let no = c.if-not-has.true in cc in
     let keeps : KeepsUsesAmong R A r = λ e u implied clash. none-implied R A r away (record { «package» = u; source = e }) implied in
-    record { may = λ breaks. absurd (breaks.1 keeps) }
+    record { may = λ breaks. absurd (breaks keeps) }
 
 pub returns-then-not-has_wires : goal.returns-then-not-has_wires
 returns-then-not-has_wires c =
     let R = c.args.rows.now in
     let r = c.args.revision in
-    record {
-      may = λ breaks.
-          let yes = c.has_wires.ensures.wires.1 (elim breaks.0 [ inl imports ↦ import-there R r imports | inr required ↦ required-there R r required ]) in
-          let no = c.if-not-has_wires.true in cc;
-    }
+    let none : ¬ HasWires R r = λ has. let yes = c.has_wires.ensures.wires.1 has in let no = c.if-not-has_wires.true in cc in
+    record { may = λ breaks. absurd (breaks (agrees-with-itself R r none (IsAmong c.args.among))) }
 
 pub returns : goal.returns
 returns c =
@@ -43,5 +40,5 @@ returns c =
           let s : Given = record { «package» = u; source = clash.ours } in
           let at : Contains c.as_slice.result.now s = subst (λ (xs : List Given). Contains xs s) (sym c.as_slice.ensures.value) ((c.in_ok-givens.ensures.sources s).1 clash.ours_in) in
           none (c.has_disputed.ensures.disputed.1 (any-of D c.as_slice.result.now s at (clash-disputed R c.args.disputed.now c.requires.disputed clash))) in
-          breaks.1 keeps);
+          breaks keeps);
     }
