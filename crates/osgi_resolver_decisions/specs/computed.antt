@@ -3,4 +3,5 @@ pub mod Asks
 pub mod Free
 pub mod Sureness
 pub mod Plain
+pub mod Same
 pub mod Known

@@ -10,6 +10,7 @@ mod lists;
 mod owned;
 mod payload;
 mod plain;
+mod same;
 
 pub use decision_ref::DecisionRef;
 pub use lists::Lists;

@@ -7,12 +7,13 @@ ghost use Rattle.osgi_world.specs.declared.problem.Problem.{Problem};
 ghost use Rattle.osgi_resolver_decisions.specs.Sure.{AreSure, LacksCandidate};
 ghost use Rattle.osgi_resolver_decisions.specs.computed.Asks.{decisions_in, first_due};
 ghost use Rattle.osgi_resolver_decisions.specs.computed.Free.{is_free};
-ghost use Rattle.osgi_resolver_decisions.specs.computed.Known.{AreListsOf, AreRight, IsProblemIn, Knows, KnowsAll};
+ghost use Rattle.osgi_resolver_decisions.specs.computed.Known.{AreListsBefore, AreListsOf, AreRight, IsProblemIn, Knows, KnowsAll};
 
 use crate::asks::list_at;
 use crate::decision_ref::DecisionRef;
 use crate::owned::{Owned, owned_with};
 use crate::plain::{add_plain_of, are_alike};
+use crate::same::ask_alike;
 use osgi_base::{NumberMap, RevisionId, Text};
 use osgi_candidates::Offers;
 use osgi_world::{CapRef, ReqRef};
@@ -68,9 +69,33 @@ impl<'w> Lists<'w> {
                 owner,
                 index: index as u32,
             };
-            lists.push(self.list_of(alloc, requirement)?)?;
+            lists.push(self.list_after(alloc, requirement, lists.as_slice())?)?;
         }
         Ok(lists)
+    }
+
+    /// The candidates of the requirement, if it is effective: those of the one before it, if that asks for the same.
+    fn list_after(
+        &self,
+        alloc: Global,
+        requirement: ReqRef,
+        before: &[Vec<CapRef>],
+    ) -> Result<Vec<CapRef>, AllocError>
+        requires right { AreRight self.now }
+        requires before { AreListsBefore self.now.offers requirement before.now }
+        ensures list { IfOk result (λ list. (P : Problem) → IsProblemIn self.now.offers P → CanBeAsked P.world.known requirement → list.items ≡ candidates P requirement) }
+    {
+        let Some(index) = requirement.index.checked_sub(1) else {
+            return self.list_of(alloc, requirement);
+        };
+        let previous = ReqRef {
+            owner: requirement.owner,
+            index,
+        };
+        if ask_alike(&self.offers, requirement, previous) {
+            return Ok(Vec::from_slice(alloc, list_at(before, index))?);
+        }
+        self.list_of(alloc, requirement)
     }
 
     /// The candidates of the requirement, if it is effective: those of one like it, if one is known, and else those that are offered.

@@ -46,7 +46,7 @@ fn is_plain_for(known: &KnownIndex, at: ReqRef, name: &Text) -> bool
 }
 
 /// Whether it is an effective requirement of a current revision.
-fn can_be_asked(known: &KnownIndex, at: ReqRef) -> bool
+pub fn can_be_asked(known: &KnownIndex, at: ReqRef) -> bool
     ensures can { IsTrue result → CanBeAsked known.now at }
 {
     known.is_current(at.owner)

@@ -1,5 +1,5 @@
 -- What was found out of owners.
-use Rattle.std.specs.Prelude.{◌≡◌, ◌↔◌, List, IsSome, IsTrue, Some, slice_get}
+use Rattle.std.specs.Prelude.{◌≡◌, ◌↔◌, ◌<◌, List, IsSome, IsTrue, Some, slice_get}
 use Rattle.std.specs.Global.{Vec}
 use Rattle.std.specs.Option.{option_map}
 use Rattle.osgi_base.specs.NumberMaps.{value_at}
@@ -24,6 +24,10 @@ pub record IsProblemIn (W : World) (P : Problem) : Type 0 where
 -- the candidates of the owner's requirements are listed by their places
 abbrev pub AreListsOf : World → RevisionId → List (Vec CapRef) → Type 0
 AreListsOf W owner lists = (P : Problem) (q : ReqRef) → IsProblemIn W P → q.owner ≡ owner → CanBeAsked P.world.known q → option_map (λ list. list.items) (slice_get lists q.index) ≡ Some (candidates P q)
+
+-- the same of those before this one
+abbrev pub AreListsBefore : World → ReqRef → List (Vec CapRef) → Type 0
+AreListsBefore W next lists = (P : Problem) (q : ReqRef) → IsProblemIn W P → q.owner ≡ next.owner → q.index < next.index → CanBeAsked P.world.known q → option_map (λ list. list.items) (slice_get lists q.index) ≡ Some (candidates P q)
 
 -- the lists know the owner
 abbrev pub Knows : Lists → RevisionId → Type 0
