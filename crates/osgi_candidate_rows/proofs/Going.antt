@@ -1,12 +1,11 @@
 -- Going along a row past items that are out.
 use Prim.Native.Nat.{zero, suc}
-use Rattle.std.proofs.Common.{◌≡◌, ℕ, ◌+◌, ◌-◌, ◌<◌, ◌≤◌, ◌⊎◌, Bool, true, false, not, cond, inl, inr, IsTrue, List, [], ◌∷◌, ◌++◌, length, get_or, Option, Some, None, MatchOption, refl, sym, ap, ◌∙◌, subst, arith}
+use Rattle.std.proofs.Common.{◌≡◌, ℕ, ◌+◌, ◌-◌, ◌<◌, ◌≤◌, ◌⊎◌, Bool, true, false, not, cond, inl, inr, IsTrue, List, [], ◌∷◌, length, get_or, Some, None, refl, sym, ap, ◌∙◌, subst, arith}
 use Rattle.std.specs.Prelude.{filter}
-use Rattle.std.specs.List.{concat}
 use Rattle.osgi_links.specs.Held.{Held, after, count_up, first_of, has, linked}
 use Rattle.osgi_links.proofs.Items.{after-filter, has-filter}
 use Rattle.osgi_world.specs.declared.problem.Choice.{Choice}
-use Rattle.osgi_candidate_rows.specs.computed.Numbers.{AreGone, HoldsPlaces, IsNextPlace, first_number, places, row_of}
+use Rattle.osgi_candidate_rows.specs.computed.Numbers.{AreGone, HoldsPlaces, IsNextPlace, first_number, row_of}
 use Rattle.osgi_candidate_rows.proofs.Numbers.{items-at, value-at}
 
 -- ---- the first number that passes
@@ -50,9 +49,6 @@ none-from p a (suc n) k e low high = none-go p a n k (p a) refl e low (λ f h. n
 
 -- ---- a row of which some items are out
 
-stays : Held → ℕ → Bool
-stays h x = not (has h.removed x)
-
 gone : (h : Held) (x : ℕ) (b : Bool) → has h.removed x ≡ b → not b ≡ false → b ≡ true
 gone h x true e f = refl
 gone h x false e f = absurd (flip f)
@@ -73,7 +69,7 @@ module _ (choices : List Choice) (h : Held) (holds : HoldsPlaces choices h) (row
   abbrev pub n : ℕ
   n = length (row_of choices row)
 
-  row-items : linked h row ≡ filter (λ x. not (has h.removed x)) (count_up a n)
+  pub row-items : linked h row ≡ filter (λ x. not (has h.removed x)) (count_up a n)
   row-items = ap (filter (λ x. not (has h.removed x))) (ap (λ rows. get_or rows row []) holds.rows ∙ items-at 0 choices row there ∙ (let e : 0 + a ≡ a = omega arith in ap (λ x. count_up x n) e))
 
   pub value-is : (item : ℕ) → a ≤ item → item < a + n → get_or h.values item 0 ≡ item - a
@@ -129,14 +125,6 @@ module _ (choices : List Choice) (h : Held) (holds : HoldsPlaces choices h) (row
       pass (inr g) =
           let m = p.high in
           out-of (a + place) (none-from (λ x. not (has h.removed x)) (item + 1) (rest item) (a + place) (sym (after-is item t) ∙ sym e) g (omega (arith, within, m)))
-
-  pub next-above : (item next : ℕ) → IsTrue (has (linked h row) item) → Some next ≡ after item (linked h row) → item < next
-  next-above item next t e =
-      let f = first-from (λ x. not (has h.removed x)) (item + 1) (rest item) next (sym (after-is item t) ∙ sym e) in
-      let l = f.low in omega (arith, l)
-
-  pub item-range : (item : ℕ) → IsTrue (has (linked h row) item) → (a ≤ item) × (item < a + n)
-  item-range item t = let i = there-of item t in (i.0, i.1)
 
   -- where the search ends at an item whose place is high enough
   pub next-place : (from item place : ℕ) → IsPassed choices h row from item → place ≡ get_or h.values item 0 → from ≤ place → IsNextPlace choices h.removed row from (Some place)

@@ -1,4 +1,6 @@
--- Lemmas on the numbers of items, and on rows of which some items are out.
+-- Lemmas on the numbers of items, on how candidates are found, and on rows of which some items are out.
 pub mod Numbers
+pub mod Indexed
+pub mod Noted
 pub mod Going
 pub mod Taken

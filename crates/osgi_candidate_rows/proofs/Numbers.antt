@@ -1,6 +1,6 @@
 -- The items of a row by their numbers, their values, and the candidates of these numbers.
 use Prim.Native.Nat.{zero, suc}
-use Rattle.std.proofs.Common.{◌≡◌, ℕ, ◌+◌, ◌<◌, ◌≤◌, ◌==◌, Bool, true, false, cond, IsTrue, List, [], ◌∷◌, ◌++◌, length, drop, find, get_or, map, flat_map, Some, refl, sym, ap, ◌∙◌, subst, append_assoc, append-nil, inl, inr, arith}
+use Rattle.std.proofs.Common.{◌≡◌, ℕ, ◌+◌, ◌<◌, ◌≤◌, ◌==◌, Bool, true, false, cond, IsTrue, List, [], ◌∷◌, ◌++◌, length, drop, find, get_or, flat_map, Some, refl, sym, ap, ◌∙◌, subst, append_assoc, append-nil, inl, inr, arith}
 use Rattle.std.specs.List.{concat}
 use Rattle.std.specs.Option.{option_map_or}
 use Rattle.std.specs.declared.vec.Vec.{Vec}
@@ -8,12 +8,12 @@ use Rattle.std.specs.declared.alloc.Global.{Global}
 use Rattle.osgi_base.specs.declared.ids.RevisionId.{RevisionId}
 use Rattle.osgi_links.specs.Held.{Held, contents, count_up, item_numbers}
 use Rattle.osgi_world.specs.Candidates.{same_place}
-use Rattle.osgi_world.specs.Lists.{In, item_at, nth_list}
+use Rattle.osgi_world.specs.Lists.{In, item_at}
 use Rattle.osgi_world.specs.declared.problem.Choice.{Choice}
 use Rattle.osgi_world.specs.declared.wiring.CapRef.{CapRef}
 use Rattle.osgi_world.specs.declared.wiring.ReqRef.{ReqRef}
 use Rattle.osgi_candidate_rows.specs.Listed.{listed}
-use Rattle.osgi_candidate_rows.specs.computed.Numbers.{HoldsPlaces, IsOfProvider, candidate, first_number, no_candidate, places, row_of}
+use Rattle.osgi_candidate_rows.specs.computed.Numbers.{HoldsPlaces, IsItemOf, candidate, first_number, no_candidate, places, row_of}
 
 -- ---- numbers in a row
 
@@ -154,27 +154,13 @@ row-nth [] row d h = absurd (let h' : row < 0 = h in omega (arith, h'))
 row-nth (k ∷ choices) zero d h = refl
 row-nth (k ∷ choices) (suc row) d h = row-nth choices row d (let h' : suc row < suc (length choices) = h in omega (arith, h'))
 
-found-go : (q : ReqRef) (c : Choice) (rest : List Choice) (b : Bool) → b ≡ true → option_map_or (λ (x : Choice). x.candidates) (cond b (Some c) (find (λ (x : Choice). same_place x.requirement q) rest)) [] ≡ c.candidates
+pub found-go : (q : ReqRef) (c : Choice) (rest : List Choice) (b : Bool) → b ≡ true → option_map_or (λ (x : Choice). x.candidates) (cond b (Some c) (find (λ (x : Choice). same_place x.requirement q) rest)) [] ≡ c.candidates
 found-go q c rest true t = refl
 found-go q c rest false t = cc
 
-past-go : (q : ReqRef) (c : Choice) (rest : List Choice) (b : Bool) → b ≡ false → option_map_or (λ (x : Choice). x.candidates) (cond b (Some c) (find (λ (x : Choice). same_place x.requirement q) rest)) [] ≡ listed rest q
+pub past-go : (q : ReqRef) (c : Choice) (rest : List Choice) (b : Bool) → b ≡ false → option_map_or (λ (x : Choice). x.candidates) (cond b (Some c) (find (λ (x : Choice). same_place x.requirement q) rest)) [] ≡ listed rest q
 past-go q c rest false t = refl
 past-go q c rest true t = cc
-
-pub listed-here : (choices : List Choice) (q : ReqRef) (row : ℕ) (d : Choice) → row < length choices → listed choices q ≡ listed (drop row choices) q → same_place (get_or choices row d).requirement q ≡ true → listed choices q ≡ row_of choices row
-listed-here choices q row d below so t =
-    so ∙ ap (λ rest. listed rest q) (drop-step choices row d below)
-    ∙ found-go q (get_or choices row d) (drop (row + 1) choices) (same_place (get_or choices row d).requirement q) t
-    ∙ sym (row-nth choices row d below)
-
-pub listed-past : (choices : List Choice) (q : ReqRef) (row : ℕ) (d : Choice) → row < length choices → listed choices q ≡ listed (drop row choices) q → same_place (get_or choices row d).requirement q ≡ false → listed choices q ≡ listed (drop (row + 1) choices) q
-listed-past choices q row d below so f =
-    so ∙ ap (λ rest. listed rest q) (drop-step choices row d below)
-    ∙ past-go q (get_or choices row d) (drop (row + 1) choices) (same_place (get_or choices row d).requirement q) f
-
-pub listed-none : (choices : List Choice) (q : ReqRef) (row : ℕ) → length choices ≤ row → listed choices q ≡ listed (drop row choices) q → listed choices q ≡ []
-listed-none choices q row all so = so ∙ ap (λ rest. listed rest q) (drop-done choices row all)
 
 -- ---- the candidate at a place
 
@@ -184,13 +170,21 @@ at-default (x ∷ xs) zero c d (inl e) = sym e
 at-default (x ∷ xs) zero c d (inr i) = elim i [ ]
 at-default (x ∷ xs) (suc n) c d i = at-default xs n c d i
 
-pub of-provider : (choices : List Choice) (row place : ℕ) (choice : Choice) (items : List CapRef) (candidate : CapRef) (provider : RevisionId) → row < length choices → choice ≡ get_or choices row choice → items ≡ choice.candidates →
-    candidate ≡ get_or items place candidate → IsTrue (candidate.provider.0 == provider.0) → IsOfProvider choices row place provider
-of-provider choices row place choice items candidate provider below is items-are there same c at =
+-- a candidate of this provider, by its row and place
+pub item-of : (choices : List Choice) (row place : ℕ) (choice : Choice) (items : List CapRef) (one : CapRef) (provider : RevisionId) → row < length choices → choice ≡ get_or choices row choice → items ≡ choice.candidates →
+    place < length items → one ≡ get_or items place one → IsTrue (one.provider.0 == provider.0) → IsItemOf choices provider row (first_number choices row + place)
+item-of choices row place choice items one provider below is items-are inside there same =
     let list : row_of choices row ≡ items = row-nth choices row choice below ∙ ap (λ (x : Choice). x.candidates) (sym is) ∙ sym items-are in
-    let one : candidate ≡ c = there ∙ at-default items place c candidate (subst (λ xs. In c (item_at xs place)) list at) in
-    let number : candidate.provider.0 ≡ provider.0 = grind (arith, same) in
-    ap (λ (x : CapRef). x.provider) (sym one) ∙ ap (λ n. record { 0 = n }) number
+    let within : place < length (row_of choices row) = subst (λ (xs : List CapRef). place < length xs) (sym list) inside in
+    let at = at-some (row_of choices row) place within in
+    let c : one ≡ at.0 = there ∙ at-default items place at.0 one (subst (λ xs. In at.0 (item_at xs place)) list at.1) in
+    let number : one.provider.0 ≡ provider.0 = grind (arith, same) in
+    record {
+      there = below;
+      low = omega arith;
+      high = omega (arith, within);
+      of_provider = ap (λ (x : CapRef). x.provider) (candidate-at choices row place at.0 at.1 ∙ sym c) ∙ ap (λ n. record { 0 = n }) number;
+    }
 
 -- ---- how many rows there are
 

@@ -1,18 +1,19 @@
 -- Items that are taken out, and the candidates that they are.
 use Prim.Native.Nat.{zero, suc}
-use Rattle.std.proofs.Common.{◌≡◌, ◌≢◌, ℕ, ◌+◌, ◌-◌, ◌<◌, ◌≤◌, max, ◌⊎◌, ◌||◌, ◌==◌, Bool, true, false, not, cond, inl, inr, IsTrue, List, [], ◌∷◌, ◌++◌, length, map, drop, get_or, Option, Some, None, refl, sym, ap, ◌∙◌, subst, append_assoc, arith}
+use Rattle.std.proofs.Common.{◌≡◌, ℕ, ◌+◌, ◌-◌, ◌<◌, ◌≤◌, max, ◌⊎◌, ◌||◌, ◌==◌, Bool, true, false, not, cond, inl, inr, IsTrue, List, [], ◌∷◌, length, map, drop, Some, None, refl, sym, ap, ◌∙◌, subst, arith}
 use Rattle.std.specs.Prelude.{filter}
-use Rattle.std.proofs.lemmas.List.{length-append, length-drop, length-map, map-append}
+use Rattle.std.proofs.lemmas.List.{length-drop, length-map, map-append}
 use Rattle.osgi_base.specs.declared.ids.RevisionId.{RevisionId}
-use Rattle.osgi_links.specs.Held.{Held, has, linked, without}
+use Rattle.osgi_links.specs.Held.{Held, count_up, has, linked}
 use Rattle.osgi_world.specs.Lists.{In, item_at}
 use Rattle.osgi_world.specs.declared.problem.Choice.{Choice}
 use Rattle.osgi_world.specs.declared.wiring.CapRef.{CapRef}
 use Rattle.osgi_world.specs.declared.wiring.ReqRef.{ReqRef}
-use Rattle.osgi_candidate_rows.specs.Listed.{AreOutBetween, Listed, TakesOut, listed}
-use Rattle.osgi_candidate_rows.specs.computed.Numbers.{AreGone, HoldsPlaces, IsNextPlace, IsOfProvider, Removes, candidate, first_number, row_of}
-use Rattle.osgi_candidate_rows.proofs.Numbers.{at-some, at-within, candidate-at}
-use Rattle.osgi_candidate_rows.proofs.Going.{item-range, value-is}
+use Rattle.osgi_candidate_rows.specs.Listed.{AreOutBetween, TakesOut, listed}
+use Rattle.osgi_candidate_rows.specs.computed.Numbers.{AreGone, HoldsPlaces, IsItemOf, IsNextPlace, IsOneOut, Removes, candidate, first_number, row_of}
+use Rattle.osgi_candidate_rows.proofs.Numbers.{at-within, candidate-at}
+use Rattle.osgi_candidate_rows.proofs.Going.{row-items}
+use Rattle.osgi_candidate_rows.proofs.Noted.{has-head, has-tail}
 
 -- ---- lists
 
@@ -41,17 +42,25 @@ map-drop f (suc n) (x ∷ xs) = map-drop f n xs
 
 -- ---- one item
 
-keep-go : (item x y : ℕ) (ys : List ℕ) (b c : Bool) → (y == item) ≡ b → (x == y) ≡ c → (c || has ys x) ≡ true → item ≢ x → (has ys x ≡ true → has (filter (λ z. not (z == item)) ys) x ≡ true) →
-    has (cond (not b) (y ∷ filter (λ z. not (z == item)) ys) (filter (λ z. not (z == item)) ys)) x ≡ true
-keep-go item x y ys true true e f t other rest = absurd (other (let p : y ≡ item = grind (arith, e) in let q : x ≡ y = grind (arith, f) in sym p ∙ sym q))
-keep-go item x y ys true false e f t other rest = rest t
-keep-go item x y ys false true e f t other rest = ap (λ k. k || has (filter (λ z. not (z == item)) ys) x) f
-keep-go item x y ys false false e f t other rest = ap (λ k. k || has (filter (λ z. not (z == item)) ys) x) f ∙ rest t
+there-go : (p : ℕ → Bool) (a x : ℕ) (tail : List ℕ) (b : Bool) → p a ≡ b → p x ≡ true → (a ≡ x) ⊎ (a + 1 ≤ x) → (a + 1 ≤ x → has tail x ≡ true) → has (cond b (a ∷ tail) tail) x ≡ true
+there-go p a x tail true e t (inl s) rest = has-head a x tail s
+there-go p a x tail true e t (inr h) rest = has-tail a x tail (rest h)
+there-go p a x tail false e t (inl s) rest = absurd (flip (sym e ∙ ap p s ∙ t))
+  where
+    flip : false ≡ true → ⊥
+    flip f = cc
+there-go p a x tail false e t (inr h) rest = rest h
 
--- another item stays in the row
-pub has-without : (item x : ℕ) (xs : List ℕ) → item ≢ x → has xs x ≡ true → has (without item xs) x ≡ true
-has-without item x [] other t = cc
-has-without item x (y ∷ ys) other t = keep-go item x y ys (y == item) (x == y) refl refl t other (has-without item x ys other)
+-- a number that passes is left
+filter-has : (p : ℕ → Bool) (a n x : ℕ) → a ≤ x → x < a + n → p x ≡ true → has (filter p (count_up a n)) x ≡ true
+filter-has p a zero x low high t = absurd (omega (arith, low, high))
+filter-has p a (suc n) x low high t = there-go p a x (filter p (count_up (a + 1) n)) (p a) refl t (grind (arith, low)) (λ h. filter-has p (a + 1) n x h (omega (arith, high)) t)
+
+-- an item of the row that is not out
+pub live : (choices : List Choice) (h : Held) (provider : RevisionId) (row item : ℕ) → HoldsPlaces choices h → IsItemOf choices provider row item → has h.removed item ≡ false → IsTrue (has (linked h row) item)
+live choices h provider row item holds is left =
+    ap (λ xs. has xs item) (row-items choices h holds row is.there)
+    ∙ filter-has (λ x. not (has h.removed x)) (first_number choices row) (length (row_of choices row)) item is.low is.high (ap not left)
 
 -- ---- what was taken out
 
@@ -65,36 +74,14 @@ of-go : (choices : List Choice) (provider : RevisionId) (taken : List ℕ) (item
 of-go choices provider taken item x is rest (inl e) = ap (λ n. (candidate choices n).provider) e ∙ is
 of-go choices provider taken item x is rest (inr i) = rest x i
 
--- one more of this provider
-pub removes-one : (choices : List Choice) (provider : RevisionId) (m n more : ℕ) (h k l : Held) (row item place : ℕ) → HoldsPlaces choices h → Removes choices provider m h n k → row < length choices → IsTrue (has (linked k row) item) →
-    place ≡ get_or k.values item 0 → IsOfProvider choices row place provider → more ≡ n + 1 → l ≡ record k { removed = item ∷ k.removed } → Removes choices provider m h more l
-removes-one choices provider m n more h k l row item place holds r there live is of number new =
-    let holds' = holds-after choices provider m n h k holds r in
-    let range = item-range choices k holds' row there item live in
-    let e : place ≡ item - first_number choices row = is ∙ value-is choices k holds' row there item range.0 range.1 in
-    let low = range.0 in let high = range.1 in
-    let some = at-some (row_of choices row) place (omega (arith, e, low, high)) in
-    let whole : first_number choices row + place ≡ item = omega (arith, e, low) in
-    let same : candidate choices item ≡ some.0 = ap (candidate choices) (sym whole) ∙ candidate-at choices row place some.0 some.1 in
-    record {
-      taken = item ∷ r.taken;
-      held = new ∙ ap (λ (x : Held). record x { removed = item ∷ x.removed }) r.held;
-      number = (let a = r.number in let q : length (item ∷ r.taken) ≡ length r.taken + 1 = (omega arith) in omega (arith, a, number, q));
-      of_provider = λ x i. of-go choices provider r.taken item x (ap (λ (c : CapRef). c.provider) same ∙ of some.0 some.1) r.of_provider i;
-    }
-
-append-cases : (xs ys : List ℕ) (x : ℕ) → In x (xs ++ ys) → (P : ℕ → Type 0) → ((y : ℕ) → In y xs → P y) → ((y : ℕ) → In y ys → P y) → P x
-append-cases [] ys x i P f g = g x i
-append-cases (z ∷ xs) ys x (inl e) P f g = f x (inl e)
-append-cases (z ∷ xs) ys x (inr i) P f g = append-cases xs ys x i P (λ y j. f y (inr j)) g
-
--- and then some more
-pub removes-more : (choices : List Choice) (provider : RevisionId) (l m n : ℕ) (g h k : Held) → Removes choices provider l g m h → Removes choices provider m h n k → Removes choices provider l g n k
-removes-more choices provider l m n g h k r s = record {
-  taken = s.taken ++ r.taken;
-  held = s.held ∙ ap (λ (x : Held). record x { removed = s.taken ++ x.removed }) r.held ∙ ap (λ xs. record g { removed = xs }) (sym (append_assoc s.taken r.taken g.removed));
-  number = (let a = r.number in let b = s.number in omega (arith, a, b, length-append s.taken r.taken));
-  of_provider = λ x i. append-cases s.taken r.taken x i (λ y. (candidate choices y).provider ≡ provider) s.of_provider r.of_provider;
+-- one more of this provider, if it is taken out
+pub removes-one : (choices : List Choice) (provider : RevisionId) (m n more : ℕ) (h k l : Held) (row item : ℕ) → Removes choices provider m h n k → IsItemOf choices provider row item → IsOneOut item n k more l → Removes choices provider m h more l
+removes-one choices provider m n more h k l row item r is (inl (number, same)) = subst (λ x. Removes choices provider m h x l) (sym number) (subst (Removes choices provider m h n) (sym same) r)
+removes-one choices provider m n more h k l row item r is (inr (number, new)) = record {
+  taken = item ∷ r.taken;
+  held = new ∙ ap (λ (x : Held). record x { removed = item ∷ x.removed }) r.held;
+  number = (let a = r.number in let q : length (item ∷ r.taken) ≡ length r.taken + 1 = (omega arith) in omega (arith, a, number, q));
+  of_provider = λ x i. of-go choices provider r.taken item x is.of_provider r.of_provider i;
 }
 
 -- ---- as contracts see it

@@ -1,2 +1,4 @@
 -- What only proofs and private functions use.
+pub mod Gone
+pub mod Index
 pub mod Numbers

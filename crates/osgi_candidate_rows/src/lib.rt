@@ -2,8 +2,11 @@
 #![tactic(auto)]
 
 mod candidate_rows;
+mod gone;
+mod index;
 mod listing;
 mod row;
+mod spots;
 mod taking;
 
 pub use candidate_rows::CandidateRows;

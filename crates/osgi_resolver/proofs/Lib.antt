@@ -1,3 +1,5 @@
--- Lemmas on what is kept of a world, and on the answers to problems of one root.
+-- Lemmas on what is kept of a world, and on candidates that are out.
+pub mod Doomed
 pub mod Growing
-pub mod Solved
+pub mod Layers
+pub mod Ruled

@@ -2,14 +2,19 @@
 #![tactic(auto)]
 
 mod answer;
+mod answering;
 mod index;
 mod indexed_wirings;
 mod lacking;
 mod refusals;
 mod resolving;
+mod rivals;
+mod rows_walk;
+mod solving;
 mod walk;
 
 pub use answer::{Answer, Cause};
 pub use indexed_wirings::IndexedWirings;
-pub use resolving::{resolve, solve};
+pub use resolving::resolve;
+pub use solving::solve;
 pub use walk::Walk;

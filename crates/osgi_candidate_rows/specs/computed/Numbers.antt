@@ -4,7 +4,7 @@ use Rattle.std.specs.Prelude.{◌≡◌, ◌+◌, ◌<◌, ◌≤◌, ◌⊎◌,
 use Rattle.std.specs.List.{concat}
 use Rattle.osgi_base.specs.declared.ids.RevisionId.{RevisionId}
 use Rattle.osgi_links.specs.Held.{Held, count_up, has, item_numbers}
-use Rattle.osgi_world.specs.Lists.{In, item_at, nth_list}
+use Rattle.osgi_world.specs.Lists.{In, nth_list}
 use Rattle.osgi_world.specs.declared.problem.Choice.{Choice}
 use Rattle.osgi_world.specs.declared.wiring.CapRef.{CapRef}
 
@@ -45,9 +45,16 @@ abbrev pub IsNextPlace : List Choice → List ℕ → ℕ → ℕ → Option ℕ
 IsNextPlace choices removed row from None = AreGone choices removed row from (length (row_of choices row))
 IsNextPlace choices removed row from (Some place) = (from ≤ place) × ((place ≤ length (row_of choices row)) ⊎ (place ≡ from)) × AreGone choices removed row from place
 
--- the candidate at the place of the row, if there is one, is this provider's
-abbrev pub IsOfProvider : List Choice → ℕ → ℕ → RevisionId → Type 0
-IsOfProvider choices row place provider = (c : CapRef) → In c (item_at (row_of choices row) place) → c.provider ≡ provider
+-- the item stands in the row, and is of a candidate of this provider
+pub record IsItemOf (choices : List Choice) (provider : RevisionId) (row item : ℕ) : Type 0 where
+  pub there : row < length choices
+  pub low : first_number choices row ≤ item
+  pub high : item < first_number choices row + length (row_of choices row)
+  pub of_provider : (candidate choices item).provider ≡ provider
+
+-- one item more is out, and the number of those that were taken out is one more; or nothing is changed
+abbrev pub IsOneOut : ℕ → ℕ → Held → ℕ → Held → Type 0
+IsOneOut item before old after new = ((after ≡ before) × (new ≡ old)) ⊎ ((after ≡ before + 1) × (new ≡ record old { removed = item ∷ old.removed }))
 
 -- more items are out, each one of a candidate of this provider, and the number of those that were taken out grows by as many
 pub record Removes (choices : List Choice) (provider : RevisionId) (before : ℕ) (old : Held) (after : ℕ) (new : Held) : Type 0 where

@@ -1,6 +1,6 @@
 -- The search goes over the words of the problem that lists all candidates.
-use Rattle.std.proofs.Common.{◌≡◌, ◌∙◌, List, ap, sym, subst}
-use Rattle.osgi_resolver_path.specs.Standing.{Standing}
+use Rattle.std.proofs.Common.{◌≡◌, ◌∙◌, List, ap, refl, sym, subst}
+use Rattle.osgi_resolver_path.specs.Standing.{IsProblemOf, Standing}
 use Rattle.osgi_resolver_theory.proofs.WorldProblems.{the_problem-is}
 use Rattle.osgi_resolver_theory.specs.WorldProblems.{the_problem}
 use Rattle.osgi_resolver_search.specs.Outcomes.{IsOutcome}
@@ -52,7 +52,8 @@ returns c =
             world = world;
             root_is = ap (λ (P : Problem). P.root) same ∙ ap (λ (x : Standing). x.root) at;
             is_problem = subst IsProblem (sym same) first;
-            is = c.in_ok-answer.ensures.answer budget ended;
+            is = c.in_ok-answer.ensures.answer (the_problem t.world t.root) budget (subst (λ (x : Standing). IsProblemOf x (the_problem t.world t.root)) (sym c.walk.view_is) (record { world = refl; root_is = refl; is = subst IsProblem (sym same) first }))
+                (subst (λ (x : Standing). IsOutcome (the_problem t.world t.root) budget x.word outcome) (sym c.walk.view_is) ended);
           };
       follows =
           subst (FollowsRows c.keep.result c.args.world.now.known) c.items-wirings.ensures.items
