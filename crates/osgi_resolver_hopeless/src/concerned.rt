@@ -139,11 +139,11 @@ pub fn concerned_by(
 {
     let leading = leading_to(alloc, path, host)?;
     if is_required(path, host) {
-        return Ok(leading.items);
+        return Ok(leading.into_items());
     }
     let rows = path.disputed_rows();
     let wires = rows.world_rows().rows();
-    let imports = imports_to(alloc, wires, leading.items.as_slice(), host.0)?;
+    let imports = imports_to(alloc, wires, leading.items(), host.0)?;
     let among = Among::AllBut(unsettled);
     let through = constraints_from(alloc, wires, among, imports.as_slice(), &[])?;
     Ok(clashing(
@@ -151,7 +151,7 @@ pub fn concerned_by(
         wires,
         rows.disputed(),
         host.0,
-        through.items.as_slice(),
-        leading.items.as_slice(),
+        through.items(),
+        leading.items(),
     )?)
 }

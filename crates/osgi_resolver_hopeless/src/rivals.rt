@@ -1,11 +1,9 @@
 //! Whether two current singletons of one symbolic name are in use.
 
 ghost use Rattle.std.specs.Prelude.{◌≡◌, ◌↔◌, ℕ, Contains, IfOk, OnOk, IsTrue, Some};
-ghost use Rattle.std.specs.Ordering.{nat_cmp};
 ghost use Rattle.osgi_resolver_theory.specs.Checks.{IsNew};
 ghost use Rattle.osgi_base.specs.declared.ids.RevisionId.{RevisionId};
 ghost use Rattle.osgi_space_sources.specs.computed.Adds.{Adds};
-ghost use Rattle.osgi_space_sources.specs.computed.Collected.{IsCollected};
 ghost use Rattle.osgi_resolver_hopeless.specs.computed.Onward.{HasNewRivals};
 ghost use Rattle.osgi_resolver_path.specs.declared.last.Last.{Last};
 ghost use Rattle.osgi_world.specs.Consistency.{AreRivals};
@@ -70,10 +68,7 @@ fn is_one_new(alloc: Global, path: &Path) -> Result<bool, AllocError>
 }
 
 fn add_all(found: &mut Found<u32>, revisions: &[RevisionId]) -> Result<(), AllocError>
-    requires collected { IsCollected nat_cmp found.old }
-    ensures collected { OnOk result (IsCollected nat_cmp found.new) }
-    ensures added { OnOk result (Adds (λ n.
-        In (id n) revisions.now) found.old.items.items found.new.items.items) }
+    ensures added { OnOk result (Adds (λ n. In (id n) revisions.now) found.old found.new) }
 {
     for revision in revisions {
         found.add(revision.0)?;
@@ -83,8 +78,7 @@ fn add_all(found: &mut Found<u32>, revisions: &[RevisionId]) -> Result<(), Alloc
 
 /// The members, and the fragments that are attached to them.
 fn new_revisions(alloc: Global, path: &Path) -> Result<Found<u32>, AllocError>
-    ensures collected { IfOk result (λ new. IsCollected nat_cmp new) }
-    ensures new { IfOk result (λ new. At path.now (λ P D. (n : ℕ) → Contains new.items.items n
+    ensures new { IfOk result (λ new. At path.now (λ P D. (n : ℕ) → Contains new n
         ↔ IsNew P D (id n))) }
 {
     let members = path.members();
@@ -99,8 +93,7 @@ fn new_revisions(alloc: Global, path: &Path) -> Result<Found<u32>, AllocError>
 
 /// Whether the revision is in use in the world, or among the new ones.
 fn is_present(path: &Path, new: &Found<u32>, revision: RevisionId) -> bool
-    requires collected { IsCollected nat_cmp new.now }
-    ensures present { IsTrue result ↔ IsPresent path.now new.now.items.items revision }
+    ensures present { IsTrue result ↔ IsPresent path.now new.now revision }
 {
     if new.has(revision.0) {
         return true;
@@ -110,8 +103,7 @@ fn is_present(path: &Path, new: &Found<u32>, revision: RevisionId) -> bool
 
 /// Whether the other one is another current singleton that is present.
 fn is_other(path: &Path, new: &Found<u32>, revision: RevisionId, other: RevisionId) -> bool
-    requires collected { IsCollected nat_cmp new.now }
-    ensures other { IsTrue result ↔ IsOther path.now new.now.items.items revision other }
+    ensures other { IsTrue result ↔ IsOther path.now new.now revision other }
 {
     if other.0 == revision.0 {
         return false;
@@ -124,8 +116,7 @@ fn is_other(path: &Path, new: &Found<u32>, revision: RevisionId, other: Revision
 
 /// Whether another current singleton of the revision's symbolic name is present, where the revision is one.
 fn has_rival(path: &Path, new: &Found<u32>, revision: RevisionId) -> bool
-    requires collected { IsCollected nat_cmp new.now }
-    ensures rival { IsTrue result ↔ HasRival path.now new.now.items.items revision }
+    ensures rival { IsTrue result ↔ HasRival path.now new.now revision }
 {
     let known = known_at(path);
     if !is_current_singleton(known, revision) {
@@ -151,7 +142,7 @@ pub fn has_any_rivals(alloc: Global, path: &Path) -> Result<bool, AllocError>
         return Ok(false);
     }
     let new = new_revisions(alloc, path)?;
-    for revision in &new.items {
+    for revision in new.items() {
         if has_rival(path, &new, RevisionId(*revision)) {
             return Ok(true);
         }

@@ -57,7 +57,7 @@ pub fn is_settled(alloc: Global, path: &Path, revision: RevisionId) -> Result<bo
         return Ok(true);
     }
     let reached = reached_bundles(alloc, rows, revision.0)?;
-    Ok(are_decided(path, reached.items.as_slice()))
+    Ok(are_decided(path, reached.items()))
 }
 
 /// Whether the row is that of a bundle which is reexported and not decided.

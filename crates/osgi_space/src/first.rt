@@ -92,7 +92,7 @@ fn first_of(
     ensures first { IfOk result (λ first. IsFirstImplied rows.now.rows rows.now.names (λ r. IsTrue (contains nat_cmp listed.now r)) revision first) }
 {
     let found = constraints_of(alloc, rows.rows(), Among::Listed(listed), revision)?;
-    Ok(first_clash(alloc, rows, revision, found.items.as_slice())?)
+    Ok(first_clash(alloc, rows, revision, found.items())?)
 }
 
 /// The numbers of the revisions.

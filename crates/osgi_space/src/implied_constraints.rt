@@ -68,6 +68,6 @@ pub fn implied_in(
     ensures implied { IfOk result (λ list. (W : List Wiring) → AreRowsIn rows.now W → (v : Implied) → In v list ↔ relation.Implied rows.now.known W (λ x. Unit {0}) revision v.seen_by v.package) }
 {
     let found = constraints_of(alloc, rows.rows(), Among::All, revision.0)?;
-    let pairs = named_pairs(alloc, rows.names(), found.items.as_slice())?;
+    let pairs = named_pairs(alloc, rows.names(), found.items())?;
     Ok(List::from(in_order(alloc, pairs)?))
 }

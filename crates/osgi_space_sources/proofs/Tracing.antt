@@ -11,7 +11,7 @@ use Rattle.osgi_space_sources.specs.computed.Leads.{FollowsFrom, IsLead, IsUnder
 use Rattle.osgi_space_sources.specs.computed.Pairs.{IsUse, MayUse}
 use Rattle.osgi_space_sources.specs.computed.Reach.{Reach, starts, steps}
 use Rattle.osgi_space_sources.specs.computed.RowSources.{ExportUses, Sources}
-use Rattle.osgi_space_sources.specs.computed.Traces.{AreCollected, AreTraced, IsTraced, IsTracedTo, Keeps, UsesFrom}
+use Rattle.osgi_space_sources.specs.computed.Traces.{AreTraced, IsTraced, IsTracedTo, Keeps, UsesFrom}
 use Rattle.osgi_space_sources.specs.declared.given.Given.{Given}
 use Rattle.osgi_space_sources.specs.declared.lead.Lead.{Lead}
 use Rattle.osgi_space_sources.specs.declared.trace.Trace.{Trace}
@@ -32,18 +32,16 @@ module _ (old new : Grouped Given Given) (key value : Given) (adds : groups.Adds
 
 -- ---- what was traced stays so
 
-pub keeps-same : (t : Trace) → AreCollected t → Keeps t t
-keeps-same t collected = record {
-  collected = collected;
-  exports = ([], sym (append-nil t.exports.items.items));
+pub keeps-same : (t : Trace) → Keeps t t
+keeps-same t = record {
+  exports = ([], sym (append-nil t.exports));
   users = λ h k u. u;
   leads = λ l at. at;
 }
 
 pub keeps-then : {a b c : Trace} → Keeps a b → Keeps b c → Keeps a c
 keeps-then {a} {b} {c} first second = record {
-  collected = second.collected;
-  exports = (first.exports.0 ++ second.exports.0, second.exports.1 ∙ ap (λ xs. xs ++ second.exports.0) first.exports.1 ∙ append_assoc a.exports.items.items first.exports.0 second.exports.0);
+  exports = (first.exports.0 ++ second.exports.0, second.exports.1 ∙ ap (λ xs. xs ++ second.exports.0) first.exports.1 ∙ append_assoc a.exports first.exports.0 second.exports.0);
   users = λ h k u. second.users h k (first.users h k u);
   leads = λ l at. second.leads l (first.leads l at);
 }
@@ -52,7 +50,7 @@ module _ (R : RowLists) (A D : ℕ → Type 0) (old new : Trace) (keeps : Keeps 
   pub to-kept : (h s : Given) → IsTracedTo R A D old h s → IsTracedTo R A D new h s
   to-kept h s to = record {
     noted = λ d. keeps.leads _ (to.noted d);
-    followed = λ a may. let f = to.followed a may in (grown-kept old.exports.items.items new.exports.items.items keeps.exports s f.0, keeps.users s h f.1);
+    followed = λ a may. let f = to.followed a may in (grown-kept old.exports new.exports keeps.exports s f.0, keeps.users s h f.1);
   }
 
   pub traced-kept : (h : Given) → IsTraced R A D old h → IsTraced R A D new h
@@ -75,16 +73,16 @@ uses-from R k g s uses named source = (
 module _ (R : RowLists) (A D : ℕ → Type 0) (t : Trace) (traced : AreTraced R A D t) where
   -- the lead is carried back from those that were noted
   abbrev pub Led : Lead → Type 0
-  Led = Reach (Contains t.leads.items.items) (LeadsBack t.users)
+  Led = Reach (Contains t.leads) (LeadsBack t.users)
 
   -- the constraint is a use by a traced export, and what that leads to, h leads to
   record Passes (h g : Given) : Type 0 where
     pub export : Given
-    pub there : Contains t.exports.items.items export
+    pub there : Contains t.exports export
     pub uses : IsUse R export.source export.package g
     pub leads : (s : Given) → Led (record { export = export; source = s }) → Led (record { export = h; source = s })
 
-  passes : (h : Given) → Contains t.exports.items.items h → {g : Given} → FollowsFrom R A h g → Passes h g
+  passes : (h : Given) → Contains t.exports h → {g : Given} → FollowsFrom R A h g → Passes h g
   passes h at (starts uses) = record { export = h; there = at; uses = uses; leads = λ s led. led }
   passes h at {g} (steps {x = from} before (m, source, among, uses)) =
       let p = passes h at before in
@@ -97,7 +95,7 @@ module _ (R : RowLists) (A D : ℕ → Type 0) (t : Trace) (traced : AreTraced R
         leads = λ s led. p.leads s (steps led (f.1, refl));
       }
 
-  pub lead-there : (h s : Given) → Contains t.exports.items.items h → IsLead R A h s → D s.package → Led (record { export = h; source = s })
+  pub lead-there : (h s : Given) → Contains t.exports h → IsLead R A h s → D s.package → Led (record { export = h; source = s })
   lead-there h s at (g, follows, source) disputed =
       let p = passes h at follows in
       let to = traced p.export p.there s (uses-from R p.export g s p.uses source.0 source.1) in

@@ -3,9 +3,7 @@
 ghost use Rattle.std.specs.Prelude.{◌≡◌, ◌↔◌, ◌⊎◌, ℕ, Any, Contains, IfOk, OnOk, IsTrue};
 ghost use Rattle.osgi_space_sources.specs.computed.Amongst.{IsAmong};
 ghost use Rattle.osgi_space_sources.specs.computed.Clashes.{BreaksUses};
-ghost use Rattle.osgi_space_sources.specs.computed.Collected.{IsCollected};
 ghost use Rattle.osgi_space_sources.specs.computed.Disputes.{AreDisputed, IsDisputed};
-ghost use Rattle.osgi_space_sources.specs.computed.Exact.{given_cmp};
 ghost use Rattle.osgi_space_sources.specs.computed.Givens.{IsSeen};
 ghost use Rattle.osgi_space_sources.specs.computed.Leads.{AreLeads, Agrees, IsUnder, KeepsAll, StartsWith};
 ghost use Rattle.osgi_space_sources.specs.declared.given.Given.{Given};
@@ -38,8 +36,6 @@ fn add_start(
     among: Among,
     given: Given,
 ) -> Result<(), AllocError>
-    requires collected { IsCollected given_cmp found.old }
-    ensures collected { OnOk result (IsCollected given_cmp found.new) }
     ensures kept { OnOk result (KeepsAll found.old found.new) }
     ensures added { OnOk result (StartsWith rows.now (IsAmong among.entry) found.new given) }
 {
@@ -59,10 +55,9 @@ fn add_all(
     among: Among,
     givens: &[Given],
 ) -> Result<(), AllocError>
-    requires collected { IsCollected given_cmp found.old }
-    ensures collected { OnOk result (IsCollected given_cmp found.new) }
     ensures kept { OnOk result (KeepsAll found.old found.new) }
-    ensures added { OnOk result ((h : Given) → Contains givens.now h → StartsWith rows.now (IsAmong among.entry) found.new h) }
+    ensures added { OnOk result ((h : Given) → Contains givens.now h
+        → StartsWith rows.now (IsAmong among.entry) found.new h) }
 {
     for given in givens {
         add_start(found, rows, among, *given)?;
@@ -78,10 +73,9 @@ fn add_seen(
     among: Among,
     revision: u32,
 ) -> Result<(), AllocError>
-    requires collected { IsCollected given_cmp found.old }
-    ensures collected { OnOk result (IsCollected given_cmp found.new) }
     ensures kept { OnOk result (KeepsAll found.old found.new) }
-    ensures added { OnOk result ((h : Given) → IsSeen rows.now revision h → StartsWith rows.now (IsAmong among.entry) found.new h) }
+    ensures added { OnOk result ((h : Given) → IsSeen rows.now revision h
+        → StartsWith rows.now (IsAmong among.entry) found.new h) }
 {
     let givens = space_of(alloc, rows, revision)?;
     add_all(found, rows, among, givens.as_slice())?;
@@ -95,8 +89,8 @@ fn starts_of(
     among: Among,
     revisions: &[u32],
 ) -> Result<Found<Given>, AllocError>
-    ensures collected { IfOk result (λ found. IsCollected given_cmp found) }
-    ensures starts { IfOk result (λ found. (n : ℕ) (h : Given) → Contains revisions.now n → IsSeen rows.now n h → StartsWith rows.now (IsAmong among.entry) found h) }
+    ensures starts { IfOk result (λ found. (n : ℕ) (h : Given) → Contains revisions.now n
+        → IsSeen rows.now n h → StartsWith rows.now (IsAmong among.entry) found h) }
 {
     let mut found = Found::new(alloc);
     for revision in revisions {
@@ -113,10 +107,8 @@ fn add_leads(
     leads: &Grouped<Given, Given>,
     export: Given,
 ) -> Result<(), AllocError>
-    requires collected { IsCollected given_cmp found.old }
-    ensures collected { OnOk result (IsCollected given_cmp found.new) }
     ensures kept { OnOk result (KeepsAll found.old found.new) }
-    ensures added { OnOk result ((s : Given) → IsUnder leads.now export s → Contains found.new.items.items s) }
+    ensures added { OnOk result ((s : Given) → IsUnder leads.now export s → Contains found.new s) }
 {
     for source in leads.of(&export) {
         found.add(*source)?;
@@ -130,7 +122,8 @@ fn leads_under(
     leads: &Grouped<Given, Given>,
     exports: &[Given],
 ) -> Result<Found<Given>, AllocError>
-    ensures leads { IfOk result (λ found. (h s : Given) → Contains exports.now h → IsUnder leads.now h s → Contains found.items.items s) }
+    ensures leads { IfOk result (λ found. (h s : Given) → Contains exports.now h
+        → IsUnder leads.now h s → Contains found s) }
 {
     let mut found = Found::new(alloc);
     for export in exports {
@@ -159,7 +152,8 @@ fn all_agree(
     revision: u32,
     sources: &[Given],
 ) -> Result<bool, AllocError>
-    ensures agree { IfOk result (λ answer. IsTrue answer → (s : Given) → Contains sources.now s → Agrees rows.now revision s) }
+    ensures agree { IfOk result (λ answer. IsTrue answer → (s : Given) → Contains sources.now s
+        → Agrees rows.now revision s) }
 {
     for source in sources {
         if !agrees(alloc, rows, revision, *source)? {
@@ -177,11 +171,12 @@ fn plainly_keeps_uses(
     leads: &Grouped<Given, Given>,
     revision: u32,
 ) -> Result<bool, AllocError>
-    ensures keeps { IfOk result (λ answer. IsTrue answer → (h s : Given) → IsSeen rows.now revision h → IsUnder leads.now h s → Agrees rows.now revision s) }
+    ensures keeps { IfOk result (λ answer. IsTrue answer → (h s : Given)
+        → IsSeen rows.now revision h → IsUnder leads.now h s → Agrees rows.now revision s) }
 {
     let givens = space_of(alloc, rows, revision)?;
     let sources = leads_under(alloc, leads, givens.as_slice())?;
-    Ok(all_agree(alloc, rows, revision, sources.items.as_slice())?)
+    Ok(all_agree(alloc, rows, revision, sources.items())?)
 }
 
 /// Whether the revision has a violated constraint that comes from these revisions alone.
@@ -193,7 +188,8 @@ fn breaks_uses(
     revision: u32,
 ) -> Result<bool, AllocError>
     requires disputed { AreDisputed rows.now disputed.now }
-    ensures breaks { IfOk result (λ answer. IsTrue answer ↔ BreaksUses rows.now (IsAmong among.entry) revision) }
+    ensures breaks { IfOk result (λ answer. IsTrue answer
+        ↔ BreaksUses rows.now (IsAmong among.entry) revision) }
 {
     Ok(!keeps_uses(alloc, rows, disputed, among, revision)?)
 }
@@ -208,8 +204,10 @@ fn breaks_uses_by(
     revision: u32,
 ) -> Result<bool, AllocError>
     requires disputed { AreDisputed rows.now disputed.now }
-    requires leads { AreLeads rows.now (IsAmong among) (IsDisputed disputed.now) leads.now revision }
-    ensures breaks { IfOk result (λ answer. IsTrue answer ↔ BreaksUses rows.now (IsAmong among.entry) revision) }
+    requires leads { AreLeads rows.now (IsAmong among) (IsDisputed disputed.now)
+        leads.now revision }
+    ensures breaks { IfOk result (λ answer. IsTrue answer
+        ↔ BreaksUses rows.now (IsAmong among.entry) revision) }
 {
     if plainly_keeps_uses(alloc, rows, leads, revision)? {
         return Ok(false);
@@ -229,7 +227,8 @@ fn may_break(
     revision: u32,
 ) -> Result<bool, AllocError>
     requires disputed { AreDisputed rows.now disputed.now }
-    ensures may { IfOk result (λ answer. BreaksUses rows.now (IsAmong among.entry) revision → IsTrue answer) }
+    ensures may { IfOk result (λ answer. BreaksUses rows.now (IsAmong among.entry) revision
+        → IsTrue answer) }
 {
     if !among.has(revision) {
         return Ok(false);
@@ -243,7 +242,8 @@ fn may_break(
 
 /// Adds the revision, if it may.
 fn add_that(list: &mut Vec<u32>, may: bool, revision: u32) -> Result<(), AllocError>
-    ensures those { OnOk result ((n : ℕ) → Contains list.new.items n → Contains list.old.items n ⊎ (n ≡ revision)) }
+    ensures those { OnOk result ((n : ℕ) → Contains list.new.items n → Contains list.old.items n
+        ⊎ (n ≡ revision)) }
     ensures kept { OnOk result ((n : ℕ) → Contains list.old.items n → Contains list.new.items n) }
     ensures added { OnOk result (IsTrue may → Contains list.new.items revision) }
 {
@@ -263,8 +263,10 @@ fn those_to_ask(
     revisions: &[u32],
 ) -> Result<Vec<u32>, AllocError>
     requires disputed { AreDisputed rows.now disputed.now }
-    ensures those { IfOk result (λ list. (n : ℕ) → Contains list.items n → Contains revisions.now n) }
-    ensures all { IfOk result (λ list. (n : ℕ) → Contains revisions.now n → BreaksUses rows.now (IsAmong among.entry) n → Contains list.items n) }
+    ensures those { IfOk result (λ list. (n : ℕ) → Contains list.items n
+        → Contains revisions.now n) }
+    ensures all { IfOk result (λ list. (n : ℕ) → Contains revisions.now n
+        → BreaksUses rows.now (IsAmong among.entry) n → Contains list.items n) }
 {
     let mut list = Vec::new(alloc);
     for revision in revisions {
@@ -284,7 +286,8 @@ fn one_breaks_alone(
     revisions: &[u32],
 ) -> Result<bool, AllocError>
     requires disputed { AreDisputed rows.now disputed.now }
-    ensures breaks { IfOk result (λ answer. IsTrue answer ↔ Any (BreaksUses rows.now (IsAmong among.entry)) revisions.now) }
+    ensures breaks { IfOk result (λ answer. IsTrue answer
+        ↔ Any (BreaksUses rows.now (IsAmong among.entry)) revisions.now) }
 {
     for revision in revisions {
         if breaks_uses(alloc, rows, disputed, among, *revision)? {
@@ -303,8 +306,10 @@ fn one_breaks_by(
     revisions: &[u32],
 ) -> Result<bool, AllocError>
     requires disputed { AreDisputed rows.now disputed.now }
-    requires leads { (n : ℕ) → Contains revisions.now n → AreLeads rows.now (IsAmong among) (IsDisputed disputed.now) leads.now n }
-    ensures breaks { IfOk result (λ answer. IsTrue answer ↔ Any (BreaksUses rows.now (IsAmong among.entry)) revisions.now) }
+    requires leads { (n : ℕ) → Contains revisions.now n
+        → AreLeads rows.now (IsAmong among) (IsDisputed disputed.now) leads.now n }
+    ensures breaks { IfOk result (λ answer. IsTrue answer
+        ↔ Any (BreaksUses rows.now (IsAmong among.entry)) revisions.now) }
 {
     for revision in revisions {
         if breaks_uses_by(alloc, rows, disputed, among, leads, *revision)? {
@@ -323,7 +328,8 @@ fn one_breaks_together(
     revisions: &[u32],
 ) -> Result<bool, AllocError>
     requires disputed { AreDisputed rows.now disputed.now }
-    ensures breaks { IfOk result (λ answer. IsTrue answer ↔ Any (BreaksUses rows.now (IsAmong among.entry)) revisions.now) }
+    ensures breaks { IfOk result (λ answer. IsTrue answer
+        ↔ Any (BreaksUses rows.now (IsAmong among.entry)) revisions.now) }
 {
     let starts = starts_of(alloc, rows, among, revisions)?;
     let Some(leads) = leads_of(alloc, rows, disputed, among, starts)? else {
@@ -348,7 +354,8 @@ pub fn one_breaks_uses(
     revisions: &[u32],
 ) -> Result<bool, AllocError>
     requires disputed { AreDisputed rows.now disputed.now }
-    ensures breaks { IfOk result (λ answer. IsTrue answer ↔ Any (BreaksUses rows.now (IsAmong among.entry)) revisions.now) }
+    ensures breaks { IfOk result (λ answer. IsTrue answer
+        ↔ Any (BreaksUses rows.now (IsAmong among.entry)) revisions.now) }
 {
     if are_asked_alone(disputed.len(), revisions.len()) {
         return one_breaks_alone(alloc, rows, disputed, among, revisions);

@@ -1,9 +1,8 @@
 //! Whether two revisions have different sources of a package.
 
 ghost use Rattle.std.specs.Prelude.{◌↔◌, ◌≢◌, length, Contains, IfOk, IsTrue, MatchOption};
-ghost use Rattle.osgi_space_sources.specs.computed.Collected.{IsCollected};
+ghost use Rattle.osgi_space_sources.specs.computed.Adds.{AreAll};
 ghost use Rattle.osgi_space_sources.specs.computed.Clashes.{IsClash, IsOnlySource, Lacks};
-ghost use Rattle.osgi_space_sources.specs.computed.Exact.{given_cmp};
 ghost use Rattle.osgi_space_sources.specs.declared.given.Given.{Given};
 ghost use Rattle.osgi_space_rows.specs.Rows.{imports_for};
 
@@ -14,8 +13,7 @@ use osgi_space_rows::Rows;
 use std::alloc::{AllocError, Global};
 
 fn collect(alloc: Global, givens: &[Given]) -> Result<Found<Given>, AllocError>
-    ensures collected { IfOk result (λ found. IsCollected given_cmp found) }
-    ensures same { IfOk result (λ found. (g : Given) → Contains found.items.items g ↔ Contains givens.now g) }
+    ensures same { IfOk result (AreAll (Contains givens.now)) }
 {
     let mut found = Found::new(alloc);
     for given in givens {
@@ -66,7 +64,8 @@ fn lists_clash(alloc: Global, rows: &Rows, revision: u32, pair: Given) -> Result
 
 /// The only source of the package for a revision that has a single wire for it.
 fn only_source(rows: &Rows, revision: u32, package: u32) -> Option<u32>
-    ensures only { MatchOption result (length (imports_for rows.now revision «package») ≢ 1) (IsOnlySource rows.now revision «package») }
+    ensures only { MatchOption result (length (imports_for rows.now revision «package») ≢ 1)
+        (IsOnlySource rows.now revision «package») }
 {
     let imports = rows.imports_for(revision, package);
     if imports.len() != 1 {

@@ -1,10 +1,8 @@
 //! The constraints that the `uses` of exports imply.
 
-ghost use Rattle.std.specs.Prelude.{◌↔◌, Contains, IfOk, OnOk, IsTrue};
-ghost use Rattle.osgi_space_sources.specs.computed.Adds.{Adds};
+ghost use Rattle.std.specs.Prelude.{◌↔◌, IfOk, OnOk, IsTrue};
+ghost use Rattle.osgi_space_sources.specs.computed.Adds.{Adds, AreAll};
 ghost use Rattle.osgi_space_sources.specs.computed.Amongst.{IsAmong};
-ghost use Rattle.osgi_space_sources.specs.computed.Collected.{IsCollected};
-ghost use Rattle.osgi_space_sources.specs.computed.Exact.{given_cmp};
 ghost use Rattle.osgi_space_sources.specs.computed.Pairs.{IsFollowing, IsImplied, IsNext, IsOwnUse, IsUse, IsUseAmong, IsUseOfSome, IsUseOfWired, MayUse};
 ghost use Rattle.osgi_space_sources.specs.declared.given.Given.{Given};
 
@@ -24,9 +22,8 @@ fn add_own_uses(
     owner: u32,
     package: u32,
 ) -> Result<(), AllocError>
-    requires collected { IsCollected given_cmp found.old }
-    ensures collected { OnOk result (IsCollected given_cmp found.new) }
-    ensures added { OnOk result (Adds (IsOwnUse rows.now exporter owner «package») found.old.items.items found.new.items.items) }
+    ensures added { OnOk result (Adds (IsOwnUse rows.now exporter owner «package»)
+        found.old found.new) }
 {
     for row in rows.uses_of(owner, package) {
         found.add(Given {
@@ -44,9 +41,7 @@ fn add_uses(
     exporter: u32,
     package: u32,
 ) -> Result<(), AllocError>
-    requires collected { IsCollected given_cmp found.old }
-    ensures collected { OnOk result (IsCollected given_cmp found.new) }
-    ensures added { OnOk result (Adds (IsUse rows.now exporter «package») found.old.items.items found.new.items.items) }
+    ensures added { OnOk result (Adds (IsUse rows.now exporter «package») found.old found.new) }
 {
     add_own_uses(found, rows, exporter, exporter, package)?;
     for row in rows.attached_to(exporter) {
@@ -72,9 +67,8 @@ fn add_uses_among(
     among: Among,
     given: Given,
 ) -> Result<(), AllocError>
-    requires collected { IsCollected given_cmp found.old }
-    ensures collected { OnOk result (IsCollected given_cmp found.new) }
-    ensures added { OnOk result (Adds (IsUseAmong rows.now (IsAmong among.entry) given) found.old.items.items found.new.items.items) }
+    ensures added { OnOk result (Adds (IsUseAmong rows.now (IsAmong among.entry) given)
+        found.old found.new) }
 {
     if !may_use(rows, given.source, given.package) {
         return Ok(());
@@ -93,9 +87,8 @@ fn add_uses_of_all(
     among: Among,
     givens: &[Given],
 ) -> Result<(), AllocError>
-    requires collected { IsCollected given_cmp found.old }
-    ensures collected { OnOk result (IsCollected given_cmp found.new) }
-    ensures added { OnOk result (Adds (IsUseOfSome rows.now (IsAmong among.entry) givens.now) found.old.items.items found.new.items.items) }
+    ensures added { OnOk result (Adds (IsUseOfSome rows.now (IsAmong among.entry) givens.now)
+        found.old found.new) }
 {
     for given in givens {
         add_uses_among(found, rows, among, *given)?;
@@ -110,9 +103,8 @@ fn add_uses_of_imports(
     among: Among,
     imports: &[Import],
 ) -> Result<(), AllocError>
-    requires collected { IsCollected given_cmp found.old }
-    ensures collected { OnOk result (IsCollected given_cmp found.new) }
-    ensures added { OnOk result (Adds (IsUseOfWired rows.now (IsAmong among.entry) imports.now) found.old.items.items found.new.items.items) }
+    ensures added { OnOk result (Adds (IsUseOfWired rows.now (IsAmong among.entry) imports.now)
+        found.old found.new) }
 {
     for row in imports {
         let given = Given {
@@ -133,9 +125,8 @@ fn add_next(
     among: Among,
     pair: Given,
 ) -> Result<(), AllocError>
-    requires collected { IsCollected given_cmp found.old }
-    ensures collected { OnOk result (IsCollected given_cmp found.new) }
-    ensures added { OnOk result (Adds (IsNext rows.now (IsAmong among.entry) pair) found.old.items.items found.new.items.items) }
+    ensures added { OnOk result (Adds (IsNext rows.now (IsAmong among.entry) pair)
+        found.old found.new) }
 {
     let imports = rows.imports_for(pair.source, pair.package);
     if !imports.is_empty() {
@@ -154,18 +145,17 @@ pub fn constraints_from(
     imports: &[Import],
     givens: &[Given],
 ) -> Result<Found<Given>, AllocError>
-    ensures collected { IfOk result (λ found. IsCollected given_cmp found) }
-    ensures following { IfOk result (λ found. (g : Given) → Contains found.items.items g ↔ IsFollowing rows.now (IsAmong among.entry) imports.now givens.now g) }
+    ensures following { IfOk result (AreAll (IsFollowing rows.now (IsAmong among.entry)
+        imports.now givens.now)) }
 {
     let mut found = Found::new(alloc);
     add_uses_of_imports(&mut found, rows, among, imports)?;
     add_uses_of_all(&mut found, rows, among, givens)?;
-    for next in 0..usize::MAX {
-        if next >= found.items.len() {
-            return Ok(found);
-        }
-        let pair = found.items[next];
+    let mut next = 0;
+    while next < found.len() {
+        let pair = found.items()[next];
         add_next(alloc, &mut found, rows, among, pair)?;
+        next += 1;
     }
     Ok(found)
 }
@@ -177,8 +167,7 @@ pub fn constraints_of(
     among: Among,
     revision: u32,
 ) -> Result<Found<Given>, AllocError>
-    ensures collected { IfOk result (λ found. IsCollected given_cmp found) }
-    ensures implied { IfOk result (λ found. (g : Given) → Contains found.items.items g ↔ IsImplied rows.now (IsAmong among.entry) revision g) }
+    ensures implied { IfOk result (AreAll (IsImplied rows.now (IsAmong among.entry) revision)) }
 {
     if !among.has(revision) {
         return Ok(Found::new(alloc));

@@ -56,7 +56,9 @@ impl Possible {
 
 /// Notes the providers of wires for packages.
 pub fn note_imports(possible: &mut Possible, imports: &[Import]) -> Result<(), AllocError>
-    ensures noted { OnOk result ((r p x : ℕ) → Contains imports.now (record { revision = r; imported = p; provider = x }) → IsNoted possible.new p x) }
+    ensures noted { OnOk result ((r p x : ℕ)
+        → Contains imports.now (record { revision = r; imported = p; provider = x })
+        → IsNoted possible.new p x) }
     ensures nothing_lost { OnOk result (HoldsAll possible.old possible.new) }
 {
     for row in imports {
@@ -83,7 +85,8 @@ pub fn note_fragment(
     host: u32,
     fragment: u32,
 ) -> Result<(), AllocError>
-    ensures noted { OnOk result ((p : ℕ) → OwnExport rows.now fragment p → IsNoted possible.new p host) }
+    ensures noted { OnOk result ((p : ℕ) → OwnExport rows.now fragment p
+        → IsNoted possible.new p host) }
     ensures nothing_lost { HoldsAll possible.old possible.new }
 {
     for row in rows.exports_of(fragment) {
@@ -98,7 +101,9 @@ pub fn note_fragments(
     rows: &Rows,
     attached: &[Attachment],
 ) -> Result<(), AllocError>
-    ensures noted { OnOk result ((h f p : ℕ) → Contains attached.now (record { host = h; fragment = f }) → OwnExport rows.now f p → IsNoted possible.new p h) }
+    ensures noted { OnOk result ((h f p : ℕ)
+        → Contains attached.now (record { host = h; fragment = f }) → OwnExport rows.now f p
+        → IsNoted possible.new p h) }
     ensures nothing_lost { OnOk result (HoldsAll possible.old possible.new) }
 {
     for row in attached {
@@ -109,7 +114,8 @@ pub fn note_fragments(
 
 /// Notes these revisions as what their own exports come from.
 pub fn note_known(possible: &mut Possible, rows: &Rows, known: &[Known]) -> Result<(), AllocError>
-    ensures noted { OnOk result ((k : Known) (p : ℕ) → In k known.now → OwnExport rows.now k.id.0 p → IsNoted possible.new p k.id.0) }
+    ensures noted { OnOk result ((k : Known) (p : ℕ) → In k known.now → OwnExport rows.now k.id.0 p
+        → IsNoted possible.new p k.id.0) }
     ensures nothing_lost { OnOk result (HoldsAll possible.old possible.new) }
 {
     for each in known {

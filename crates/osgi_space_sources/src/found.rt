@@ -1,6 +1,6 @@
 //! What was found so far, in order.
 
-ghost use Rattle.std.specs.Prelude.{◌≡◌, ◌↔◌, ◌⊎◌, ◌≤◌, [], length, Contains, IfOk, OnOk, IsTrue};
+ghost use Rattle.std.specs.Prelude.{◌≡◌, ◌↔◌, ◌⊎◌, ◌++◌, ◌∷◌, [], length, Contains, IfOk, OnErr, OnOk, IsTrue};
 ghost use Rattle.std.specs.BTreeSet.{contains};
 ghost use Rattle.std.specs.Bool.{Decides};
 ghost use Rattle.std.specs.Ordering.{eq_by_cmp};
@@ -9,6 +9,7 @@ ghost use Rattle.osgi_space_sources.specs.computed.Collected.{Has, IsCollected};
 
 use std::alloc::{AllocError, Global};
 use std::collections::BTreeSet;
+use std::marker::Model;
 
 /// A value that ties with itself alone.
 pub trait Node: Copy + Ord {
@@ -18,17 +19,27 @@ pub trait Node: Copy + Ord {
 /// How many values are looked through one after another.
 pub(crate) const FEW: usize = 8;
 
-/// Values in the order in which they were found. Once they are more than a few, a set has them too.
+/// Values in the order in which they were found. Once they are more than a few, a set has them too. Contracts see the list of the values.
 #[derive(Drop)]
 pub struct Found<T: Node> {
-    pub items: Vec<T>,
+    items: Vec<T>,
     set: BTreeSet<T>,
+}
+
+impl<T: Node> Model for Found<T> {
+    ghost use Rattle.std.specs.Prelude.{List};
+    ghost use Rattle.osgi_space_sources.specs.computed.Collected.{IsCollected};
+
+    ghost Value = { List T };
+
+    ghost view = { λ f. f.items.items };
+
+    ghost invariant = { λ f. IsCollected T.cmp f.set f.items.items };
 }
 
 impl<T: Node> Found<T> {
     pub fn new(alloc: Global) -> Found<T>
-        ensures empty { result.items.items ≡ [] }
-        ensures collected { IsCollected T.cmp result }
+        ensures empty { result ≡ [] }
     {
         Found {
             items: Vec::new(alloc),
@@ -38,8 +49,7 @@ impl<T: Node> Found<T> {
 
     /// These values, in this order; one may stand there several times.
     pub fn of(alloc: Global, items: Vec<T>) -> Result<Found<T>, AllocError>
-        ensures items { IfOk result (λ found. found.items ≡ items) }
-        ensures collected { IfOk result (λ found. IsCollected T.cmp found) }
+        ensures items { IfOk result (λ found. found ≡ items.items) }
     {
         let mut set = BTreeSet::new(alloc);
         if items.len() > FEW {
@@ -48,9 +58,27 @@ impl<T: Node> Found<T> {
         Ok(Found { items, set })
     }
 
+    pub fn len(&self) -> usize
+        ensures len { result ≡ length self.now }
+    {
+        self.items.len()
+    }
+
+    pub fn items(&self) -> &[T]
+        ensures items { result.now ≡ self.now }
+    {
+        self.items.as_slice()
+    }
+
+    pub fn into_items(self) -> Vec<T>
+        ensures items { result.items ≡ self }
+    {
+        let Found { items, set: _ } = self;
+        items
+    }
+
     pub fn has(&self, node: T) -> bool
-        requires collected { IsCollected T.cmp self.now }
-        ensures has { IsTrue result ↔ Contains self.now.items.items node }
+        ensures has { IsTrue result ↔ Contains self.now node }
     {
         if self.items.len() <= FEW {
             return is_listed(self.items.as_slice(), node);
@@ -60,31 +88,14 @@ impl<T: Node> Found<T> {
 
     /// Adds a value, unless it is there.
     pub fn add(&mut self, node: T) -> Result<(), AllocError>
-        requires collected { IsCollected T.cmp self.old }
-        ensures collected { OnOk result (IsCollected T.cmp self.new) }
-        ensures added { OnOk result (Adds (λ x. x ≡ node) self.old.items.items self.new.items.items) }
+        ensures added { OnOk result (Adds (λ x. x ≡ node) self.old self.new) }
     {
         if self.has(node) {
             return Ok(());
         }
-        if self.items.len() >= FEW {
-            self.note(node)?;
-        }
+        self.items.reserve(1)?;
+        note(&mut self.set, self.items.as_slice(), node)?;
         self.items.push(node)?;
-        Ok(())
-    }
-
-    /// Puts the value into the set, and where the set is still empty, those of the list before it.
-    fn note(&mut self, node: T) -> Result<(), AllocError>
-        requires collected { IsCollected T.cmp self.old }
-        requires enough { FEW ≤ length self.old.items.items }
-        ensures items { self.new.items.items ≡ self.old.items.items }
-        ensures noted { OnOk result (Has T.cmp self.new.set (λ x. Contains self.old.items.items x ⊎ (node ≡ x))) }
-    {
-        if self.items.len() == FEW {
-            put_all(&mut self.set, self.items.as_slice())?;
-        }
-        self.set.insert(node)?;
         Ok(())
     }
 }
@@ -101,9 +112,36 @@ pub(crate) fn is_listed<T: Node>(list: &[T], node: T) -> bool
     false
 }
 
+/// Puts a value into the set of the list that the value is about to join, if they are more than a few then.
+fn note<T: Node>(set: &mut BTreeSet<T>, list: &[T], node: T) -> Result<(), AllocError>
+    requires collected { IsCollected T.cmp set.old list.now }
+    ensures noted { OnOk result (IsCollected T.cmp set.new (list.now ++ node ∷ [])) }
+    ensures kept { OnErr result (IsCollected T.cmp set.new list.now) }
+{
+    if list.len() < FEW {
+        return Ok(());
+    }
+    if list.len() == FEW {
+        return Ok(fill(set, list, node)?);
+    }
+    set.insert(node)?;
+    Ok(())
+}
+
+/// Makes the set that of the list and of a value more.
+fn fill<T: Node>(set: &mut BTreeSet<T>, list: &[T], node: T) -> Result<(), AllocError>
+    ensures filled { OnOk result (Has T.cmp set.new (Contains (list.now ++ node ∷ []))) }
+{
+    set.clear();
+    put_all(set, list)?;
+    set.insert(node)?;
+    Ok(())
+}
+
 /// Puts the values of the list into the set.
 fn put_all<T: Node>(set: &mut BTreeSet<T>, list: &[T]) -> Result<(), AllocError>
-    ensures put { OnOk result (Has T.cmp set.new (λ x. IsTrue (contains T.cmp set.old x) ⊎ Contains list.now x)) }
+    ensures put { OnOk result (Has T.cmp set.new (λ x. IsTrue (contains T.cmp set.old x)
+        ⊎ Contains list.now x)) }
 {
     for item in list {
         set.insert(*item)?;

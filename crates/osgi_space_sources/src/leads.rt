@@ -4,12 +4,9 @@ ghost use Rattle.std.specs.Prelude.{Contains, IfOk, OnOk};
 ghost use Rattle.std.specs.Option.{ForSome};
 ghost use Rattle.osgi_space_sources.specs.computed.Adds.{Adds};
 ghost use Rattle.osgi_space_sources.specs.computed.Amongst.{IsAmong};
-ghost use Rattle.osgi_space_sources.specs.computed.Collected.{IsCollected};
 ghost use Rattle.osgi_space_sources.specs.computed.Disputes.{IsDisputed};
-ghost use Rattle.osgi_space_sources.specs.computed.Exact.{given_cmp, lead_cmp};
 ghost use Rattle.osgi_space_sources.specs.computed.Leads.{IsLead, IsUnder, LeadsBack};
 ghost use Rattle.osgi_space_sources.specs.computed.Reach.{Reach};
-ghost use Rattle.osgi_space_sources.specs.computed.Traces.{AreCollected};
 ghost use Rattle.osgi_space_sources.specs.declared.given.Given.{Given};
 ghost use Rattle.osgi_space_sources.specs.declared.lead.Lead.{Lead};
 
@@ -28,9 +25,7 @@ fn add_users(
     users: &Grouped<Given, Given>,
     lead: Lead,
 ) -> Result<(), AllocError>
-    requires collected { IsCollected lead_cmp leads.old }
-    ensures collected { OnOk result (IsCollected lead_cmp leads.new) }
-    ensures added { OnOk result (Adds (LeadsBack users.now lead) leads.old.items.items leads.new.items.items) }
+    ensures added { OnOk result (Adds (LeadsBack users.now lead) leads.old leads.new) }
 {
     for user in users.of(&lead.export) {
         leads.add(Lead {
@@ -46,26 +41,26 @@ fn carried_back(
     leads: Found<Lead>,
     users: &Grouped<Given, Given>,
 ) -> Result<Option<Found<Lead>>, AllocError>
-    requires collected { IsCollected lead_cmp leads }
-    ensures carried { IfOk result (λ carried. ForSome carried (λ all. (l : Lead) → Reach (Contains leads.items.items) (LeadsBack users.now) l → Contains all.items.items l)) }
+    ensures carried { IfOk result (λ carried. ForSome carried (λ all. (l : Lead)
+        → Reach (Contains leads) (LeadsBack users.now) l → Contains all l)) }
 {
     let mut all = leads;
-    for next in 0..usize::MAX {
-        if next >= all.items.len() {
-            return Ok(Some(all));
-        }
-        if all.items.len() > MOST_LEADS {
+    let mut next = 0;
+    while next < all.len() {
+        if all.len() > MOST_LEADS {
             return Ok(None);
         }
-        let lead = all.items[next];
+        let lead = all.items()[next];
         add_users(&mut all, users, lead)?;
+        next += 1;
     }
-    Ok(None)
+    Ok(Some(all))
 }
 
 /// The sources by the exports that lead to them.
 fn by_export(alloc: Global, leads: &[Lead]) -> Result<Grouped<Given, Given>, AllocError>
-    ensures grouped { IfOk result (λ grouped. (l : Lead) → Contains leads.now l → IsUnder grouped l.export l.source) }
+    ensures grouped { IfOk result (λ grouped. (l : Lead) → Contains leads.now l
+        → IsUnder grouped l.export l.source) }
 {
     let mut grouped = Grouped::new(alloc);
     for lead in leads {
@@ -76,14 +71,15 @@ fn by_export(alloc: Global, leads: &[Lead]) -> Result<Grouped<Given, Given>, All
 
 /// The sources to which the exports that were traced lead, by the exports; none, if they are too many.
 fn leads_in(alloc: Global, trace: Trace) -> Result<Option<Grouped<Given, Given>>, AllocError>
-    requires collected { AreCollected trace }
-    ensures leads { IfOk result (λ found. ForSome found (λ leads. (l : Lead) → Reach (Contains trace.leads.items.items) (LeadsBack trace.users) l → IsUnder leads l.export l.source)) }
+    ensures leads { IfOk result (λ found. ForSome found (λ leads. (l : Lead)
+        → Reach (Contains trace.leads) (LeadsBack trace.users) l
+        → IsUnder leads l.export l.source)) }
 {
     let Trace { users, leads, .. } = trace;
     let Some(all) = carried_back(leads, &users)? else {
         return Ok(None);
     };
-    Ok(Some(by_export(alloc, all.items.as_slice())?))
+    Ok(Some(by_export(alloc, all.items())?))
 }
 
 /// The sources of disputed packages to which these exports lead: of each constraint that follows from an export, those of its package
@@ -95,8 +91,9 @@ pub fn leads_of(
     among: Among,
     exports: Found<Given>,
 ) -> Result<Option<Grouped<Given, Given>>, AllocError>
-    requires collected { IsCollected given_cmp exports }
-    ensures leads { IfOk result (λ found. ForSome found (λ leads. (h s : Given) → Contains exports.items.items h → IsLead rows.now (IsAmong among.entry) h s → IsDisputed disputed.now s.package → IsUnder leads h s)) }
+    ensures leads { IfOk result (λ found. ForSome found (λ leads. (h s : Given) → Contains exports h
+        → IsLead rows.now (IsAmong among.entry) h s → IsDisputed disputed.now s.package
+        → IsUnder leads h s)) }
 {
     let Some(trace) = trace_from(alloc, rows, disputed, among, exports)? else {
         return Ok(None);

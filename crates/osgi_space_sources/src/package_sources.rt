@@ -1,7 +1,7 @@
 //! Where a package comes from.
 
-ghost use Rattle.std.specs.Prelude.{◌↔◌, Contains, IfOk, OnOk, IsTrue};
-ghost use Rattle.osgi_space_sources.specs.computed.Adds.{Adds};
+ghost use Rattle.std.specs.Prelude.{◌↔◌, IfOk, OnOk, IsTrue};
+ghost use Rattle.osgi_space_sources.specs.computed.Adds.{Adds, AreAll};
 ghost use Rattle.osgi_space_sources.specs.declared.given.Given.{Given};
 ghost use Rattle.osgi_space_sources.specs.computed.RowSources.{HasExport, ImportsElsewhere};
 ghost use Rattle.osgi_space_sources.specs.computed.Givens.{AttachedExports, IsDirect, IsElsewhere, IsGivenTo, IsProvider, IsSourceOf};
@@ -56,7 +56,8 @@ fn add_elsewhere(
     bundle: u32,
     package: u32,
 ) -> Result<(), AllocError>
-    ensures added { OnOk result (Adds (IsElsewhere rows.now bundle «package») givens.old.items givens.new.items) }
+    ensures added { OnOk result (Adds (IsElsewhere rows.now bundle «package»)
+        givens.old.items givens.new.items) }
 {
     for row in rows.imports_for(bundle, package) {
         if row.provider != bundle {
@@ -77,7 +78,8 @@ pub fn add_exported(
     package: u32,
 ) -> Result<(), AllocError>
     requires exported { HasExport rows.now bundle «package» }
-    ensures added { OnOk result (Adds (IsDirect rows.now bundle «package») givens.old.items givens.new.items) }
+    ensures added { OnOk result (Adds (IsDirect rows.now bundle «package»)
+        givens.old.items givens.new.items) }
 {
     if imports_elsewhere(rows, bundle, package) {
         add_elsewhere(givens, rows, bundle, package)?;
@@ -97,7 +99,8 @@ fn add_direct(
     bundle: u32,
     package: u32,
 ) -> Result<(), AllocError>
-    ensures added { OnOk result (Adds (IsDirect rows.now bundle «package») givens.old.items givens.new.items) }
+    ensures added { OnOk result (Adds (IsDirect rows.now bundle «package»)
+        givens.old.items givens.new.items) }
 {
     if has_export(rows, bundle, package) {
         add_exported(givens, rows, bundle, package)?;
@@ -107,7 +110,8 @@ fn add_direct(
 
 /// Adds the providers of these wires as sources of the package.
 fn add_imported(givens: &mut Vec<Given>, imports: &[Import], package: u32) -> Result<(), AllocError>
-    ensures added { OnOk result (Adds (IsProvider imports.now «package») givens.old.items givens.new.items) }
+    ensures added { OnOk result (Adds (IsProvider imports.now «package»)
+        givens.old.items givens.new.items) }
 {
     for row in imports {
         givens.push(Given {
@@ -126,10 +130,11 @@ fn add_given(
     revision: u32,
     package: u32,
 ) -> Result<(), AllocError>
-    ensures added { OnOk result (Adds (IsGivenTo rows.now revision «package») givens.old.items givens.new.items) }
+    ensures added { OnOk result (Adds (IsGivenTo rows.now revision «package»)
+        givens.old.items givens.new.items) }
 {
     let reached = reached_bundles(alloc, rows, revision)?;
-    for bundle in &reached.items {
+    for bundle in reached.items() {
         add_direct(givens, rows, *bundle, package)?;
     }
     add_direct(givens, rows, revision, package)?;
@@ -143,7 +148,8 @@ pub fn sources_of(
     revision: u32,
     package: u32,
 ) -> Result<Vec<Given>, AllocError>
-    ensures sources { IfOk result (λ givens. (g : Given) → Contains givens.items g ↔ IsSourceOf rows.now revision «package» g) }
+    ensures sources { IfOk result (λ givens.
+        AreAll (IsSourceOf rows.now revision «package») givens.items) }
 {
     let imports = rows.imports_for(revision, package);
     let mut givens = Vec::with_capacity(alloc, imports.len())?;

@@ -16,14 +16,10 @@ pub struct RevisionSet {
 
 impl Model for RevisionSet {
     ghost use Rattle.std.specs.Prelude.{List, ℕ};
-    ghost use Rattle.std.specs.Ordering.{nat_cmp};
-    ghost use Rattle.osgi_space_sources.specs.computed.Collected.{IsCollected};
 
     ghost Value = { List ℕ };
 
-    ghost view = { λ s. s.found.items.items };
-
-    ghost invariant = { λ s. IsCollected nat_cmp s.found };
+    ghost view = { λ s. s.found };
 }
 
 impl RevisionSet {

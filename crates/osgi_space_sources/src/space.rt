@@ -1,7 +1,7 @@
 //! The class space of a revision: all packages that it sees, with their sources.
 
-ghost use Rattle.std.specs.Prelude.{◌↔◌, Contains, IfOk, OnOk};
-ghost use Rattle.osgi_space_sources.specs.computed.Adds.{Adds};
+ghost use Rattle.std.specs.Prelude.{IfOk, OnOk};
+ghost use Rattle.osgi_space_sources.specs.computed.Adds.{Adds, AreAll};
 ghost use Rattle.osgi_space_sources.specs.computed.Givens.{IsGivenBy, IsGivenByOwner, IsGivenByReached, IsGivenOf, IsSeen, IsUnwired, IsWired};
 ghost use Rattle.osgi_space_sources.specs.computed.RowSources.{HasExport, Owns};
 ghost use Rattle.osgi_space_sources.specs.declared.given.Given.{Given};
@@ -21,7 +21,8 @@ fn add_unless_imported(
     package: u32,
 ) -> Result<(), AllocError>
     requires exported { HasExport rows.now bundle «package» }
-    ensures added { OnOk result (Adds (IsGivenOf rows.now revision bundle «package») givens.old.items givens.new.items) }
+    ensures added { OnOk result (Adds (IsGivenOf rows.now revision bundle «package»)
+        givens.old.items givens.new.items) }
 {
     if rows.imports_for(revision, package).is_empty() {
         add_exported(givens, rows, bundle, package)?;
@@ -38,7 +39,8 @@ fn add_owner(
     owner: u32,
 ) -> Result<(), AllocError>
     requires owns { Owns rows.now bundle owner }
-    ensures added { OnOk result (Adds (IsGivenByOwner rows.now revision bundle owner) givens.old.items givens.new.items) }
+    ensures added { OnOk result (Adds (IsGivenByOwner rows.now revision bundle owner)
+        givens.old.items givens.new.items) }
 {
     for row in rows.exports_of(owner) {
         add_unless_imported(givens, rows, revision, bundle, row.exported)?;
@@ -53,7 +55,8 @@ fn add_bundle(
     revision: u32,
     bundle: u32,
 ) -> Result<(), AllocError>
-    ensures added { OnOk result (Adds (IsGivenBy rows.now revision bundle) givens.old.items givens.new.items) }
+    ensures added { OnOk result (Adds (IsGivenBy rows.now revision bundle)
+        givens.old.items givens.new.items) }
 {
     add_owner(givens, rows, revision, bundle, bundle)?;
     for row in rows.attached_to(bundle) {
@@ -64,7 +67,8 @@ fn add_bundle(
 
 /// Adds the providers of the revision's wires for packages.
 fn add_imports(givens: &mut Vec<Given>, rows: &Rows, revision: u32) -> Result<(), AllocError>
-    ensures added { OnOk result (Adds (IsWired rows.now revision) givens.old.items givens.new.items) }
+    ensures added { OnOk result (Adds (IsWired rows.now revision)
+        givens.old.items givens.new.items) }
 {
     for row in rows.imports_of(revision) {
         givens.push(Given {
@@ -82,13 +86,14 @@ fn add_reached(
     rows: &Rows,
     revision: u32,
 ) -> Result<(), AllocError>
-    ensures added { OnOk result (Adds (IsGivenByReached rows.now revision) givens.old.items givens.new.items) }
+    ensures added { OnOk result (Adds (IsGivenByReached rows.now revision)
+        givens.old.items givens.new.items) }
 {
     if rows.required_by(revision).is_empty() {
         return Ok(());
     }
     let reached = reached_bundles(alloc, rows, revision)?;
-    for bundle in &reached.items {
+    for bundle in reached.items() {
         add_bundle(givens, rows, revision, *bundle)?;
     }
     Ok(())
@@ -100,7 +105,7 @@ pub(crate) fn unwired_of(
     rows: &Rows,
     revision: u32,
 ) -> Result<Vec<Given>, AllocError>
-    ensures sources { IfOk result (λ givens. (g : Given) → Contains givens.items g ↔ IsUnwired rows.now revision g) }
+    ensures sources { IfOk result (λ givens. AreAll (IsUnwired rows.now revision) givens.items) }
 {
     let mut givens = Vec::new(alloc);
     add_reached(alloc, &mut givens, rows, revision)?;
@@ -110,7 +115,7 @@ pub(crate) fn unwired_of(
 
 /// The packages that the revision sees, with their sources.
 pub fn space_of(alloc: Global, rows: &Rows, revision: u32) -> Result<Vec<Given>, AllocError>
-    ensures sources { IfOk result (λ givens. (g : Given) → Contains givens.items g ↔ IsSeen rows.now revision g) }
+    ensures sources { IfOk result (λ givens. AreAll (IsSeen rows.now revision) givens.items) }
 {
     let mut givens = Vec::with_capacity(alloc, rows.imports_of(revision).len())?;
     add_imports(&mut givens, rows, revision)?;

@@ -4,11 +4,9 @@ ghost use Rattle.std.specs.Prelude.{◌≡◌, ℕ, Contains, IfOk, OnOk};
 ghost use Rattle.std.specs.Option.{ForSome};
 ghost use Rattle.osgi_space_rows.specs.Rows.{OwnUse};
 ghost use Rattle.osgi_space_sources.specs.computed.Amongst.{IsAmong};
-ghost use Rattle.osgi_space_sources.specs.computed.Collected.{IsCollected};
-ghost use Rattle.osgi_space_sources.specs.computed.Exact.{given_cmp};
 ghost use Rattle.osgi_space_sources.specs.computed.Disputes.{IsDisputed};
 ghost use Rattle.osgi_space_sources.specs.computed.RowSources.{Sources};
-ghost use Rattle.osgi_space_sources.specs.computed.Traces.{AreCollected, AreTraced, IsFollowed, IsNotedLead, IsTraced, IsTracedTo, Keeps};
+ghost use Rattle.osgi_space_sources.specs.computed.Traces.{AreTraced, IsFollowed, IsNotedLead, IsTraced, IsTracedTo, Keeps};
 ghost use Rattle.osgi_space_sources.specs.declared.given.Given.{Given};
 
 use crate::among::Among;
@@ -36,9 +34,7 @@ pub struct Trace {
 impl Trace {
     /// These exports, of which nothing is traced yet.
     pub fn of(alloc: Global, exports: Found<Given>) -> Trace
-        requires collected { IsCollected given_cmp exports }
         ensures exports { result.exports ≡ exports }
-        ensures collected { AreCollected result }
     {
         Trace {
             exports,
@@ -54,7 +50,6 @@ impl Trace {
         export: Given,
         source: Given,
     ) -> Result<(), AllocError>
-        requires collected { AreCollected self.old }
         ensures kept { OnOk result (Keeps self.old self.new) }
         ensures noted { OnOk result (IsNotedLead (IsDisputed disputed.now) self.new export source) }
     {
@@ -74,9 +69,9 @@ impl Trace {
         export: Given,
         source: Given,
     ) -> Result<(), AllocError>
-        requires collected { AreCollected self.old }
         ensures kept { OnOk result (Keeps self.old self.new) }
-        ensures followed { OnOk result (IsFollowed rows.now (IsAmong among.entry) self.new export source) }
+        ensures followed { OnOk result (IsFollowed rows.now (IsAmong among.entry)
+            self.new export source) }
     {
         if !may_use(rows, source.source, source.package) {
             return Ok(());
@@ -99,9 +94,9 @@ fn trace_source(
     export: Given,
     source: Given,
 ) -> Result<(), AllocError>
-    requires collected { AreCollected trace.old }
     ensures kept { OnOk result (Keeps trace.old trace.new) }
-    ensures traced { OnOk result (IsTracedTo rows.now (IsAmong among.entry) (IsDisputed disputed.now) trace.new export source) }
+    ensures traced { OnOk result (IsTracedTo rows.now (IsAmong among.entry)
+        (IsDisputed disputed.now) trace.new export source) }
 {
     trace.note(disputed, export, source)?;
     trace.follow(rows, among, export, source)?;
@@ -117,9 +112,9 @@ fn trace_sources(
     export: Given,
     sources: &[Given],
 ) -> Result<(), AllocError>
-    requires collected { AreCollected trace.old }
     ensures kept { OnOk result (Keeps trace.old trace.new) }
-    ensures traced { OnOk result ((s : Given) → Contains sources.now s → IsTracedTo rows.now (IsAmong among.entry) (IsDisputed disputed.now) trace.new export s) }
+    ensures traced { OnOk result ((s : Given) → Contains sources.now s
+        → IsTracedTo rows.now (IsAmong among.entry) (IsDisputed disputed.now) trace.new export s) }
 {
     for source in sources {
         trace_source(trace, rows, disputed, among, export, *source)?;
@@ -137,10 +132,10 @@ fn trace_use(
     export: Given,
     used: u32,
 ) -> Result<(), AllocError>
-    requires collected { AreCollected trace.old }
     ensures kept { OnOk result (Keeps trace.old trace.new) }
     ensures traced { OnOk result ((x : ℕ) → Sources rows.now export.source used x
-        → IsTracedTo rows.now (IsAmong among.entry) (IsDisputed disputed.now) trace.new export (record { «package» = used; source = x })) }
+        → IsTracedTo rows.now (IsAmong among.entry)
+        (IsDisputed disputed.now) trace.new export (record { «package» = used; source = x })) }
 {
     let sources = sources_of(alloc, rows, export.source, used)?;
     trace_sources(trace, rows, disputed, among, export, sources.as_slice())?;
@@ -157,10 +152,11 @@ fn trace_own_uses(
     export: Given,
     owner: u32,
 ) -> Result<(), AllocError>
-    requires collected { AreCollected trace.old }
     ensures kept { OnOk result (Keeps trace.old trace.new) }
-    ensures traced { OnOk result ((u x : ℕ) → OwnUse rows.now owner export.package u → Sources rows.now export.source u x
-        → IsTracedTo rows.now (IsAmong among.entry) (IsDisputed disputed.now) trace.new export (record { «package» = u; source = x })) }
+    ensures traced { OnOk result ((u x : ℕ) → OwnUse rows.now owner export.package u
+        → Sources rows.now export.source u x
+        → IsTracedTo rows.now (IsAmong among.entry)
+        (IsDisputed disputed.now) trace.new export (record { «package» = u; source = x })) }
 {
     for row in rows.uses_of(owner, export.package) {
         trace_use(alloc, trace, rows, disputed, among, export, row.used)?;
@@ -177,9 +173,9 @@ fn trace_export(
     among: Among,
     export: Given,
 ) -> Result<(), AllocError>
-    requires collected { AreCollected trace.old }
     ensures kept { OnOk result (Keeps trace.old trace.new) }
-    ensures traced { OnOk result (IsTraced rows.now (IsAmong among.entry) (IsDisputed disputed.now) trace.new export) }
+    ensures traced { OnOk result (IsTraced rows.now (IsAmong among.entry)
+        (IsDisputed disputed.now) trace.new export) }
 {
     trace_own_uses(alloc, trace, rows, disputed, among, export, export.source)?;
     for row in rows.attached_to(export.source) {
@@ -197,21 +193,20 @@ pub fn trace_from(
     among: Among,
     exports: Found<Given>,
 ) -> Result<Option<Trace>, AllocError>
-    requires collected { IsCollected given_cmp exports }
-    ensures collected { IfOk result (λ traced. ForSome traced AreCollected) }
-    ensures exports { IfOk result (λ traced. ForSome traced (λ trace. (h : Given) → Contains exports.items.items h → Contains trace.exports.items.items h)) }
-    ensures traced { IfOk result (λ traced. ForSome traced (AreTraced rows.now (IsAmong among.entry) (IsDisputed disputed.now))) }
+    ensures exports { IfOk result (λ traced. ForSome traced (λ trace. (h : Given)
+        → Contains exports h → Contains trace.exports h)) }
+    ensures traced { IfOk result (λ traced.
+        ForSome traced (AreTraced rows.now (IsAmong among.entry) (IsDisputed disputed.now))) }
 {
     let mut trace = Trace::of(alloc, exports);
-    for next in 0..usize::MAX {
-        if next >= trace.exports.items.len() {
-            return Ok(Some(trace));
-        }
-        if trace.leads.items.len() > MOST_LEADS {
+    let mut next = 0;
+    while next < trace.exports.len() {
+        if trace.leads.len() > MOST_LEADS {
             return Ok(None);
         }
-        let export = trace.exports.items[next];
+        let export = trace.exports.items()[next];
         trace_export(alloc, &mut trace, rows, disputed, among, export)?;
+        next += 1;
     }
-    Ok(None)
+    Ok(Some(trace))
 }

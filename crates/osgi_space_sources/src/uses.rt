@@ -22,7 +22,8 @@ use std::collections::BTreeSet;
 
 /// Whether one of the packages is disputed.
 pub(crate) fn has_disputed(givens: &[Given], disputed: &BTreeSet<u32>) -> bool
-    ensures disputed { IsTrue result ↔ Any (λ (g : Given). IsTrue (contains nat_cmp disputed.now g.package)) givens.now }
+    ensures disputed { IsTrue result
+        ↔ Any (λ (g : Given). IsTrue (contains nat_cmp disputed.now g.package)) givens.now }
 {
     for given in givens {
         if disputed.contains(&given.package) {
@@ -34,7 +35,8 @@ pub(crate) fn has_disputed(givens: &[Given], disputed: &BTreeSet<u32>) -> bool
 
 /// Whether one of the wires is for a disputed package.
 fn has_disputed_import(imports: &[Import], disputed: &BTreeSet<u32>) -> bool
-    ensures disputed { IsTrue result ↔ Any (λ (row : Import). IsTrue (contains nat_cmp disputed.now row.imported)) imports.now }
+    ensures disputed { IsTrue result
+        ↔ Any (λ (row : Import). IsTrue (contains nat_cmp disputed.now row.imported)) imports.now }
 {
     for row in imports {
         if disputed.contains(&row.imported) {
@@ -82,7 +84,8 @@ pub fn are_kept(
     pairs: &[Given],
 ) -> Result<bool, AllocError>
     requires disputed { AreDisputed rows.now disputed.now }
-    ensures uses { IfOk result (λ answer. IsTrue answer ↔ ¬ Any (IsClash rows.now revision) pairs.now) }
+    ensures uses { IfOk result (λ answer. IsTrue answer
+        ↔ ¬ Any (IsClash rows.now revision) pairs.now) }
 {
     for pair in pairs {
         if is_violated(alloc, rows, disputed, revision, *pair)? {
@@ -112,7 +115,8 @@ pub fn keeps_uses(
     revision: u32,
 ) -> Result<bool, AllocError>
     requires disputed { AreDisputed rows.now disputed.now }
-    ensures uses { IfOk result (λ answer. IsTrue answer ↔ KeepsUsesAmong rows.now (IsAmong among.entry) revision) }
+    ensures uses { IfOk result (λ answer. IsTrue answer
+        ↔ KeepsUsesAmong rows.now (IsAmong among.entry) revision) }
 {
     if disputed.is_empty() {
         return Ok(true);
@@ -129,12 +133,13 @@ pub fn keeps_uses(
         return Ok(true);
     }
     let found = constraints_from(alloc, rows, among, imports, givens.as_slice())?;
-    Ok(are_kept(alloc, rows, disputed, revision, found.items.as_slice())?)
+    Ok(are_kept(alloc, rows, disputed, revision, found.items())?)
 }
 
 /// Whether no constraint of a revision in force is violated.
 pub fn all_keep_uses(alloc: Global, rows: &Rows, wirings: &[Wiring]) -> Result<bool, AllocError>
-    ensures uses { IfOk result (λ answer. IsTrue answer ↔ ¬ Any (λ (g : Wiring). ¬ KeepsUses rows.now g.revision.0) wirings.now) }
+    ensures uses { IfOk result (λ answer. IsTrue answer
+        ↔ ¬ Any (λ (g : Wiring). ¬ KeepsUses rows.now g.revision.0) wirings.now) }
 {
     let disputed = disputed_packages(alloc, rows)?;
     for wiring in wirings {

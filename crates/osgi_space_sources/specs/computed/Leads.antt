@@ -1,5 +1,5 @@
 -- To which sources exports lead. An export is a package with its exporter in the place of a source.
-use Rattle.std.specs.Prelude.{◌≡◌, ◌⊎◌, ℕ, Contains}
+use Rattle.std.specs.Prelude.{◌≡◌, ◌⊎◌, ℕ, List, Contains}
 use Rattle.osgi_space_rows.specs.Rows.{RowLists}
 use Rattle.osgi_space_rows.specs.computed.Groups.{values_of}
 use Rattle.osgi_space_rows.specs.declared.grouped.Grouped.{Grouped}
@@ -8,7 +8,6 @@ use Rattle.osgi_space_sources.specs.computed.Givens.{IsSeen, IsSourceOf}
 use Rattle.osgi_space_sources.specs.computed.Pairs.{IsNext, IsUse, MayUse}
 use Rattle.osgi_space_sources.specs.computed.Reach.{Reach}
 use Rattle.osgi_space_sources.specs.computed.RowSources.{Sources}
-use Rattle.osgi_space_sources.specs.declared.found.Found.{Found}
 use Rattle.osgi_space_sources.specs.declared.given.Given.{Given}
 use Rattle.osgi_space_sources.specs.declared.lead.Lead.{Lead}
 
@@ -30,12 +29,12 @@ abbrev pub LeadsBack : Grouped Given Given → Lead → Lead → Type 0
 LeadsBack users from to = IsUnder users from.export to.export × (to.source ≡ from.source)
 
 -- what was found stays
-abbrev pub KeepsAll : Found Given → Found Given → Type 0
-KeepsAll old new = (g : Given) → Contains old.items.items g → Contains new.items.items g
+abbrev pub KeepsAll : List Given → List Given → Type 0
+KeepsAll old new = (g : Given) → Contains old g → Contains new g
 
 -- it is found, if constraints may come from it and it may use packages
-abbrev pub StartsWith : RowLists → (ℕ → Type 0) → Found Given → Given → Type 0
-StartsWith R A found h = A h.source → MayUse R h.source h.package → Contains found.items.items h
+abbrev pub StartsWith : RowLists → (ℕ → Type 0) → List Given → Given → Type 0
+StartsWith R A found h = A h.source → MayUse R h.source h.package → Contains found h
 
 -- under each export by a revision of A that r sees stand the sources of packages of D to which it leads
 abbrev pub AreLeads : RowLists → (ℕ → Type 0) → (ℕ → Type 0) → Grouped Given Given → ℕ → Type 0

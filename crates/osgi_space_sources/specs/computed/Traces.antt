@@ -1,8 +1,6 @@
 -- What is traced of exports: which exports they use, and which sources of disputed packages.
 use Rattle.std.specs.Prelude.{◌≡◌, ℕ, List, ◌++◌, Contains}
 use Rattle.osgi_space_rows.specs.Rows.{RowLists}
-use Rattle.osgi_space_sources.specs.computed.Collected.{IsCollected}
-use Rattle.osgi_space_sources.specs.computed.Exact.{given_cmp, lead_cmp}
 use Rattle.osgi_space_sources.specs.computed.Leads.{IsUnder}
 use Rattle.osgi_space_sources.specs.computed.Pairs.{MayUse}
 use Rattle.osgi_space_sources.specs.computed.RowSources.{ExportUses, Sources}
@@ -10,23 +8,19 @@ use Rattle.osgi_space_sources.specs.declared.given.Given.{Given}
 use Rattle.osgi_space_sources.specs.declared.lead.Lead.{Lead}
 use Rattle.osgi_space_sources.specs.declared.trace.Trace.{Trace}
 
-abbrev pub AreCollected : Trace → Type 0
-AreCollected t = IsCollected given_cmp t.exports × IsCollected lead_cmp t.leads
-
 -- what was traced stays, the exports in their order
 pub record Keeps (old new : Trace) : Type 0 where
-  pub collected : AreCollected new
-  pub exports : (more : List Given) × (new.exports.items.items ≡ old.exports.items.items ++ more)
+  pub exports : (more : List Given) × (new.exports ≡ old.exports ++ more)
   pub users : (h k : Given) → IsUnder old.users h k → IsUnder new.users h k
-  pub leads : (l : Lead) → Contains old.leads.items.items l → Contains new.leads.items.items l
+  pub leads : (l : Lead) → Contains old.leads l → Contains new.leads l
 
 -- the source is noted under the export, if its package is one of D
 abbrev pub IsNotedLead : (ℕ → Type 0) → Trace → Given → Given → Type 0
-IsNotedLead D t h s = D s.package → Contains t.leads.items.items (record { export = h; source = s })
+IsNotedLead D t h s = D s.package → Contains t.leads (record { export = h; source = s })
 
 -- its export is there, with the export that uses it, if constraints may come from it and it may use packages
 abbrev pub IsFollowed : RowLists → (ℕ → Type 0) → Trace → Given → Given → Type 0
-IsFollowed R A t h s = A s.source → MayUse R s.source s.package → Contains t.exports.items.items s × IsUnder t.users s h
+IsFollowed R A t h s = A s.source → MayUse R s.source s.package → Contains t.exports s × IsUnder t.users s h
 
 pub record IsTracedTo (R : RowLists) (A D : ℕ → Type 0) (t : Trace) (h s : Given) : Type 0 where
   pub noted : IsNotedLead D t h s
@@ -41,4 +35,4 @@ abbrev pub IsTraced : RowLists → (ℕ → Type 0) → (ℕ → Type 0) → Tra
 IsTraced R A D t h = (s : Given) → UsesFrom R h s → IsTracedTo R A D t h s
 
 abbrev pub AreTraced : RowLists → (ℕ → Type 0) → (ℕ → Type 0) → Trace → Type 0
-AreTraced R A D t = (h : Given) → Contains t.exports.items.items h → IsTraced R A D t h
+AreTraced R A D t = (h : Given) → Contains t.exports h → IsTraced R A D t h

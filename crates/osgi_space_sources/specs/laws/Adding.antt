@@ -1,6 +1,6 @@
 -- What a list gains step by step, and over a loop.
 use Rattle.std.proofs.Common.{◌≡◌, ◌↔◌, ◌⊎◌, inl, inr, ℕ, ◌+◌, ◌<◌, ◌≤◌, List, [], ◌∷◌, ◌++◌, length, get_or, take, refl, sym, ◌∙◌, ap, subst, arith, append_assoc, append-nil, All, Contains, Any}
-use Rattle.std.proofs.lemmas.List.{take_all, take_more}
+use Rattle.std.proofs.lemmas.List.{get_or_default, take_all, take_more}
 use Rattle.std.proofs.lemmas.List.Elements.{All-more, All-contains, Contains-append_left, Contains-push, Contains-push_cases}
 use Rattle.osgi_space_sources.specs.computed.Adds.{Adds}
 
@@ -34,6 +34,10 @@ contains-more xs i y h at x =
       λ c. elim (Contains-push_cases (take i xs) y x c) [ inl old ↦ inl old | inr e ↦ inr (sym e) ],
       λ either. elim either [ inl old ↦ Contains-append_left (take i xs) (y ∷ []) x old | inr e ↦ subst (Contains (take i xs ++ y ∷ [])) (sym e) (Contains-push (take i xs) y) ],
     )
+
+-- the item of the list at the place, as a slice of it has it
+pub item-at : {X : Type 0} (list slice : List X) (i : ℕ) (y : X) → slice ≡ list → i < length list → get_or slice i y ≡ get_or list i (get_or slice i y)
+item-at list slice i y same within = ap (λ xs. get_or xs i y) same ∙ get_or_default list i y (get_or slice i y) within
 
 -- ---- steps
 

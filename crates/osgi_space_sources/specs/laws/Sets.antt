@@ -1,10 +1,17 @@
 -- A set beside a list of the same values, when a value is added to both.
+use Rattle.std.proofs.lemmas.Bool.{false≢true}
 use Rattle.std.proofs.Common.{◌≡◌, ◌↔◌, ◌⊎◌, inl, inr, List, [], ◌∷◌, ◌++◌, Bool, true, false, cond, refl, sym, ◌∙◌, subst, Contains, IsTrue}
 use Rattle.std.proofs.lemmas.List.Elements.{Contains-append_left, Contains-push, Contains-push_cases}
-use Rattle.std.specs.BTreeSet.{BTreeSet, contains, Updates}
+use Rattle.std.specs.BTreeSet.{BTreeSet, IsEmpty, contains, Updates}
 use Rattle.std.specs.Bool.{Decides}
 use Rattle.std.specs.Ordering.{eq_by_cmp}
 use Rattle.std.specs.declared.cmp.Ordering.{Ordering}
+
+abbrev with_keys : {T : Type 0} → List T → BTreeSet T
+with_keys ks = record { keys = ks }
+
+pub none_in : {T : Type 0} (cmp : T → T → Ordering) (set : BTreeSet T) → IsEmpty set → (x : T) → ¬ IsTrue (contains cmp set x)
+none_in {T} cmp set empty x t = false≢true (subst (λ (ks : List T). IsTrue (contains cmp (with_keys ks) x)) empty t)
 
 module _ {T : Type 0} (cmp : T → T → Ordering) (exact : (a b : T) → Decides (eq_by_cmp cmp a b) (a ≡ b)) (old new : BTreeSet T) (items : List T) (node : T) where
   set_push_by : (x : T) (here : Bool) → eq_by_cmp cmp node x ≡ here → contains cmp new x ≡ cond here true (contains cmp old x)

@@ -36,10 +36,12 @@ led s P L host there items leading n i = back-member P L.is (made P s) host ther
 
 pub returns-then-is_required : goal.returns-then-is_required
 returns-then-is_required c =
-    let items = c.in_ok-leading.leading.items.items in
+    let items = c.in_ok-leading.leading in
+    let same = c.into_items.ensures.items in
     record {
-      members = λ P L there. led c.args.path.now P L c.args.host there items (c.in_ok-leading.ensures.leading P L);
-      all = λ P L there h. contains-in items h.clash.member.0 ((c.in_ok-leading.ensures.leading P L h.clash.member.0).1 (leads-back P L.is (made P c.args.path.now) c.args.host there h.leads));
+      members = λ P L there n i. led c.args.path.now P L c.args.host there items (c.in_ok-leading.ensures.leading P L) n (subst (In n) same i);
+      all = λ P L there h.
+          subst (In h.clash.member.0) (sym same) (contains-in items h.clash.member.0 ((c.in_ok-leading.ensures.leading P L h.clash.member.0).1 (leads-back P L.is (made P c.args.path.now) c.args.host there h.leads)));
     }
 
 pub clashing-requires : goal.clashing-requires
@@ -53,10 +55,10 @@ own-import R row at = contains-in (imports_of R row.revision) row (contains-filt
 
 pub returns : goal.returns
 returns c =
-    let items = c.in_ok-leading.leading.items.items in
+    let items = c.in_ok-leading.leading in
     record {
       members = λ P L there n i.
-          led c.args.path.now P L c.args.host there items (c.in_ok-leading.ensures.leading P L) n (subst (In n) c.as_slice-4.ensures.value (c.in_ok-clashing.ensures.those n i));
+          led c.args.path.now P L c.args.host there items (c.in_ok-leading.ensures.leading P L) n (subst (In n) c.items-3.ensures.items (c.in_ok-clashing.ensures.those n i));
       all = λ P L there h.
           let D = made P c.args.path.now in
           let host = c.args.host in
@@ -75,13 +77,13 @@ returns c =
           let imports = c.in_ok-imports.imports.items in
           let all : (row : Import) → Contains R.imports row → row.provider ≡ host.0 → IsWiredTo P D host row.revision → Contains imports row = λ row at to w.
           let wired = contains-in items row.revision ((leading row.revision).1 (steps (starts refl) w)) in
-          in-contains imports row (c.in_ok-imports.ensures.imports row.revision row (subst (In row.revision) (sym c.as_slice.ensures.value) wired) (own-import R row at) to) in
-          let among = subst (In member.0) (sym c.as_slice-4.ensures.value) (contains-in items member.0 ((leading member.0).1 (leads-back P L.is D host there h.leads))) in
+          in-contains imports row (c.in_ok-imports.ensures.imports row.revision row (subst (In row.revision) (sym c.items.ensures.items) wired) (own-import R row at) to) in
+          let among = subst (In member.0) (sym c.items-3.ensures.items) (contains-in items member.0 ((leading member.0).1 (leads-back P L.is D host there h.leads))) in
           c.in_ok-clashing.ensures.all member.0 among
           (elim (through-clash P L.is D host alone there N R is A (λ r s. settled-away P L.is D c.args.unsettled.now (c.requires.unsettled P L) r s) imports all member h.clash.seen_by h.clash.used h.through h.clash.clash) [
             | inl e ↦ inl (ap (λ (r : RevisionId). r.0) e)
             | inr some ↦
-                let follows = subst (λ xs. IsFollowing R A xs [] some.0) (sym c.as_slice-2.ensures.value) some.1 in
-                inr (any-of (IsClash R member.0) _ some.0 (subst (λ xs. Contains xs some.0) (sym c.as_slice-3.ensures.value) ((c.in_ok-through.ensures.following some.0).1 follows)) some.2)
+                let follows = subst (λ xs. IsFollowing R A xs [] some.0) (sym c.as_slice.ensures.value) some.1 in
+                inr (any-of (IsClash R member.0) _ some.0 (subst (λ xs. Contains xs some.0) (sym c.items-2.ensures.items) ((c.in_ok-through.ensures.following some.0).1 follows)) some.2)
           ]);
     }

@@ -17,10 +17,7 @@ each-in items n = (
 )
 
 pub loop-member-init : goal.loop-member-init
-loop-member-init c = record { collected = c.requires.collected; added = adds-start gives c.wired_to-member-items.result.now c.args.found.now.items.items }
-
-pub add-requires : goal.add-requires
-add-requires c = record { collected = c.loop-member.invariant.collected }
+loop-member-init c = adds-start gives c.wired_to-member-items.result.now c.args.found.now
 
 pub loop-member-preserved : goal.loop-member-preserved
 loop-member-preserved c =
@@ -28,16 +25,12 @@ loop-member-preserved c =
     let i = c.loop-member.member-index in
     let within = c.loop-member-test.true in
     let n = get_or items i 0 in
-    record {
-      collected = c.in_ok-add.ensures.collected;
-      added = adds-more gives items i n within (get_or_default items i 0 n within) c.loop-member.invariant.added c.in_ok-add.ensures.added;
-    }
+    adds-more gives items i n within (get_or_default items i 0 n within) c.loop-member.invariant c.in_ok-add.ensures.added
 
-pub returns-clause-collected : goal.returns-clause-collected
-returns-clause-collected c = c.loop-member.invariant.collected
-
-pub returns-clause-added : goal.returns-clause-added
-returns-clause-added c P L =
-    let items = c.wired_to-member-items.result.now in
-    adds-same (λ n. let has = c.wired_to-member-items.ensures.wired P L n in let each = each-in items n in (λ e. has.0 (each.0 e), λ w. each.1 (has.1 w)))
-    (adds-whole gives items c.loop-member.member-index c.loop-member-test.false c.loop-member.invariant.added)
+pub returns : goal.returns
+returns c = record {
+  added = λ P L.
+      let items = c.wired_to-member-items.result.now in
+      adds-same (λ n. let has = c.wired_to-member-items.ensures.wired P L n in let each = each-in items n in (λ e. has.0 (each.0 e), λ w. each.1 (has.1 w)))
+      (adds-whole gives items c.loop-member.member-index c.loop-member-test.false c.loop-member.invariant);
+}

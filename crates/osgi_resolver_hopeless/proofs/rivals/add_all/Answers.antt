@@ -6,23 +6,14 @@ use Rattle.osgi_resolver_hopeless.proofs.Numbers.{IsNumber, some-number}
 use Rattle.osgi_resolver_hopeless.proofs.rivals.add_all.Goals as goal
 
 pub loop-revision-init : goal.loop-revision-init
-loop-revision-init c = record { collected = c.requires.collected; added = adds-start IsNumber c.args.revisions.now c.args.found.now.items.items }
-
-pub add-requires : goal.add-requires
-add-requires c = record { collected = c.loop-revision.invariant.collected }
+loop-revision-init c = adds-start IsNumber c.args.revisions.now c.args.found.now
 
 pub loop-revision-preserved : goal.loop-revision-preserved
 loop-revision-preserved c =
     let revisions = c.args.revisions.now in
     let i = c.loop-revision.revision-index in
     let within = c.loop-revision-test.true in
-    record {
-      collected = c.in_ok-add.ensures.collected;
-      added = adds-more IsNumber revisions i (get_or revisions i no_revision) within (there revisions i no_revision within) c.loop-revision.invariant.added c.in_ok-add.ensures.added;
-    }
+    adds-more IsNumber revisions i (get_or revisions i no_revision) within (there revisions i no_revision within) c.loop-revision.invariant c.in_ok-add.ensures.added
 
-pub returns-clause-collected : goal.returns-clause-collected
-returns-clause-collected c = c.loop-revision.invariant.collected
-
-pub returns-clause-added : goal.returns-clause-added
-returns-clause-added c = adds-same (some-number c.args.revisions.now) (adds-whole IsNumber c.args.revisions.now c.loop-revision.revision-index c.loop-revision-test.false c.loop-revision.invariant.added)
+pub returns : goal.returns
+returns c = record { added = adds-same (some-number c.args.revisions.now) (adds-whole IsNumber c.args.revisions.now c.loop-revision.revision-index c.loop-revision-test.false c.loop-revision.invariant) }

@@ -13,13 +13,10 @@ use Rattle.osgi_resolver_hopeless.proofs.rivals.has_any_rivals.Goals as goal
 pub loop-revision-init : goal.loop-revision-init
 loop-revision-init c = λ n here. elim here [ ]
 
-pub has_rival-requires : goal.has_rival-requires
-has_rival-requires c = record { collected = c.in_ok-new.ensures.collected }
-
 pub loop-revision-preserved : goal.loop-revision-preserved
 loop-revision-preserved c =
-    let items = c.deref-revision-items.result.now in
-    let value = c.deref-revision-items.ensures.value in
+    let items = c.items-revision-items.result.now in
+    let value = c.items-revision-items.ensures.items in
     let i = c.loop-revision.revision-index in
     let within = c.loop-revision-test.true in
     let n = get_or items i 0 in
@@ -29,21 +26,21 @@ loop-revision-preserved c =
 pub returns-then-has_rival : goal.returns-then-has_rival
 returns-then-has_rival c = record {
   rivals = λ P L.
-      let items = c.deref-revision-items.result.now in
-      let value = c.deref-revision-items.ensures.value in
+      let items = c.items-revision-items.result.now in
+      let value = c.items-revision-items.ensures.items in
       let i = c.loop-revision.revision-index in
       let within = c.loop-revision-test.true in
       let n = get_or items i 0 in
       let at = subst (λ (xs : List ℕ). Contains xs n) value (in-contains items n (at_in items i n within (get_or_default items i 0 n within))) in
-      yes (rivals-of c.args.path.now P L c.in_ok-new.new.items.items (c.in_ok-new.ensures.new P L) n at (c.has_rival.ensures.rival.0 c.if-has_rival.true));
+      yes (rivals-of c.args.path.now P L c.in_ok-new.new (c.in_ok-new.ensures.new P L) n at (c.has_rival.ensures.rival.0 c.if-has_rival.true));
 }
 
 pub returns : goal.returns
 returns c = record {
   rivals = λ P L.
-      let items = c.deref-revision-items.result.now in
-      let value = c.deref-revision-items.ensures.value in
-      let new = c.in_ok-new.new.items.items in
+      let items = c.items-revision-items.result.now in
+      let value = c.items-revision-items.ensures.items in
+      let new = c.in_ok-new.new in
       let none = each_done (λ (n : ℕ). ¬ HasRival c.args.path.now items (id n)) items c.loop-revision.revision-index c.loop-revision-test.false c.loop-revision.invariant in
       no (λ has. let r = rivals-from c.args.path.now P L new (c.in_ok-new.ensures.new P L) has in
       none r.0 (contains-in items r.0 (subst (λ (xs : List ℕ). Contains xs r.0) (sym value) r.1)) (subst (λ (xs : List ℕ). HasRival c.args.path.now xs (id r.0)) (sym value) r.2));

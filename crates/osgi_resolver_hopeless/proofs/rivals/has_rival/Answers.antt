@@ -25,9 +25,6 @@ returns-in_default c = record {
       unknown-no_singleton c.known_at-known.result.now c.args.revision (sym c.in_default.ensures.revision) single.1);
 }
 
-pub is_other-requires : goal.is_other-requires
-is_other-requires c = record { collected = c.requires.collected }
-
 pub loop-other-init : goal.loop-other-init
 loop-other-init c = λ t here. elim here [ ]
 
@@ -36,7 +33,7 @@ loop-other-preserved c =
     let named = c.named-named.result.now in
     let i = c.loop-other.other-index in
     let within = c.loop-other-test.true in
-    each_step (λ (t : RevisionId). ¬ IsOther c.args.path.now c.args.new.now.items.items c.args.revision t) named i (get_or named i no_revision) within (there named i no_revision within) c.loop-other.invariant
+    each_step (λ (t : RevisionId). ¬ IsOther c.args.path.now c.args.new.now c.args.revision t) named i (get_or named i no_revision) within (there named i no_revision within) c.loop-other.invariant
     (λ o. not_true _ c.if-is_other.false (c.is_other.ensures.other.1 o))
 
 pub returns-then-is_other : goal.returns-then-is_other
@@ -54,7 +51,7 @@ returns-then-is_other c =
     subst (λ (n : List ℕ). In t named ↔ (IsKnown s.world.known t × (symbolic_name s.world.known t ≡ n))) (sym name ∙ same)
     (subst (λ (w : World). In t named ↔ (IsKnown w.known t × (symbolic_name w.known t ≡ c.in-Some.says.now.name))) world (c.named-named.ensures.named t)) in
     let single = subst (λ K. IsCurrentSingleton K r) c.known_at-known.ensures.known (c.is_current_singleton.ensures.singleton.0 c.if-not-is_current_singleton.false) in
-    record { rival = yes (rival-of s c.args.new.now.items.items r named are single other (at_in named i other within (there named i no_revision within)) (c.is_other.ensures.other.0 c.if-is_other.true)) }
+    record { rival = yes (rival-of s c.args.new.now r named are single other (at_in named i other within (there named i no_revision within)) (c.is_other.ensures.other.0 c.if-is_other.true)) }
 
 pub returns : goal.returns
 returns c =
@@ -68,5 +65,5 @@ returns c =
     subst (λ (n : List ℕ). In t named ↔ (IsKnown s.world.known t × (symbolic_name s.world.known t ≡ n))) (sym name ∙ same)
     (subst (λ (w : World). In t named ↔ (IsKnown w.known t × (symbolic_name w.known t ≡ c.in-Some.says.now.name))) world (c.named-named.ensures.named t)) in
     let single = subst (λ K. IsCurrentSingleton K r) c.known_at-known.ensures.known (c.is_current_singleton.ensures.singleton.0 c.if-not-is_current_singleton.false) in
-    let none = each_done (λ (t : RevisionId). ¬ IsOther s c.args.new.now.items.items r t) named c.loop-other.other-index c.loop-other-test.false c.loop-other.invariant in
-    record { rival = no (λ h. let t = rival-from s c.args.new.now.items.items r named are single h in none t.0 t.1 t.2) }
+    let none = each_done (λ (t : RevisionId). ¬ IsOther s c.args.new.now r t) named c.loop-other.other-index c.loop-other-test.false c.loop-other.invariant in
+    record { rival = no (λ h. let t = rival-from s c.args.new.now r named are single h in none t.0 t.1 t.2) }

@@ -6,4 +6,4 @@ use Rattle.osgi_world.specs.Lists.{In}
 use Rattle.osgi_resolver_hopeless.proofs.rivals.has_rival.Given as goal
 
 abbrev pub invariant-loop-other : goal.invariant-loop-other
-invariant-loop-other l = (t : RevisionId) → In t (take l.other-index l.named) → ¬ IsOther l.path l.new.items.items l.revision t
+invariant-loop-other l = (t : RevisionId) → In t (take l.other-index l.named) → ¬ IsOther l.path l.new l.revision t

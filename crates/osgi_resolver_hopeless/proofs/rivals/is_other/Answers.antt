@@ -13,9 +13,6 @@ returns-then-not-is_current_singleton c = record {
   other = no (λ o. not_true _ c.if-not-is_current_singleton.true (c.is_current_singleton.ensures.singleton.1 (subst (λ K. IsCurrentSingleton K c.args.other) (sym c.known_at.ensures.known) o.singleton)));
 }
 
-pub is_present-requires : goal.is_present-requires
-is_present-requires c = record { collected = c.requires.collected }
-
 pub returns : goal.returns
 returns c = record {
   other = (

@@ -6,9 +6,6 @@ use Rattle.osgi_world.specs.Wirings.{InUse}
 use Rattle.osgi_world.specs.declared.world.World.{World}
 use Rattle.osgi_resolver_hopeless.proofs.rivals.is_present.Goals as goal
 
-pub has-requires : goal.has-requires
-has-requires c = record { collected = c.requires.collected }
-
 pub returns-then-has : goal.returns-then-has
 returns-then-has c = record { present = yes (inl (c.has.ensures.has.0 c.if-has.true)) }
 

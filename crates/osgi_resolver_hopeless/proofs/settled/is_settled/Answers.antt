@@ -37,13 +37,13 @@ returns c = record {
       let rows = c.rows.result.now in
       let N = name_numbered rows.names in
       let is : AreRowsOf P.world.known (partial P D) N rows.rows = subst (λ K. AreRowsOf K (partial P D) N rows.rows) (known-is c.args.path.now P L rows.known c.rows.ensures.known) (c.rows.ensures.rows P L) in
-      let items = c.in_ok-reached.reached.items.items in
+      let items = c.in_ok-reached.reached in
       let reached : (n : ℕ) → Contains items n ↔ Reach (Requires rows.rows r.0) (Reexports rows.rows) n =
       subst (λ (R : RowLists). (n : ℕ) → Contains items n ↔ Reach (Requires R r.0) (Reexports R) n) c.rows-rows.ensures.rows c.in_ok-reached.ensures.reached in
-      let listed : (n : ℕ) → In n c.as_slice.result.now → Reach (Requires rows.rows r.0) (Reexports rows.rows) n =
-      λ n j. (reached n).0 (in-contains items n (subst (λ (xs : List ℕ). In n xs) c.as_slice.ensures.value j)) in
+      let listed : (n : ℕ) → In n c.items.result.now → Reach (Requires rows.rows r.0) (Reexports rows.rows) n =
+      λ n j. (reached n).0 (in-contains items n (subst (λ (xs : List ℕ). In n xs) c.items.ensures.items j)) in
       let all = c.are_decided.ensures.decided P L (λ n j. reached-there P L.is D N rows.rows is r i n (listed n j)) in (
-        λ t. settled-by P L.is D N rows.rows is r ((c.is_decided.ensures.decided P L i).0 c.if-not-is_decided.false) (λ n l. all.0 t n (subst (λ (xs : List ℕ). In n xs) (sym c.as_slice.ensures.value) (contains-in items n ((reached n).1 l)))),
+        λ t. settled-by P L.is D N rows.rows is r ((c.is_decided.ensures.decided P L i).0 c.if-not-is_decided.false) (λ n l. all.0 t n (subst (λ (xs : List ℕ). In n xs) (sym c.items.ensures.items) (contains-in items n ((reached n).1 l)))),
         λ s. all.1 (λ n j. settled-all P L.is D N rows.rows is r s n (listed n j)),
       );
 }

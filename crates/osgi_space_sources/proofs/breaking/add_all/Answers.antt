@@ -9,7 +9,6 @@ use Rattle.osgi_space_sources.proofs.breaking.add_all.Goals as goal
 
 pub loop-given-init : goal.loop-given-init
 loop-given-init c = record {
-  collected = c.requires.collected;
   kept = λ g at. at;
   added = each-none (StartsWith c.args.rows.now (IsAmong c.args.among) c.args.found.now) c.args.givens.now;
 }
@@ -23,7 +22,6 @@ loop-given-preserved c =
     let given : Given = get_or givens i (record { «package» = 0; source = 0 }) in
     let kept = c.in_ok-add_start.ensures.kept in
     record {
-      collected = c.in_ok-add_start.ensures.collected;
       kept = λ g at. kept g (c.loop-given.invariant.kept g at);
       added = each-more (StartsWith R A c.loop-given.found) (StartsWith R A c.add_start.new.found) givens i given c.loop-given-test.true (get_or_default givens i _ given c.loop-given-test.true)
           (λ h there among may. kept h (there among may)) c.loop-given.invariant.added c.in_ok-add_start.ensures.added;

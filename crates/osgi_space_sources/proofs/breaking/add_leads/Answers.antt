@@ -7,9 +7,8 @@ use Rattle.osgi_space_sources.proofs.breaking.add_leads.Goals as goal
 
 pub loop-source-init : goal.loop-source-init
 loop-source-init c = record {
-  collected = c.requires.collected;
   kept = λ g at. at;
-  added = each-none (Contains c.args.found.now.items.items) c.of-source-items.result.now;
+  added = each-none (Contains c.args.found.now) c.of-source-items.result.now;
 }
 
 pub loop-source-preserved : goal.loop-source-preserved
@@ -19,13 +18,12 @@ loop-source-preserved c =
     let source : Given = get_or sources i (record { «package» = 0; source = 0 }) in
     let adds = c.in_ok-add.ensures.added in
     record {
-      collected = c.in_ok-add.ensures.collected;
       kept = λ g at. (adds.exact g).1 (inl (c.loop-source.invariant.kept g at));
-      added = each-more (Contains c.loop-source.found.items.items) (Contains c.add.new.self.items.items) sources i source c.loop-source-test.true (get_or_default sources i _ source c.loop-source-test.true)
+      added = each-more (Contains c.loop-source.found) (Contains c.add.new.self) sources i source c.loop-source-test.true (get_or_default sources i _ source c.loop-source-test.true)
           (λ g at. (adds.exact g).1 (inl at)) c.loop-source.invariant.added ((adds.exact source).1 (inr refl));
     }
 
 pub returns-clause-added : goal.returns-clause-added
 returns-clause-added c = λ s under.
-    each-whole (Contains c.loop-source.found.items.items) c.of-source-items.result.now c.loop-source.source-index c.loop-source-test.false c.loop-source.invariant.added s
+    each-whole (Contains c.loop-source.found) c.of-source-items.result.now c.loop-source.source-index c.loop-source-test.false c.loop-source.invariant.added s
     (subst (λ (xs : List Given). Contains xs s) (sym c.of-source-items.ensures.values) under)

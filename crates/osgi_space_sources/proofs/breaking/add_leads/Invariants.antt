@@ -1,14 +1,11 @@
 -- The sources so far are found.
 use Rattle.std.proofs.Common.{Contains, take}
-use Rattle.osgi_space_sources.specs.computed.Collected.{IsCollected}
-use Rattle.osgi_space_sources.specs.computed.Exact.{given_cmp}
 use Rattle.osgi_space_sources.specs.computed.Leads.{KeepsAll}
 use Rattle.osgi_space_sources.specs.declared.given.Given.{Given}
 use Rattle.osgi_space_sources.proofs.breaking.add_leads.Given as goal
 
 abbrev pub invariant-loop-source : goal.invariant-loop-source
 invariant-loop-source l = record {
-  collected : IsCollected given_cmp l.found;
   kept : KeepsAll l.fn.found l.found;
-  added : (s : Given) → Contains (take l.source-index l.source-items) s → Contains l.found.items.items s;
+  added : (s : Given) → Contains (take l.source-index l.source-items) s → Contains l.found s;
 }

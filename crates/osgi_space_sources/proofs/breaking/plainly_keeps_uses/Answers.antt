@@ -8,5 +8,5 @@ returns c = record {
   keeps = λ t h s seen under.
       let at : Contains c.as_slice.result.now h = subst (λ (xs : List Given). Contains xs h) (sym c.as_slice.ensures.value) ((c.in_ok-givens.ensures.sources h).1 seen) in
       let found = c.in_ok-sources.ensures.leads h s at under in
-      c.in_ok-all_agree.ensures.agree t s (subst (λ (xs : List Given). Contains xs s) (sym c.as_slice-2.ensures.value) found);
+      c.in_ok-all_agree.ensures.agree t s (subst (λ (xs : List Given). Contains xs s) (sym c.items.ensures.items) found);
 }

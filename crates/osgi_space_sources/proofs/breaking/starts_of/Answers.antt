@@ -1,23 +1,19 @@
 -- What one revision more sees.
-use Rattle.std.proofs.Common.{ℕ, get_or}
+use Rattle.std.proofs.Common.{ℕ, List, get_or}
 use Rattle.std.proofs.lemmas.List.{get_or_default}
 use Rattle.osgi_space_rows.specs.Rows.{RowLists}
 use Rattle.osgi_space_sources.specs.computed.Amongst.{IsAmong}
 use Rattle.osgi_space_sources.specs.computed.Givens.{IsSeen}
 use Rattle.osgi_space_sources.specs.computed.Leads.{StartsWith}
-use Rattle.osgi_space_sources.specs.declared.found.Found.{Found}
 use Rattle.osgi_space_sources.specs.declared.given.Given.{Given}
 use Rattle.osgi_space_sources.proofs.Whole.{each-more, each-none, each-whole}
 use Rattle.osgi_space_sources.proofs.breaking.starts_of.Goals as goal
 
-abbrev Starts : RowLists → (ℕ → Type 0) → Found Given → ℕ → Type 0
+abbrev Starts : RowLists → (ℕ → Type 0) → List Given → ℕ → Type 0
 Starts R A found n = (h : Given) → IsSeen R n h → StartsWith R A found h
 
 pub loop-revision-init : goal.loop-revision-init
-loop-revision-init c = record {
-  collected = c.new-found.ensures.collected;
-  starts = each-none (Starts c.args.rows.now (IsAmong c.args.among) c.new-found.result) c.args.revisions.now;
-}
+loop-revision-init c = each-none (Starts c.args.rows.now (IsAmong c.args.among) c.new-found.result) c.args.revisions.now
 
 pub loop-revision-preserved : goal.loop-revision-preserved
 loop-revision-preserved c =
@@ -27,12 +23,11 @@ loop-revision-preserved c =
     let i = c.loop-revision.revision-index in
     let n = get_or revisions i 0 in
     let kept = c.in_ok-add_seen.ensures.kept in
-    record {
-      collected = c.in_ok-add_seen.ensures.collected;
-      starts = each-more (Starts R A c.loop-revision.found) (Starts R A c.add_seen.new.found) revisions i n c.loop-revision-test.true (get_or_default revisions i 0 n c.loop-revision-test.true)
-          (λ m all h seen among may. kept h (all h seen among may)) c.loop-revision.invariant.starts c.in_ok-add_seen.ensures.added;
-    }
+    each-more (Starts R A c.loop-revision.found) (Starts R A c.add_seen.new.found) revisions i n c.loop-revision-test.true (get_or_default revisions i 0 n c.loop-revision-test.true)
+    (λ m all h seen among may. kept h (all h seen among may)) c.loop-revision.invariant c.in_ok-add_seen.ensures.added
 
-pub returns-clause-starts : goal.returns-clause-starts
-returns-clause-starts c = λ n h at.
-    each-whole (Starts c.args.rows.now (IsAmong c.args.among) c.loop-revision.found) c.args.revisions.now c.loop-revision.revision-index c.loop-revision-test.false c.loop-revision.invariant.starts n at h
+pub returns : goal.returns
+returns c = record {
+  starts = λ n h at.
+      each-whole (Starts c.args.rows.now (IsAmong c.args.among) c.loop-revision.found) c.args.revisions.now c.loop-revision.revision-index c.loop-revision-test.false c.loop-revision.invariant n at h;
+}

@@ -16,18 +16,14 @@ loop-row-preserved c =
     let rows = c.required_by-row-items.result.now in
     let at = get_or_default rows c.loop-row.row-index _ _ c.loop-row-test.true in
     elim c.if-row.branch [
-      | then-row+in_ok-add w ↦ rw w.found-is (record {
-        collected = w.in_ok-add.ensures.collected;
-        added = adds-more gives rows c.loop-row.row-index _ c.loop-row-test.true at c.loop-row.invariant.added (adds-same (λ t. (λ e. (w.if-row.true, e), λ both. both.1)) w.in_ok-add.ensures.added);
-      })
-      | else-row w ↦ rw w.found-is (record {
-        collected = c.loop-row.invariant.collected;
-        added = adds-more gives rows c.loop-row.row-index _ c.loop-row-test.true at c.loop-row.invariant.added (adds-nothing _ c.loop-row.found.items.items (λ t both. let yes = both.0 in let no = w.if-row.false in cc));
-      })
+      | then-row+in_ok-add w ↦ rw w.found-is (adds-more gives rows c.loop-row.row-index _ c.loop-row-test.true at c.loop-row.invariant (adds-same (λ t. (λ e. (w.if-row.true, e), λ both. both.1)) w.in_ok-add.ensures.added))
+      | else-row w ↦ rw w.found-is (adds-more gives rows c.loop-row.row-index _ c.loop-row-test.true at c.loop-row.invariant (adds-nothing _ c.loop-row.found (λ t both. let yes = both.0 in let no = w.if-row.false in cc)))
     ]
 
-pub returns-clause-added : goal.returns-clause-added
-returns-clause-added c =
-    let P : List Required → Type 0 = λ rows. Adds (Each gives rows) c.args.found.now.items.items c.loop-row.found.items.items in
-    adds-same (reexports-each c.args.rows.now c.args.bundle)
-    (subst P c.required_by-row-items.ensures.rows (adds-whole gives c.required_by-row-items.result.now c.loop-row.row-index c.loop-row-test.false c.loop-row.invariant.added))
+pub returns : goal.returns
+returns c = record {
+  added =
+      let P : List Required → Type 0 = λ rows. Adds (Each gives rows) c.args.found.now c.loop-row.found in
+      adds-same (reexports-each c.args.rows.now c.args.bundle)
+      (subst P c.required_by-row-items.ensures.rows (adds-whole gives c.required_by-row-items.result.now c.loop-row.row-index c.loop-row-test.false c.loop-row.invariant));
+}

@@ -11,22 +11,15 @@ abbrev gives : Required → ℕ → Type 0
 gives row t = t ≡ row.provider
 
 pub loop-row-init : goal.loop-row-init
-loop-row-init c = record { collected = c.requires.collected; added = adds-start gives c.required_by-row-items.result.now c.args.found.now.items.items }
-
-pub add-requires : goal.add-requires
-add-requires c = record { collected = c.loop-row.invariant.collected }
+loop-row-init c = adds-start gives c.required_by-row-items.result.now c.args.found.now
 
 pub loop-row-preserved : goal.loop-row-preserved
-loop-row-preserved c = record {
-  collected = c.in_ok-add.ensures.collected;
-  added = adds-more gives c.required_by-row-items.result.now c.loop-row.row-index _ c.loop-row-test.true (get_or_default c.required_by-row-items.result.now c.loop-row.row-index _ _ c.loop-row-test.true) c.loop-row.invariant.added c.in_ok-add.ensures.added;
+loop-row-preserved c = adds-more gives c.required_by-row-items.result.now c.loop-row.row-index _ c.loop-row-test.true (get_or_default c.required_by-row-items.result.now c.loop-row.row-index _ _ c.loop-row-test.true) c.loop-row.invariant c.in_ok-add.ensures.added
+
+pub returns : goal.returns
+returns c = record {
+  added =
+      let P : List Required → Type 0 = λ rows. Adds (Each gives rows) c.args.found.now c.loop-row.found in
+      adds-same (requires-each c.args.rows.now c.args.revision)
+      (subst P c.required_by-row-items.ensures.rows (adds-whole gives c.required_by-row-items.result.now c.loop-row.row-index c.loop-row-test.false c.loop-row.invariant));
 }
-
-pub returns-clause-collected : goal.returns-clause-collected
-returns-clause-collected c = c.loop-row.invariant.collected
-
-pub returns-clause-added : goal.returns-clause-added
-returns-clause-added c =
-    let P : List Required → Type 0 = λ rows. Adds (Each gives rows) c.args.found.now.items.items c.loop-row.found.items.items in
-    adds-same (requires-each c.args.rows.now c.args.revision)
-    (subst P c.required_by-row-items.ensures.rows (adds-whole gives c.required_by-row-items.result.now c.loop-row.row-index c.loop-row-test.false c.loop-row.invariant.added))

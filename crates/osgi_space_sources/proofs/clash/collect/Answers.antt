@@ -12,14 +12,13 @@ pub loop-given-preserved : goal.loop-given-preserved
 loop-given-preserved c =
     let givens = c.args.givens.now in
     let at = get_or_default givens c.loop-given.given-index _ _ c.loop-given-test.true in
-    record {
-      collected = c.in_ok-add.ensures.collected;
-      added = adds-more gives givens c.loop-given.given-index _ c.loop-given-test.true at c.loop-given.invariant.added c.in_ok-add.ensures.added;
-    }
+    adds-more gives givens c.loop-given.given-index _ c.loop-given-test.true at c.loop-given.invariant c.in_ok-add.ensures.added
 
 each : (givens : List Given) (g : Given) → Each gives givens g ↔ Contains givens g
 each givens g = (λ any. subst (Contains givens) (sym any.4) (any-in (λ (h : Given). g ≡ h) givens any), λ at. any-of (λ (h : Given). g ≡ h) givens g at refl)
 
-pub returns-clause-same : goal.returns-clause-same
-returns-clause-same c =
-    adds-from c.new-found.ensures.empty (adds-same (each c.args.givens.now) (adds-whole gives c.args.givens.now c.loop-given.given-index c.loop-given-test.false c.loop-given.invariant.added))
+pub returns : goal.returns
+returns c = record {
+  same =
+      adds-from c.new-found.ensures.empty (adds-same (each c.args.givens.now) (adds-whole gives c.args.givens.now c.loop-given.given-index c.loop-given-test.false c.loop-given.invariant));
+}

@@ -17,10 +17,7 @@ pub loop-row-preserved : goal.loop-row-preserved
 loop-row-preserved c =
     let rows = c.uses_of-row-items.result.now in
     let at = get_or_default rows c.loop-row.row-index _ _ c.loop-row-test.true in
-    record {
-      collected = c.in_ok-add.ensures.collected;
-      added = adds-more (gives c.args.exporter) rows c.loop-row.row-index _ c.loop-row-test.true at c.loop-row.invariant.added c.in_ok-add.ensures.added;
-    }
+    adds-more (gives c.args.exporter) rows c.loop-row.row-index _ c.loop-row-test.true at c.loop-row.invariant c.in_ok-add.ensures.added
 
 own-each : (R : RowLists) (e o p : ℕ) (g : Given) → Each (gives e) (uses_for R o p) g ↔ IsOwnUse R e o p g
 own-each R e o p g =
@@ -30,9 +27,11 @@ own-each R e o p g =
       λ (same, at). some.1 (g.package, at, λ i. record { «package» = g.package; source = same i }),
     )
 
-pub returns-clause-added : goal.returns-clause-added
-returns-clause-added c =
-    let rows = c.uses_of-row-items.result.now in
-    let P : List Use → Type 0 = λ xs. Adds (Each (gives c.args.exporter) xs) c.args.found.now.items.items c.loop-row.found.items.items in
-    adds-same (own-each c.args.rows.now c.args.exporter c.args.owner c.args.package)
-    (subst P c.uses_of-row-items.ensures.rows (adds-whole (gives c.args.exporter) rows c.loop-row.row-index c.loop-row-test.false c.loop-row.invariant.added))
+pub returns : goal.returns
+returns c = record {
+  added =
+      let rows = c.uses_of-row-items.result.now in
+      let P : List Use → Type 0 = λ xs. Adds (Each (gives c.args.exporter) xs) c.args.found.now c.loop-row.found in
+      adds-same (own-each c.args.rows.now c.args.exporter c.args.owner c.args.package)
+      (subst P c.uses_of-row-items.ensures.rows (adds-whole (gives c.args.exporter) rows c.loop-row.row-index c.loop-row-test.false c.loop-row.invariant));
+}

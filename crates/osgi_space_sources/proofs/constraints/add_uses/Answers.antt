@@ -17,10 +17,7 @@ pub loop-row-preserved : goal.loop-row-preserved
 loop-row-preserved c =
     let rows = c.attached_to-row-items.result.now in
     let at = get_or_default rows c.loop-row.row-index _ _ c.loop-row-test.true in
-    record {
-      collected = c.in_ok-add_own_uses-2.ensures.collected;
-      added = adds-more (gives c.args.rows.now c.args.exporter c.args.package) rows c.loop-row.row-index _ c.loop-row-test.true at c.loop-row.invariant.added c.in_ok-add_own_uses-2.ensures.added;
-    }
+    adds-more (gives c.args.rows.now c.args.exporter c.args.package) rows c.loop-row.row-index _ c.loop-row-test.true at c.loop-row.invariant c.in_ok-add_own_uses-2.ensures.added
 
 owners : (R : RowLists) (e p : ℕ) (g : Given) → (IsOwnUse R e e p g ⊎ Each (gives R e p) (attached_to R e) g) ↔ IsUse R e p g
 owners R e p g =
@@ -35,10 +32,12 @@ owners R e p g =
       ],
     )
 
-pub returns-clause-added : goal.returns-clause-added
-returns-clause-added c =
-    let R = c.args.rows.now in
-    let rows = c.attached_to-row-items.result.now in
-    let P : List Attachment → Type 0 = λ xs. Adds (Each (gives R c.args.exporter c.args.package) xs) c.add_own_uses.new.found.items.items c.loop-row.found.items.items in
-    adds-same (owners R c.args.exporter c.args.package)
-    (adds-then c.in_ok-add_own_uses.ensures.added (subst P c.attached_to-row-items.ensures.rows (adds-whole (gives R c.args.exporter c.args.package) rows c.loop-row.row-index c.loop-row-test.false c.loop-row.invariant.added)))
+pub returns : goal.returns
+returns c = record {
+  added =
+      let R = c.args.rows.now in
+      let rows = c.attached_to-row-items.result.now in
+      let P : List Attachment → Type 0 = λ xs. Adds (Each (gives R c.args.exporter c.args.package) xs) c.add_own_uses.new.found c.loop-row.found in
+      adds-same (owners R c.args.exporter c.args.package)
+      (adds-then c.in_ok-add_own_uses.ensures.added (subst P c.attached_to-row-items.ensures.rows (adds-whole (gives R c.args.exporter c.args.package) rows c.loop-row.row-index c.loop-row-test.false c.loop-row.invariant)));
+}

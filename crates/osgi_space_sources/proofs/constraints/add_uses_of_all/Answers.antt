@@ -9,10 +9,7 @@ pub loop-given-preserved : goal.loop-given-preserved
 loop-given-preserved c =
     let givens = c.args.givens.now in
     let at = get_or_default givens c.loop-given.given-index _ _ c.loop-given-test.true in
-    record {
-      collected = c.in_ok-add_uses_among.ensures.collected;
-      added = adds-more (IsUseAmong c.args.rows.now (IsAmong c.args.among)) givens c.loop-given.given-index _ c.loop-given-test.true at c.loop-given.invariant.added c.in_ok-add_uses_among.ensures.added;
-    }
+    adds-more (IsUseAmong c.args.rows.now (IsAmong c.args.among)) givens c.loop-given.given-index _ c.loop-given-test.true at c.loop-given.invariant c.in_ok-add_uses_among.ensures.added
 
-pub returns-clause-added : goal.returns-clause-added
-returns-clause-added c = adds-whole (IsUseAmong c.args.rows.now (IsAmong c.args.among)) c.args.givens.now c.loop-given.given-index c.loop-given-test.false c.loop-given.invariant.added
+pub returns : goal.returns
+returns c = record { added = adds-whole (IsUseAmong c.args.rows.now (IsAmong c.args.among)) c.args.givens.now c.loop-given.given-index c.loop-given-test.false c.loop-given.invariant }

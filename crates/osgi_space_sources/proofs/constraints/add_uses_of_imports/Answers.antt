@@ -16,10 +16,7 @@ pub loop-row-preserved : goal.loop-row-preserved
 loop-row-preserved c =
     let imports = c.args.imports.now in
     let at = get_or_default imports c.loop-row.row-index _ _ c.loop-row-test.true in
-    record {
-      collected = c.in_ok-add_uses_among.ensures.collected;
-      added = adds-more (gives c.args.rows.now (IsAmong c.args.among)) imports c.loop-row.row-index _ c.loop-row-test.true at c.loop-row.invariant.added c.in_ok-add_uses_among.ensures.added;
-    }
+    adds-more (gives c.args.rows.now (IsAmong c.args.among)) imports c.loop-row.row-index _ c.loop-row-test.true at c.loop-row.invariant c.in_ok-add_uses_among.ensures.added
 
-pub returns-clause-added : goal.returns-clause-added
-returns-clause-added c = adds-whole (gives c.args.rows.now (IsAmong c.args.among)) c.args.imports.now c.loop-row.row-index c.loop-row-test.false c.loop-row.invariant.added
+pub returns : goal.returns
+returns c = record { added = adds-whole (gives c.args.rows.now (IsAmong c.args.among)) c.args.imports.now c.loop-row.row-index c.loop-row-test.false c.loop-row.invariant }

@@ -1,14 +1,12 @@
 -- What was found follows, and what follows from the first ones of it was found.
-use Rattle.std.proofs.Common.{◌⊎◌}
+use Rattle.std.proofs.Common.{◌⊎◌, ◌-◌, ◌^◌}
 use Rattle.osgi_space_sources.specs.computed.Amongst.{IsAmong}
-use Rattle.osgi_space_sources.specs.computed.Collected.{IsCollected}
-use Rattle.osgi_space_sources.specs.computed.Exact.{given_cmp}
 use Rattle.osgi_space_sources.specs.computed.Pairs.{IsNext, IsUseOfSome, IsUseOfWired}
 use Rattle.osgi_space_sources.proofs.Worklist.{IsWorklist}
 use Rattle.osgi_space_sources.proofs.constraints.constraints_from.Given as goal
 
 abbrev pub invariant-loop-next : goal.invariant-loop-next
-invariant-loop-next l = record {
-  collected : IsCollected given_cmp l.found;
-  worklist : IsWorklist (λ g. IsUseOfWired l.rows (IsAmong l.among) l.imports g ⊎ IsUseOfSome l.rows (IsAmong l.among) l.givens g) (IsNext l.rows (IsAmong l.among)) l.found.items.items l.next;
-}
+invariant-loop-next l = IsWorklist (λ g. IsUseOfWired l.rows (IsAmong l.among) l.imports g ⊎ IsUseOfSome l.rows (IsAmong l.among) l.givens g) (IsNext l.rows (IsAmong l.among)) l.found l.next
+
+abbrev pub decreases-loop-next : goal.decreases-loop-next
+decreases-loop-next l = 2 ^ 64 - l.next

@@ -15,16 +15,13 @@ abbrev gives : Given → Given → Lead → Type 0
 gives s user to = to ≡ record { export = user; source = s }
 
 pub loop-user-init : goal.loop-user-init
-loop-user-init c = record { collected = c.requires.collected; added = adds-start (gives c.args.lead.source) c.of-user-items.result.now c.args.leads.now.items.items }
+loop-user-init c = adds-start (gives c.args.lead.source) c.of-user-items.result.now c.args.leads.now
 
 pub loop-user-preserved : goal.loop-user-preserved
 loop-user-preserved c =
     let users = c.of-user-items.result.now in
     let at = get_or_default users c.loop-user.user-index _ _ c.loop-user-test.true in
-    record {
-      collected = c.in_ok-add.ensures.collected;
-      added = adds-more (gives c.args.lead.source) users c.loop-user.user-index _ c.loop-user-test.true at c.loop-user.invariant.added c.in_ok-add.ensures.added;
-    }
+    adds-more (gives c.args.lead.source) users c.loop-user.user-index _ c.loop-user-test.true at c.loop-user.invariant c.in_ok-add.ensures.added
 
 each : (users : Grouped Given Given) (lead to : Lead) → Each (gives lead.source) (values_of given_cmp users lead.export) to ↔ LeadsBack users lead to
 each users lead to =
@@ -34,8 +31,10 @@ each users lead to =
       λ back. any-of P under to.export back.0 (λ i. record { export = to.export; source = back.1 i }),
     )
 
-pub returns-clause-added : goal.returns-clause-added
-returns-clause-added c =
-    let users = c.of-user-items.result.now in
-    let P : List Given → Type 0 = λ xs. Adds (Each (gives c.args.lead.source) xs) c.args.leads.now.items.items c.loop-user.leads.items.items in
-    adds-same (each c.args.users.now c.args.lead) (subst P c.of-user-items.ensures.values (adds-whole (gives c.args.lead.source) users c.loop-user.user-index c.loop-user-test.false c.loop-user.invariant.added))
+pub returns : goal.returns
+returns c = record {
+  added =
+      let users = c.of-user-items.result.now in
+      let P : List Given → Type 0 = λ xs. Adds (Each (gives c.args.lead.source) xs) c.args.leads.now c.loop-user.leads in
+      adds-same (each c.args.users.now c.args.lead) (subst P c.of-user-items.ensures.values (adds-whole (gives c.args.lead.source) users c.loop-user.user-index c.loop-user-test.false c.loop-user.invariant));
+}

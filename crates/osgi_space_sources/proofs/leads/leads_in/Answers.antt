@@ -13,6 +13,6 @@ returns c =
     let t = c.args.trace in
     let all = c.in-Some.all in
     record {
-      leads = for-one (λ (leads : Grouped Given Given). (l : Lead) → Reach (Contains t.leads.items.items) (LeadsBack t.users) l → IsUnder leads l.export l.source) c.in_ok-by_export.field-0
-          (λ l led. c.in_ok-by_export.ensures.grouped l (subst (λ (xs : List Lead). Contains xs l) (sym c.as_slice.ensures.value) (c.in_ok-all.ensures.carried all c.in-Some.is l led)));
+      leads = for-one (λ (leads : Grouped Given Given). (l : Lead) → Reach (Contains t.leads) (LeadsBack t.users) l → IsUnder leads l.export l.source) c.in_ok-by_export.field-0
+          (λ l led. c.in_ok-by_export.ensures.grouped l (subst (λ (xs : List Lead). Contains xs l) (sym c.items.ensures.items) (c.in_ok-all.ensures.carried all c.in-Some.is l led)));
     }

@@ -13,7 +13,7 @@ gives R p b g = IsDirect R b p g
 
 pub loop-bundle-preserved : goal.loop-bundle-preserved
 loop-bundle-preserved c =
-    let bundles = c.deref-bundle-items.result.now in
+    let bundles = c.items-bundle-items.result.now in
     let at = get_or_default bundles c.loop-bundle.bundle-index 0 _ c.loop-bundle-test.true in
     adds-more (gives c.args.rows.now c.args.package) bundles c.loop-bundle.bundle-index _ c.loop-bundle-test.true at c.loop-bundle.invariant c.in_ok-add_direct.ensures.added
 
@@ -31,9 +31,9 @@ given-each R r p reached is g = (
 
 pub returns : goal.returns
 returns c =
-    let bundles = c.deref-bundle-items.result.now in
+    let bundles = c.items-bundle-items.result.now in
     let P : List ℕ → Type 0 = λ xs. Adds (Each (gives c.args.rows.now c.args.package) xs) c.args.givens.now.items c.loop-bundle.givens.items in
     record {
-      added = adds-same (given-each c.args.rows.now c.args.revision c.args.package c.in_ok-reached.reached.items.items c.in_ok-reached.ensures.reached)
-          (adds-then (subst P c.deref-bundle-items.ensures.value (adds-whole (gives c.args.rows.now c.args.package) bundles c.loop-bundle.bundle-index c.loop-bundle-test.false c.loop-bundle.invariant)) c.in_ok-add_direct-2.ensures.added);
+      added = adds-same (given-each c.args.rows.now c.args.revision c.args.package c.in_ok-reached.reached c.in_ok-reached.ensures.reached)
+          (adds-then (subst P c.items-bundle-items.ensures.items (adds-whole (gives c.args.rows.now c.args.package) bundles c.loop-bundle.bundle-index c.loop-bundle-test.false c.loop-bundle.invariant)) c.in_ok-add_direct-2.ensures.added);
     }

@@ -22,7 +22,7 @@ returns-then-is_empty c =
 
 pub loop-bundle-preserved : goal.loop-bundle-preserved
 loop-bundle-preserved c =
-    let bundles = c.deref-bundle-items.result.now in
+    let bundles = c.items-bundle-items.result.now in
     let at = get_or_default bundles c.loop-bundle.bundle-index 0 _ c.loop-bundle-test.true in
     adds-more (gives c.args.rows.now c.args.revision) bundles c.loop-bundle.bundle-index _ c.loop-bundle-test.true at c.loop-bundle.invariant c.in_ok-add_bundle.ensures.added
 
@@ -35,9 +35,9 @@ by-reached R r reached is g = (
 pub returns : goal.returns
 returns c =
     let R = c.args.rows.now in
-    let bundles = c.deref-bundle-items.result.now in
+    let bundles = c.items-bundle-items.result.now in
     let P : List ℕ → Type 0 = λ xs. Adds (Each (gives R c.args.revision) xs) c.args.givens.now.items c.loop-bundle.givens.items in
     record {
-      added = adds-same (by-reached R c.args.revision c.in_ok-reached.reached.items.items c.in_ok-reached.ensures.reached)
-          (subst P c.deref-bundle-items.ensures.value (adds-whole (gives R c.args.revision) bundles c.loop-bundle.bundle-index c.loop-bundle-test.false c.loop-bundle.invariant));
+      added = adds-same (by-reached R c.args.revision c.in_ok-reached.reached c.in_ok-reached.ensures.reached)
+          (subst P c.items-bundle-items.ensures.items (adds-whole (gives R c.args.revision) bundles c.loop-bundle.bundle-index c.loop-bundle-test.false c.loop-bundle.invariant));
     }

@@ -21,7 +21,7 @@ IsBy R A D h t row = (x : ℕ) → Sources R h.source row.used x → IsTracedTo 
 
 pub loop-row-init : goal.loop-row-init
 loop-row-init c = record {
-  kept = keeps-same c.args.trace.now c.requires.collected;
+  kept = keeps-same c.args.trace.now;
   traced = each-none (IsBy c.args.rows.now (IsAmong c.args.among) (IsDisputed c.args.disputed.now) c.args.export c.args.trace.now) c.uses_of-row-items.result.now;
 }
 

@@ -11,7 +11,7 @@ use Rattle.osgi_space_sources.proofs.trace.trace_sources.Goals as goal
 
 pub loop-source-init : goal.loop-source-init
 loop-source-init c = record {
-  kept = keeps-same c.args.trace.now c.requires.collected;
+  kept = keeps-same c.args.trace.now;
   traced = each-none (IsTracedTo c.args.rows.now (IsAmong c.args.among) (IsDisputed c.args.disputed.now) c.args.trace.now c.args.export) c.args.sources.now;
 }
 

@@ -66,7 +66,7 @@ returns c =
     let r = c.args.revision in
     let P : Given → Type 0 = λ g. IsClash R r g in
     let A = IsAmong c.args.among in
-    let pairs = c.in_ok-found.found.items.items in
+    let pairs = c.in_ok-found.found in
     let imports = c.imports_of-imports.result.now in
     let givens = c.in_ok-givens.givens.items in
     let there : A r = c.has.ensures.among.0 c.if-not-has.false in
@@ -75,7 +75,7 @@ returns c =
     let implied : (g : Given) → Contains pairs g ↔ IsImplied R A r g = λ g.
     let carried = space-implied R A r there imports c.imports_of-imports.ensures.rows givens c.in_ok-givens.ensures.sources g in
     (λ at. carried.0 ((following g).0 at), λ i. (following g).1 (carried.1 i)) in
-    let kept : IsTrue c.in_ok-are_kept.field-0 ↔ ¬ Any P pairs = subst (λ xs. IsTrue c.in_ok-are_kept.field-0 ↔ ¬ Any P xs) c.as_slice-3.ensures.value c.in_ok-are_kept.ensures.uses in
+    let kept : IsTrue c.in_ok-are_kept.field-0 ↔ ¬ Any P pairs = subst (λ xs. IsTrue c.in_ok-are_kept.field-0 ↔ ¬ Any P xs) c.items.ensures.items c.in_ok-are_kept.ensures.uses in
     record {
       uses = (
         λ t e u i clash. kept.0 t (any-of P pairs (record { «package» = u; source = e }) ((implied (record { «package» = u; source = e })).1 i) clash),

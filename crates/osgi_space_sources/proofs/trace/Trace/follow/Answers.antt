@@ -5,7 +5,6 @@ use Rattle.osgi_space_sources.proofs.trace.Trace.follow.Goals as goal
 
 pub returns-clause-kept : goal.returns-clause-kept
 returns-clause-kept c = record {
-  collected = (c.in_ok-add.ensures.collected, c.requires.collected.1);
   exports = c.in_ok-add.ensures.added.grown;
   users = under-kept c.args.self.now.users c.push.new.self c.args.source c.args.export c.in_ok-push.ensures.added;
   leads = λ l at. at;

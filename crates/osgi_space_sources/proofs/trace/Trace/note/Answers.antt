@@ -4,8 +4,7 @@ use Rattle.osgi_space_sources.proofs.trace.Trace.note.Goals as goal
 
 pub returns-clause-kept : goal.returns-clause-kept
 returns-clause-kept c = record {
-  collected = (c.requires.collected.0, c.in_ok-add.ensures.collected);
-  exports = ([], sym (append-nil c.args.self.now.exports.items.items));
+  exports = ([], sym (append-nil c.args.self.now.exports));
   users = λ h k u. u;
   leads = λ l at. (c.in_ok-add.ensures.added.exact l).1 (inl at);
 }
