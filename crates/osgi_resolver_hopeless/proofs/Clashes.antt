@@ -1,8 +1,5 @@
 -- Constraints that come from settled revisions alone are those that come from no unsettled member.
-use Rattle.std.proofs.Common.{◌≡◌, ℕ, List, [], ◌∷◌, length, refl, sym, subst, arith, IsTrue}
-use Rattle.std.proofs.lemmas.Bool.{false≢true}
-use Rattle.std.specs.BTreeSet.{BTreeSet, contains}
-use Rattle.std.specs.Ordering.{nat_cmp}
+use Rattle.std.proofs.Common.{◌≡◌, ℕ, List, sym, subst}
 use Rattle.osgi_base.specs.declared.ids.RevisionId.{RevisionId}
 use Rattle.osgi_resolver_theory.proofs.Closure.{Decided, map-dec}
 use Rattle.osgi_resolver_theory.proofs.Complete.{in_force-inside}
@@ -10,9 +7,10 @@ use Rattle.osgi_resolver_theory.proofs.Decide.{clashes-dec}
 use Rattle.osgi_resolver_theory.proofs.Inside.{sources-inside}
 use Rattle.osgi_resolver_theory.proofs.Twos.{stable}
 use Rattle.osgi_resolver_theory.proofs.Views.{in_force-member}
-use Rattle.osgi_space_sources.proofs.Agreeing.{clash-disputed}
+use Rattle.osgi_space_sources.proofs.Agreeing.{agrees-unless}
 use Rattle.osgi_space_sources.specs.computed.Clashes.{KeepsUsesAmong}
-use Rattle.osgi_space_sources.specs.computed.Disputes.{AreDisputed}
+use Rattle.osgi_space_sources.specs.computed.Disputes.{AreDisputed, IsDisputed}
+use Rattle.osgi_space_sources.specs.declared.disputed.Disputed.{Disputed}
 use Rattle.osgi_resolver_hopeless.proofs.Settling.{away-settled, settled-away}
 use Rattle.osgi_resolver_hopeless.specs.computed.Clashing.{HasClash}
 use Rattle.osgi_resolver_hopeless.specs.computed.Open.{AreUnsettled, Has}
@@ -72,16 +70,10 @@ module _ (P : Problem) (L : IsProblem P) (D : Made) (set : List ℕ) (are : AreU
         let pair = implied-from P.world.known (partial P D) N R is {A = λ x. ¬ Has set x} (λ x s. settled-away P L D set are x s) h.implied in
         keeps h.seen_by.0 pair.0 pair.2 (clash-from P.world.known (partial P D) N R is (subst (λ u. Clash P.world.known (partial P D) h.member h.seen_by u) (sym pair.1) h.clash))
 
-without : (keys : List ℕ) → length keys ≡ 0 → keys ≡ []
-without [] none = refl
-without (key ∷ keys) none = absurd (omega (arith, none))
-
-none-in : (disputed : BTreeSet ℕ) (u : ℕ) → disputed.keys ≡ [] → ¬ IsTrue (contains nat_cmp disputed u)
-none-in disputed u none there = false≢true (subst (λ keys. IsTrue (contains nat_cmp (record { keys = keys }) u)) none there)
-
 -- where no package is disputed nothing clashes
-pub none-disputed : (P : Problem) (D : Made) (N : ℕ → List ℕ) (R : RowLists) → AreRowsOf P.world.known (partial P D) N R → (disputed : BTreeSet ℕ) → AreDisputed R disputed → length disputed.keys ≡ 0 → ¬ HasClash P D
+pub none-disputed : (P : Problem) (D : Made) (N : ℕ → List ℕ) (R : RowLists) → AreRowsOf P.world.known (partial P D) N R → (disputed : Disputed) → AreDisputed R disputed → ((p : ℕ) → ¬ IsDisputed disputed p) → ¬ HasClash P D
 none-disputed P D N R is disputed are none h =
-    let pair = implied-from P.world.known (partial P D) N R is {A = λ x. Unit {0}} (λ x s. tt) h.implied in
-    let c = clash-from P.world.known (partial P D) N R is (subst (λ u. Clash P.world.known (partial P D) h.member h.seen_by u) (sym pair.1) h.clash) in
-    none-in disputed pair.0 (without disputed.keys none) (clash-disputed R disputed are c)
+    let A : ℕ → Type 0 = λ x. Unit {0} in
+    let pair = implied-from P.world.known (partial P D) N R is {A = A} (λ x s. tt) h.implied in
+    let clash = clash-from P.world.known (partial P D) N R is (subst (λ u. Clash P.world.known (partial P D) h.member h.seen_by u) (sym pair.1) h.clash) in
+    agrees-unless R disputed are A h.member.0 (λ e u implied clashes. none u) h.seen_by.0 pair.0 pair.2 clash

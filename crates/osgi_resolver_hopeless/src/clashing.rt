@@ -14,15 +14,14 @@ use crate::settled::{numbers, unsettled};
 use osgi_base::RevisionId;
 use osgi_resolver_path::Path;
 use osgi_space_rows::Rows;
-use osgi_space_sources::{Among, RevisionSet, one_breaks_uses};
+use osgi_space_sources::{Among, Disputed, RevisionSet, one_breaks_uses};
 use std::alloc::{AllocError, Global};
-use std::collections::BTreeSet;
 
 /// Whether one of these revisions has a violated constraint that comes from other revisions than the unsettled ones alone.
 fn is_one_broken(
     alloc: Global,
     rows: &Rows,
-    disputed: &BTreeSet<u32>,
+    disputed: &Disputed,
     unsettled: &RevisionSet,
     revisions: &[u32],
 ) -> Result<bool, AllocError>

@@ -17,9 +17,8 @@ use crate::losing::is_required;
 use osgi_base::RevisionId;
 use osgi_resolver_path::Path;
 use osgi_space_rows::{Import, Rows};
-use osgi_space_sources::{Among, Given, RevisionSet, are_kept, constraints_from};
+use osgi_space_sources::{Among, Disputed, Given, RevisionSet, are_kept, constraints_from};
 use std::alloc::{AllocError, Global};
-use std::collections::BTreeSet;
 
 /// Adds the wire, if it goes to the host.
 fn add_import(list: &mut Vec<Import>, row: Import, host: u32) -> Result<(), AllocError>
@@ -72,7 +71,7 @@ fn imports_to(
 fn is_touched(
     alloc: Global,
     rows: &Rows,
-    disputed: &BTreeSet<u32>,
+    disputed: &Disputed,
     host: u32,
     pairs: &[Given],
     revision: u32,
@@ -105,7 +104,7 @@ fn add_touched(list: &mut Vec<u32>, touched: bool, revision: u32) -> Result<(), 
 fn clashing(
     alloc: Global,
     rows: &Rows,
-    disputed: &BTreeSet<u32>,
+    disputed: &Disputed,
     host: u32,
     pairs: &[Given],
     revisions: &[u32],

@@ -1,5 +1,5 @@
 -- Kept rows of nothing, and of a whole world.
-use Rattle.std.proofs.Common.{◌≡◌, inl, inr, ℕ, List, [], length, take, sym, subst, arith}
+use Rattle.std.proofs.Common.{◌≡◌, List, [], length, take, sym, subst, arith}
 use Rattle.std.proofs.lemmas.List.{take_all}
 use Rattle.osgi_world.specs.declared.wiring.Wiring.{Wiring}
 use Rattle.osgi_world.specs.declared.world.Known.{Known}
@@ -10,14 +10,11 @@ use Rattle.osgi_space_rows.specs.Rows.{RowLists, no_rows}
 use Rattle.osgi_space_rows.specs.Worlds.{AreNumbered}
 use Rattle.osgi_space_rows.specs.declared.named.Named.{Named}
 use Rattle.osgi_space_rows.proofs.MoreKnown.{nothing-all_known, nothing-known, nothing-named}
-use Rattle.osgi_space_sources.specs.computed.Disputes.{AreNoted, IsPossible}
+use Rattle.osgi_space_sources.specs.computed.Disputes.{AreNoted}
 use Rattle.osgi_space_sources.specs.declared.disputed.Possible.{Possible}
+use Rattle.osgi_space_sources.specs.laws.Noted.{none-noted}
 use Rattle.osgi_space.specs.Kept.{FollowsRows}
 use Rattle.osgi_space.specs.declared.kept_rows.KeptRows.{KeptRows}
-
-none-possible : (p x : ℕ) → IsPossible no_rows p x → ⊥
-none-possible p x (inl w) = omega (arith, w.1.1)
-none-possible p x (inr e) = omega (arith, e.2.1)
 
 pub follows-nothing : (n : Named) (possible : Possible) → n.names ≡ [] → n.rows ≡ no_rows → (K : List Known) (W : List Wiring) → FollowsRows (record { named = n; possible = possible; known = 0; wirings = 0 }) K W
 follows-nothing n possible no_names none K W = record {
@@ -26,7 +23,7 @@ follows-nothing n possible no_names none K W = record {
   all_known = nothing-all_known;
   rows = nothing-known n no_names none;
   numbered = (nothing-named n no_names none).numbered;
-  noted = λ p x at. absurd (none-possible p x (subst (λ (R : RowLists). IsPossible R p x) none at));
+  noted = subst (λ (R : RowLists). AreNoted R possible) (sym none) (none-noted possible);
 }
 
 pub follows-whole : (kept : KeptRows) (K : List Known) (W : List Wiring) → kept.known ≡ length K → kept.wirings ≡ length W → AreAllKnown K W → AreRowsOf K W (name_numbered kept.named.names) kept.named.rows →

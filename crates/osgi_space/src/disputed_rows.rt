@@ -1,11 +1,12 @@
 //! The rows of a world, and the packages that may be disputed in them.
 
 ghost use Rattle.std.specs.Prelude.{◌≡◌, ◌≤◌, ℕ, Contains, IfOk, OnOk, OnErr, drop, length};
-ghost use Rattle.osgi_space_sources.specs.computed.Disputes.{AreDisputed, AreNoted, HoldsAll, IsNoted};
+ghost use Rattle.osgi_space_sources.specs.computed.Disputes.{AreDisputed, AreNoted, Extends, HoldsAll, IsEnd, IsNoted};
 ghost use Rattle.osgi_space.specs.Kept.{FollowsRows};
 ghost use Rattle.osgi_space_rows.specs.AllKnown.{AreAllKnown};
 ghost use Rattle.osgi_space_rows.specs.Rows.{OwnExport, RowLists};
 ghost use Rattle.osgi_space_rows.specs.Worlds.{AddsStep, AreNumbered, AreRowsIn, TakesBack, with_added};
+ghost use Rattle.osgi_space_rows.specs.declared.rows.Required.{Required};
 ghost use Rattle.osgi_world.specs.Decisions.{attached, wired};
 ghost use Rattle.osgi_world.specs.Lists.{In};
 
@@ -13,11 +14,11 @@ use crate::kept_rows::KeptRows;
 use osgi_base::RevisionId;
 use osgi_space_rows::{Added, Rows, WorldRows};
 use osgi_space_sources::{
-    Possible, note_fragment, note_fragments, note_imports, note_known, possible_sources,
+    Disputed, Possible, note_bundles, note_fragment, note_fragments, note_import, note_imports,
+    note_known, note_required, possible_sources,
 };
 use osgi_world::{Known, Wire, Wiring};
 use std::alloc::{AllocError, Global};
-use std::collections::BTreeSet;
 use std::marker::Model;
 
 /// Rows with the packages that may have more than one source in them, which are kept as wires and fragments are added. What is
@@ -90,10 +91,9 @@ impl<'w> DisputedRows<'w> {
         } = kept;
         let before = WorldRows::of_more(alloc, named, known, first)?;
         let possible = with_known(possible, before.rows(), &known[first..])?;
-        let imports = before.rows().imports().len();
-        let attached = before.rows().attached().len();
+        let places = Places::at_end(before.rows());
         let rows = before.with_wirings(&wirings[followed..])?;
-        let possible = with_more(possible, rows.rows(), imports, attached)?;
+        let possible = with_more(possible, rows.rows(), places)?;
         Ok(DisputedRows { rows, possible })
     }
 
@@ -119,8 +119,8 @@ impl<'w> DisputedRows<'w> {
         &self.rows
     }
 
-    /// The packages that may have more than one source.
-    pub fn disputed(&self) -> &BTreeSet<u32>
+    /// The packages of which revisions that wires join may have different sources.
+    pub fn disputed(&self) -> &Disputed
         ensures disputed { AreDisputed self.now.rows result.now }
     {
         self.possible.disputed()
@@ -161,45 +161,76 @@ impl<'w> DisputedRows<'w> {
     }
 }
 
+/// From where on rows are new.
+#[derive(Clone, Copy)]
+struct Places {
+    imports: usize,
+    required: usize,
+    attached: usize,
+}
+
+impl Places {
+    /// Behind all of these rows.
+    fn at_end(rows: &Rows) -> Places
+        ensures imports { result.imports ≡ length rows.now.imports }
+        ensures required { result.required ≡ length rows.now.required }
+        ensures attached { result.attached ≡ length rows.now.attached }
+    {
+        Places {
+            imports: rows.imports().len(),
+            required: rows.required().len(),
+            attached: rows.attached().len(),
+        }
+    }
+}
+
 /// Notes the sources that a row adds.
 fn note(possible: &mut Possible, rows: &Rows, added: Added) -> Result<(), AllocError>
-    ensures noted { OnOk result ((R : RowLists) → rows.now ≡ with_added R added → AreNoted R possible.old → AreNoted rows.now possible.new) }
-    ensures nothing_lost { HoldsAll possible.old possible.new }
+    ensures noted { OnOk result ((R : RowLists) → rows.now ≡ with_added R added
+        → AreNoted R possible.old → AreNoted rows.now possible.new) }
+    ensures extends { Extends rows.now possible.old possible.new }
 {
     match added {
-        Added::Import(row) => possible.note(row.imported, row.provider)?,
+        Added::Import(row) => note_import(possible, rows, row)?,
         Added::Attachment(row) => note_fragment(possible, rows, row.host, row.fragment)?,
-        Added::Required(_) => {}
+        Added::Required(row) => note_required(possible, rows, row)?,
         Added::Nothing => {}
     }
     Ok(())
 }
 
-/// The possible sources with these revisions as what their own exports come from.
+/// The possible sources with those of these revisions that have wires, or to which wires go, as what their own exports come from.
 fn with_known(possible: Possible, rows: &Rows, known: &[Known]) -> Result<Possible, AllocError>
-    ensures noted { IfOk result (λ more. (k : Known) (p : ℕ) → In k known.now → OwnExport rows.now k.id.0 p → IsNoted more p k.id.0) }
+    ensures noted { IfOk result (λ more. (k : Known) (p : ℕ) → In k known.now
+        → IsEnd possible.disputed k.id.0 → OwnExport rows.now k.id.0 p → IsNoted more p k.id.0) }
     ensures nothing_lost { IfOk result (HoldsAll possible) }
+    ensures ends { IfOk result (λ more. more.disputed.ends ≡ possible.disputed.ends) }
 {
     let mut more = possible;
     note_known(&mut more, rows, known)?;
     Ok(more)
 }
 
-/// The possible sources with those of the wires for packages and of the attachments from these places on.
-fn with_more(
-    possible: Possible,
-    rows: &Rows,
-    imports: usize,
-    attached: usize,
-) -> Result<Possible, AllocError>
-    requires imports { imports ≤ length rows.now.imports }
-    requires attached { attached ≤ length rows.now.attached }
-    ensures imports { IfOk result (λ more. (r p x : ℕ) → Contains (drop imports rows.now.imports) (record { revision = r; imported = p; provider = x }) → IsNoted more p x) }
-    ensures attached { IfOk result (λ more. (h f p : ℕ) → Contains (drop attached rows.now.attached) (record { host = h; fragment = f }) → OwnExport rows.now f p → IsNoted more p h) }
-    ensures nothing_lost { IfOk result (HoldsAll possible) }
+/// The possible sources with those of the wires and the attachments from these places on.
+fn with_more(possible: Possible, rows: &Rows, places: Places) -> Result<Possible, AllocError>
+    requires imports { places.imports ≤ length rows.now.imports }
+    requires required { places.required ≤ length rows.now.required }
+    requires attached { places.attached ≤ length rows.now.attached }
+    ensures imports { IfOk result (λ more. (r p x : ℕ)
+        → Contains (drop places.imports rows.now.imports)
+        (record { revision = r; imported = p; provider = x })
+        → IsNoted more p x × IsEnd more.disputed r × IsEnd more.disputed x) }
+    ensures required { IfOk result (λ more. (row : Required)
+        → Contains (drop places.required rows.now.required) row
+        → IsEnd more.disputed row.revision × IsEnd more.disputed row.provider) }
+    ensures attached { IfOk result (λ more. (h f p : ℕ)
+        → Contains (drop places.attached rows.now.attached) (record { host = h; fragment = f })
+        → OwnExport rows.now f p → IsNoted more p h) }
+    ensures extends { IfOk result (Extends rows.now possible) }
 {
     let mut more = possible;
-    note_imports(&mut more, &rows.imports()[imports..])?;
-    note_fragments(&mut more, rows, &rows.attached()[attached..])?;
+    note_imports(&mut more, rows, &rows.imports()[places.imports..])?;
+    note_bundles(&mut more, rows, &rows.required()[places.required..])?;
+    note_fragments(&mut more, rows, &rows.attached()[places.attached..])?;
     Ok(more)
 }

@@ -32,19 +32,20 @@ more-then : {X : Type 0} (xs ys zs : List X) → (more : List X) × (ys ≡ xs +
 more-then xs ys zs (first, is) (second, then_is) = (first ++ second, then_is ∙ ap (λ l. l ++ second) is ∙ append_assoc xs first second)
 
 grown-none : (R : RowLists) → AddsWires R R
-grown-none R = record { imports = more-none R.imports; attached = more-none R.attached; exports = refl }
+grown-none R = record { imports = more-none R.imports; required = more-none R.required; attached = more-none R.attached; exports = refl }
 
 grown-then : (a b d : RowLists) → AddsWires a b → AddsWires b d → AddsWires a d
 grown-then a b d first second = record {
   imports = more-then a.imports b.imports d.imports first.imports second.imports;
+  required = more-then a.required b.required d.required first.required second.required;
   attached = more-then a.attached b.attached d.attached first.attached second.attached;
   exports = second.exports ∙ first.exports;
 }
 
 grown-added : (R : RowLists) (added : Added) → AddsWires R (with_added R added)
-grown-added R (OfImport row) = record { imports = (row ∷ [], refl); attached = more-none R.attached; exports = refl }
-grown-added R (OfRequired row) = record { imports = more-none R.imports; attached = more-none R.attached; exports = refl }
-grown-added R (OfAttachment row) = record { imports = more-none R.imports; attached = (row ∷ [], refl); exports = refl }
+grown-added R (OfImport row) = record { imports = (row ∷ [], refl); required = more-none R.required; attached = more-none R.attached; exports = refl }
+grown-added R (OfRequired row) = record { imports = more-none R.imports; required = (row ∷ [], refl); attached = more-none R.attached; exports = refl }
+grown-added R (OfAttachment row) = record { imports = more-none R.imports; required = more-none R.required; attached = (row ∷ [], refl); exports = refl }
 grown-added R Nothing = grown-none R
 
 -- ---- wirings of one revision

@@ -297,6 +297,7 @@ more-known K M first W old n named all_known are is adds =
     record {
       rows = subst (λ S. AreRowsOf S W (name_numbered n.names) n.rows) joined (grown-rows front (drop first K) W old n named all_known are added);
       imports = adds.imports;
+      required = adds.required;
       attached = adds.attached;
       exports = exports-kept front (drop first K) W old n named all_known are added;
     }

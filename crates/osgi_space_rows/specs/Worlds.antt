@@ -14,6 +14,7 @@ use Rattle.osgi_space_rows.specs.declared.named.Named.{Named}
 use Rattle.osgi_space_rows.specs.declared.rows.Attachment.{Attachment}
 use Rattle.osgi_space_rows.specs.declared.rows.Export.{Export}
 use Rattle.osgi_space_rows.specs.declared.rows.Import.{Import}
+use Rattle.osgi_space_rows.specs.declared.rows.Required.{Required}
 use Rattle.osgi_space_rows.specs.declared.rows.Use.{Use}
 
 -- what contracts see of `WorldRows`
@@ -62,6 +63,7 @@ pub record TakesBack (old new : WorldLists) (added : Added) : Type 0 where
 -- package wires and attachments are added after those that are there, and the exports stay
 pub record AddsWires (old new : RowLists) : Type 0 where
   pub imports : (more : List Import) × (new.imports ≡ old.imports ++ more)
+  pub required : (more : List Required) × (new.required ≡ old.required ++ more)
   pub attached : (more : List Attachment) × (new.attached ≡ old.attached ++ more)
   pub exports : new.exports ≡ old.exports
 
@@ -73,9 +75,10 @@ pub record AddsWirings (old new : WorldLists) (V : List Wiring) : Type 0 where
   pub agree : (W : List Wiring) → AreRowsIn old W → AreRowsIn new (W ++ V)
   pub numbered : AreNumbered old.names old.rows → AreNumbered new.names new.rows
 
--- with more known than K, the rows are still those of W; package wires and attachments stay, and no revision of K gets an export
+-- with more known than K, the rows are still those of W; wires and attachments stay, and no revision of K gets an export
 pub record AddsKnown (K : List Known) (W : List Wiring) (old : Named) (new : WorldLists) : Type 0 where
   pub rows : AreRowsIn new W
   pub imports : new.rows.imports ≡ old.rows.imports
+  pub required : new.rows.required ≡ old.rows.required
   pub attached : new.rows.attached ≡ old.rows.attached
   pub exports : (o p : ℕ) → IsKnown K (id o) → OwnExport new.rows o p → OwnExport old.rows o p

@@ -10,6 +10,7 @@ ghost use Rattle.osgi_space_sources.specs.declared.given.Given.{Given};
 
 use crate::among::Among;
 use crate::constraints::may_use;
+use crate::disputed::Disputed;
 use crate::found::{Found, is_listed};
 use crate::given::Given;
 use crate::leads::leads_of;
@@ -18,7 +19,6 @@ use crate::space::space_of;
 use crate::uses::{has_disputed, has_wires, keeps_uses};
 use osgi_space_rows::{Grouped, Rows};
 use std::alloc::{AllocError, Global};
-use std::collections::BTreeSet;
 
 /// More revisions than so many are asked together. Of fewer each is asked by itself, which ends with the first that violates a
 /// constraint.
@@ -183,7 +183,7 @@ fn plainly_keeps_uses(
 fn breaks_uses(
     alloc: Global,
     rows: &Rows,
-    disputed: &BTreeSet<u32>,
+    disputed: &Disputed,
     among: Among,
     revision: u32,
 ) -> Result<bool, AllocError>
@@ -198,7 +198,7 @@ fn breaks_uses(
 fn breaks_uses_by(
     alloc: Global,
     rows: &Rows,
-    disputed: &BTreeSet<u32>,
+    disputed: &Disputed,
     among: Among,
     leads: &Grouped<Given, Given>,
     revision: u32,
@@ -222,7 +222,7 @@ fn breaks_uses_by(
 fn may_break(
     alloc: Global,
     rows: &Rows,
-    disputed: &BTreeSet<u32>,
+    disputed: &Disputed,
     among: Among,
     revision: u32,
 ) -> Result<bool, AllocError>
@@ -258,7 +258,7 @@ fn add_that(list: &mut Vec<u32>, may: bool, revision: u32) -> Result<(), AllocEr
 fn those_to_ask(
     alloc: Global,
     rows: &Rows,
-    disputed: &BTreeSet<u32>,
+    disputed: &Disputed,
     among: Among,
     revisions: &[u32],
 ) -> Result<Vec<u32>, AllocError>
@@ -281,7 +281,7 @@ fn those_to_ask(
 fn one_breaks_alone(
     alloc: Global,
     rows: &Rows,
-    disputed: &BTreeSet<u32>,
+    disputed: &Disputed,
     among: Among,
     revisions: &[u32],
 ) -> Result<bool, AllocError>
@@ -300,7 +300,7 @@ fn one_breaks_alone(
 fn one_breaks_by(
     alloc: Global,
     rows: &Rows,
-    disputed: &BTreeSet<u32>,
+    disputed: &Disputed,
     among: Among,
     leads: &Grouped<Given, Given>,
     revisions: &[u32],
@@ -323,7 +323,7 @@ fn one_breaks_by(
 fn one_breaks_together(
     alloc: Global,
     rows: &Rows,
-    disputed: &BTreeSet<u32>,
+    disputed: &Disputed,
     among: Among,
     revisions: &[u32],
 ) -> Result<bool, AllocError>
@@ -349,7 +349,7 @@ fn are_asked_alone(disputed: usize, revisions: usize) -> bool {
 pub fn one_breaks_uses(
     alloc: Global,
     rows: &Rows,
-    disputed: &BTreeSet<u32>,
+    disputed: &Disputed,
     among: Among,
     revisions: &[u32],
 ) -> Result<bool, AllocError>

@@ -11,13 +11,13 @@ ghost use Rattle.osgi_space_sources.specs.declared.given.Given.{Given};
 ghost use Rattle.osgi_space_sources.specs.declared.lead.Lead.{Lead};
 
 use crate::among::Among;
+use crate::disputed::Disputed;
 use crate::found::Found;
 use crate::given::Given;
 use crate::lead::Lead;
 use crate::trace::{MOST_LEADS, Trace, trace_from};
 use osgi_space_rows::{Grouped, Rows};
 use std::alloc::{AllocError, Global};
-use std::collections::BTreeSet;
 
 /// Adds that those who use the export lead to the source, too.
 fn add_users(
@@ -87,7 +87,7 @@ fn leads_in(alloc: Global, trace: Trace) -> Result<Option<Grouped<Given, Given>>
 pub fn leads_of(
     alloc: Global,
     rows: &Rows,
-    disputed: &BTreeSet<u32>,
+    disputed: &Disputed,
     among: Among,
     exports: Found<Given>,
 ) -> Result<Option<Grouped<Given, Given>>, AllocError>

@@ -23,7 +23,8 @@ pub use bundles::reached_bundles;
 pub use clash::clashes;
 pub use constraints::{constraints_from, constraints_of};
 pub use disputed::{
-    Possible, note_fragment, note_fragments, note_imports, note_known, possible_sources,
+    Disputed, Possible, note_bundles, note_fragment, note_fragments, note_import, note_imports,
+    note_known, note_required, possible_sources,
 };
 pub use found::Found;
 pub use given::Given;

@@ -11,13 +11,13 @@ ghost use Rattle.osgi_space_sources.specs.declared.given.Given.{Given};
 
 use crate::among::Among;
 use crate::constraints::may_use;
+use crate::disputed::Disputed;
 use crate::found::Found;
 use crate::given::Given;
 use crate::lead::Lead;
 use crate::package_sources::sources_of;
 use osgi_space_rows::{Grouped, Rows};
 use std::alloc::{AllocError, Global};
-use std::collections::BTreeSet;
 
 /// Once more leads than so many are gathered, none are answered, since they take memory.
 pub(crate) const MOST_LEADS: usize = 1 << 18;
@@ -44,16 +44,11 @@ impl Trace {
     }
 
     /// Notes the source as one that the export uses, if its package is disputed.
-    fn note(
-        &mut self,
-        disputed: &BTreeSet<u32>,
-        export: Given,
-        source: Given,
-    ) -> Result<(), AllocError>
+    fn note(&mut self, disputed: &Disputed, export: Given, source: Given) -> Result<(), AllocError>
         ensures kept { OnOk result (Keeps self.old self.new) }
         ensures noted { OnOk result (IsNotedLead (IsDisputed disputed.now) self.new export source) }
     {
-        if !disputed.contains(&source.package) {
+        if !disputed.has(source.package) {
             return Ok(());
         }
         self.leads.add(Lead { export, source })?;
@@ -89,7 +84,7 @@ impl Trace {
 fn trace_source(
     trace: &mut Trace,
     rows: &Rows,
-    disputed: &BTreeSet<u32>,
+    disputed: &Disputed,
     among: Among,
     export: Given,
     source: Given,
@@ -107,7 +102,7 @@ fn trace_source(
 fn trace_sources(
     trace: &mut Trace,
     rows: &Rows,
-    disputed: &BTreeSet<u32>,
+    disputed: &Disputed,
     among: Among,
     export: Given,
     sources: &[Given],
@@ -127,7 +122,7 @@ fn trace_use(
     alloc: Global,
     trace: &mut Trace,
     rows: &Rows,
-    disputed: &BTreeSet<u32>,
+    disputed: &Disputed,
     among: Among,
     export: Given,
     used: u32,
@@ -147,7 +142,7 @@ fn trace_own_uses(
     alloc: Global,
     trace: &mut Trace,
     rows: &Rows,
-    disputed: &BTreeSet<u32>,
+    disputed: &Disputed,
     among: Among,
     export: Given,
     owner: u32,
@@ -169,7 +164,7 @@ fn trace_export(
     alloc: Global,
     trace: &mut Trace,
     rows: &Rows,
-    disputed: &BTreeSet<u32>,
+    disputed: &Disputed,
     among: Among,
     export: Given,
 ) -> Result<(), AllocError>
@@ -189,7 +184,7 @@ fn trace_export(
 pub fn trace_from(
     alloc: Global,
     rows: &Rows,
-    disputed: &BTreeSet<u32>,
+    disputed: &Disputed,
     among: Among,
     exports: Found<Given>,
 ) -> Result<Option<Trace>, AllocError>

@@ -1,32 +1,29 @@
 //! Whether the sources of used packages agree.
 
 ghost use Rattle.std.specs.Prelude.{◌↔◌, ◌⊎◌, Any, All, IfOk, IsTrue};
-ghost use Rattle.std.specs.BTreeSet.{contains};
-ghost use Rattle.std.specs.Ordering.{nat_cmp};
 ghost use Rattle.osgi_space_sources.specs.computed.Amongst.{IsAmong};
 ghost use Rattle.osgi_space_sources.specs.computed.Clashes.{HasWires, IsClash, KeepsUses, KeepsUsesAmong};
-ghost use Rattle.osgi_space_sources.specs.computed.Disputes.{AreDisputed};
+ghost use Rattle.osgi_space_sources.specs.computed.Disputes.{AreDisputed, IsDisputed};
 ghost use Rattle.osgi_space_sources.specs.declared.given.Given.{Given};
 ghost use Rattle.osgi_world.specs.declared.wiring.Wiring.{Wiring};
 
 use crate::among::Among;
 use crate::clash::clashes;
 use crate::constraints::constraints_from;
-use crate::disputed::disputed_packages;
+use crate::disputed::{Disputed, disputed_packages};
 use crate::given::Given;
 use crate::space::unwired_of;
 use osgi_space_rows::{Import, Rows};
 use osgi_world::Wiring;
 use std::alloc::{AllocError, Global};
-use std::collections::BTreeSet;
 
 /// Whether one of the packages is disputed.
-pub(crate) fn has_disputed(givens: &[Given], disputed: &BTreeSet<u32>) -> bool
+pub(crate) fn has_disputed(givens: &[Given], disputed: &Disputed) -> bool
     ensures disputed { IsTrue result
-        ↔ Any (λ (g : Given). IsTrue (contains nat_cmp disputed.now g.package)) givens.now }
+        ↔ Any (λ (g : Given). IsDisputed disputed.now g.package) givens.now }
 {
     for given in givens {
-        if disputed.contains(&given.package) {
+        if disputed.has(given.package) {
             return true;
         }
     }
@@ -34,12 +31,12 @@ pub(crate) fn has_disputed(givens: &[Given], disputed: &BTreeSet<u32>) -> bool
 }
 
 /// Whether one of the wires is for a disputed package.
-fn has_disputed_import(imports: &[Import], disputed: &BTreeSet<u32>) -> bool
+fn has_disputed_import(imports: &[Import], disputed: &Disputed) -> bool
     ensures disputed { IsTrue result
-        ↔ Any (λ (row : Import). IsTrue (contains nat_cmp disputed.now row.imported)) imports.now }
+        ↔ Any (λ (row : Import). IsDisputed disputed.now row.imported) imports.now }
 {
     for row in imports {
-        if disputed.contains(&row.imported) {
+        if disputed.has(row.imported) {
             return true;
         }
     }
@@ -47,10 +44,10 @@ fn has_disputed_import(imports: &[Import], disputed: &BTreeSet<u32>) -> bool
 }
 
 /// Whether one of the wires is for a disputed package, or one of the packages is disputed.
-fn sees_disputed(imports: &[Import], givens: &[Given], disputed: &BTreeSet<u32>) -> bool
+fn sees_disputed(imports: &[Import], givens: &[Given], disputed: &Disputed) -> bool
     ensures disputed { IsTrue result
-        ↔ (Any (λ (row : Import). IsTrue (contains nat_cmp disputed.now row.imported)) imports.now
-        ⊎ Any (λ (g : Given). IsTrue (contains nat_cmp disputed.now g.package)) givens.now) }
+        ↔ (Any (λ (row : Import). IsDisputed disputed.now row.imported) imports.now
+        ⊎ Any (λ (g : Given). IsDisputed disputed.now g.package) givens.now) }
 {
     if has_disputed_import(imports, disputed) {
         return true;
@@ -62,14 +59,14 @@ fn sees_disputed(imports: &[Import], givens: &[Given], disputed: &BTreeSet<u32>)
 fn is_violated(
     alloc: Global,
     rows: &Rows,
-    disputed: &BTreeSet<u32>,
+    disputed: &Disputed,
     revision: u32,
     pair: Given,
 ) -> Result<bool, AllocError>
     requires disputed { AreDisputed rows.now disputed.now }
     ensures violated { IfOk result (λ answer. IsTrue answer ↔ IsClash rows.now revision pair) }
 {
-    if !disputed.contains(&pair.package) {
+    if !disputed.may_differ(revision, pair) {
         return Ok(false);
     }
     clashes(alloc, rows, revision, pair)
@@ -79,7 +76,7 @@ fn is_violated(
 pub fn are_kept(
     alloc: Global,
     rows: &Rows,
-    disputed: &BTreeSet<u32>,
+    disputed: &Disputed,
     revision: u32,
     pairs: &[Given],
 ) -> Result<bool, AllocError>
@@ -110,7 +107,7 @@ pub(crate) fn has_wires(rows: &Rows, revision: u32) -> bool
 pub fn keeps_uses(
     alloc: Global,
     rows: &Rows,
-    disputed: &BTreeSet<u32>,
+    disputed: &Disputed,
     among: Among,
     revision: u32,
 ) -> Result<bool, AllocError>

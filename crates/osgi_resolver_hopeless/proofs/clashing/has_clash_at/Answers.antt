@@ -19,7 +19,7 @@ returns-then-is_empty c = record {
       let rows = c.disputed_rows.result.now in
       let N = name_numbered rows.names in
       let is : AreRowsOf P.world.known W N rows.rows = subst (λ K. AreRowsOf K W N rows.rows) (known-is c.args.path.now P L rows.known c.disputed_rows.ensures.known) (c.disputed_rows.ensures.rows P L) in
-      absurd (none-disputed P (made P c.args.path.now) N rows.rows is c.disputed.result.now c.disputed.ensures.disputed (c.is_empty.ensures.0 c.if-is_empty.true) h.clash);
+      absurd (none-disputed P (made P c.args.path.now) N rows.rows is c.disputed.result.now c.disputed.ensures.disputed (c.is_empty.ensures.none c.if-is_empty.true) h.clash);
 }
 
 pub has_clash_among-requires : goal.has_clash_among-requires

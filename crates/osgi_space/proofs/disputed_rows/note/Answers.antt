@@ -1,28 +1,60 @@
 -- What a row adds is noted.
 use Rattle.std.proofs.Common.{◌≡◌, ◌∙◌, ap, sym, subst}
-use Rattle.osgi_space_sources.specs.laws.Noted.{noted-attachment, noted-import}
+use Rattle.osgi_space_sources.specs.computed.Disputes.{AreNoted, Extends}
+use Rattle.osgi_space_sources.specs.laws.Noted.{extends-ends, extends-same, noted-attachment, noted-import, noted-required}
 use Rattle.osgi_space_rows.specs.Rows.{OwnExport, RowLists, with_attachment, with_import, with_required}
 use Rattle.osgi_space_rows.specs.Worlds.{with_added}
 use Rattle.osgi_space.proofs.disputed_rows.note.Goals as goal
 
-pub returns-in_ok-note-in-Import-clause-noted : goal.returns-in_ok-note-in-Import-clause-noted
-returns-in_ok-note-in-Import-clause-noted c = λ R is before.
-    let more : c.args.rows.now ≡ with_import R c.in-Import.row = is ∙ ap (with_added R) c.in-Import.is in
-    rw more (noted-import R c.args.possible.now c.note.new.self c.note.ensures.nothing_lost before c.in-Import.row c.in_ok-note-in-Import.ensures.noted)
+pub returns-in_ok-note_import-in-Import : goal.returns-in_ok-note_import-in-Import
+returns-in_ok-note_import-in-Import c =
+    let old = c.args.possible.now in
+    let new = c.note_import.new.possible in
+    let row = c.in-Import.row in
+    let note = c.in_ok-note_import-in-Import.ensures in
+    record {
+      noted = λ R is before.
+          let more : c.args.rows.now ≡ with_import R row = is ∙ ap (with_added R) c.in-Import.is in
+          subst (λ (S : RowLists). AreNoted S new) (sym more)
+          (noted-import R old new before row (subst (λ (S : RowLists). Extends S old new) more note.extends) note.noted note.ends);
+      extends = note.extends;
+    }
 
-pub returns-in_ok-note_fragment-in-Attachment-clause-noted : goal.returns-in_ok-note_fragment-in-Attachment-clause-noted
-returns-in_ok-note_fragment-in-Attachment-clause-noted c = λ R is before.
+pub returns-in_ok-note_fragment-in-Attachment : goal.returns-in_ok-note_fragment-in-Attachment
+returns-in_ok-note_fragment-in-Attachment c =
+    let old = c.args.possible.now in
+    let new = c.note_fragment.new.possible in
     let row = c.in-Attachment.row in
-    let more : c.args.rows.now ≡ with_attachment R row = is ∙ ap (with_added R) c.in-Attachment.is in
-    rw more (noted-attachment R c.args.possible.now c.note_fragment.new.possible c.note_fragment.ensures.nothing_lost before row
-    (λ p own. c.in_ok-note_fragment-in-Attachment.ensures.noted p (subst (λ (S : RowLists). OwnExport S row.fragment p) (sym more) own)))
+    let note = c.in_ok-note_fragment-in-Attachment.ensures in
+    record {
+      noted = λ R is before.
+          let more : c.args.rows.now ≡ with_attachment R row = is ∙ ap (with_added R) c.in-Attachment.is in
+          subst (λ (S : RowLists). AreNoted S new) (sym more)
+          (noted-attachment R old new before row (extends-ends (with_attachment R row) old new note.nothing_lost note.ends) (λ p own. note.noted p (subst (λ (S : RowLists). OwnExport S row.fragment p) (sym more) own)));
+      extends = extends-ends c.args.rows.now old new note.nothing_lost note.ends;
+    }
 
-pub returns-in-Required-clause-noted : goal.returns-in-Required-clause-noted
-returns-in-Required-clause-noted c = λ R is before.
-    let more : c.args.rows.now ≡ with_required R c.in-Required.field-0 = is ∙ ap (with_added R) c.in-Required.is in
-    rw more before
+pub returns-in_ok-note_required-in-Required : goal.returns-in_ok-note_required-in-Required
+returns-in_ok-note_required-in-Required c =
+    let old = c.args.possible.now in
+    let new = c.note_required.new.possible in
+    let row = c.in-Required.row in
+    let note = c.in_ok-note_required-in-Required.ensures in
+    record {
+      noted = λ R is before.
+          let more : c.args.rows.now ≡ with_required R row = is ∙ ap (with_added R) c.in-Required.is in
+          subst (λ (S : RowLists). AreNoted S new) (sym more)
+          (noted-required R old new before row (subst (λ (S : RowLists). Extends S old new) more note.extends) note.ends);
+      extends = note.extends;
+    }
 
-pub returns-in-Nothing-clause-noted : goal.returns-in-Nothing-clause-noted
-returns-in-Nothing-clause-noted c = λ R is before.
-    let more : c.args.rows.now ≡ R = is ∙ ap (with_added R) c.in-Nothing.is in
-    rw more before
+pub returns-in-Nothing : goal.returns-in-Nothing
+returns-in-Nothing c = record {
+  noted = λ R is before.
+      let more : c.args.rows.now ≡ R = is ∙ ap (with_added R) c.in-Nothing.is in
+      subst (λ (S : RowLists). AreNoted S c.args.possible.now) (sym more) before;
+  extends = extends-same c.args.rows.now c.args.possible.now;
+}
+
+pub returns-in_err-note_fragment-in-Attachment-clause-extends : goal.returns-in_err-note_fragment-in-Attachment-clause-extends
+returns-in_err-note_fragment-in-Attachment-clause-extends c = extends-ends c.args.rows.now c.args.possible.now c.note_fragment.new.possible c.note_fragment.ensures.nothing_lost c.note_fragment.ensures.ends

@@ -1,14 +1,30 @@
--- What stands from these places on.
+-- What stands from these places on is noted, one kind of rows after another.
 use Rattle.std.proofs.Common.{◌∙◌, List, drop, ap, sym, subst, Contains}
 use Rattle.std.proofs.lemmas.List.{take_rest}
+use Rattle.osgi_space_sources.specs.computed.Disputes.{Extends}
+use Rattle.osgi_space_sources.specs.laws.Noted.{extends-ends, extends-then}
 use Rattle.osgi_space_rows.specs.declared.rows.Attachment.{Attachment}
 use Rattle.osgi_space_rows.specs.declared.rows.Import.{Import}
+use Rattle.osgi_space_rows.specs.declared.rows.Required.{Required}
 use Rattle.osgi_space.proofs.disputed_rows.with_more.Goals as goal
 
-pub returns-clause-imports : goal.returns-clause-imports
-returns-clause-imports c = λ r p x at. c.in_ok-note_fragments.ensures.nothing_lost p x (c.in_ok-note_imports.ensures.noted r p x
-    (subst (λ (l : List Import). Contains l (record { revision = r; imported = p; provider = x })) (sym (take_rest c.imports.result.now c.args.imports ∙ ap (drop c.args.imports) c.imports.ensures.rows)) at))
-
-pub returns-clause-attached : goal.returns-clause-attached
-returns-clause-attached c = λ h f p at own. c.in_ok-note_fragments.ensures.noted h f p
-    (subst (λ (l : List Attachment). Contains l (record { host = h; fragment = f })) (sym (take_rest c.attached.result.now c.args.attached ∙ ap (drop c.args.attached) c.attached.ensures.rows)) at) own
+pub returns : goal.returns
+returns c =
+    let R = c.args.rows.now in
+    let places = c.args.places in
+    let bundles = c.in_ok-note_bundles.ensures in
+    let last = c.in_ok-note_fragments.ensures in
+    let attached : Extends R c.note_bundles.new.possible c.note_fragments.new.possible = extends-ends R c.note_bundles.new.possible c.note_fragments.new.possible last.nothing_lost last.ends in
+    let later = extends-then R bundles.extends attached in
+    record {
+      imports = λ r p x at.
+          let done = c.in_ok-note_imports.ensures.noted r p x
+          (subst (λ (l : List Import). Contains l (record { revision = r; imported = p; provider = x })) (sym (take_rest c.imports.result.now places.imports ∙ ap (drop places.imports) c.imports.ensures.rows)) at) in
+          (later.sources p x done.0, later.ends r done.1, later.ends x done.2);
+      required = λ row at.
+          let done = bundles.ends row (subst (λ (l : List Required). Contains l row) (sym (take_rest c.required.result.now places.required ∙ ap (drop places.required) c.required.ensures.rows)) at) in
+          (attached.ends row.revision done.0, attached.ends row.provider done.1);
+      attached = λ h f p at own. last.noted h f p
+          (subst (λ (l : List Attachment). Contains l (record { host = h; fragment = f })) (sym (take_rest c.attached.result.now places.attached ∙ ap (drop places.attached) c.attached.ensures.rows)) at) own;
+      extends = extends-then R c.in_ok-note_imports.ensures.extends later;
+    }

@@ -1,5 +1,5 @@
 -- Each row is noted, and what was noted before stays so.
-use Rattle.std.proofs.Common.{◌==◌, Contains, refl, sym, subst}
+use Rattle.std.proofs.Common.{◌==◌, ◌∙◌, Contains, refl, sym, subst}
 use Rattle.std.proofs.lemmas.List.{get_or_default}
 use Rattle.osgi_space_sources.specs.computed.Disputes.{IsNoted}
 use Rattle.osgi_space_sources.specs.laws.Adding.{all-more, all-of}
@@ -16,6 +16,7 @@ loop-row-preserved c =
       noted = all-more (λ (row : Export). IsNoted c.loop-row.possible row.exported c.args.host) (λ (row : Export). IsNoted c.note.new.self row.exported c.args.host) rows c.loop-row.row-index _ c.loop-row-test.true at
           (λ row before. c.in_ok-note.ensures.nothing_lost _ _ before) c.loop-row.invariant.noted c.in_ok-note.ensures.noted;
       kept = λ p x before. c.in_ok-note.ensures.nothing_lost p x (c.loop-row.invariant.kept p x before);
+      ends = c.in_ok-note.ensures.ends ∙ c.loop-row.invariant.ends;
     }
 
 pub returns-clause-noted : goal.returns-clause-noted

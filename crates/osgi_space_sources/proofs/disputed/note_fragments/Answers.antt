@@ -1,5 +1,5 @@
 -- Each attachment is noted, and what was noted before stays so.
-use Rattle.std.proofs.Common.{ℕ}
+use Rattle.std.proofs.Common.{◌∙◌, ℕ}
 use Rattle.std.proofs.lemmas.List.{get_or_default}
 use Rattle.osgi_space_sources.specs.computed.Disputes.{IsNoted}
 use Rattle.osgi_space_sources.specs.laws.Adding.{all-more, all-of}
@@ -16,6 +16,7 @@ loop-row-preserved c =
           (λ (row : Attachment). (p : ℕ) → OwnExport c.args.rows.now row.fragment p → IsNoted c.note_fragment.new.possible p row.host) rows c.loop-row.row-index _ c.loop-row-test.true at
           (λ row before p own. c.in_ok-note_fragment.ensures.nothing_lost _ _ (before p own)) c.loop-row.invariant.noted c.in_ok-note_fragment.ensures.noted;
       kept = λ p x before. c.in_ok-note_fragment.ensures.nothing_lost p x (c.loop-row.invariant.kept p x before);
+      ends = c.in_ok-note_fragment.ensures.ends ∙ c.loop-row.invariant.ends;
     }
 
 pub returns-clause-noted : goal.returns-clause-noted

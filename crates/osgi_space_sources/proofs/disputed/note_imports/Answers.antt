@@ -1,21 +1,33 @@
--- Each row is noted, and what was noted before stays so.
+-- Each wire is noted, and what was noted before stays so.
+use Rattle.std.proofs.Common.{arith}
 use Rattle.std.proofs.lemmas.List.{get_or_default}
-use Rattle.osgi_space_sources.specs.computed.Disputes.{IsNoted}
+use Rattle.osgi_space_sources.specs.computed.Disputes.{IsEnd, IsNoted}
+use Rattle.osgi_space_sources.specs.declared.disputed.Possible.{Possible}
 use Rattle.osgi_space_sources.specs.laws.Adding.{all-more, all-of}
+use Rattle.osgi_space_sources.specs.laws.Noted.{extends-same, extends-then}
 use Rattle.osgi_space_rows.specs.declared.rows.Import.{Import}
 use Rattle.osgi_space_sources.proofs.disputed.note_imports.Goals as goal
+
+abbrev IsDone : Possible → Import → Type 0
+IsDone possible row = IsNoted possible row.imported row.provider × IsEnd possible.disputed row.revision × IsEnd possible.disputed row.provider
+
+pub loop-row-init : goal.loop-row-init
+loop-row-init c = record { noted = λ k row lt. absurd (omega (arith, lt)); extends = extends-same c.args.rows.now c.args.possible.now }
 
 pub loop-row-preserved : goal.loop-row-preserved
 loop-row-preserved c =
     let rows = c.args.imports.now in
     let at = get_or_default rows c.loop-row.row-index _ _ c.loop-row-test.true in
+    let more = c.note_import.ensures.extends in
     record {
-      noted = all-more (λ (row : Import). IsNoted c.loop-row.possible row.imported row.provider) (λ (row : Import). IsNoted c.note.new.self row.imported row.provider) rows c.loop-row.row-index _ c.loop-row-test.true at
-          (λ row before. c.in_ok-note.ensures.nothing_lost _ _ before) c.loop-row.invariant.noted c.in_ok-note.ensures.noted;
-      kept = λ p x before. c.in_ok-note.ensures.nothing_lost p x (c.loop-row.invariant.kept p x before);
+      noted = all-more (IsDone c.loop-row.possible) (IsDone c.note_import.new.possible) rows c.loop-row.row-index _ c.loop-row-test.true at
+          (λ row before. (more.sources _ _ before.0, more.ends _ before.1, more.ends _ before.2)) c.loop-row.invariant.noted (c.in_ok-note_import.ensures.noted, c.in_ok-note_import.ensures.ends.0, c.in_ok-note_import.ensures.ends.1);
+      extends = extends-then c.args.rows.now c.loop-row.invariant.extends more;
     }
+
+pub returns-in_err-note_import-clause-extends : goal.returns-in_err-note_import-clause-extends
+returns-in_err-note_import-clause-extends c = extends-then c.args.rows.now c.loop-row.invariant.extends c.note_import.ensures.extends
 
 pub returns-clause-noted : goal.returns-clause-noted
 returns-clause-noted c = λ r p x at.
-    all-of (λ (row : Import). IsNoted c.loop-row.possible row.imported row.provider) c.args.imports.now c.loop-row.row-index c.loop-row-test.false c.loop-row.invariant.noted
-    (record { revision = r; imported = p; provider = x }) at
+    all-of (IsDone c.loop-row.possible) c.args.imports.now c.loop-row.row-index c.loop-row-test.false c.loop-row.invariant.noted (record { revision = r; imported = p; provider = x }) at

@@ -1,21 +1,31 @@
--- The providers of wires, the owners of exports, and the hosts of fragments are noted.
-use Rattle.std.proofs.Common.{List, Contains, inl, inr, sym, subst}
-use Rattle.osgi_space_rows.specs.declared.rows.Attachment.{Attachment}
+-- All wires are noted with their ends.
+use Rattle.std.proofs.Common.{ℕ, List, Contains, inl, inr, sym, subst}
+use Rattle.osgi_space_rows.specs.Rows.{Imports, no_rows}
 use Rattle.osgi_space_rows.specs.declared.rows.Import.{Import}
-use Rattle.osgi_space_sources.specs.computed.Disputes.{IsNoted}
+use Rattle.osgi_space_rows.specs.declared.rows.Required.{Required}
+use Rattle.osgi_space_sources.specs.computed.Disputes.{IsEnd, IsNoted}
+use Rattle.osgi_space_sources.specs.declared.disputed.Possible.{Possible}
+use Rattle.osgi_space_sources.specs.laws.Noted.{extends-then, noted-more, none-noted}
 use Rattle.osgi_space_sources.proofs.disputed.possible_sources.Goals as goal
 
 pub returns : goal.returns
-returns c = record {
-  noted = λ p x possible. elim possible [
-    | inl w ↦
-        let row = subst (λ (xs : List Import). Contains xs (record { revision = w.0; imported = p; provider = x })) (sym c.imports.ensures.rows) w.1 in
-        c.in_ok-note_fragments.ensures.nothing_lost p x (c.in_ok-note_exports.ensures.nothing_lost p x (c.in_ok-note_imports.ensures.noted w.0 p x row))
-    | inr w ↦ elim w.1 [
-      | inl own ↦ c.in_ok-note_fragments.ensures.nothing_lost p x (subst (λ o. IsNoted c.note_exports.new.possible p o) own (c.in_ok-note_exports.ensures.noted w.0 p w.2))
-      | inr attached ↦
-          let row = subst (λ (xs : List Attachment). Contains xs (record { host = x; fragment = w.0 })) (sym c.attached.ensures.rows) attached in
-          c.in_ok-note_fragments.ensures.noted x w.0 p row w.2
-    ]
-  ];
-}
+returns c =
+    let R = c.args.rows.now in
+    let none = c.new-possible.result in
+    let made = c.note_bundles.new.possible in
+    let more = c.note_bundles.ensures.extends in
+    let extends = extends-then R c.note_imports.ensures.extends more in
+    let import : (r p x : ℕ) → Imports R r p x → IsNoted made p x × IsEnd made.disputed r × IsEnd made.disputed x = λ r p x at.
+    let done = c.in_ok-note_imports.ensures.noted r p x (subst (λ (xs : List Import). Contains xs (record { revision = r; imported = p; provider = x })) (sym c.imports.ensures.rows) at) in
+    (more.sources p x done.0, more.ends r done.1, more.ends x done.2) in
+    let bundle : (row : Required) → Contains R.required row → IsEnd made.disputed row.revision × IsEnd made.disputed row.provider = λ row at.
+    c.in_ok-note_bundles.ensures.ends row (subst (λ (xs : List Required). Contains xs row) (sym c.required.ensures.rows) at) in
+    record {
+      noted = noted-more no_rows R none made (none-noted none) extends
+          (λ x end. inr (elim end [
+            | inl wires ↦ elim wires [ inl (p, y, at) ↦ (import x p y at).1 | inr (b, q) ↦ (bundle (record { revision = x; provider = b; reexport = q.0 }) q.1).0 ]
+            | inr to ↦ elim to [ inl (r, p, at) ↦ (import r p x at).2 | inr (r, q) ↦ (bundle (record { revision = r; provider = x; reexport = q.0 }) q.1).1 ]
+          ]))
+          (λ r p x at. inr (import r p x at).0)
+          (λ x p end has. absurd (c.new-possible.ensures.no_end x end));
+    }

@@ -1,11 +1,10 @@
 -- Where the revision sees no disputed package none of its constraints is violated.
-use Rattle.std.proofs.Common.{◌↔◌, ◌≡◌, ◌⊎◌, inl, inr, ℕ, List, [], ◌∷◌, length, Any, BTreeSet, refl, sym, subst, arith, Contains, IsTrue}
-use Rattle.std.proofs.lemmas.Bool.{false≢true}
-use Rattle.std.specs.BTreeSet.{contains}
-use Rattle.std.specs.Ordering.{nat_cmp}
+use Rattle.std.proofs.Common.{◌↔◌, ◌⊎◌, inl, inr, ℕ, Any, refl, sym, subst, Contains, IsTrue}
 use Rattle.osgi_space_sources.specs.computed.Amongst.{IsAmong}
 use Rattle.osgi_space_sources.specs.computed.Clashes.{HasWires, IsClash, KeepsUsesAmong}
+use Rattle.osgi_space_sources.specs.computed.Disputes.{IsDisputed}
 use Rattle.osgi_space_sources.specs.computed.Pairs.{IsFollowing, IsImplied}
+use Rattle.osgi_space_sources.specs.computed.RowSources.{Clash, Implied}
 use Rattle.osgi_space_sources.specs.declared.given.Given.{Given}
 use Rattle.osgi_space_sources.specs.laws.Adding.{any-in, any-of}
 use Rattle.osgi_space_sources.proofs.Alone.{agrees-with-itself}
@@ -13,21 +12,15 @@ use Rattle.osgi_space_sources.proofs.Carried.{space-implied}
 use Rattle.osgi_space_sources.proofs.Givers.{seen-parts}
 use Rattle.osgi_space_sources.proofs.Rows.{some-imported}
 use Rattle.osgi_space_rows.specs.declared.rows.Import.{Import}
-use Rattle.osgi_space_sources.proofs.Agreeing.{clash-disputed}
+use Rattle.osgi_space_sources.proofs.Agreeing.{agrees-unless}
 use Rattle.osgi_space_sources.specs.laws.Following.{none-implied}
 use Rattle.osgi_space_sources.proofs.uses.keeps_uses.Goals as goal
 
-without : (keys : List ℕ) → length keys ≡ 0 → keys ≡ []
-without [] none = refl
-without (key ∷ keys) none = absurd (omega (arith, none))
-
-none-in : (disputed : BTreeSet ℕ) (u : ℕ) → disputed.keys ≡ [] → ¬ IsTrue (contains nat_cmp disputed u)
-none-in disputed u none there = false≢true (subst (λ keys. IsTrue (contains nat_cmp (record { keys = keys }) u)) none there)
-
 pub returns-then-is_empty : goal.returns-then-is_empty
 returns-then-is_empty c =
-    let keeps : KeepsUsesAmong c.args.rows.now (IsAmong c.args.among) c.args.revision = λ e u implied clash.
-    absurd (none-in c.args.disputed.now u (without c.args.disputed.now.keys (c.is_empty.ensures.0 c.if-is_empty.true)) (clash-disputed c.args.rows.now c.args.disputed.now c.requires.disputed clash)) in
+    let none = c.is_empty.ensures.none c.if-is_empty.true in
+    let keeps : KeepsUsesAmong c.args.rows.now (IsAmong c.args.among) c.args.revision =
+    agrees-unless c.args.rows.now c.args.disputed.now c.requires.disputed (IsAmong c.args.among) c.args.revision (λ e u implied clash. none u) in
     record { uses = (λ t. keeps, λ k. refl) }
 
 pub returns-then-not-has : goal.returns-then-not-has
@@ -46,10 +39,11 @@ pub returns-then-not-sees_disputed : goal.returns-then-not-sees_disputed
 returns-then-not-sees_disputed c =
     let R = c.args.rows.now in
     let r = c.args.revision in
-    let D : ℕ → Type 0 = λ p. IsTrue (contains nat_cmp c.args.disputed.now p) in
+    let A = IsAmong c.args.among in
+    let disputed = c.args.disputed.now in
+    let D : ℕ → Type 0 = IsDisputed disputed in
     let givens = c.in_ok-givens.givens.items in
-    let keeps : KeepsUsesAmong R (IsAmong c.args.among) r = λ e u implied clash.
-    let there = clash-disputed R c.args.disputed.now c.requires.disputed clash in
+    let away : (e u : ℕ) → Implied R A r e u → Clash R r e u → ¬ D u = λ e u implied clash there.
     let h : Given = record { «package» = u; source = clash.ours } in
     let sees : Any (λ (row : Import). D row.imported) c.imports_of-imports.result.now ⊎ Any (λ (g : Given). D g.package) c.as_slice.result.now =
     elim ((seen-parts R r h).1 clash.ours_in) [
@@ -58,7 +52,7 @@ returns-then-not-sees_disputed c =
     ] in
     let yes = c.sees_disputed.ensures.disputed.1 sees in
     let no = c.if-not-sees_disputed.true in cc in
-    record { uses = (λ t. keeps, λ k. refl) }
+    record { uses = (λ t. agrees-unless R disputed c.requires.disputed A r away, λ k. refl) }
 
 pub returns : goal.returns
 returns c =
