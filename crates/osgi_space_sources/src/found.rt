@@ -17,7 +17,7 @@ pub trait Node: Copy + Ord {
 }
 
 /// How many values are looked through one after another.
-pub(crate) const FEW: usize = 8;
+pub(crate) const FEW: usize = 16;
 
 /// Values in the order in which they were found. Once they are more than a few, a set has them too. Contracts see the list of the values.
 #[derive(Drop)]
