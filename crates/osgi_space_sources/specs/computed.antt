@@ -1,6 +1,7 @@
 -- What the code computes of sources and of implied constraints, over rows.
 pub mod Reach
 pub mod RowSources
+pub mod Marks
 pub mod Disputes
 pub mod Clashes
 pub mod Amongst

@@ -8,6 +8,7 @@ ghost use Rattle.osgi_space_sources.specs.computed.RowSources.{HasExport};
 ghost use Rattle.osgi_space_rows.specs.Rows.{OwnExport};
 
 use crate::given::Given;
+use crate::number_set::NumberSet;
 use osgi_base::NumberMap;
 use osgi_space_rows::{Attachment, Import, Required, Rows};
 use osgi_world::Known;
@@ -19,7 +20,7 @@ use std::collections::BTreeSet;
 #[derive(Drop)]
 pub struct Disputed {
     packages: BTreeSet<u32>,
-    ends: BTreeSet<u32>,
+    ends: NumberSet,
 }
 
 impl Disputed {
@@ -29,7 +30,7 @@ impl Disputed {
     {
         Disputed {
             packages: BTreeSet::new(alloc),
-            ends: BTreeSet::new(alloc),
+            ends: NumberSet::new(alloc),
         }
     }
 
@@ -56,7 +57,7 @@ impl Disputed {
     fn has_end(&self, revision: u32) -> bool
         ensures has { IsTrue result ↔ IsEnd self.now revision }
     {
-        self.ends.contains(&revision)
+        self.ends.has(revision)
     }
 
     /// Whether the revision, and the one that sees the package, may have different sources of it.

@@ -11,6 +11,7 @@ mod found;
 mod given;
 mod lead;
 mod leads;
+mod number_set;
 mod package_sources;
 mod revision_set;
 mod space;

@@ -5,6 +5,7 @@ use Rattle.std.specs.Ordering.{nat_cmp}
 use Rattle.osgi_base.specs.NumberMaps.{value_at}
 use Rattle.osgi_space_rows.specs.Rows.{RowLists, Imports, Requires}
 use Rattle.osgi_space_sources.specs.computed.Clashes.{HasWires}
+use Rattle.osgi_space_sources.specs.computed.Marks.{IsMarked}
 use Rattle.osgi_space_sources.specs.computed.RowSources.{HasExport}
 use Rattle.osgi_space_sources.specs.declared.disputed.Disputed.{Disputed}
 use Rattle.osgi_space_sources.specs.declared.disputed.Possible.{Possible}
@@ -19,7 +20,7 @@ IsDisputed disputed p = IsTrue (contains nat_cmp disputed.packages p)
 
 -- the revision is among those that are known as ends of wires
 abbrev pub IsEnd : Disputed → ℕ → Type 0
-IsEnd disputed x = IsTrue (contains nat_cmp disputed.ends x)
+IsEnd disputed x = IsMarked disputed.ends x
 
 -- x may be a source of p for an end of a wire, where E are the ends: one has a wire for p to it, or it is an end and its payload
 -- exports p

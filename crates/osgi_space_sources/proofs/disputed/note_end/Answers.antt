@@ -1,11 +1,8 @@
 -- The exports of an end that is new are noted before it is.
 use Rattle.std.proofs.Common.{inl, inr, refl, sym, subst}
-use Rattle.std.specs.Ordering.{nat_cmp}
 use Rattle.osgi_space_sources.specs.computed.Disputes.{IsEnd, IsNoted}
-use Rattle.osgi_space_sources.specs.computed.Exact.{exact_number}
 use Rattle.osgi_space_sources.specs.computed.RowSources.{HasExport}
 use Rattle.osgi_space_sources.specs.laws.Noted.{extends-ends, extends-same}
-use Rattle.osgi_space_sources.specs.laws.Sets.{set_put}
 use Rattle.osgi_space_sources.proofs.disputed.note_end.Goals as goal
 
 pub returns-then-has_end : goal.returns-then-has_end
@@ -23,7 +20,7 @@ returns c =
     let old = c.args.possible.now in
     let noted = c.note_exports.new.possible in
     let same = c.note_exports.ensures.ends in
-    let put = set_put nat_cmp exact_number noted.disputed.ends c.insert.new.self c.args.revision c.in_ok-insert.ensures.updates in
+    let put = c.in_ok-insert.ensures.put in
     record {
       noted = (put c.args.revision).1 (inr refl);
       extends = record {
@@ -34,4 +31,17 @@ returns c =
           | inr e ↦ inr (subst (λ y. (p : _) → HasExport R y p → IsNoted noted p y) e c.in_ok-note_exports.ensures.noted)
         ];
       };
+    }
+
+-- a set that stays as it was loses and gains no end
+pub returns-in_err-insert-clause-extends : goal.returns-in_err-insert-clause-extends
+returns-in_err-insert-clause-extends c =
+    let old = c.args.possible.now in
+    let noted = c.note_exports.new.possible in
+    let same = c.note_exports.ensures.ends in
+    let still = c.in_err-insert.ensures.unchanged in
+    record {
+      sources = c.note_exports.ensures.nothing_lost;
+      ends = λ x end. (still x).1 (subst (λ set. IsEnd (record old.disputed { ends = set }) x) (sym same) end);
+      exports = λ x end. inl (subst (λ set. IsEnd (record old.disputed { ends = set }) x) same ((still x).0 end));
     }
