@@ -35,7 +35,8 @@ fn add_picks(
     requirement: ReqRef,
     candidates: &[CapRef],
 ) -> Result<(), AllocError>
-    ensures added { OnOk result (decisions_in asks.new.items ≡ decisions_in asks.old.items ++ map (pick host requirement) candidates.now) }
+    ensures added { OnOk result (decisions_in asks.new.items
+        ≡ decisions_in asks.old.items ++ map (pick host requirement) candidates.now) }
 {
     for capability in candidates {
         asks.push(DecisionRef::Pick {
@@ -56,7 +57,10 @@ fn add_requirement(
     requirement: ReqRef,
 ) -> Result<(), AllocError>
     requires lists { AreListsOf offers.now requirement.owner lists.now }
-    ensures added { OnOk result ((P : Problem) → IsProblemIn offers.now P → CanBeAsked P.world.known requirement → decisions_in asks.new.items ≡ decisions_in asks.old.items ++ decisions_of P host requirement) }
+    ensures added { OnOk result ((P : Problem) → IsProblemIn offers.now P
+        → CanBeAsked P.world.known requirement
+        → decisions_in asks.new.items
+        ≡ decisions_in asks.old.items ++ decisions_of P host requirement) }
 {
     if offers.known().is_multiple(requirement) {
         add_picks(asks, host, requirement, list_at(lists, requirement.index))?;
@@ -76,7 +80,11 @@ fn add_of_kind(
     requirement: ReqRef,
 ) -> Result<(), AllocError>
     requires lists { AreListsOf offers.now requirement.owner lists.now }
-    ensures added { OnOk result ((P : Problem) → IsProblemIn offers.now P → IsTrue (is_current P.world.known requirement.owner) → requirement.index < requirement_count P.world.known requirement.owner → decisions_in asks.new.items ≡ decisions_in asks.old.items ++ asks_among P host kind (requirement ∷ [])) }
+    ensures added { OnOk result ((P : Problem) → IsProblemIn offers.now P
+        → IsTrue (is_current P.world.known requirement.owner)
+        → requirement.index < requirement_count P.world.known requirement.owner
+        → decisions_in asks.new.items
+        ≡ decisions_in asks.old.items ++ asks_among P host kind (requirement ∷ [])) }
 {
     let known = offers.known();
     if known.is_effective(requirement) && kind.has(known.requirement_namespace(requirement)) {
@@ -95,7 +103,10 @@ pub fn add_owner(
     owner: RevisionId,
 ) -> Result<(), AllocError>
     requires lists { AreListsOf offers.now owner lists.now }
-    ensures added { OnOk result ((P : Problem) → IsProblemIn offers.now P → IsTrue (is_current P.world.known owner) → decisions_in asks.new.items ≡ decisions_in asks.old.items ++ asks_among P host kind (own_requirements P.world.known owner)) }
+    ensures added { OnOk result ((P : Problem) → IsProblemIn offers.now P
+        → IsTrue (is_current P.world.known owner)
+        → decisions_in asks.new.items ≡ decisions_in asks.old.items
+        ++ asks_among P host kind (own_requirements P.world.known owner)) }
 {
     for index in 0..offers.known().requirement_count(owner) {
         let requirement = ReqRef {

@@ -22,7 +22,8 @@ fn attachments_of(
     host: RevisionId,
     fragments: &[RevisionId],
 ) -> Result<Vec<DecisionRef>, AllocError>
-    ensures attachments { IfOk result (λ list. decisions_in list.items ≡ map (attaching host) fragments.now) }
+    ensures attachments { IfOk result (λ list.
+        decisions_in list.items ≡ map (attaching host) fragments.now) }
 {
     let mut attachments = Vec::new(alloc);
     for fragment in fragments {
@@ -42,7 +43,9 @@ fn own_asks(
     member: RevisionId,
 ) -> Result<Vec<DecisionRef>, AllocError>
     requires lists { AreListsOf offers.now member lists.now }
-    ensures asks { IfOk result (λ asks. (P : Problem) → IsProblemIn offers.now P → IsTrue (is_current P.world.known member) → decisions_in asks.items ≡ asks_of P member (member ∷ [])) }
+    ensures asks { IfOk result (λ asks. (P : Problem) → IsProblemIn offers.now P
+        → IsTrue (is_current P.world.known member)
+        → decisions_in asks.items ≡ asks_of P member (member ∷ [])) }
 {
     let mut asks = Vec::new(alloc);
     add_owner(&mut asks, offers, lists, member, Kind::Bundle, member)?;
@@ -60,7 +63,9 @@ pub fn first_decisions(
     member: RevisionId,
 ) -> Result<Vec<DecisionRef>, AllocError>
     requires lists { AreListsOf offers.now member lists.now }
-    ensures first { IfOk result (λ list. (P : Problem) → IsProblemIn offers.now P → IsTrue (is_current P.world.known member) → fragments.now ≡ matching P member → decisions_in list.items ≡ first_due P member) }
+    ensures first { IfOk result (λ list. (P : Problem) → IsProblemIn offers.now P
+        → IsTrue (is_current P.world.known member) → fragments.now ≡ matching P member
+        → decisions_in list.items ≡ first_due P member) }
 {
     if !fragments.is_empty() {
         return Ok(attachments_of(alloc, member, fragments)?);

@@ -4,6 +4,7 @@
 
 mod asks;
 mod decision_ref;
+mod decisions;
 mod first;
 mod kind;
 mod lists;
@@ -13,6 +14,7 @@ mod plain;
 mod same;
 
 pub use decision_ref::DecisionRef;
+pub use decisions::Decisions;
 pub use lists::Lists;
 pub use owned::{Owned, is_of_space, owned_with};
 pub use payload::asks_of;

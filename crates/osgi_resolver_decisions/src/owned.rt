@@ -13,7 +13,7 @@ ghost use Rattle.osgi_resolver_decisions.specs.computed.Known.{AreListsOf, IsPro
 ghost use Rattle.osgi_resolver_decisions.specs.computed.Sureness.{IsSureBy, list_at};
 
 use crate::asks::list_at;
-use crate::decision_ref::DecisionRef;
+use crate::decisions::Decisions;
 use crate::first::first_decisions;
 use osgi_base::RevisionId;
 use osgi_candidates::Offers;
@@ -28,7 +28,7 @@ pub struct Owned {
     /// The fragments that may be attached to it, by bundle id.
     pub fragments: Vec<RevisionId>,
     /// Its decisions as a member of which nothing is decided yet.
-    pub first: Vec<DecisionRef>,
+    pub first: Decisions,
     /// Whether it has no attachment, bundle requirement or import to decide.
     pub is_free: bool,
     /// Each requirement that is needed may have one wire alone, and has a candidate. Where it is false, that need not be so.
@@ -56,7 +56,8 @@ impl Drop for Owned {
 /// Whether a requirement that is needed has a candidate in its list, and may have one wire alone. Where the answer is false, that
 /// need not be so.
 fn is_sure(offers: &Offers, lists: &[Vec<CapRef>], requirement: ReqRef) -> bool
-    ensures sure { IsTrue result → IsNeeded offers.now.known requirement → IsSureBy offers.now.known (list_at lists.now requirement.index) requirement }
+    ensures sure { IsTrue result → IsNeeded offers.now.known requirement
+        → IsSureBy offers.now.known (list_at lists.now requirement.index) requirement }
 {
     let known = offers.known();
     if !known.is_needed(requirement) {
@@ -73,7 +74,9 @@ fn is_sure(offers: &Offers, lists: &[Vec<CapRef>], requirement: ReqRef) -> bool
 
 /// Whether it is so with each requirement of the owner. Where the answer is false, that need not be so.
 fn are_sure(offers: &Offers, lists: &[Vec<CapRef>], owner: RevisionId) -> bool
-    ensures sure { IsTrue result → (q : ReqRef) → q.owner ≡ owner → q.index < requirement_count offers.now.known owner → IsNeeded offers.now.known q → IsSureBy offers.now.known (list_at lists.now q.index) q }
+    ensures sure { IsTrue result → (q : ReqRef) → q.owner ≡ owner
+        → q.index < requirement_count offers.now.known owner → IsNeeded offers.now.known q
+        → IsSureBy offers.now.known (list_at lists.now q.index) q }
 {
     for index in 0..offers.known().requirement_count(owner) {
         let requirement = ReqRef {
@@ -89,7 +92,8 @@ fn are_sure(offers: &Offers, lists: &[Vec<CapRef>], owner: RevisionId) -> bool
 
 /// Whether the requirement is needed, and has no candidate in its list.
 fn is_lacking(offers: &Offers, lists: &[Vec<CapRef>], requirement: ReqRef) -> bool
-    ensures lacking { IsTrue result ↔ IsNeeded offers.now.known requirement × (list_at lists.now requirement.index ≡ []) }
+    ensures lacking { IsTrue result ↔ IsNeeded offers.now.known requirement
+        × (list_at lists.now requirement.index ≡ []) }
 {
     if !offers.known().is_needed(requirement) {
         return false;
@@ -100,7 +104,8 @@ fn is_lacking(offers: &Offers, lists: &[Vec<CapRef>], requirement: ReqRef) -> bo
 /// Whether the owner is current, and it is so with a requirement of it. The lists are those of the owner.
 fn has_lacking(offers: &Offers, lists: &[Vec<CapRef>], owner: RevisionId) -> bool
     requires lists { AreListsOf offers.now owner lists.now }
-    ensures lacks { (P : Problem) → IsProblemIn offers.now P → IsTrue result ↔ IsTrue (is_current P.world.known owner) × LacksCandidate P owner }
+    ensures lacks { (P : Problem) → IsProblemIn offers.now P → IsTrue result
+        ↔ IsTrue (is_current P.world.known owner) × LacksCandidate P owner }
 {
     if !offers.known().is_current(owner) {
         return false;
@@ -128,7 +133,10 @@ pub fn is_of_space(namespace: &[u8]) -> bool
 
 /// Whether the requirement of a bundle or a package has a decision.
 fn asks_space(alloc: Global, offers: &Offers, requirement: ReqRef) -> Result<bool, AllocError>
-    ensures asks { IfOk result (λ asks. (P : Problem) → IsProblemIn offers.now P → IsTrue (is_current P.world.known requirement.owner) → requirement.index < requirement_count P.world.known requirement.owner → asks ≡ asks_space P requirement) }
+    ensures asks { IfOk result (λ asks. (P : Problem) → IsProblemIn offers.now P
+        → IsTrue (is_current P.world.known requirement.owner)
+        → requirement.index < requirement_count P.world.known requirement.owner
+        → asks ≡ asks_space P requirement) }
 {
     let known = offers.known();
     if !(known.is_effective(requirement) && is_of_space(known.requirement_namespace(requirement))) {
@@ -143,7 +151,9 @@ fn asks_space(alloc: Global, offers: &Offers, requirement: ReqRef) -> Result<boo
 
 /// Whether an owner has a requirement of a bundle or a package that has a decision.
 fn owner_asks_space(alloc: Global, offers: &Offers, owner: RevisionId) -> Result<bool, AllocError>
-    ensures asks { IfOk result (λ asks. (P : Problem) → IsProblemIn offers.now P → IsTrue (is_current P.world.known owner) → asks ≡ list_any (asks_space P) (own_requirements P.world.known owner)) }
+    ensures asks { IfOk result (λ asks. (P : Problem) → IsProblemIn offers.now P
+        → IsTrue (is_current P.world.known owner)
+        → asks ≡ list_any (asks_space P) (own_requirements P.world.known owner)) }
 {
     let mut asks = false;
     for index in 0..offers.known().requirement_count(owner) {
@@ -168,10 +178,12 @@ pub fn owned_with(
     lists: Vec<Vec<CapRef>>,
 ) -> Result<Owned, AllocError>
     requires lists { AreListsOf offers.now owner lists.items }
-    ensures right { IfOk result (λ owned. (P : Problem) → IsProblemIn offers.now P → IsRightOf P owner owned) }
+    ensures right { IfOk result (λ owned. (P : Problem) → IsProblemIn offers.now P
+        → IsRightOf P owner owned) }
 {
     let fragments = offers.fragments_for(alloc, owner)?;
     let first = first_decisions(alloc, offers, lists.as_slice(), fragments.as_slice(), owner)?;
+    let first = Decisions::of(alloc, first)?;
     let is_free = fragments.is_empty() && !owner_asks_space(alloc, offers, owner)?;
     let is_sure = are_sure(offers, lists.as_slice(), owner);
     let lacks_candidate = has_lacking(offers, lists.as_slice(), owner);

@@ -5,7 +5,7 @@ ghost use Rattle.osgi_base.specs.declared.ids.RevisionId.{RevisionId};
 ghost use Rattle.osgi_world.specs.Lookups.{is_current};
 ghost use Rattle.osgi_world.specs.declared.problem.Problem.{Problem};
 ghost use Rattle.osgi_resolver_decisions.specs.computed.Asks.{asks_by, asks_of, decisions_in};
-ghost use Rattle.osgi_resolver_decisions.specs.computed.Known.{AreRight, IsProblemIn, Knows};
+ghost use Rattle.osgi_resolver_decisions.specs.computed.Known.{IsProblemIn, Knows};
 
 use crate::asks::add_owner;
 use crate::decision_ref::DecisionRef;
@@ -22,13 +22,15 @@ fn add_kind(
     kind: Kind,
     owners: &[RevisionId],
 ) -> Result<(), AllocError>
-    requires right { AreRight lists.now }
     requires known { All (Knows lists.now) owners.now }
-    ensures added { OnOk result ((P : Problem) → IsProblemIn lists.now.offers P → All (λ (o : RevisionId). IsTrue (is_current P.world.known o)) owners.now → decisions_in asks.new.items ≡ decisions_in asks.old.items ++ asks_by P host kind owners.now) }
+    ensures added { OnOk result ((P : Problem) → IsProblemIn lists.now.offers P
+        → All (λ (o : RevisionId). IsTrue (is_current P.world.known o)) owners.now
+        → decisions_in asks.new.items
+        ≡ decisions_in asks.old.items ++ asks_by P host kind owners.now) }
 {
     for owner in owners {
         let candidates = lists.of_owner(*owner);
-        add_owner(asks, &lists.offers, candidates, host, kind, *owner)?;
+        add_owner(asks, lists.offers(), candidates, host, kind, *owner)?;
     }
     Ok(())
 }
@@ -40,9 +42,10 @@ pub fn asks_of(
     host: RevisionId,
     owners: &[RevisionId],
 ) -> Result<Vec<DecisionRef>, AllocError>
-    requires right { AreRight lists.now }
     requires known { All (Knows lists.now) owners.now }
-    ensures asks { IfOk result (λ asks. (P : Problem) → IsProblemIn lists.now.offers P → All (λ (o : RevisionId). IsTrue (is_current P.world.known o)) owners.now → decisions_in asks.items ≡ asks_of P host owners.now) }
+    ensures asks { IfOk result (λ asks. (P : Problem) → IsProblemIn lists.now.offers P
+        → All (λ (o : RevisionId). IsTrue (is_current P.world.known o)) owners.now
+        → decisions_in asks.items ≡ asks_of P host owners.now) }
 {
     let mut asks = Vec::new(alloc);
     add_kind(&mut asks, lists, host, Kind::Bundle, owners)?;

@@ -56,7 +56,9 @@ pub fn can_be_asked(known: &KnownIndex, at: ReqRef) -> bool
 
 /// Whether both are such imports of the package, and the other one has candidates to tell.
 pub fn are_alike(offers: &Offers, one: ReqRef, other: ReqRef, name: &Text) -> bool
-    ensures same { IsTrue result → (P : Problem) → IsProblemIn offers.now P → CanBeAsked P.world.known one → CanBeAsked P.world.known other × (candidates P other ≡ candidates P one) }
+    ensures same { IsTrue result → (P : Problem) → IsProblemIn offers.now P
+        → CanBeAsked P.world.known one → CanBeAsked P.world.known other
+        × (candidates P other ≡ candidates P one) }
 {
     let known = offers.known();
     if !can_be_asked(known, other) {

@@ -86,7 +86,9 @@ fn ask_the_same(one: &Requirement, other: &Requirement) -> bool
 /// Whether the one is effective and asks for the same as the other, which has candidates to tell. Where the answer is false, their
 /// candidates may be the same.
 pub fn ask_alike(offers: &Offers, one: ReqRef, other: ReqRef) -> bool
-    ensures same { IsTrue result → (P : Problem) → IsProblemIn offers.now P → CanBeAsked P.world.known one → CanBeAsked P.world.known other × (candidates P other ≡ candidates P one) }
+    ensures same { IsTrue result → (P : Problem) → IsProblemIn offers.now P
+        → CanBeAsked P.world.known one → CanBeAsked P.world.known other
+        × (candidates P other ≡ candidates P one) }
 {
     let known = offers.known();
     let Some(asking) = known.requirement(one) else {

@@ -6,7 +6,7 @@ use Rattle.std.proofs.lemmas.List.Elements.{All-cons}
 use Rattle.osgi_base.specs.declared.ids.RevisionId.{RevisionId}
 use Rattle.osgi_world.specs.Candidates.{IsProblem, matching}
 use Rattle.osgi_world.specs.Decisions as spec
-use Rattle.osgi_world.specs.Decisions.{Made, arity, attaching, choose, is_yes, pick, value_made}
+use Rattle.osgi_world.specs.Decisions.{Made, attaching, choose, is_yes, pick, value_made}
 use Rattle.osgi_world.specs.DueDecisions.{due, fragments_of, members, next_decision}
 use Rattle.osgi_world.specs.Lists.{In}
 use Rattle.osgi_world.specs.Lookups.{is_current, is_host_of}
@@ -61,11 +61,11 @@ module _ (P : Problem) (L : IsProblem P) (c : Course) (ids : List RevisionId) (d
   pub size : length D ≡ length c.marks.items
   size = length-made_of ms ∙ length-reverse c.marks.items
 
-  pub there : slice_get (decisions_in c.queue.items) (length D) ≡ Some d
-  there = ap (slice_get (decisions_in c.queue.items)) size ∙ get-map decision_of c.queue.items (length c.marks.items) decision n.next
+  pub there : slice_get (decisions_in c.queue) (length D) ≡ Some d
+  there = ap (slice_get (decisions_in c.queue)) size ∙ get-map decision_of c.queue (length c.marks.items) decision n.next
 
   pub next-is : next_decision P D ≡ Some d
-  next-is = next-there P L ms F r ∙ ap (slice_get (decisions_in c.queue.items)) (sym (length-made_of ms)) ∙ there
+  next-is = next-there P L ms F r ∙ ap (slice_get (decisions_in c.queue)) (sym (length-made_of ms)) ∙ there
 
   pub state : State P D
   state = right-state P ms F r
@@ -73,38 +73,38 @@ module _ (P : Problem) (L : IsProblem P) (c : Course) (ids : List RevisionId) (d
   pub state-then : State P ((d, value) ∷ D)
   state-then = step state next-is n.range
 
-  opened : IsOpened P D ids (decisions_in c.queue.items) c.last
+  opened : IsOpened P D ids (decisions_in c.queue) c.last
   opened = record {
     queue_is = r.queue;
     done = let h = r.done in let e = length-made_of ms in omega (arith, h, e);
-    within = let h = r.within in let e = length-made_of ms in let f = length-map c.queue.items decision_of in omega (arith, h, e, f);
+    within = let h = r.within in let e = length-made_of ms in let f = length-map c.queue decision_of in omega (arith, h, e, f);
     last_in = r.last_in;
   }
 
-  same-then : ((h f : RevisionId) → d ≡ attaching h f → length D + 1 < length (decisions_in c.queue.items)) → IsOpened P ((d, value) ∷ D) ids (decisions_in c.queue.items) c.last
+  same-then : ((h f : RevisionId) → d ≡ attaching h f → length D + 1 < length (decisions_in c.queue)) → IsOpened P ((d, value) ∷ D) ids (decisions_in c.queue) c.last
   same-then waits = go d refl
     where
-      go : (x : spec.Decision) → d ≡ x → IsOpened P ((d, value) ∷ D) ids (decisions_in c.queue.items) c.last
-      go (attaching h f) e = opened-some P L D state ids (decisions_in c.queue.items) c.last value d r.ids opened there h f e (waits h f e)
-      go (choose h q) e = opened-ask P L D state ids (decisions_in c.queue.items) c.last value d r.ids opened there (λ k f x. clash k f (sym x ∙ e))
+      go : (x : spec.Decision) → d ≡ x → IsOpened P ((d, value) ∷ D) ids (decisions_in c.queue) c.last
+      go (attaching h f) e = opened-some P L D state ids (decisions_in c.queue) c.last value d r.ids opened there h f e (waits h f e)
+      go (choose h q) e = opened-ask P L D state ids (decisions_in c.queue) c.last value d r.ids opened there (λ k f x. clash k f (sym x ∙ e))
         where
           clash : (k f : RevisionId) → attaching k f ≡ choose h q → ⊥
           clash k f y = cc
-      go (pick h q y) e = opened-ask P L D state ids (decisions_in c.queue.items) c.last value d r.ids opened there (λ k f x. clash k f (sym x ∙ e))
+      go (pick h q y) e = opened-ask P L D state ids (decisions_in c.queue) c.last value d r.ids opened there (λ k f x. clash k f (sym x ∙ e))
         where
           clash : (k f : RevisionId) → attaching k f ≡ pick h q y → ⊥
           clash k f z = cc
 
   -- other decisions wait in the queue
-  pub waiting-then : (more : More) → length c.marks.items + 1 < length c.queue.items → more.decisions.items ≡ [] → more.last ≡ c.last → IsOpenedBy P c decision value more
+  pub waiting-then : (more : More) → length c.marks.items + 1 < length c.queue → more.decisions ≡ [] → more.last ≡ c.last → IsOpenedBy P c decision value more
   waiting-then more waits none last-is =
-      let same = same-then (λ h f e. let z = length-map c.queue.items decision_of in let y = size in omega (arith, waits, z, y)) in
-      let queue-is : (c.queue.items ++ more.decisions.items) ≡ c.queue.items = ap (λ l. c.queue.items ++ l) none ∙ append-nil c.queue.items in
+      let same = same-then (λ h f e. let z = length-map c.queue decision_of in let y = size in omega (arith, waits, z, y)) in
+      let queue-is : (c.queue ++ more.decisions) ≡ c.queue = ap (λ l. c.queue ++ l) none ∙ append-nil c.queue in
       record {
         opened =
-            subst (λ k. IsOpened P ((d, value) ∷ D) c.ids.items (decisions_in (c.queue.items ++ more.decisions.items)) k) (sym last-is)
+            subst (λ k. IsOpened P ((d, value) ∷ D) c.ids.items (decisions_in (c.queue ++ more.decisions)) k) (sym last-is)
             (subst (λ q. IsOpened P ((d, value) ∷ D) c.ids.items (decisions_in q) c.last) (sym queue-is)
-            (subst (λ l. IsOpened P ((d, value) ∷ D) l (decisions_in c.queue.items) c.last) (sym n.ids_are) (opened-longer P ((d, value) ∷ D) ids n.joined (decisions_in c.queue.items) c.last same)));
+            (subst (λ l. IsOpened P ((d, value) ∷ D) l (decisions_in c.queue) c.last) (sym n.ids_are) (opened-longer P ((d, value) ∷ D) ids n.joined (decisions_in c.queue) c.last same)));
         pending = inl (subst (λ q. length c.marks.items + 1 < length q) (sym queue-is) waits);
       }
 
@@ -122,37 +122,37 @@ module _ (P : Problem) (L : IsProblem P) (c : Course) (ids : List RevisionId) (d
       all-in (x ∷ xs) f = All-cons (λ (o : RevisionId). IsTrue (is_current P.world.known o)) x xs (f x (inl refl)) (all-in xs (λ y i. f y (inr i)))
 
   -- all decisions of the queue are made then: with what it makes due itself
-  pub all-then : (asks : List spec.Decision) → length c.marks.items + 1 ≡ length c.queue.items → IsAskedAfter P D d value asks → IsOpened P ((d, value) ∷ D) c.ids.items (decisions_in c.queue.items ++ asks) c.last
+  pub all-then : (asks : List spec.Decision) → length c.marks.items + 1 ≡ length c.queue → IsAskedAfter P D d value asks → IsOpened P ((d, value) ∷ D) c.ids.items (decisions_in c.queue ++ asks) c.last
   all-then asks all asked-is =
-      subst (λ l. IsOpened P ((d, value) ∷ D) l (decisions_in c.queue.items ++ asks) c.last) (sym n.ids_are) (opened-longer P ((d, value) ∷ D) ids n.joined (decisions_in c.queue.items ++ asks) c.last (go d refl asked-is))
+      subst (λ l. IsOpened P ((d, value) ∷ D) l (decisions_in c.queue ++ asks) c.last) (sym n.ids_are) (opened-longer P ((d, value) ∷ D) ids n.joined (decisions_in c.queue ++ asks) c.last (go d refl asked-is))
     where
-      whole : length D + 1 ≡ length (decisions_in c.queue.items)
-      whole = let z = length-map c.queue.items decision_of in let y = size in omega (arith, all, z, y)
+      whole : length D + 1 ≡ length (decisions_in c.queue)
+      whole = let z = length-map c.queue decision_of in let y = size in omega (arith, all, z, y)
 
-      go : (x : spec.Decision) → d ≡ x → IsAskedAfter P D x value asks → IsOpened P ((d, value) ∷ D) ids (decisions_in c.queue.items ++ asks) c.last
+      go : (x : spec.Decision) → d ≡ x → IsAskedAfter P D x value asks → IsOpened P ((d, value) ∷ D) ids (decisions_in c.queue ++ asks) c.last
       go (attaching h f) e is =
-          let o = opened-last P L D state ids (decisions_in c.queue.items) c.last value d r.ids opened there h f e whole in
+          let o = opened-last P L D state ids (decisions_in c.queue) c.last value d r.ids opened there h f e whole in
           let same : asks ≡ asked P ((d, value) ∷ D) h = is (current-then h f e) ∙ ap (λ x. asked P ((x, value) ∷ D) h) (sym e) in
-          subst (λ l. IsOpened P ((d, value) ∷ D) ids (decisions_in c.queue.items ++ l) c.last) (sym same) o
+          subst (λ l. IsOpened P ((d, value) ∷ D) ids (decisions_in c.queue ++ l) c.last) (sym same) o
       go (choose h q) e is =
-          let o = opened-ask P L D state ids (decisions_in c.queue.items) c.last value d r.ids opened there (λ k f x. clash k f (sym x ∙ e)) in
-          subst (λ l. IsOpened P ((d, value) ∷ D) ids l c.last) (sym (ap (λ l. decisions_in c.queue.items ++ l) is ∙ append-nil (decisions_in c.queue.items))) o
+          let o = opened-ask P L D state ids (decisions_in c.queue) c.last value d r.ids opened there (λ k f x. clash k f (sym x ∙ e)) in
+          subst (λ l. IsOpened P ((d, value) ∷ D) ids l c.last) (sym (ap (λ l. decisions_in c.queue ++ l) is ∙ append-nil (decisions_in c.queue))) o
         where
           clash : (k f : RevisionId) → attaching k f ≡ choose h q → ⊥
           clash k f y = cc
       go (pick h q y) e is =
-          let o = opened-ask P L D state ids (decisions_in c.queue.items) c.last value d r.ids opened there (λ k f x. clash k f (sym x ∙ e)) in
-          subst (λ l. IsOpened P ((d, value) ∷ D) ids l c.last) (sym (ap (λ l. decisions_in c.queue.items ++ l) is ∙ append-nil (decisions_in c.queue.items))) o
+          let o = opened-ask P L D state ids (decisions_in c.queue) c.last value d r.ids opened there (λ k f x. clash k f (sym x ∙ e)) in
+          subst (λ l. IsOpened P ((d, value) ∷ D) ids l c.last) (sym (ap (λ l. decisions_in c.queue ++ l) is ∙ append-nil (decisions_in c.queue))) o
         where
           clash : (k f : RevisionId) → attaching k f ≡ pick h q y → ⊥
           clash k f z = cc
 
   -- and then members are opened until a decision waits
-  pub opened-then : (more : More) → length c.marks.items + 1 ≡ length c.queue.items → IsOpened P ((d, value) ∷ D) c.ids.items (decisions_in c.queue.items ++ decisions_in more.decisions.items) more.last → Waits more (length c.ids.items) → IsOpenedBy P c decision value more
+  pub opened-then : (more : More) → length c.marks.items + 1 ≡ length c.queue → IsOpened P ((d, value) ∷ D) c.ids.items (decisions_in c.queue ++ decisions_in more.decisions) more.last → Waits more (length c.ids.items) → IsOpenedBy P c decision value more
   opened-then more all o waits = record {
-    opened = subst (λ q. IsOpened P ((d, value) ∷ D) c.ids.items q more.last) (sym (map-append decision_of c.queue.items more.decisions.items)) o;
+    opened = subst (λ q. IsOpened P ((d, value) ∷ D) c.ids.items q more.last) (sym (map-append decision_of c.queue more.decisions)) o;
     pending = elim waits [
-      | inl some ↦ inl (let e = length-append c.queue.items more.decisions.items in omega (arith, all, some, e))
+      | inl some ↦ inl (let e = length-append c.queue more.decisions in omega (arith, all, some, e))
       | inr last ↦ inr last
     ];
   }

@@ -21,23 +21,23 @@ abbrev Says : Problem → Course → Mark → List RevisionId → List Mark → 
 Says P new mark ids ms q k =
     IsRight P (reverse ms) (record { ids = ids; queue = q; last = k }) → slice_get q (length ms) ≡ Some mark.decision → mark.value < arity P (decision_of mark.decision) →
     new.ids.items ≡ members P (made_with (reverse ms) mark.decision mark.value) →
-    IsOpened P (made_with (reverse ms) mark.decision mark.value) new.ids.items (decisions_in new.queue.items) new.last
-    × ((length ms + 1 < length new.queue.items) ⊎ (new.last + 1 ≡ length new.ids.items))
+    IsOpened P (made_with (reverse ms) mark.decision mark.value) new.ids.items (decisions_in new.queue) new.last
+    × ((length ms + 1 < length new.queue) ⊎ (new.last + 1 ≡ length new.ids.items))
 
 pub with-joined : (offers : World) (old between new : Course) (mark : Mark) (joining : Option RevisionId) → lists_of between ≡ record (lists_of old) { ids = old.ids.items ++ option_to_list joining } → between.marks.items ≡ old.marks.items →
     IsDecidedBy offers between new mark → IsDecidedWith offers old new mark joining
 with-joined offers old between new mark joining joined marks by =
     let ids-are : between.ids.items ≡ old.ids.items ++ option_to_list joining = ap (λ (F : CourseLists). F.ids) joined in
-    let queue-is : between.queue.items ≡ old.queue.items = ap (λ (F : CourseLists). F.queue) joined in
+    let queue-is : between.queue ≡ old.queue = ap (λ (F : CourseLists). F.queue) joined in
     let last-is : between.last ≡ old.last = ap (λ (F : CourseLists). F.last) joined in
     record {
       ids = by.ids ∙ ids-are;
       more = by.more;
       queue = by.queue ∙ ap (λ q. q ++ by.more) queue-is;
       opened = λ P in_it.
-          let here : Says P new mark old.ids.items between.marks.items between.queue.items between.last
+          let here : Says P new mark old.ids.items between.marks.items between.queue between.last
           = λ r next range are. by.opened P old.ids.items in_it r (record { next = next; range = range; joined = option_to_list joining; ids_are = ids-are; members_are = sym by.ids ∙ are }) in
-          subst (λ k. Says P new mark old.ids.items old.marks.items old.queue.items k) last-is
+          subst (λ k. Says P new mark old.ids.items old.marks.items old.queue k) last-is
           (subst (λ q. Says P new mark old.ids.items old.marks.items q between.last) queue-is
-          (subst (λ ms. Says P new mark old.ids.items ms between.queue.items between.last) marks here));
+          (subst (λ ms. Says P new mark old.ids.items ms between.queue between.last) marks here));
     }

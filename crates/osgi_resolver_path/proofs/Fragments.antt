@@ -1,6 +1,6 @@
 -- Attached fragments, by the rows of the wirings.
-use Rattle.std.proofs.Common.{◌≡◌, ◌≢◌, ◌↔◌, ℕ, ◌+◌, ◌<◌, ◌≤◌, inl, inr, true, false, cond, IsTrue, if◌then◌else◌, List, [], ◌∷◌, ◌++◌, length, get_or, take, filter, map, reverse, Some, refl, sym, ◌∙◌, ap, subst, arith, append-nil, Any, Contains}
-use Rattle.std.specs.Prelude.{Bool, Option, ◌==◌, ◌&&◌}
+use Rattle.std.proofs.Common.{◌≡◌, ◌≢◌, ◌↔◌, ℕ, ◌+◌, ◌<◌, ◌≤◌, inl, inr, true, false, cond, IsTrue, if◌then◌else◌, List, [], ◌∷◌, ◌++◌, length, get_or, take, filter, reverse, Some, refl, sym, ◌∙◌, ap, subst, arith, append-nil, Any, Contains}
+use Rattle.std.specs.Prelude.{Bool, ◌==◌, ◌&&◌}
 use Rattle.std.proofs.lemmas.Bool.{ne_eqb}
 use Rattle.std.proofs.lemmas.List.{take_all}
 use Rattle.std.proofs.lemmas.List.Elements.{filter_more}
@@ -26,12 +26,11 @@ use Rattle.osgi_space_rows.specs.declared.rows.Attachment.{Attachment}
 use Rattle.osgi_space_sources.proofs.Rows.{some-attached}
 use Rattle.osgi_space_sources.specs.laws.Adding.{adds-push, any-more, any-none}
 use Rattle.osgi_world.specs.Candidates.{IsProblem}
-use Rattle.osgi_world.specs.Decisions.{Decision, Made, attaching, host, is_yes, same_decision, value_made}
+use Rattle.osgi_world.specs.Decisions.{Made, attaching, host, is_yes, same_decision, value_made}
 use Rattle.osgi_world.specs.DueDecisions.{members}
 use Rattle.osgi_world.specs.Lists.{In}
 use Rattle.osgi_world.specs.Partial.{partial}
 use Rattle.osgi_world.specs.declared.problem.Problem.{Problem}
-use Rattle.osgi_world.specs.declared.wiring.Wiring.{Wiring}
 
 -- ---- the numbers of rows
 

@@ -1,5 +1,5 @@
 -- One member more is opened: its decisions are those of a member of which nothing is decided yet.
-use Rattle.std.proofs.Common.{◌≡◌, ℕ, ◌+◌, ◌<◌, ◌≤◌, ◌⊎◌, inl, inr, zero, suc, IsTrue, length, take, drop, get_or, List, [], ◌∷◌, ◌++◌, map, filter, flat_map, None, Some, refl, sym, ◌∙◌, ap, subst, arith, append-nil, length-append}
+use Rattle.std.proofs.Common.{◌≡◌, ℕ, ◌+◌, ◌<◌, inl, inr, zero, suc, length, take, drop, get_or, List, [], ◌∷◌, ◌++◌, map, filter, flat_map, None, Some, refl, sym, ◌∙◌, ap, subst, arith, length-append}
 use Rattle.std.proofs.lemmas.List.{get_or_default}
 use Rattle.osgi_base.specs.declared.ids.RevisionId.{RevisionId}
 use Rattle.osgi_world.specs.Candidates.{IsProblem, matching}

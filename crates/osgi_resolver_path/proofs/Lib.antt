@@ -1,5 +1,6 @@
 -- Lemmas on decisions.
 pub mod Entries
+pub mod Queues
 pub mod Next
 pub mod Marks
 pub mod Valued

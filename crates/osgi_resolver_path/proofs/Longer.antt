@@ -6,9 +6,9 @@ use Rattle.std.proofs.lemmas.List.{length-map, length-reverse, reverse-append}
 use Rattle.std.proofs.Math.Seq.{take-append_seam}
 use Rattle.osgi_base.specs.declared.ids.RevisionId.{RevisionId}
 use Rattle.osgi_world.specs.Candidates.{IsProblem}
-use Rattle.osgi_world.specs.ChoiceWords.{IsWord, decide, made_by, make, width}
+use Rattle.osgi_world.specs.ChoiceWords.{decide, made_by, make, width}
 use Rattle.osgi_world.specs.Decisions as spec
-use Rattle.osgi_world.specs.Decisions.{Made, adds, arity, attached, attaching, choose, is_yes, value_made}
+use Rattle.osgi_world.specs.Decisions.{Made, adds, arity, attached, attaching, choose, value_made}
 use Rattle.osgi_world.specs.DueDecisions.{members, next_decision, payload, provider_of, pull_in}
 use Rattle.osgi_world.specs.Lists.{In}
 use Rattle.osgi_world.specs.declared.problem.Problem.{Problem}
@@ -39,21 +39,21 @@ pub last-mark : (ms : List Mark) (m : Mark) (new : List Mark) → new ≡ ms ++ 
 last-mark ms m new e = ap reverse e ∙ reverse-append ms (m ∷ [])
 
 -- the decision at its place in the queue is next
-pub next-of : (P : Problem) → IsProblem P → (c : Course) → IsRight P (reverse c.marks.items) (lists_of c) → (d : DecisionRef) → slice_get c.queue.items (length c.marks.items) ≡ Some d → next_decision P (made_of (reverse c.marks.items)) ≡ Some (decision_of d)
+pub next-of : (P : Problem) → IsProblem P → (c : Course) → IsRight P (reverse c.marks.items) (lists_of c) → (d : DecisionRef) → slice_get c.queue (length c.marks.items) ≡ Some d → next_decision P (made_of (reverse c.marks.items)) ≡ Some (decision_of d)
 next-of P L c r d there =
     next-there P L (reverse c.marks.items) (lists_of c) r
-    ∙ ap (slice_get (decisions_in c.queue.items)) (length-reverse c.marks.items)
-    ∙ get-map decision_of c.queue.items (length c.marks.items) d there
+    ∙ ap (slice_get (decisions_in c.queue)) (length-reverse c.marks.items)
+    ∙ get-map decision_of c.queue (length c.marks.items) d there
 
 -- as it was before the mark
-pub taken-is : (c new : Course) (mark : Mark) (joining : Option RevisionId) (offers : World) → IsDecidedWith offers c new mark joining → mark.ids ≡ length c.ids.items → mark.queue ≡ length c.queue.items → mark.last ≡ c.last → taken_back mark (lists_of new) ≡ lists_of c
+pub taken-is : (c new : Course) (mark : Mark) (joining : Option RevisionId) (offers : World) → IsDecidedWith offers c new mark joining → mark.ids ≡ length c.ids.items → mark.queue ≡ length c.queue → mark.last ≡ c.last → taken_back mark (lists_of new) ≡ lists_of c
 taken-is c new mark joining offers by ids-is queue-is last-is =
     let a : take mark.ids new.ids.items ≡ c.ids.items = ap (λ n. take n new.ids.items) ids-is ∙ ap (take (length c.ids.items)) by.ids ∙ take-append_seam c.ids.items (option_to_list joining) in
-    let b : take mark.queue new.queue.items ≡ c.queue.items = ap (λ n. take n new.queue.items) queue-is ∙ ap (take (length c.queue.items)) by.queue ∙ take-append_seam c.queue.items by.more in
+    let b : take mark.queue new.queue ≡ c.queue = ap (λ n. take n new.queue) queue-is ∙ ap (take (length c.queue)) by.queue ∙ take-append_seam c.queue by.more in
     λ i. record { ids = a i; queue = b i; last = last-is i }
 
 pub right-longer : (P : Problem) → IsProblem P → (offers : World) → IsProblemIn offers P → (c new : Course) (mark : Mark) (joining : Option RevisionId) → IsRight P (reverse c.marks.items) (lists_of c) →
-    slice_get c.queue.items (length c.marks.items) ≡ Some mark.decision → mark.value < arity P (decision_of mark.decision) → steps_in mark.step ≡ adds P (decision_of mark.decision) mark.value →
+    slice_get c.queue (length c.marks.items) ≡ Some mark.decision → mark.value < arity P (decision_of mark.decision) → steps_in mark.step ≡ adds P (decision_of mark.decision) mark.value →
     (c.ids.items ++ option_to_list joining) ≡ pull_in P c.ids.items (flat_map provider_of (steps_in mark.step)) → new.marks.items ≡ c.marks.items ++ mark ∷ [] → IsDecidedWith offers c new mark joining →
     IsRight P (mark ∷ reverse c.marks.items) (lists_of new)
 right-longer P L offers in_it c new mark joining r there range steps joins marks by =
@@ -74,7 +74,7 @@ right-longer P L offers in_it c new mark joining r there range steps joins marks
       ids = ids-are;
       queue = o.0.queue_is;
       done = let h = o.0.done in omega (arith, h, total);
-      within = let h = o.0.within in let e = length-map new.queue.items decision_of in omega (arith, h, e, total);
+      within = let h = o.0.within in let e = length-map new.queue decision_of in omega (arith, h, e, total);
       last_in = o.0.last_in;
       pending = elim o.1 [ inl a ↦ inl (omega (arith, a, count)) | inr b ↦ inr b ];
     }
@@ -115,7 +115,7 @@ module _ (P : Problem) (L : IsProblem P) (lists : Lists) (c : Course) (r : IsRig
   choice-asked h q m i (chooses p j eff all one e) = let same : p ≡ q = cc in subst (IsAsked lists P) same (asked-of h p m i j eff)
   choice-asked h q m i (picks p x j eff all one k e) = cc
 
-  pub listed-next : (d : DecisionRef) → slice_get c.queue.items (length c.marks.items) ≡ Some d → IsListed lists P d
+  pub listed-next : (d : DecisionRef) → slice_get c.queue (length c.marks.items) ≡ Some d → IsListed lists P d
   listed-next (Attach h f) there = tt
   listed-next (Choose h q) there =
       let due-is = next-due P (made_of (reverse c.marks.items)) (choose h q) (next-of P L c r (Choose h q) there) in
@@ -128,12 +128,12 @@ pub learnt-more : (known learnt new : Lists) (c d : Course) (mark : Mark) (joini
     KnowsAll learnt new → d.ids.items ≡ c.ids.items ++ option_to_list joining → d.marks.items ≡ c.marks.items ++ mark ∷ [] → IsLearnt new d
 learnt-more known learnt new c d mark joining old kept fragment joins more ids marks = record {
   members = λ m i. elim (in-append_cases c.ids.items (option_to_list joining) m (subst (In m) ids i)) [
-    | inl a ↦ more m (kept m (old.members m a))
-    | inr b ↦ more m (joins m (joined-is joining m b))
+    | inl a ↦ more.owners m (kept.owners m (old.members m a))
+    | inr b ↦ more.owners m (joins m (joined-is joining m b))
   ];
   fragments = λ k h f i e. elim (subst (In k) (last-mark c.marks.items mark d.marks.items marks) i) [
-    | inl a ↦ more f (fragment h f (subst (λ (x : Mark). steps_in x.step ≡ attached h f ∷ []) a e))
-    | inr b ↦ more f (kept f (old.fragments k h f b e))
+    | inl a ↦ more.owners f (fragment h f (subst (λ (x : Mark). steps_in x.step ≡ attached h f ∷ []) a e))
+    | inr b ↦ more.owners f (kept.owners f (old.fragments k h f b e))
   ];
 }
   where
@@ -144,14 +144,14 @@ learnt-more known learnt new c d mark joining old kept fragment joins more ids m
 
 pub learnt-still : (known new : Lists) (c d : Course) → IsLearnt known c → KnowsAll known new → IsSameCourse c d → IsLearnt new d
 learnt-still known new c d old kept same = record {
-  members = λ m i. kept m (old.members m (subst (In m) (ap (λ (F : CourseLists). F.ids) same.lists) i));
-  fragments = λ k h f i e. kept f (old.fragments k h f (subst (λ ms. In k (reverse ms)) same.marks i) e);
+  members = λ m i. kept.owners m (old.members m (subst (In m) (ap (λ (F : CourseLists). F.ids) same.lists) i));
+  fragments = λ k h f i e. kept.owners f (old.fragments k h f (subst (λ ms. In k (reverse ms)) same.marks i) e);
 }
 
 -- ---- longer
 
 pub is-longer : (lists : Lists) (offers : World) (c new : Course) (s t : SpacesState) (decision : DecisionRef) (value : ℕ) (mark : Mark) (joining : Option RevisionId) → IsLearnt lists c → offers ≡ lists.offers →
-    slice_get c.queue.items (length c.marks.items) ≡ Some decision → IsMarkOf lists c decision value mark →
+    slice_get c.queue (length c.marks.items) ≡ Some decision → IsMarkOf lists c decision value mark →
     ((P : Problem) → IsProblemIn lists.offers P → (c.ids.items ++ option_to_list joining) ≡ pull_in P c.ids.items (flat_map provider_of (steps_in mark.step))) →
     t ≡ record s { steps = steps_in mark.step ++ s.steps } → new.marks.items ≡ c.marks.items ++ mark ∷ [] → IsDecidedWith offers c new mark joining →
     IsLonger lists.offers c new s t value
@@ -162,7 +162,7 @@ is-longer lists offers c new s t decision value mark joining learnt same there m
   steps = steps;
   before = taken-is c new mark joining offers by m.ids m.queue m.last;
   right = λ P in_it r wide.
-      let here : slice_get c.queue.items (length c.marks.items) ≡ Some mark.decision = there ∙ ap Some (sym m.decision_is) in
+      let here : slice_get c.queue (length c.marks.items) ≡ Some mark.decision = there ∙ ap Some (sym m.decision_is) in
       let next = next-of P in_it.is c r mark.decision here in
       let range : value < arity P (decision_of mark.decision) = subst (λ o. value < Rattle.osgi_world.specs.ChoiceWords.arity_of P o) next wide in
       let adds-it : steps_in mark.step ≡ adds P (decision_of mark.decision) mark.value

@@ -6,7 +6,7 @@ use Rattle.std.proofs.lemmas.List.{length-reverse}
 use Rattle.std.proofs.lemmas.Option.{slice_get_cases}
 use Rattle.osgi_base.specs.declared.ids.RevisionId.{RevisionId}
 use Rattle.osgi_world.specs.Candidates.{candidates}
-use Rattle.osgi_world.specs.ChoiceWords.{IsComplete, made_by, width}
+use Rattle.osgi_world.specs.ChoiceWords.{IsComplete, width}
 use Rattle.osgi_world.specs.Decisions.{Made, arity, wired_to}
 use Rattle.osgi_world.specs.DueDecisions.{fragments_of, members, next_decision, payload}
 use Rattle.osgi_world.specs.Lists.{In}
@@ -28,7 +28,7 @@ use Rattle.osgi_resolver_theory.specs.States.{State}
 use Rattle.osgi_resolver_path.specs.computed.Attached.{AreAttached}
 use Rattle.osgi_resolver_path.specs.computed.Courses.{CourseLists, IsAlong, IsRight, lists_of, made_of, steps_of, taken_back, word_of}
 use Rattle.osgi_resolver_decisions.specs.Sure.{AreSure}
-use Rattle.osgi_resolver_decisions.specs.computed.Known.{AreRight, IsProblemIn, Knows}
+use Rattle.osgi_resolver_decisions.specs.computed.Known.{IsProblemIn, Knows}
 use Rattle.osgi_resolver_path.specs.computed.Moving.{IsLearnt, IsLonger, IsOnWay}
 use Rattle.osgi_resolver_path.specs.computed.Nexts.{IsSameCourse}
 use Rattle.osgi_resolver_path.specs.computed.Placed.{ArePlaces}
@@ -79,29 +79,29 @@ module _ (W : World) (root : RevisionId) (lists : Lists) (spaces : SpacesState) 
   made-is P of = (right-at P of).is
 
   -- the number of values of the next decision
-  pub width-some : (P : Problem) → IsProblemOf (standing_of W root c) P → (d : DecisionRef) → slice_get c.queue.items (length c.marks.items) ≡ Some d → width P (made P (standing_of W root c)) ≡ arity P (decision_of d)
+  pub width-some : (P : Problem) → IsProblemOf (standing_of W root c) P → (d : DecisionRef) → slice_get c.queue (length c.marks.items) ≡ Some d → width P (made P (standing_of W root c)) ≡ arity P (decision_of d)
   width-some P of d there = ap (width P) (made-is P of) ∙ ap (Rattle.osgi_world.specs.ChoiceWords.arity_of P) (next-of P of.is c (right-at P of) d there)
 
-  pub listed-at : (P : Problem) → IsProblemOf (standing_of W root c) P → (d : DecisionRef) → slice_get c.queue.items (length c.marks.items) ≡ Some d → IsListed lists P d
+  pub listed-at : (P : Problem) → IsProblemOf (standing_of W root c) P → (d : DecisionRef) → slice_get c.queue (length c.marks.items) ≡ Some d → IsListed lists P d
   listed-at P of d there = listed-next P of.is lists c (right-at P of) on.learnt d there
 
   -- where no decision is in its place, none is left
-  pub next-none : (P : Problem) → IsProblemOf (standing_of W root c) P → slice_get c.queue.items (length c.marks.items) ≡ None → next_decision P (made P (standing_of W root c)) ≡ None
+  pub next-none : (P : Problem) → IsProblemOf (standing_of W root c) P → slice_get c.queue (length c.marks.items) ≡ None → next_decision P (made P (standing_of W root c)) ≡ None
   next-none P of there =
       ap (next_decision P) (made-is P of)
       ∙ next-there P of.is (reverse c.marks.items) (lists_of c) (right-at P of)
-      ∙ ap (slice_get (decisions_in c.queue.items)) (length-reverse c.marks.items)
-      ∙ get-none decision_of c.queue.items (length c.marks.items) there
+      ∙ ap (slice_get (decisions_in c.queue)) (length-reverse c.marks.items)
+      ∙ get-none decision_of c.queue (length c.marks.items) there
 
-  pub width-none : (P : Problem) → IsProblemOf (standing_of W root c) P → slice_get c.queue.items (length c.marks.items) ≡ None → width P (made P (standing_of W root c)) ≡ 0
+  pub width-none : (P : Problem) → IsProblemOf (standing_of W root c) P → slice_get c.queue (length c.marks.items) ≡ None → width P (made P (standing_of W root c)) ≡ 0
   width-none P of there = ap (Rattle.osgi_world.specs.ChoiceWords.arity_of P) (next-none P of there)
 
-  pub next-some : (P : Problem) → IsProblemOf (standing_of W root c) P → (d : DecisionRef) → slice_get c.queue.items (length c.marks.items) ≡ Some d → next_decision P (made P (standing_of W root c)) ≡ Some (decision_of d)
+  pub next-some : (P : Problem) → IsProblemOf (standing_of W root c) P → (d : DecisionRef) → slice_get c.queue (length c.marks.items) ≡ Some d → next_decision P (made P (standing_of W root c)) ≡ Some (decision_of d)
   next-some P of d there = ap (next_decision P) (made-is P of) ∙ next-of P of.is c (right-at P of) d there
 
   -- where the next decision has a value, it is in its place
-  pub next-within : (v : ℕ) → HasValue (standing_of W root c) v → (d : DecisionRef) × (length c.marks.items < length c.queue.items) × (slice_get c.queue.items (length c.marks.items) ≡ Some d)
-  next-within v has = elim (slice_get_cases c.queue.items (length c.marks.items)).1 [
+  pub next-within : (v : ℕ) → HasValue (standing_of W root c) v → (d : DecisionRef) × (length c.marks.items < length c.queue) × (slice_get c.queue (length c.marks.items) ≡ Some d)
+  next-within v has = elim (slice_get_cases c.queue (length c.marks.items)).1 [
     | inl there ↦ (there.0, there.1, there.2)
     | inr none ↦ let e = width-none has.problem has.of none.1 in let h = has.fits in absurd (omega (arith, e, h))
   ]
@@ -110,7 +110,7 @@ module _ (W : World) (root : RevisionId) (lists : Lists) (spaces : SpacesState) 
   arity-of : (P Q : Problem) → IsProblemOf (standing_of W root c) P → IsProblemOf (standing_of W root c) Q → (d : DecisionRef) → IsListed lists P d → IsListed lists Q d → arity P (decision_of d) ≡ arity Q (decision_of d)
   arity-of P Q p q (Attach h f) a b = refl
   arity-of P Q p q (Choose h x) a b =
-      let same : candidates P x ≡ candidates Q x = same-candidates lists on.right P Q (in-lists P p) (in-lists Q q) x a.knows a.has b.has in
+      let same : candidates P x ≡ candidates Q x = same-candidates W P Q (in-world P p) (in-world Q q) x a.has b.has in
       ap₂ (λ (cs : List CapRef) (K : List Known). length (map (λ c. wired_to h x c ∷ []) cs ++ (if is_optional K x then [] ∷ [] else []))) same (ap (λ (V : World). V.known) (p.world ∙ sym q.world))
   arity-of P Q p q (Pick h x y) a b = refl
 
@@ -126,13 +126,12 @@ module _ (W : World) (root : RevisionId) (lists : Lists) (spaces : SpacesState) 
   last-within v has = (right-at has.problem has.of).last_in
 
   -- one decision longer
-  pub on-longer : (v : ℕ) → HasValue (standing_of W root c) v → (more : Lists) (new : Course) (t : SpacesState) → more.offers ≡ lists.offers → AreRight more → IsLearnt more new → ArePlaces new.places new.ids.items → IsLonger lists.offers c new spaces t v → IsOnWay W root more t new
-  on-longer v has more new t offers right learnt placed by =
+  pub on-longer : (v : ℕ) → HasValue (standing_of W root c) v → (more : Lists) (new : Course) (t : SpacesState) → more.offers ≡ lists.offers → IsLearnt more new → ArePlaces new.places new.ids.items → IsLonger lists.offers c new spaces t v → IsOnWay W root more t new
+  on-longer v has more new t offers learnt placed by =
       let ms = reverse c.marks.items in
       let marks : reverse new.marks.items ≡ by.mark ∷ ms = last-mark c.marks.items by.mark new.marks.items by.marks in
       record {
         offers = offers ∙ on.offers;
-        right = right;
         learnt = learnt;
         placed = placed;
         spaces_are = by.steps ∙ ap (λ (s : SpacesState). record s { steps = steps_in by.mark.step ++ s.steps }) on.spaces_are ∙ ap (λ l. record { known = W.known; wirings = W.wirings; steps = steps_of l }) (sym marks);
@@ -146,10 +145,9 @@ module _ (W : World) (root : RevisionId) (lists : Lists) (spaces : SpacesState) 
   word-longer v more new t by = ap word_of (last-mark c.marks.items by.mark new.marks.items by.marks) ∙ ap (λ x. word_of (reverse c.marks.items) ++ x ∷ []) by.value_is
 
   -- nothing is changed of it
-  pub on-same : (more : Lists) (new : Course) (t : SpacesState) → more.offers ≡ lists.offers → AreRight more → IsLearnt more new → ArePlaces new.places new.ids.items → t ≡ spaces → IsSameCourse c new → IsOnWay W root more t new
-  on-same more new t offers right learnt placed spaces-are same = record {
+  pub on-same : (more : Lists) (new : Course) (t : SpacesState) → more.offers ≡ lists.offers → IsLearnt more new → ArePlaces new.places new.ids.items → t ≡ spaces → IsSameCourse c new → IsOnWay W root more t new
+  on-same more new t offers learnt placed spaces-are same = record {
     offers = offers ∙ on.offers;
-    right = right;
     learnt = learnt;
     placed = placed;
     spaces_are = spaces-are ∙ on.spaces_are ∙ ap (λ l. record { known = W.known; wirings = W.wirings; steps = steps_of (reverse l) }) (sym same.marks);
@@ -162,7 +160,6 @@ module _ (W : World) (root : RevisionId) (lists : Lists) (spaces : SpacesState) 
       let ms : reverse c.marks.items ≡ m ∷ reverse new.marks.items = last-mark new.marks.items m c.marks.items marks in
       record {
         offers = on.offers;
-        right = on.right;
         learnt = record {
           members = λ r i. on.learnt.members r (take-in m.ids c.ids.items r (subst (In r) (ap (λ (F : CourseLists). F.ids) back) i));
           fragments = λ k h f i e. on.learnt.fragments k h f (subst (In k) (sym ms) (inr i)) e;
@@ -189,16 +186,16 @@ module _ (W : World) (root : RevisionId) (lists : Lists) (spaces : SpacesState) 
   pub made-at : (P : Problem) → IsProblemOf s P → made P s ≡ made_of (reverse c.marks.items)
   made-at P of = ap (made P) is ∙ made-is W root lists spaces c on P (there-of P of)
 
-  pub next-listed : (P : Problem) → IsProblemOf s P → (d : DecisionRef) → Some d ≡ slice_get c.queue.items (length c.marks.items) → IsListed lists P d
+  pub next-listed : (P : Problem) → IsProblemOf s P → (d : DecisionRef) → Some d ≡ slice_get c.queue (length c.marks.items) → IsListed lists P d
   next-listed P of d at = listed-at W root lists spaces c on P (there-of P of) d (sym at)
 
-  pub some-wide : (P : Problem) → IsProblemOf s P → (d : DecisionRef) → Some d ≡ slice_get c.queue.items (length c.marks.items) → arity P (decision_of d) ≡ width P (made P s)
+  pub some-wide : (P : Problem) → IsProblemOf s P → (d : DecisionRef) → Some d ≡ slice_get c.queue (length c.marks.items) → arity P (decision_of d) ≡ width P (made P s)
   some-wide P of d at = sym (ap (λ x. width P (made P x)) is ∙ width-some W root lists spaces c on P (there-of P of) d (sym at))
 
-  pub none-wide : (P : Problem) → IsProblemOf s P → None ≡ slice_get c.queue.items (length c.marks.items) → 0 ≡ width P (made P s)
+  pub none-wide : (P : Problem) → IsProblemOf s P → None ≡ slice_get c.queue (length c.marks.items) → 0 ≡ width P (made P s)
   none-wide P of at = sym (ap (λ x. width P (made P x)) is ∙ width-none W root lists spaces c on P (there-of P of) (sym at))
 
-  complete-go : (P : Problem) → IsProblemOf s P → (o : Option DecisionRef) → o ≡ slice_get c.queue.items (length c.marks.items) → (b : Bool) → is_some o ≡ not b → (b ≡ true → next_decision P (made P s) ≡ None) × (next_decision P (made P s) ≡ None → b ≡ true)
+  complete-go : (P : Problem) → IsProblemOf s P → (o : Option DecisionRef) → o ≡ slice_get c.queue (length c.marks.items) → (b : Bool) → is_some o ≡ not b → (b ≡ true → next_decision P (made P s) ≡ None) × (next_decision P (made P s) ≡ None → b ≡ true)
   complete-go P of None at true e = (λ t. ap (λ x. next_decision P (made P x)) is ∙ next-none W root lists spaces c on P (there-of P of) (sym at), λ n. refl)
   complete-go P of None at false e = absurd (false≢true e)
   complete-go P of (Some d) at true e = absurd (false≢true (sym e))
@@ -209,10 +206,10 @@ module _ (W : World) (root : RevisionId) (lists : Lists) (spaces : SpacesState) 
       clash : (x : DecisionRef) → None ≡ Some (decision_of x) → ⊥
       clash x f = cc
 
-  pub complete-at : (P : Problem) → IsProblemOf s P → (o : Option DecisionRef) → o ≡ slice_get c.queue.items (length c.marks.items) → (b : Bool) → is_some o ≡ not b → (b ≡ true → IsComplete P s.word) × (IsComplete P s.word → b ≡ true)
+  pub complete-at : (P : Problem) → IsProblemOf s P → (o : Option DecisionRef) → o ≡ slice_get c.queue (length c.marks.items) → (b : Bool) → is_some o ≡ not b → (b ≡ true → IsComplete P s.word) × (IsComplete P s.word → b ≡ true)
   complete-at P of o at b e = complete-go P of o at b e
 
-  pub next-at : (o : Option DecisionRef) → o ≡ slice_get c.queue.items (length c.marks.items) →
+  pub next-at : (o : Option DecisionRef) → o ≡ slice_get c.queue (length c.marks.items) →
       MatchOption o ((P : Problem) → IsProblemOf s P → next_decision P (made P s) ≡ None) (λ d. (P : Problem) → IsProblemOf s P → next_decision P (made P s) ≡ Some (decision_of d))
   next-at None at = λ P of. ap (λ x. next_decision P (made P x)) is ∙ next-none W root lists spaces c on P (there-of P of) (sym at)
   next-at (Some d) at = λ P of. ap (λ x. next_decision P (made P x)) is ∙ next-some W root lists spaces c on P (there-of P of) d (sym at)
@@ -259,11 +256,10 @@ module _ (W : World) (root : RevisionId) (lists : Lists) (spaces : SpacesState) 
       attached-rows P of.is (made P s) (subst (State P) (sym (made-at P of)) (right-state P (reverse c.marks.items) (lists_of c) (stands-at P of))) rows (rows-at P of rows known are) m i
 
 -- at the empty word
-pub on-first : (W : World) (root : RevisionId) (lists : Lists) (spaces : SpacesState) (c : Course) → lists.offers ≡ W → AreRight lists → IsLearnt lists c → ArePlaces c.places c.ids.items → spaces ≡ record { known = W.known; wirings = W.wirings; steps = [] } → c.marks.items ≡ [] →
+pub on-first : (W : World) (root : RevisionId) (lists : Lists) (spaces : SpacesState) (c : Course) → lists.offers ≡ W → IsLearnt lists c → ArePlaces c.places c.ids.items → spaces ≡ record { known = W.known; wirings = W.wirings; steps = [] } → c.marks.items ≡ [] →
     ((P : Problem) → IsProblemIn W P → P.root ≡ root → IsRight P [] (lists_of c)) → IsOnWay W root lists spaces c
-on-first W root lists spaces c offers right learnt placed spaces-are none begins = record {
+on-first W root lists spaces c offers learnt placed spaces-are none begins = record {
   offers = offers;
-  right = right;
   learnt = learnt;
   placed = placed;
   spaces_are = spaces-are ∙ ap (λ l. record { known = W.known; wirings = W.wirings; steps = steps_of (reverse l) }) (sym none);

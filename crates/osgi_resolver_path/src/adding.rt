@@ -10,7 +10,6 @@ ghost use Rattle.osgi_world.specs.Partial as partial;
 ghost use Rattle.osgi_world.specs.Partial.{wires_for, wiring};
 ghost use Rattle.osgi_world.specs.Payloads.{own_requirements, requirements_of};
 ghost use Rattle.osgi_world.specs.declared.problem.Problem.{Problem};
-ghost use Rattle.osgi_resolver_decisions.specs.computed.Known.{AreRight};
 ghost use Rattle.osgi_resolver_path.specs.computed.Valued.{value_in};
 ghost use Rattle.osgi_resolver_path.specs.computed.Views.{IsOwner, IsReady, IsReadyWith, by_value, decided_in, wire_to};
 ghost use Rattle.osgi_resolver_path.specs.declared.course.Course.{Course};
@@ -65,7 +64,8 @@ fn chosen(
     requirement: ReqRef,
     candidates: &[CapRef],
 ) -> Option<CapRef>
-    ensures chosen { option_to_list result ≡ by_value candidates.now (value_in values.now (choose host requirement)) }
+    ensures chosen { option_to_list result
+        ≡ by_value candidates.now (value_in values.now (choose host requirement)) }
 {
     let decision = DecisionRef::Choose { host, requirement };
     match values.get(decision) {
@@ -82,7 +82,8 @@ fn add_chosen(
     requirement: ReqRef,
     candidates: &[CapRef],
 ) -> Result<(), AllocError>
-    ensures added { OnOk result (wires.new ≡ wires.old ++ map (wire_to requirement) (by_value candidates.now (value_in values.now (choose host requirement)))) }
+    ensures added { OnOk result (wires.new ≡ wires.old ++ map (wire_to requirement)
+        (by_value candidates.now (value_in values.now (choose host requirement)))) }
 {
     match chosen(values, host, requirement, candidates) {
         Some(capability) => {
@@ -104,17 +105,16 @@ fn add_requirement(
     host: RevisionId,
     requirement: ReqRef,
 ) -> Result<(), AllocError>
-    requires right { AreRight lists.now }
     ensures added { OnOk result ((P : Problem) (course : Course)
         → IsReadyWith P lists.now values.now course → In host course.ids.items
         → In requirement (payload P (decided_in course) host)
         → wires.new ≡ wires.old ++ wires_for P (decided_in course) host requirement) }
 {
-    if !lists.offers.known().is_effective(requirement) {
+    if !lists.offers().known().is_effective(requirement) {
         return Ok(());
     }
     let candidates = lists.candidates(requirement);
-    if lists.offers.known().is_multiple(requirement) {
+    if lists.offers().known().is_multiple(requirement) {
         add_picked(wires, values, host, requirement, candidates)?;
     } else {
         add_chosen(wires, values, host, requirement, candidates)?;
@@ -130,13 +130,13 @@ fn add_owner(
     host: RevisionId,
     owner: RevisionId,
 ) -> Result<(), AllocError>
-    requires right { AreRight lists.now }
     ensures added { OnOk result ((P : Problem) (course : Course)
         → IsReadyWith P lists.now values.now course → In host course.ids.items
         → IsOwner P course host owner
-        → wires.new ≡ wires.old ++ flat_map (wires_for P (decided_in course) host) (own_requirements P.world.known owner)) }
+        → wires.new ≡ wires.old
+        ++ flat_map (wires_for P (decided_in course) host) (own_requirements P.world.known owner)) }
 {
-    for index in 0..lists.offers.known().requirement_count(owner) {
+    for index in 0..lists.offers().known().requirement_count(owner) {
         let requirement = ReqRef {
             owner,
             index: index as u32,
@@ -154,11 +154,11 @@ fn add_owners(
     host: RevisionId,
     owners: &[RevisionId],
 ) -> Result<(), AllocError>
-    requires right { AreRight lists.now }
     ensures added { OnOk result ((P : Problem) (course : Course)
         → IsReadyWith P lists.now values.now course → In host course.ids.items
         → ((o : RevisionId) → In o owners.now → IsOwner P course host o)
-        → wires.new ≡ wires.old ++ flat_map (wires_for P (decided_in course) host) (requirements_of P.world.known owners.now)) }
+        → wires.new ≡ wires.old ++ flat_map (wires_for P (decided_in course) host)
+        (requirements_of P.world.known owners.now)) }
 {
     for owner in owners {
         add_owner(wires, lists, values, host, *owner)?;
@@ -180,7 +180,6 @@ fn attached(
     values: &Values,
     member: RevisionId,
 ) -> Result<Vec<RevisionId>, AllocError>
-    requires right { AreRight lists.now }
     ensures attached { IfOk result (λ list. (P : Problem) (course : Course)
         → IsReadyWith P lists.now values.now course → In member course.ids.items
         → list.items ≡ fragments_of P (decided_in course) member) }
@@ -201,7 +200,6 @@ fn wiring_of(
     values: &Values,
     member: RevisionId,
 ) -> Result<Wiring, AllocError>
-    requires right { AreRight lists.now }
     ensures wiring { IfOk result (λ made. (P : Problem) (course : Course)
         → IsReadyWith P lists.now values.now course → In member course.ids.items
         → made ≡ wiring P (decided_in course) member) }
@@ -219,7 +217,6 @@ fn wiring_of(
 
 /// The wirings that the decisions add.
 pub fn added(alloc: Global, lists: &Lists, course: &Course) -> Result<List<Wiring>, AllocError>
-    requires right { AreRight lists.now }
     ensures added { IfOk result (λ list. (P : Problem) → IsReady P lists.now course.now
         → list ≡ partial.added P (decided_in course.now)) }
 {

@@ -59,7 +59,8 @@ fn is_attached(
     fragment: RevisionId,
 ) -> bool
     ensures attached { (D : Made) (host : RevisionId) → AreNumbers attached.now D host
-        → result ≡ is_yes (value_made ((attaching host decided, value) ∷ D) (attaching host fragment)) }
+        → result
+        ≡ is_yes (value_made ((attaching host decided, value) ∷ D) (attaching host fragment)) }
 {
     if decided.0 == fragment.0 {
         is_first(Some(value))

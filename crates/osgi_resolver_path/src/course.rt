@@ -4,6 +4,7 @@ ghost use Rattle.std.specs.Prelude.{◌≡◌, ◌==◌, length, slice_get};
 ghost use Rattle.std.specs.List.{list_any};
 ghost use Rattle.osgi_resolver_path.specs.computed.Placed.{ArePlaces};
 
+use crate::queue::Queue;
 use crate::step::Step;
 use osgi_base::{NumberMap, RevisionId};
 use osgi_resolver_decisions::DecisionRef;
@@ -24,7 +25,7 @@ pub struct Mark {
 pub struct Course {
     pub ids: Vec<RevisionId>,
     pub places: NumberMap<usize>,
-    pub queue: Vec<DecisionRef>,
+    pub queue: Queue,
     pub last: usize,
     pub marks: Vec<Mark>,
 }
@@ -45,9 +46,9 @@ impl Drop for Course {
 impl Course {
     /// The next decision, if one is left.
     pub fn next(&self) -> Option<DecisionRef>
-        ensures next { result ≡ slice_get self.now.queue.items (length self.now.marks.items) }
+        ensures next { result ≡ slice_get self.now.queue (length self.now.marks.items) }
     {
-        self.queue.get(self.marks.len()).copied()
+        self.queue.get(self.marks.len())
     }
 
     /// Whether the revision is a member.

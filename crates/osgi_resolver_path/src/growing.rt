@@ -11,7 +11,7 @@ ghost use Rattle.osgi_world.specs.declared.problem.Problem.{Problem};
 ghost use Rattle.osgi_resolver_decisions.specs.DecisionOf.{decision_of};
 ghost use Rattle.osgi_resolver_decisions.specs.computed.Asks.{decisions_in, first_due};
 ghost use Rattle.osgi_resolver_path.specs.computed.Courses.{made_of};
-ghost use Rattle.osgi_resolver_decisions.specs.computed.Known.{AreRight, IsProblemIn, Knows, KnowsAll};
+ghost use Rattle.osgi_resolver_decisions.specs.computed.Known.{IsProblemIn, Knows, KnowsAll};
 ghost use Rattle.osgi_resolver_path.specs.computed.Placed.{ArePlaces, IsNoMember};
 ghost use Rattle.osgi_resolver_path.specs.computed.Steps.{steps_in};
 
@@ -19,7 +19,7 @@ use crate::course::{Course, Mark};
 use crate::step::Step;
 use osgi_base::RevisionId;
 use osgi_candidates::Offers;
-use osgi_resolver_decisions::{DecisionRef, Lists};
+use osgi_resolver_decisions::{DecisionRef, Decisions, Lists};
 use std::alloc::{AllocError, Global};
 
 /// Whether the revision has a wiring.
@@ -42,7 +42,8 @@ fn stays(offers: &Offers, course: &Course, revision: RevisionId) -> bool
 pub fn joining_of(offers: &Offers, course: &Course, step: Option<Step>) -> Option<RevisionId>
     requires placed { ArePlaces course.now.places course.now.ids.items }
     ensures joining { (P : Problem) → IsProblemIn offers.now P
-        → course.now.ids.items ++ option_to_list result ≡ pull_in P course.now.ids.items (flat_map provider_of (steps_in step)) }
+        → course.now.ids.items ++ option_to_list result
+        ≡ pull_in P course.now.ids.items (flat_map provider_of (steps_in step)) }
     ensures new { IsNoMember result course.now.ids.items }
 {
     let Some(Step::Wired { wire, .. }) = step else {
@@ -83,9 +84,6 @@ pub fn is_first(value: Option<u64>) -> bool
 
 /// Asks for the candidates of all owners.
 pub fn learn_all(alloc: Global, lists: &mut Lists, owners: &[RevisionId]) -> Result<(), AllocError>
-    requires right { AreRight lists.old }
-    ensures offers { lists.new.offers ≡ lists.old.offers }
-    ensures right { AreRight lists.new }
     ensures nothing_lost { KnowsAll lists.old lists.new }
     ensures known { OnOk result (All (Knows lists.new) owners.now) }
 {
@@ -100,14 +98,11 @@ pub fn first_of(
     alloc: Global,
     lists: &mut Lists,
     member: RevisionId,
-) -> Result<Vec<DecisionRef>, AllocError>
-    requires right { AreRight lists.old }
-    ensures offers { lists.new.offers ≡ lists.old.offers }
-    ensures right { AreRight lists.new }
+) -> Result<Decisions, AllocError>
     ensures nothing_lost { KnowsAll lists.old lists.new }
     ensures first { IfOk result (λ list. (P : Problem) → IsProblemIn lists.old.offers P
-        → IsTrue (is_current P.world.known member) → decisions_in list.items ≡ first_due P member) }
+        → IsTrue (is_current P.world.known member) → decisions_in list ≡ first_due P member) }
 {
     lists.learn(alloc, member)?;
-    Ok(Vec::from_slice(alloc, lists.first_of(member))?)
+    lists.first_of(member)
 }

@@ -11,6 +11,7 @@ mod moves;
 mod moving;
 mod opening;
 mod path;
+mod queue;
 mod step;
 mod values;
 mod views;

@@ -55,7 +55,8 @@ impl<'w> Linked<'w> {
     pub fn over(alloc: Global, world: &'w World, rows: DisputedRows<'w>) -> Linked<'w>
         requires known { rows.known ≡ world.now.known }
         requires rows { AreRowsIn rows world.now.wirings }
-        ensures world { result ≡ record { known = world.now.known; wirings = world.now.wirings; steps = [] } }
+        ensures world { result
+            ≡ record { known = world.now.known; wirings = world.now.wirings; steps = [] } }
     {
         Linked {
             spaces: Spaces::over(alloc, world, rows),
@@ -102,7 +103,8 @@ impl<'w> Linked<'w> {
 
     /// Attaches the fragment to the host. If memory runs out, nothing changes.
     pub fn attach(&mut self, host: RevisionId, fragment: RevisionId) -> Result<(), AllocError>
-        ensures added { OnOk result (self.new ≡ record self.old { steps = attached host fragment ∷ self.old.steps }) }
+        ensures added { OnOk result (self.new
+            ≡ record self.old { steps = attached host fragment ∷ self.old.steps }) }
         ensures unchanged { OnErr result (self.new ≡ self.old) }
     {
         self.trail.reserve(1)?;
@@ -113,7 +115,8 @@ impl<'w> Linked<'w> {
 
     /// Adds the wire to the revision. If memory runs out, nothing changes.
     pub fn wire(&mut self, revision: RevisionId, wire: Wire) -> Result<(), AllocError>
-        ensures added { OnOk result (self.new ≡ record self.old { steps = wired revision wire ∷ self.old.steps }) }
+        ensures added { OnOk result (self.new
+            ≡ record self.old { steps = wired revision wire ∷ self.old.steps }) }
         ensures unchanged { OnErr result (self.new ≡ self.old) }
     {
         let provider = wire.capability.provider.0;

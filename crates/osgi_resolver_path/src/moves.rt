@@ -1,6 +1,6 @@
 //! What one decision more changes: who joins, what becomes due, and what is to be known of it.
 
-ghost use Rattle.std.specs.Prelude.{◌≡◌, ◌+◌, ◌<◌, ◌≤◌, ◌∷◌, [], ◌++◌, All, IfOk, IsTrue, List, OnErr, OnOk, Some, length, reverse, vec_capacity, vec_len};
+ghost use Rattle.std.specs.Prelude.{◌≡◌, ◌+◌, ◌<◌, ◌∷◌, [], ◌++◌, All, IfOk, IsTrue, List, OnErr, OnOk, Some, length, reverse};
 ghost use Rattle.std.specs.Option.{option_to_list};
 ghost use Rattle.osgi_base.specs.declared.ids.RevisionId.{RevisionId};
 ghost use Rattle.osgi_world.specs.Decisions as decisions;
@@ -16,7 +16,7 @@ ghost use Rattle.osgi_resolver_path.specs.computed.Moving.{IsSpaceOf};
 ghost use Rattle.osgi_resolver_path.specs.computed.Placed.{ArePlaces, IsNoMember};
 ghost use Rattle.osgi_resolver_path.specs.computed.Nexts.{AreRowsBefore, IsDecidedBy, IsDecidedWith, IsNextOf, IsOpenedBy, IsSameCourse};
 ghost use Rattle.osgi_resolver_path.specs.computed.Steps.{steps_in};
-ghost use Rattle.osgi_resolver_decisions.specs.computed.Known.{AreRight, IsProblemIn, Knows, KnowsAll};
+ghost use Rattle.osgi_resolver_decisions.specs.computed.Known.{IsProblemIn, Knows, KnowsAll};
 
 use crate::attached::owners_of;
 use crate::course::{Course, Mark};
@@ -25,7 +25,7 @@ use crate::linked::Linked;
 use crate::opening::{More, open};
 use crate::step::Step;
 use osgi_base::RevisionId;
-use osgi_resolver_decisions::{DecisionRef, Lists, asks_of};
+use osgi_resolver_decisions::{DecisionRef, Decisions, Lists, asks_of};
 use osgi_space_rows::Rows;
 use std::alloc::{AllocError, Global};
 
@@ -37,18 +37,18 @@ fn asks_with(
     host: RevisionId,
     fragment: RevisionId,
     value: u64,
-) -> Result<Vec<DecisionRef>, AllocError>
-    requires right { AreRight lists.old }
-    ensures offers { lists.new.offers ≡ lists.old.offers }
-    ensures right { AreRight lists.new }
+) -> Result<Decisions, AllocError>
     ensures nothing_lost { KnowsAll lists.old lists.new }
     ensures asks { IfOk result (λ asks. (P : Problem) (D : Made) → IsProblemIn lists.old.offers P
         → AreAttached rows.now D host →
-        All (λ (o : RevisionId). IsTrue (is_current P.world.known o)) (owners_with P D host fragment value) → decisions_in asks.items ≡ asks_of P host (owners_with P D host fragment value)) }
+        All (λ (o : RevisionId). IsTrue (is_current P.world.known o))
+        (owners_with P D host fragment value)
+        → decisions_in asks ≡ asks_of P host (owners_with P D host fragment value)) }
 {
-    let owners = owners_of(alloc, &lists.offers, rows, host, fragment, value)?;
+    let owners = owners_of(alloc, lists.offers(), rows, host, fragment, value)?;
     learn_all(alloc, lists, owners.as_slice())?;
-    Ok(asks_of(alloc, lists, host, owners.as_slice())?)
+    let asks = asks_of(alloc, lists, host, owners.as_slice())?;
+    Ok(Decisions::of(alloc, asks)?)
 }
 
 /// What a decision makes due by itself: after the one on a host's last fragment, the decisions of the requirements of its
@@ -59,26 +59,24 @@ pub fn asks_after(
     rows: &Rows,
     decision: DecisionRef,
     value: u64,
-) -> Result<Vec<DecisionRef>, AllocError>
-    requires right { AreRight lists.old }
-    ensures offers { lists.new.offers ≡ lists.old.offers }
-    ensures right { AreRight lists.new }
+) -> Result<Decisions, AllocError>
     ensures nothing_lost { KnowsAll lists.old lists.new }
     ensures asks { IfOk result (λ asks. (P : Problem) (D : Made) → IsProblemIn lists.old.offers P
         → AreAttached rows.now D (decisions.host (decision_of decision))
-        → IsAskedAfter P D (decision_of decision) value (decisions_in asks.items)) }
+        → IsAskedAfter P D (decision_of decision) value (decisions_in asks)) }
 {
     match decision {
         DecisionRef::Attach { host, fragment } => {
             Ok(asks_with(alloc, lists, rows, host, fragment, value)?)
         }
-        DecisionRef::Choose { .. } | DecisionRef::Pick { .. } => Ok(Vec::new(alloc)),
+        DecisionRef::Choose { .. } | DecisionRef::Pick { .. } => Ok(Decisions::none()),
     }
 }
 
 /// Adds the step to the wirings of a search. If memory runs out, nothing changes.
 fn take(spaces: &mut Linked, step: Option<Step>) -> Result<(), AllocError>
-    ensures added { OnOk result (spaces.new ≡ record spaces.old { steps = steps_in step ++ spaces.old.steps }) }
+    ensures added { OnOk result (spaces.new
+        ≡ record spaces.old { steps = steps_in step ++ spaces.old.steps }) }
     ensures unchanged { OnErr result (spaces.new ≡ spaces.old) }
 {
     match step {
@@ -90,9 +88,6 @@ fn take(spaces: &mut Linked, step: Option<Step>) -> Result<(), AllocError>
 
 /// Asks for the candidates of a fragment that is attached.
 fn learn_attached(alloc: Global, lists: &mut Lists, step: Option<Step>) -> Result<(), AllocError>
-    requires right { AreRight lists.old }
-    ensures offers { lists.new.offers ≡ lists.old.offers }
-    ensures right { AreRight lists.new }
     ensures nothing_lost { KnowsAll lists.old lists.new }
     ensures known { OnOk result ((h f : RevisionId) → steps_in step ≡ attached h f ∷ []
         → Knows lists.new f) }
@@ -109,9 +104,6 @@ fn learn_joining(
     lists: &mut Lists,
     joining: Option<RevisionId>,
 ) -> Result<(), AllocError>
-    requires right { AreRight lists.old }
-    ensures offers { lists.new.offers ≡ lists.old.offers }
-    ensures right { AreRight lists.new }
     ensures nothing_lost { KnowsAll lists.old lists.new }
     ensures known { OnOk result ((r : RevisionId) → joining ≡ Some r → Knows lists.new r) }
 {
@@ -130,11 +122,8 @@ fn more_after(
     decision: DecisionRef,
     value: u64,
 ) -> Result<More, AllocError>
-    requires right { AreRight lists.old }
     requires rows { AreRowsBefore rows.now lists.old.offers course.now decision value }
     requires last_in { course.now.last < length course.now.ids.items }
-    ensures offers { lists.new.offers ≡ lists.old.offers }
-    ensures right { AreRight lists.new }
     ensures nothing_lost { KnowsAll lists.old lists.new }
     ensures more { IfOk result (λ more. (P : Problem) (ids : List RevisionId)
         → IsProblemIn lists.old.offers P
@@ -143,7 +132,7 @@ fn more_after(
 {
     if course.marks.len() + 1 < course.queue.len() {
         return Ok(More {
-            decisions: Vec::new(alloc),
+            decisions: Decisions::none(),
             last: course.last,
         });
     }
@@ -155,24 +144,6 @@ fn more_after(
     Ok(open(alloc, lists, course.ids.as_slice(), more)?)
 }
 
-/// Puts the decision and what it makes due into the course, which has room for it. Who joins is in it already.
-fn commit(course: &mut Course, mark: Mark, more: More)
-    requires marks { vec_len course.old.marks < vec_capacity course.old.marks }
-    requires queue { vec_len course.old.queue + vec_len more.decisions ≤ vec_capacity course.old.queue }
-    ensures marks { course.new.marks.items ≡ course.old.marks.items ++ mark ∷ [] }
-    ensures places { course.new.places ≡ course.old.places }
-    ensures lists { lists_of course.new ≡ record { ids = course.old.ids.items; queue = course.old.queue.items ++ more.decisions.items; last = more.last } }
-{
-    let More {
-        mut decisions,
-        last,
-    } = more;
-    // There is room for all of them.
-    let _ = course.queue.append(&mut decisions);
-    course.marks.push_reserved(mark);
-    course.last = last;
-}
-
 /// Makes the decision, where who joins is in the course already. If memory runs out, the course and the wirings stay as they are.
 fn decide(
     alloc: Global,
@@ -181,13 +152,11 @@ fn decide(
     course: &mut Course,
     mark: Mark,
 ) -> Result<(), AllocError>
-    requires right { AreRight lists.old }
     requires spaces { IsSpaceOf lists.old.offers course.old spaces.old }
     requires last_in { course.old.last < length course.old.ids.items }
-    ensures offers { lists.new.offers ≡ lists.old.offers }
-    ensures right { AreRight lists.new }
     ensures nothing_lost { KnowsAll lists.old lists.new }
-    ensures spaces { OnOk result (spaces.new ≡ record spaces.old { steps = steps_in mark.step ++ spaces.old.steps }) }
+    ensures spaces { OnOk result (spaces.new
+        ≡ record spaces.old { steps = steps_in mark.step ++ spaces.old.steps }) }
     ensures marks { OnOk result (course.new.marks.items ≡ course.old.marks.items ++ mark ∷ []) }
     ensures decided { OnOk result (IsDecidedBy lists.old.offers course.old course.new mark) }
     ensures members { (course.new.ids.items ≡ course.old.ids.items)
@@ -198,9 +167,14 @@ fn decide(
     let rows = spaces.rows().rows();
     let more = more_after(alloc, lists, rows, course, mark.decision, mark.value)?;
     course.marks.reserve(1)?;
-    course.queue.reserve(more.decisions.len())?;
-    take(spaces, mark.step)?;
-    commit(course, mark, more);
+    let count = course.queue.len();
+    course.queue.push(more.decisions)?;
+    if let Err(error) = take(spaces, mark.step) {
+        course.queue.truncate(count);
+        return Err(error);
+    }
+    course.marks.push_reserved(mark);
+    course.last = more.last;
     Ok(())
 }
 
@@ -209,7 +183,8 @@ fn join(course: &mut Course, joining: Option<RevisionId>) -> Result<(), AllocErr
     requires new { IsNoMember joining course.old.ids.items }
     requires placed { ArePlaces course.old.places course.old.ids.items }
     ensures placed { ArePlaces course.new.places course.new.ids.items }
-    ensures joined { OnOk result (lists_of course.new ≡ record (lists_of course.old) { ids = course.old.ids.items ++ option_to_list joining }) }
+    ensures joined { OnOk result (lists_of course.new
+        ≡ record (lists_of course.old) { ids = course.old.ids.items ++ option_to_list joining }) }
     ensures marks { course.new.marks.items ≡ course.old.marks.items }
     ensures unchanged { OnErr result (IsSameCourse course.old course.new) }
 {
@@ -227,9 +202,6 @@ pub fn learn_new(
     step: Option<Step>,
     joining: Option<RevisionId>,
 ) -> Result<(), AllocError>
-    requires right { AreRight lists.old }
-    ensures offers { lists.new.offers ≡ lists.old.offers }
-    ensures right { AreRight lists.new }
     ensures nothing_lost { KnowsAll lists.old lists.new }
     ensures attached { OnOk result ((h f : RevisionId) → steps_in step ≡ attached h f ∷ []
         → Knows lists.new f) }
@@ -249,18 +221,17 @@ pub fn decide_with(
     mark: Mark,
     joining: Option<RevisionId>,
 ) -> Result<(), AllocError>
-    requires right { AreRight lists.old }
     requires spaces { IsSpaceOf lists.old.offers course.old spaces.old }
     requires new { IsNoMember joining course.old.ids.items }
     requires placed { ArePlaces course.old.places course.old.ids.items }
     requires last_in { course.old.last < length course.old.ids.items }
-    ensures offers { lists.new.offers ≡ lists.old.offers }
-    ensures right { AreRight lists.new }
     ensures nothing_lost { KnowsAll lists.old lists.new }
     ensures placed { ArePlaces course.new.places course.new.ids.items }
-    ensures spaces { OnOk result (spaces.new ≡ record spaces.old { steps = steps_in mark.step ++ spaces.old.steps }) }
+    ensures spaces { OnOk result (spaces.new
+        ≡ record spaces.old { steps = steps_in mark.step ++ spaces.old.steps }) }
     ensures marks { OnOk result (course.new.marks.items ≡ course.old.marks.items ++ mark ∷ []) }
-    ensures decided { OnOk result (IsDecidedWith lists.old.offers course.old course.new mark joining) }
+    ensures decided { OnOk result
+        (IsDecidedWith lists.old.offers course.old course.new mark joining) }
     ensures spaces_unchanged { OnErr result (spaces.new ≡ spaces.old) }
     ensures unchanged { OnErr result (IsSameCourse course.old course.new) }
 {

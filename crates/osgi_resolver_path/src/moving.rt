@@ -4,7 +4,7 @@ ghost use Rattle.std.specs.Prelude.{◌≡◌, ◌<◌, ◌∷◌, [], ◌++◌,
 ghost use Rattle.osgi_base.specs.declared.ids.RevisionId.{RevisionId};
 ghost use Rattle.osgi_world.specs.declared.problem.Problem.{Problem};
 ghost use Rattle.osgi_resolver_path.specs.computed.Courses.{IsRight, lists_of, steps_of, taken_back};
-ghost use Rattle.osgi_resolver_decisions.specs.computed.Known.{AreRight, IsProblemIn};
+ghost use Rattle.osgi_resolver_decisions.specs.computed.Known.{IsProblemIn};
 ghost use Rattle.osgi_resolver_path.specs.computed.Moving.{IsLearnt, IsLonger, IsMarkOf, IsSpaceOf};
 ghost use Rattle.osgi_resolver_path.specs.computed.Nexts.{IsSameCourse};
 ghost use Rattle.osgi_resolver_path.specs.computed.Placed.{ArePlaces};
@@ -14,6 +14,7 @@ use crate::course::{Course, Mark};
 use crate::growing::{first_of, joining_of};
 use crate::linked::Linked;
 use crate::moves::{decide_with, learn_new};
+use crate::queue::Queue;
 use crate::step::step_of;
 use osgi_base::{NumberMap, RevisionId};
 use osgi_resolver_decisions::{DecisionRef, Lists};
@@ -21,7 +22,6 @@ use std::alloc::{AllocError, Global};
 
 /// The mark of a decision that is made now.
 fn mark_of(lists: &Lists, course: &Course, decision: DecisionRef, value: u64) -> Mark
-    requires right { AreRight lists.now }
     ensures mark { IsMarkOf lists.now course.now decision value result }
 {
     Mark {
@@ -42,23 +42,22 @@ pub fn longer(
     course: &mut Course,
     value: u64,
 ) -> Result<(), AllocError>
-    requires right { AreRight lists.old }
     requires spaces { IsSpaceOf lists.old.offers course.old spaces.old }
     requires learnt { IsLearnt lists.old course.old }
     requires placed { ArePlaces course.old.places course.old.ids.items }
-    requires next { length course.old.marks.items < length course.old.queue.items }
+    requires next { length course.old.marks.items < length course.old.queue }
     requires last_in { course.old.last < length course.old.ids.items }
     ensures offers { lists.new.offers ≡ lists.old.offers }
-    ensures right { AreRight lists.new }
     ensures learnt { IsLearnt lists.new course.new }
     ensures placed { ArePlaces course.new.places course.new.ids.items }
-    ensures longer { OnOk result (IsLonger lists.old.offers course.old course.new spaces.old spaces.new value) }
+    ensures longer { OnOk result
+        (IsLonger lists.old.offers course.old course.new spaces.old spaces.new value) }
     ensures spaces_unchanged { OnErr result (spaces.new ≡ spaces.old) }
     ensures unchanged { OnErr result (IsSameCourse course.old course.new) }
 {
-    let decision = course.queue[course.marks.len()];
+    let decision = course.next().unwrap();
     let mark = mark_of(lists, course, decision, value);
-    let joining = joining_of(&lists.offers, course, mark.step);
+    let joining = joining_of(lists.offers(), course, mark.step);
     learn_new(alloc, lists, mark.step, joining)?;
     decide_with(alloc, lists, spaces, course, mark, joining)
 }
@@ -87,9 +86,7 @@ pub fn shorter(spaces: &mut Linked, course: &mut Course) -> Option<Mark>
 
 /// The course of the empty word.
 pub fn begin(alloc: Global, lists: &mut Lists, root: RevisionId) -> Result<Course, AllocError>
-    requires right { AreRight lists.old }
     ensures offers { lists.new.offers ≡ lists.old.offers }
-    ensures right { AreRight lists.new }
     ensures learnt { IfOk result (IsLearnt lists.new) }
     ensures placed { IfOk result (λ course. ArePlaces course.places course.ids.items) }
     ensures marks { IfOk result (λ course. course.marks.items ≡ []) }
@@ -97,7 +94,7 @@ pub fn begin(alloc: Global, lists: &mut Lists, root: RevisionId) -> Result<Cours
         → P.root ≡ root → IsRight P [] (lists_of course)) }
 {
     lists.learn(alloc, root)?;
-    let queue = first_of(alloc, lists, root)?;
+    let first = first_of(alloc, lists, root)?;
     let mut places = NumberMap::new(alloc);
     places.insert(root.0, 0)?;
     let mut ids = Vec::new(alloc);
@@ -105,7 +102,7 @@ pub fn begin(alloc: Global, lists: &mut Lists, root: RevisionId) -> Result<Cours
     Ok(Course {
         ids,
         places,
-        queue,
+        queue: Queue::of(alloc, first),
         last: 0,
         marks: Vec::new(alloc),
     })

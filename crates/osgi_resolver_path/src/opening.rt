@@ -7,18 +7,18 @@ ghost use Rattle.osgi_world.specs.DueDecisions.{members};
 ghost use Rattle.osgi_world.specs.declared.problem.Problem.{Problem};
 ghost use Rattle.osgi_resolver_theory.specs.States.{State};
 ghost use Rattle.osgi_resolver_decisions.specs.computed.Asks.{decisions_in};
-ghost use Rattle.osgi_resolver_decisions.specs.computed.Known.{AreRight, IsProblemIn, KnowsAll};
+ghost use Rattle.osgi_resolver_decisions.specs.computed.Known.{IsProblemIn, KnowsAll};
 ghost use Rattle.osgi_resolver_path.specs.computed.Openings.{IsOpened, Waits};
 
 use crate::growing::first_of;
 use osgi_base::RevisionId;
-use osgi_resolver_decisions::{DecisionRef, Lists};
+use osgi_resolver_decisions::{Decisions, Lists};
 use std::alloc::{AllocError, Global};
 
 /// Decisions that become due, and the place of the last member whose decisions are in the queue then.
 #[derive(Drop)]
 pub struct More {
-    pub decisions: Vec<DecisionRef>,
+    pub decisions: Decisions,
     pub last: usize,
 }
 
@@ -29,23 +29,20 @@ pub fn open(
     ids: &[RevisionId],
     more: More,
 ) -> Result<More, AllocError>
-    requires right { AreRight lists.old }
     requires last_in { more.last < length ids.now }
-    ensures offers { lists.new.offers ≡ lists.old.offers }
-    ensures right { AreRight lists.new }
     ensures nothing_lost { KnowsAll lists.old lists.new }
     ensures opened { IfOk result (λ r. (P : Problem) (D : Made) (qs : List decisions.Decision)
         → IsProblemIn lists.old.offers P → State P D → ids.now ≡ members P D
         → length qs ≡ length D →
-        IsOpened P D ids.now (qs ++ decisions_in more.decisions.items) more.last
-        → IsOpened P D ids.now (qs ++ decisions_in r.decisions.items) r.last) }
+        IsOpened P D ids.now (qs ++ decisions_in more.decisions) more.last
+        → IsOpened P D ids.now (qs ++ decisions_in r.decisions) r.last) }
     ensures waits { IfOk result (λ r. Waits r (length ids.now)) }
 {
     let More {
         mut decisions,
         mut last,
     } = more;
-    'members: while decisions.is_empty() && last + 1 < ids.len() {
+    'members: while decisions.items().is_empty() && last + 1 < ids.len() {
         last += 1;
         decisions = first_of(alloc, lists, ids[last])?;
     }

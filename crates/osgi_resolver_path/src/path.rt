@@ -73,7 +73,11 @@ impl<'w> Model for Path<'w> {
 
     ghost coded = { Prim.hlevel (codes, filter.the_row.coded, value.the_row.coded) };
 
-    ghost view = { λ p. record { world = p.world.now; root = p.root; word = word_of (reverse p.course.marks.items) } };
+    ghost view = { λ p. record {
+      world = p.world.now;
+      root = p.root;
+      word = word_of (reverse p.course.marks.items);
+    } };
 
     ghost invariant = { λ p. IsOnWay p.world.now p.root p.lists p.spaces p.course };
 }
@@ -150,7 +154,8 @@ impl<'w> Path<'w> {
     /// Makes the next decision with this value. If memory runs out, nothing changes.
     pub fn longer(&mut self, value: u64) -> Result<(), AllocError>
         requires value { HasValue self.old value }
-        ensures word { OnOk result (self.new ≡ record self.old { word = self.old.word ++ value ∷ [] }) }
+        ensures word { OnOk result
+            (self.new ≡ record self.old { word = self.old.word ++ value ∷ [] }) }
         ensures unchanged { OnErr result (self.new ≡ self.old) }
     {
         moving::longer(
@@ -177,7 +182,7 @@ impl<'w> Path<'w> {
     pub fn offers(&self) -> &Offers<'w>
         ensures world { result.now ≡ self.now.world }
     {
-        &self.lists.offers
+        self.lists.offers()
     }
 
     pub fn root(&self) -> RevisionId

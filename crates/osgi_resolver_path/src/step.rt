@@ -6,7 +6,7 @@ ghost use Rattle.osgi_world.specs.Decisions as decisions;
 ghost use Rattle.osgi_world.specs.Decisions.{adds, wired_to};
 ghost use Rattle.osgi_world.specs.declared.problem.Problem.{Problem};
 ghost use Rattle.osgi_resolver_decisions.specs.DecisionOf.{decision_of};
-ghost use Rattle.osgi_resolver_decisions.specs.computed.Known.{AreRight, IsProblemIn};
+ghost use Rattle.osgi_resolver_decisions.specs.computed.Known.{IsProblemIn};
 ghost use Rattle.osgi_resolver_path.specs.computed.Steps.{IsListed, step_in, steps_in};
 
 use osgi_base::RevisionId;
@@ -54,7 +54,8 @@ pub fn candidate_at(candidates: &[CapRef], value: u64) -> Option<CapRef>
 
 /// The step to the candidate at this place, if there is one.
 fn chosen(host: RevisionId, requirement: ReqRef, candidates: &[CapRef], value: u64) -> Option<Step>
-    ensures step { steps_in result ≡ map (wired_to host requirement) (item_at candidates.now value) }
+    ensures step { steps_in result
+        ≡ map (wired_to host requirement) (item_at candidates.now value) }
 {
     match candidate_at(candidates, value) {
         Some(capability) => Some(wired(host, requirement, capability)),
@@ -64,7 +65,6 @@ fn chosen(host: RevisionId, requirement: ReqRef, candidates: &[CapRef], value: u
 
 /// What the value adds.
 pub fn step_of(lists: &Lists, decision: DecisionRef, value: u64) -> Option<Step>
-    requires right { AreRight lists.now }
     ensures adds { (P : Problem) → IsProblemIn lists.now.offers P → IsListed lists.now P decision
         → steps_in result ≡ adds P (decision_of decision) value }
 {
@@ -86,7 +86,6 @@ pub fn step_of(lists: &Lists, decision: DecisionRef, value: u64) -> Option<Step>
 
 /// How many values the decision has.
 pub fn arity(lists: &Lists, decision: DecisionRef) -> u64
-    requires right { AreRight lists.now }
     ensures arity { (P : Problem) → IsProblemIn lists.now.offers P → IsListed lists.now P decision
         → result ≡ decisions.arity P (decision_of decision) }
 {
@@ -94,7 +93,7 @@ pub fn arity(lists: &Lists, decision: DecisionRef) -> u64
         DecisionRef::Attach { .. } | DecisionRef::Pick { .. } => 2,
         DecisionRef::Choose { requirement, .. } => {
             let candidates = lists.candidates(requirement).len() as u64;
-            if lists.offers.known().is_optional(requirement) {
+            if lists.offers().known().is_optional(requirement) {
                 candidates + 1
             } else {
                 candidates

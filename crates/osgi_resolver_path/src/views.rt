@@ -10,7 +10,7 @@ ghost use Rattle.osgi_world.specs.Lists.{In};
 ghost use Rattle.osgi_world.specs.declared.problem.Problem.{Problem};
 ghost use Rattle.osgi_resolver_decisions.specs.DecisionOf.{decision_of};
 ghost use Rattle.osgi_resolver_path.specs.computed.Courses.{word_of};
-ghost use Rattle.osgi_resolver_decisions.specs.computed.Known.{AreRight, IsProblemIn, Knows};
+ghost use Rattle.osgi_resolver_decisions.specs.computed.Known.{IsProblemIn, Knows};
 ghost use Rattle.osgi_resolver_path.specs.computed.Moving.{IsLearnt};
 ghost use Rattle.osgi_resolver_path.specs.computed.Placed.{ArePlaces};
 ghost use Rattle.osgi_resolver_path.specs.computed.Views.{IsAt, decided_in, is_spatial, is_spatial_next};
@@ -41,7 +41,8 @@ fn is_spatial(offers: &Offers, decision: DecisionRef) -> bool
 /// Whether the next decision is such a one. Such decisions come first among a member's: where the next one is none, the member
 /// has none left.
 fn is_spatial_next(offers: &Offers, course: &Course) -> bool
-    ensures spatial { result ≡ is_spatial_next offers.now.known (slice_get course.now.queue.items (length course.now.marks.items)) }
+    ensures spatial { result ≡ is_spatial_next offers.now.known
+        (slice_get course.now.queue (length course.now.marks.items)) }
 {
     match course.next() {
         Some(decision) => is_spatial(offers, decision),
@@ -51,7 +52,6 @@ fn is_spatial_next(offers: &Offers, course: &Course) -> bool
 
 /// Whether the member at this place is decided.
 fn is_decided_at(lists: &Lists, course: &Course, place: usize, member: RevisionId) -> bool
-    requires right { AreRight lists.now }
     ensures decided { (P : Problem) → IsProblemIn lists.now.offers P → Knows lists.now member
         → IsAt P course.now → slice_get course.now.ids.items place ≡ Some member
         → Decides result (IsDecided P (decided_in course.now) member) }
@@ -60,7 +60,7 @@ fn is_decided_at(lists: &Lists, course: &Course, place: usize, member: RevisionI
         return true;
     }
     if place == course.last {
-        return !is_spatial_next(&lists.offers, course);
+        return !is_spatial_next(lists.offers(), course);
     }
     lists.is_free(member)
 }
@@ -75,7 +75,6 @@ fn place_of(course: &Course, member: RevisionId) -> Option<usize>
 
 /// Whether the member is decided, which is found by its place.
 pub fn is_decided(lists: &Lists, course: &Course, member: RevisionId) -> bool
-    requires right { AreRight lists.now }
     requires placed { ArePlaces course.now.places course.now.ids.items }
     ensures decided { (P : Problem) → IsProblemIn lists.now.offers P → Knows lists.now member
         → IsAt P course.now → In member course.now.ids.items
@@ -94,7 +93,6 @@ pub fn undecided(
     lists: &Lists,
     course: &Course,
 ) -> Result<Vec<RevisionId>, AllocError>
-    requires right { AreRight lists.now }
     ensures undecided { IfOk result (λ list. (P : Problem) → IsProblemIn lists.now.offers P
         → IsLearnt lists.now course.now → IsAt P course.now → (r : RevisionId) → In r list.items
         ↔ In r (members P (decided_in course.now)) × ¬ IsDecided P (decided_in course.now) r) }

@@ -23,7 +23,7 @@ pub record CourseLists : Type 0 where
   pub last : ℕ
 
 abbrev pub lists_of : Course → CourseLists
-lists_of c = record { ids = c.ids.items; queue = c.queue.items; last = c.last }
+lists_of c = record { ids = c.ids.items; queue = c.queue; last = c.last }
 
 -- ---- marks, the last first
 

@@ -9,7 +9,7 @@ use Rattle.osgi_world.specs.declared.world.World.{World}
 use Rattle.osgi_uses.specs.States.{SpacesState}
 use Rattle.osgi_resolver_decisions.specs.DecisionOf.{decision_of}
 use Rattle.osgi_resolver_path.specs.computed.Courses.{IsAlong, IsRight, lists_of, made_of, steps_of, taken_back}
-use Rattle.osgi_resolver_decisions.specs.computed.Known.{AreRight, IsProblemIn, Knows}
+use Rattle.osgi_resolver_decisions.specs.computed.Known.{IsProblemIn, Knows}
 use Rattle.osgi_resolver_path.specs.computed.Placed.{ArePlaces}
 use Rattle.osgi_resolver_path.specs.computed.Steps.{IsListed, steps_in}
 use Rattle.osgi_resolver_path.specs.declared.course.Course.{Course}
@@ -31,7 +31,7 @@ pub record IsMarkOf (lists : Lists) (c : Course) (decision : DecisionRef) (value
   pub decision_is : mark.decision ≡ decision
   pub value_is : mark.value ≡ value
   pub ids : mark.ids ≡ length c.ids.items
-  pub queue : mark.queue ≡ length c.queue.items
+  pub queue : mark.queue ≡ length c.queue
   pub last : mark.last ≡ c.last
   pub step : (P : Problem) → IsProblemIn lists.offers P → IsListed lists P decision → steps_in mark.step ≡ adds P (decision_of decision) value
 
@@ -51,7 +51,6 @@ IsSpaceOf world c spaces = spaces ≡ record { known = world.known; wirings = wo
 -- the course stands at a word of each problem of resolving the root in the world, and the rest is as it should be there
 pub record IsOnWay (world : World) (root : RevisionId) (lists : Lists) (spaces : SpacesState) (c : Course) : Type 0 where
   pub offers : lists.offers ≡ world
-  pub right : AreRight lists
   pub learnt : IsLearnt lists c
   pub placed : ArePlaces c.places c.ids.items
   pub spaces_are : IsSpaceOf world c spaces

@@ -24,7 +24,7 @@ made_with ms decision value = (decision_of decision, value) ∷ made_of ms
 
 -- the decision is next, the value in range, and the members that the course had before, with who joins, are those then
 pub record IsNextOf (P : Problem) (c : Course) (ids : List RevisionId) (decision : DecisionRef) (value : ℕ) : Type 0 where
-  pub next : slice_get c.queue.items (length c.marks.items) ≡ Some decision
+  pub next : slice_get c.queue (length c.marks.items) ≡ Some decision
   pub range : value < arity P (decision_of decision)
   pub joined : List RevisionId
   pub ids_are : c.ids.items ≡ ids ++ joined
@@ -32,8 +32,8 @@ pub record IsNextOf (P : Problem) (c : Course) (ids : List RevisionId) (decision
 
 -- with these decisions more the queue is that of the members that are opened then, and a decision waits or none is left
 pub record IsOpenedBy (P : Problem) (c : Course) (decision : DecisionRef) (value : ℕ) (more : More) : Type 0 where
-  pub opened : IsOpened P (made_with (reverse c.marks.items) decision value) c.ids.items (decisions_in (c.queue.items ++ more.decisions.items)) more.last
-  pub pending : (length c.marks.items + 1 < length (c.queue.items ++ more.decisions.items)) ⊎ (more.last + 1 ≡ length c.ids.items)
+  pub opened : IsOpened P (made_with (reverse c.marks.items) decision value) c.ids.items (decisions_in (c.queue ++ more.decisions)) more.last
+  pub pending : (length c.marks.items + 1 < length (c.queue ++ more.decisions)) ⊎ (more.last + 1 ≡ length c.ids.items)
 
 -- where the decision is next, these rows attach the fragments of its host that are attached before it
 abbrev pub AreRowsBefore : RowLists → World → Course → DecisionRef → ℕ → Type 0
@@ -49,17 +49,17 @@ pub record IsSameCourse (old new : Course) : Type 0 where
 pub record IsDecidedBy (offers : World) (old new : Course) (mark : Mark) : Type 0 where
   pub ids : new.ids.items ≡ old.ids.items
   pub more : List DecisionRef
-  pub queue : new.queue.items ≡ old.queue.items ++ more
+  pub queue : new.queue ≡ old.queue ++ more
   pub opened : (P : Problem) (ids : List RevisionId) → IsProblemIn offers P → IsRight P (reverse old.marks.items) (record (lists_of old) { ids = ids }) → IsNextOf P old ids mark.decision mark.value →
-      IsOpened P (made_with (reverse old.marks.items) mark.decision mark.value) new.ids.items (decisions_in new.queue.items) new.last
-      × ((length old.marks.items + 1 < length new.queue.items) ⊎ (new.last + 1 ≡ length new.ids.items))
+      IsOpened P (made_with (reverse old.marks.items) mark.decision mark.value) new.ids.items (decisions_in new.queue) new.last
+      × ((length old.marks.items + 1 < length new.queue) ⊎ (new.last + 1 ≡ length new.ids.items))
 
 -- the same, with who joins
 pub record IsDecidedWith (offers : World) (old new : Course) (mark : Mark) (joining : Option RevisionId) : Type 0 where
   pub ids : new.ids.items ≡ old.ids.items ++ option_to_list joining
   pub more : List DecisionRef
-  pub queue : new.queue.items ≡ old.queue.items ++ more
-  pub opened : (P : Problem) → IsProblemIn offers P → IsRight P (reverse old.marks.items) (lists_of old) → slice_get old.queue.items (length old.marks.items) ≡ Some mark.decision → mark.value < arity P (decision_of mark.decision) →
+  pub queue : new.queue ≡ old.queue ++ more
+  pub opened : (P : Problem) → IsProblemIn offers P → IsRight P (reverse old.marks.items) (lists_of old) → slice_get old.queue (length old.marks.items) ≡ Some mark.decision → mark.value < arity P (decision_of mark.decision) →
       new.ids.items ≡ members P (made_with (reverse old.marks.items) mark.decision mark.value) →
-      IsOpened P (made_with (reverse old.marks.items) mark.decision mark.value) new.ids.items (decisions_in new.queue.items) new.last
-      × ((length old.marks.items + 1 < length new.queue.items) ⊎ (new.last + 1 ≡ length new.ids.items))
+      IsOpened P (made_with (reverse old.marks.items) mark.decision mark.value) new.ids.items (decisions_in new.queue) new.last
+      × ((length old.marks.items + 1 < length new.queue) ⊎ (new.last + 1 ≡ length new.ids.items))

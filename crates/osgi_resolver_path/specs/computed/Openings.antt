@@ -15,4 +15,4 @@ pub record IsOpened (P : Problem) (D : Made) (ids : List RevisionId) (qs : List 
 
 -- a decision is there, or no member is left
 abbrev pub Waits : More → ℕ → Type 0
-Waits more count = (0 < length more.decisions.items) ⊎ (more.last + 1 ≡ count)
+Waits more count = (0 < length more.decisions) ⊎ (more.last + 1 ≡ count)

@@ -17,6 +17,7 @@ loop-index-preserved c P course seen i o =
     let h = c.args.host in
     let D = decided_in course in
     let w = ap (λ (W : World). requirement_count W.known owner) seen.ready.in_it.world in
+    let known = ap (λ (W : World). W.known) c.offers.ensures.world in
     let all : c.requirement_count-index-end.result ≡ requirement_count P.world.known owner = cc in
     let within : n < requirement_count P.world.known owner = omega arith in
     let q : ReqRef = record { owner = owner; index = n } in
@@ -30,6 +31,7 @@ returns c = record {
   added = λ P course seen i o.
       let owner = c.args.owner in
       let w = ap (λ (W : World). requirement_count W.known owner) seen.ready.in_it.world in
+      let known = ap (λ (W : World). W.known) c.offers.ensures.world in
       let all : c.requirement_count-index-end.result ≡ requirement_count P.world.known owner = cc in
       let end : c.loop-index.index ≡ requirement_count P.world.known owner = omega arith in
       c.loop-index.invariant P course seen i o

@@ -18,6 +18,7 @@ returns-then-not-is_effective c = record {
       let q = c.args.requirement in
       let D = decided_in course in
       let w = ap (λ (W : World). is_effective W.known q) ready.in_it.world in
+      let known = ap (λ (W : World). W.known) c.offers.ensures.world in
       let e : is_effective P.world.known q ≡ false = cc in
       sym (append-nil c.args.wires.now) ∙ ap (λ l. c.args.wires.now ++ l) (sym (ineffective-none P D (right-state P _ (lists_of course) ready.at) c.args.host q e));
 }
@@ -31,9 +32,11 @@ returns-in_ok-add_picked c = record {
       let D = decided_in course in
       let w = ap (λ (W : World). is_effective W.known q) ready.in_it.world in
       let u = ap (λ (W : World). is_multiple W.known q) ready.in_it.world in
+      let known = ap (λ (W : World). W.known) c.offers.ensures.world in
+      let known-2 = ap (λ (W : World). W.known) c.offers-2.ensures.world in
       let e : is_effective P.world.known q ≡ true = cc in
       let m : is_multiple P.world.known q ≡ true = cc in
-      let all = c.candidates-candidates.ensures.candidates P c.requires.right ready.in_it (ready.known h q i j) (ready-has P c.args.lists.now course ready h q i j e) in
+      let all = c.candidates-candidates.ensures.candidates P ready.in_it (ready.known h q i j) (ready-has P c.args.lists.now course ready h q i j e) in
       let same : value_in c.args.values.now ≡ value_made D = λ k d. seen.values_are d k in
       c.in_ok-add_picked.ensures.added
       ∙ ap (λ (made : Decision → Option ℕ). c.args.wires.now ++ map (wire_to q) (filter (λ c. is_yes (made (pick h q c))) c.candidates-candidates.result.now)) same
@@ -50,9 +53,11 @@ returns-in_ok-add_chosen c = record {
       let D = decided_in course in
       let w = ap (λ (W : World). is_effective W.known q) ready.in_it.world in
       let u = ap (λ (W : World). is_multiple W.known q) ready.in_it.world in
+      let known = ap (λ (W : World). W.known) c.offers.ensures.world in
+      let known-2 = ap (λ (W : World). W.known) c.offers-2.ensures.world in
       let e : is_effective P.world.known q ≡ true = cc in
       let m : is_multiple P.world.known q ≡ false = cc in
-      let all = c.candidates-candidates.ensures.candidates P c.requires.right ready.in_it (ready.known h q i j) (ready-has P c.args.lists.now course ready h q i j e) in
+      let all = c.candidates-candidates.ensures.candidates P ready.in_it (ready.known h q i j) (ready-has P c.args.lists.now course ready h q i j e) in
       c.in_ok-add_chosen.ensures.added
       ∙ ap (λ (v : Option ℕ). c.args.wires.now ++ map (wire_to q) (by_value c.candidates-candidates.result.now v)) (seen.values_are (choose h q))
       ∙ ap (λ (cs : List CapRef). c.args.wires.now ++ map (wire_to q) (by_value cs (value_made D (choose h q)))) all

@@ -12,7 +12,7 @@ returns c = record {
   attached = λ P course seen i.
       let m = c.args.member in
       let items = c.fragments_for-fragment-items.result.now in
-      let are : items ≡ matching P m = c.fragments_for-fragment-items.ensures.fragments P c.requires.right seen.ready.in_it (seen.ready.learnt.members m i) in
+      let are : items ≡ matching P m = c.fragments_for-fragment-items.ensures.fragments P seen.ready.in_it (seen.ready.learnt.members m i) in
       let same : value_in c.args.values.now ≡ value_made (decided_in course) = λ k d. seen.values_are d k in
       c.loop-fragment.invariant
       ∙ ap (filter (λ f. is_yes (value_in c.args.values.now (attaching m f)))) (take_all c.loop-fragment.fragment-index items c.loop-fragment-test.false ∙ are)

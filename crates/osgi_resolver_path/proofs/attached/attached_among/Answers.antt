@@ -1,5 +1,5 @@
 -- One fragment more, and all of them.
-use Rattle.std.proofs.Common.{◌≡◌, ◌∙◌, ◌∷◌, [], ◌++◌, filter, get_or, take, ap, sym}
+use Rattle.std.proofs.Common.{◌≡◌, ◌∙◌, ◌∷◌, [], ◌++◌, filter, get_or, ap, sym}
 use Rattle.std.proofs.lemmas.List.{get_or_default, take_all}
 use Rattle.osgi_base.specs.declared.ids.RevisionId.{RevisionId}
 use Rattle.osgi_space_sources.proofs.Lengths.{empty-true}

@@ -10,6 +10,6 @@ use Rattle.osgi_resolver_path.proofs.moves.asks_after.Goals as goal
 
 pub returns-in_ok-asks_with-in-Attach-clause-asks : goal.returns-in_ok-asks_with-in-Attach-clause-asks
 returns-in_ok-asks_with-in-Attach-clause-asks c P D in_it =
-    let asks = decisions_in c.in_ok-asks_with-in-Attach.field-0.items in
+    let asks = decisions_in c.in_ok-asks_with-in-Attach.field-0 in
     let says : DecisionRef → Type 0 = λ r. AreAttached c.args.rows.now D (host (decision_of r)) → IsAskedAfter P D (decision_of r) c.args.value asks in
     subst says (sym c.in-Attach.is) (λ rows. c.in_ok-asks_with-in-Attach.ensures.asks P D in_it rows)

@@ -23,6 +23,6 @@ returns-in-Choose c = record {
       subst says (sym c.in-Choose.is)
       (λ P is asked.
       c.chosen.ensures.step
-      ∙ ap (λ cs. map (wired_to h q) (item_at cs value)) (c.candidates.ensures.candidates P c.requires.right is asked.knows asked.has)
+      ∙ ap (λ cs. map (wired_to h q) (item_at cs value)) (c.candidates.ensures.candidates P is asked.knows asked.has)
       ∙ sym (entry-chosen h q (candidates P q) (is_optional P.world.known q) value));
 }

@@ -21,7 +21,7 @@ pub returns-then-place-course-2 : goal.returns-then-place-course-2
 returns-then-place-course-2 c = record {
   decided = λ P in_it knows at there.
       let course = c.args.course.now in
-      let next = c.is_spatial_next.ensures.spatial ∙ ap (λ (W : World). is_spatial_next W.known (slice_get course.queue.items (length course.marks.items))) (sym in_it.world) in
+      let next = c.is_spatial_next.ensures.spatial ∙ ap (λ (W : World). is_spatial_next W.known (slice_get course.queue (length course.marks.items))) (c.offers.ensures.world ∙ sym in_it.world) in
       subst (λ b. Decides (not b) (IsDecided P (decided_in course) c.args.member)) (sym next)
       (decided-last P in_it.is (reverse course.marks.items) (lists_of course) at c.args.place c.args.member there (length course.marks.items) (sym (length-reverse course.marks.items)) (omega arith));
 }
@@ -33,6 +33,6 @@ returns c = record {
       let ms = reverse course.marks.items in
       let m = c.args.member in
       let is_current = member-current P in_it.is (decided_in course) (right-state P ms (lists_of course) at) m (subst (Rattle.osgi_world.specs.Lists.In m) at.ids (get-in course.ids.items c.args.place m there)) in
-      subst (λ b. Decides b (IsDecided P (decided_in course) m)) (sym (c.is_free.ensures.free P c.requires.right in_it knows is_current.0))
+      subst (λ b. Decides b (IsDecided P (decided_in course) m)) (sym (c.is_free.ensures.free P in_it knows is_current.0))
       (decided-later P in_it.is ms (lists_of course) at c.args.place m there (omega arith));
 }

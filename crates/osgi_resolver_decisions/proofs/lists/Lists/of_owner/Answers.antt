@@ -7,6 +7,5 @@ use Rattle.osgi_resolver_decisions.proofs.lists.Lists.of_owner.Goals as goal
 
 pub returns-in-Some : goal.returns-in-Some
 returns-in-Some c = record {
-  lists = λ right knows. subst (λ (lists : List (Vec CapRef)). AreListsOf c.args.self.now.offers c.args.owner lists) (sym c.as_slice.ensures.value) (λ P q in_it e asked.
-      (right P in_it c.args.owner c.in-Some.owned.now (sym c.in-Some.ensures.value)).candidates_are q e asked);
+  lists = λ knows. subst (λ (lists : List (Vec CapRef)). AreListsOf c.args.self.now.offers c.args.owner lists) (sym c.as_slice.ensures.value) (λ P q in_it e asked. (c.in-Some.ensures.right P in_it).candidates_are q e asked);
 }

@@ -1,5 +1,5 @@
 -- The trail has the provider of the last step.
-use Rattle.std.proofs.Common.{◌≡◌, ◌<◌, ◌∙◌, ◌++◌, ◌∷◌, [], arith, ap, length, subst, sym}
+use Rattle.std.proofs.Common.{◌<◌, ◌∙◌, ◌++◌, arith, ap, length, subst, sym}
 use Rattle.std.specs.Option.{option_to_list}
 use Rattle.osgi_uses.specs.States.{SpacesState}
 use Rattle.osgi_resolver_path.proofs.Links.{links-undone, some-trail}

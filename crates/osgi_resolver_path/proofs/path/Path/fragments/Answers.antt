@@ -25,7 +25,7 @@ returns c = record {
       let member = c.args.member in
       let R = c.rows-2.result.now in
       let all = c.fragments_for-fragments.result.now in
-      let is_all : (P : Problem) → IsProblemOf s P → In member (members P (made P s)) → all ≡ Rattle.osgi_world.specs.Candidates.matching P member = λ P of i. c.fragments_for-fragments.ensures.fragments P on.right (lists-at W root lists spaces course on s at P of) (knows-at W root lists spaces course on s at P of member i) in
+      let is_all : (P : Problem) → IsProblemOf s P → In member (members P (made P s)) → all ≡ Rattle.osgi_world.specs.Candidates.matching P member = λ P of i. c.fragments_for-fragments.ensures.fragments P (lists-at W root lists spaces course on s at P of) (knows-at W root lists spaces course on s at P of member i) in
       let rows : (P : Problem) → IsProblemOf s P → In member (members P (made P s)) → AreAttached R (made P s) member = λ P of i.
       subst (λ (r : RowLists). AreAttached r (made P s) member) (sym c.rows-2.ensures.rows) (attached-at W root lists spaces course on s at P of c.rows.result.now c.rows.ensures.known c.rows.ensures.rows member i) in
       elim c.attached_among.result as (λ r. IfOk r (λ list. (D : Made) → AreAttached R D member → list.items ≡ filter (λ f. is_yes (value_made D (attaching member f))) all) → IfOk r (λ list. (P : Problem) → IsProblemOf s P → In member (members P (made P s)) → list.items ≡ fragments_of P (made P s) member)) [

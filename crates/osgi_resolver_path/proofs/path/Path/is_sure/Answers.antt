@@ -9,5 +9,5 @@ returns c = record {
       let on = c.self.invariant in
       let in_it = lists-at c.self.inside.world.now c.self.inside.root c.self.inside.lists c.self.inside.spaces c.self.inside.course on c.args.self.now (sym c.self.view_is) P of in
       sure-at c.self.inside.world.now c.self.inside.root c.self.inside.lists c.self.inside.spaces c.self.inside.course on c.args.self.now (sym c.self.view_is) P of m c.args.owner i own
-      (λ knows current. c.is_sure.ensures.sure t P on.right in_it knows current);
+      (λ knows current. c.is_sure.ensures.sure t P in_it knows current);
 }

@@ -15,7 +15,7 @@ returns c = record {
   lacks = λ P m of i own.
       let on = c.self.invariant in
       let in_it = lists-at c.self.inside.world.now c.self.inside.root c.self.inside.lists c.self.inside.spaces c.self.inside.course on c.args.self.now (sym c.self.view_is) P of in
-      let is = c.lacks_candidate.ensures.lacks P on.right in_it in (
+      let is = c.lacks_candidate.ensures.lacks P in_it in (
         λ t. (is.0 t).2,
         λ l.
             let D = made P c.args.self.now in

@@ -25,6 +25,6 @@ invariant_of-self c =
     let spaces = c.longer.new.spaces in
     let has = subst (λ s. HasValue s c.args.value) (sym c.self.view_is) c.requires.value in
     elim c.longer.result as (λ r. OnOk r (IsLonger c.self.inside.lists.offers old new c.self.inside.spaces spaces c.args.value) → OnErr r (spaces ≡ c.self.inside.spaces) → OnErr r (IsSameCourse old new) → IsOnWay c.self.inside.world.now c.self.inside.root lists spaces new) [
-      | Ok x ↦ λ by same course. on-longer c.self.inside.world.now c.self.inside.root c.self.inside.lists c.self.inside.spaces c.self.inside.course c.self.invariant c.args.value has lists new spaces c.longer.ensures.offers c.longer.ensures.right c.longer.ensures.learnt c.longer.ensures.placed by
-      | Err e ↦ λ by same course. on-same c.self.inside.world.now c.self.inside.root c.self.inside.lists c.self.inside.spaces c.self.inside.course c.self.invariant lists new spaces c.longer.ensures.offers c.longer.ensures.right c.longer.ensures.learnt c.longer.ensures.placed same course
+      | Ok x ↦ λ by same course. on-longer c.self.inside.world.now c.self.inside.root c.self.inside.lists c.self.inside.spaces c.self.inside.course c.self.invariant c.args.value has lists new spaces c.longer.ensures.offers c.longer.ensures.learnt c.longer.ensures.placed by
+      | Err e ↦ λ by same course. on-same c.self.inside.world.now c.self.inside.root c.self.inside.lists c.self.inside.spaces c.self.inside.course c.self.invariant lists new spaces c.longer.ensures.offers c.longer.ensures.learnt c.longer.ensures.placed same course
     ] c.longer.ensures.longer c.longer.ensures.spaces_unchanged c.longer.ensures.unchanged
