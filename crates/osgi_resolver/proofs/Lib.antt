@@ -1,5 +1,2 @@
--- Lemmas on what is kept of a world, and on candidates that are out.
-pub mod Doomed
+-- Lemmas on what is kept of a world.
 pub mod Growing
-pub mod Layers
-pub mod Ruled

@@ -1,4 +1,3 @@
 -- What only proofs and private functions use.
 pub mod Following
-pub mod Layers
 pub mod Refused

@@ -8,13 +8,10 @@ mod indexed_wirings;
 mod lacking;
 mod refusals;
 mod resolving;
-mod rivals;
-mod rows_walk;
-mod solving;
 mod walk;
 
 pub use answer::{Answer, Cause};
+pub use answering::answer_of;
 pub use indexed_wirings::IndexedWirings;
 pub use resolving::resolve;
-pub use solving::solve;
 pub use walk::Walk;

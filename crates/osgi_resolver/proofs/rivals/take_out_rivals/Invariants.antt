@@ -1,6 +1,0 @@
--- What was taken out so far are candidates of rivals.
-use Rattle.osgi_resolver.specs.computed.Layers.{TakesRivals}
-use Rattle.osgi_resolver.proofs.rivals.take_out_rivals.Given as goal
-
-abbrev pub invariant-loop-other : goal.invariant-loop-other
-invariant-loop-other l = TakesRivals l.path.world.known l.member l.fn.rows l.count l.rows

@@ -1,0 +1,4 @@
+-- Lemmas on candidates that are out.
+pub mod Doomed
+pub mod Layers
+pub mod Ruled

@@ -1,0 +1,2 @@
+-- The candidates that a search leaves out.
+pub mod computed
