@@ -6,7 +6,7 @@ use Rattle.osgi_resolver_theory.proofs.Views.{wire-cases}
 use Rattle.osgi_resolver_theory.specs.Reasons.{Leads, by_bundle, by_package, itself}
 use Rattle.osgi_resolver_hopeless.specs.computed.Leading.{LeadsBack}
 use Rattle.osgi_space_rows.specs.Agree.{id}
-use Rattle.osgi_space_sources.specs.computed.Reach.{Reach, starts, steps}
+use Rattle.osgi_space_sources.specs.computed.Reach.{starts, steps}
 use Rattle.osgi_world.specs.Candidates.{IsProblem}
 use Rattle.osgi_world.specs.Decisions.{Made}
 use Rattle.osgi_world.specs.DueDecisions.{members}

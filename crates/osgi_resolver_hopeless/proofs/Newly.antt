@@ -1,5 +1,5 @@
 -- A member that is amiss with one decision more, and was not before, is so by that decision.
-use Rattle.std.proofs.Common.{◌≡◌, ◌≢◌, ◌↔◌, ℕ, ◌<◌, ◌⊎◌, inl, inr, IsTrue, List, [], ◌∷◌, Option, None, Some, refl, sym, ◌∙◌, ap, subst}
+use Rattle.std.proofs.Common.{◌≡◌, ◌≢◌, ◌↔◌, ℕ, ◌⊎◌, inl, inr, IsTrue, List, [], ◌∷◌, Option, None, Some, refl, sym, subst}
 use Rattle.std.specs.Prelude.{false}
 use Rattle.std.specs.Option.{option_map, option_map_or}
 use Rattle.osgi_base.specs.declared.ids.RevisionId.{RevisionId}
@@ -14,8 +14,9 @@ use Rattle.osgi_resolver_theory.proofs.Twos.{only-one, stable}
 use Rattle.osgi_resolver_theory.proofs.Values.{value-cases}
 use Rattle.osgi_resolver_theory.proofs.Views.{attached-cases, attached-member, due-picked}
 use Rattle.osgi_resolver_theory.specs.Checks as check
+use Rattle.osgi_resolver_decisions.specs.Sure.{LacksCandidate}
 use Rattle.osgi_resolver_hopeless.proofs.Owners.{unmet-of}
-use Rattle.osgi_resolver_hopeless.specs.computed.Stuck.{AreRefused, CannotBeMet, HasNamesake, IsAmiss, IsAmissBy, IsFragmentAmiss, IsNewlyAmiss, IsOwnerLacking, IsUnmet, OwnUnmet, SameName}
+use Rattle.osgi_resolver_hopeless.specs.computed.Stuck.{AreRefused, CannotBeMet, IsAmiss, IsAmissBy, IsFragmentAmiss, IsNewlyAmiss, IsUnmet, OwnUnmet, SameName, place}
 use Rattle.osgi_space_rows.specs.Agree.{AreRowsOf}
 use Rattle.osgi_space_rows.specs.Rows.{Attaches, RowLists}
 use Rattle.osgi_world.specs.Candidates.{IsProblem, candidates}
@@ -24,7 +25,7 @@ use Rattle.osgi_world.specs.DueDecisions.{fragments_of, members, payload}
 use Rattle.osgi_world.specs.Hopeless as hopeless
 use Rattle.osgi_world.specs.Hopeless.{Hopeless}
 use Rattle.osgi_world.specs.Lists.{In, Two}
-use Rattle.osgi_world.specs.Lookups.{is_current, is_host_of, is_multiple, known_at, requirement_count, revision_at, symbolic_name, IsNeeded}
+use Rattle.osgi_world.specs.Lookups.{is_current, is_host_of, is_multiple, known_at, revision_at, symbolic_name, IsNeeded}
 use Rattle.osgi_world.specs.Partial.{partial}
 use Rattle.osgi_world.specs.Payloads.{current_fragments}
 use Rattle.osgi_world.specs.declared.problem.Problem.{Problem}
@@ -70,8 +71,10 @@ attached-in P L D m i K N R is f = (
 
 -- ---- what the last decision made amiss is amiss
 
-own-unmet : (P : Problem) (D : Made) (m o : RevisionId) → IsOwnerLacking P o → OwnUnmet P D m o
-own-unmet P D m o lacks = (lacks.0, lacks.1, record { needed = lacks.2.0; no_wire = inl lacks.2.1 })
+own-unmet : (P : Problem) (D : Made) (m o : RevisionId) → LacksCandidate P o → OwnUnmet P D m o
+own-unmet P D m o lacks =
+    let here : lacks.0 ≡ place o lacks.0.index = λ j. record { owner = lacks.1 j; index = lacks.0.index } in
+    (lacks.0.index, lacks.2, subst (CannotBeMet P D m) here (record { needed = lacks.3; no_wire = inl lacks.4 }))
 
 fragment-amiss : (P : Problem) (D : Made) (m f : RevisionId) → In f (fragments_of P D m) → IsFragmentAmiss P D m f → IsAmiss P D m
 fragment-amiss P D m f i (inl lacks) = inl (unmet-of P D m f (inr i) (own-unmet P D m f lacks))
@@ -91,8 +94,8 @@ newly-amiss P (t ∷ D) m (inr by) = amiss-by P (t ∷ D) t.0 t.1 m by
 pub none-newly : (P : Problem) (D : Made) (m : RevisionId) → D ≡ [] → IsAmiss P D m ↔ IsNewlyAmiss P D m
 none-newly P D m e = subst (λ E. IsAmiss P E m ↔ IsNewlyAmiss P E m) (sym e) (λ a. a, λ a. a)
 
-pub last-newly : (P : Problem) (E D : Made) (d : Decision) (v : ℕ) (m : RevisionId) → E ≡ ((d, v) ∷ D) → (IsOwnerLacking P m ⊎ IsAmissBy P E d v m) ↔ IsNewlyAmiss P E m
-last-newly P E D d v m e = subst (λ F. (IsOwnerLacking P m ⊎ IsAmissBy P F d v m) ↔ IsNewlyAmiss P F m) (sym e) (λ a. a, λ a. a)
+pub last-newly : (P : Problem) (E D : Made) (d : Decision) (v : ℕ) (m : RevisionId) → E ≡ ((d, v) ∷ D) → (LacksCandidate P m ⊎ IsAmissBy P E d v m) ↔ IsNewlyAmiss P E m
+last-newly P E D d v m e = subst (λ F. (LacksCandidate P m ⊎ IsAmissBy P F d v m) ↔ IsNewlyAmiss P F m) (sym e) (λ a. a, λ a. a)
 
 -- ---- what is amiss and was not hopeless before is so by the last decision
 
@@ -101,7 +104,7 @@ module _ (P : Problem) (D : Made) (d : Decision) (v : ℕ) (x : OneMore P D d v)
   E = (d, v) ∷ D
 
   abbrev Newly : Type 0
-  Newly = IsOwnerLacking P m ⊎ IsAmissBy P E d v m
+  Newly = LacksCandidate P m ⊎ IsAmissBy P E d v m
 
   -- the decision attached the fragment, or it was attached before
   fragment-either : (f : RevisionId) → In f (fragments_of P E m) → (attaching m f ≡ d) × (0 ≡ v) ⊎ In m (members P D) × In f (fragments_of P D m)
@@ -119,9 +122,9 @@ module _ (P : Problem) (D : Made) (d : Decision) (v : ℕ) (x : OneMore P D d v)
   by-lacking : (q : ReqRef) → In q (payload P E m) → IsNeeded P.world.known q → candidates P q ≡ [] → Newly
   by-lacking q i needed none =
       let at = payload-in P E m q i in
-      let lacks : IsOwnerLacking P q.owner = (q.index, at.1, (needed, none)) in
+      let lacks : LacksCandidate P q.owner = (q, refl, at.1, needed, none) in
       elim at.0 [
-        | inl own ↦ inl (subst (IsOwnerLacking P) own lacks)
+        | inl own ↦ inl (subst (LacksCandidate P) own lacks)
         | inr f ↦ elim (fragment-either q.owner f) [
           | inl new ↦ by-fragment q.owner new f (inl lacks)
           | inr old ↦ absurd (hopeful (hopeless.no_candidate m q old.0 (in-payload P D m q (inr old.1) at.1) needed none))

@@ -1,5 +1,5 @@
 -- Where no bundle wire goes to the host, a constraint that comes through it follows, by rows, from the wires that go to it.
-use Rattle.std.proofs.Common.{◌≡◌, ◌≢◌, ◌⊎◌, inl, inr, ℕ, List, [], refl, sym, ◌∙◌, ap, subst, Any, Contains}
+use Rattle.std.proofs.Common.{◌≡◌, ◌≢◌, ◌⊎◌, inl, inr, ℕ, List, [], refl, sym, ◌∙◌, subst, Contains}
 use Rattle.osgi_base.specs.declared.ids.RevisionId.{RevisionId}
 use Rattle.osgi_resolver_hopeless.proofs.Backwards.{holder-member}
 use Rattle.osgi_resolver_hopeless.specs.computed.Through.{ComesThrough, Through, begins, goes_on}
@@ -19,10 +19,9 @@ use Rattle.osgi_space_sources.specs.laws.Adding.{any-of}
 use Rattle.osgi_world.specs.Candidates.{IsProblem}
 use Rattle.osgi_world.specs.Decisions.{Made}
 use Rattle.osgi_world.specs.DueDecisions.{members}
-use Rattle.osgi_world.specs.Hopeless.{IsSettled, ReachedFrom, first, more}
+use Rattle.osgi_world.specs.Hopeless.{IsSettled, first, more}
 use Rattle.osgi_world.specs.Lists.{In}
 use Rattle.osgi_world.specs.Partial.{partial}
-use Rattle.osgi_world.specs.Sources as relation
 use Rattle.osgi_world.specs.Sources.{Clash, GivesPackage, Sources, itself, reexported, substituted}
 use Rattle.osgi_world.specs.Wirings.{BundleWire, PackageWire}
 use Rattle.osgi_world.specs.declared.problem.Problem.{Problem}

@@ -8,12 +8,12 @@ use Rattle.osgi_resolver_theory.proofs.Before.{OneMore, host-member, stuck-touch
 use Rattle.osgi_resolver_theory.proofs.Reasons.{clash-leads, made-onward, offer-host, one-more}
 use Rattle.osgi_resolver_theory.specs.OnwardFacts.{IsOnward}
 use Rattle.osgi_resolver_theory.specs.Reasons as reason
-use Rattle.osgi_resolver_theory.specs.Reasons.{IsAnew, IsTouched, Stuck}
+use Rattle.osgi_resolver_theory.specs.Reasons.{Stuck}
 use Rattle.osgi_resolver_hopeless.proofs.Answering.{known-is}
 use Rattle.osgi_resolver_hopeless.proofs.Newly.{newly, newly-amiss}
 use Rattle.osgi_resolver_hopeless.proofs.Reasons.{hopeless-reason}
 use Rattle.osgi_resolver_hopeless.proofs.Through.{clash-through}
-use Rattle.osgi_resolver_hopeless.specs.Before.{IsHopefulBefore}
+use Rattle.osgi_resolver_search.specs.Before.{IsHopefulBefore}
 use Rattle.osgi_resolver_hopeless.specs.computed.Clashing.{HasClashAt, HasLost, HasLostAt, IsLostBy}
 use Rattle.osgi_resolver_path.specs.Last.{IsLast}
 use Rattle.osgi_resolver_hopeless.specs.computed.Onward as onward
@@ -21,7 +21,7 @@ use Rattle.osgi_resolver_hopeless.specs.computed.Onward.{HasNewRivals, IsAtOnce,
 use Rattle.osgi_resolver_hopeless.specs.computed.Reasons as reasons
 use Rattle.osgi_resolver_hopeless.specs.computed.Reasons.{Reason}
 use Rattle.osgi_resolver_hopeless.specs.computed.Rivals.{HasRivals, IsCurrentSingleton}
-use Rattle.osgi_resolver_hopeless.specs.computed.Stuck.{IsMemberOf, IsNewlyAmiss, IsStuck, IsStuckBy, OtherProvider, amiss, by_itself, by_wire, two_providers}
+use Rattle.osgi_resolver_hopeless.specs.computed.Stuck.{IsNewlyAmiss, IsStuck, IsStuckBy, OtherProvider, amiss, by_itself, by_wire, two_providers}
 use Rattle.osgi_resolver_path.specs.declared.last.Last.{Last}
 use Rattle.osgi_resolver_decisions.specs.DecisionOf.{decision_of}
 use Rattle.osgi_resolver_path.specs.Standing.{IsProblemOf, Standing, made}
@@ -30,7 +30,7 @@ use Rattle.osgi_world.specs.ChoiceWords.{made_by}
 use Rattle.osgi_world.specs.Decisions.{Decision, Made, adds, attached, host, wired}
 use Rattle.osgi_world.specs.DueDecisions.{members}
 use Rattle.osgi_world.specs.Hopeless as hopeless
-use Rattle.osgi_world.specs.Hopeless.{Hopeless, IsDecided, IsHopeless}
+use Rattle.osgi_world.specs.Hopeless.{Hopeless, IsDecided}
 use Rattle.osgi_world.specs.Lists.{In}
 use Rattle.osgi_world.specs.Partial.{partial}
 use Rattle.osgi_world.specs.Wirings.{HasWire, IsExport, PackageWire}
@@ -141,8 +141,8 @@ module _ (s : Standing) (P : Problem) (L : IsProblemOf s P) (last : Last) (x : I
   pub host-there : In (host (decision_of last.decision)) (members P (made P s))
   host-there = host-kept P (made_by P x.before) (decision_of last.decision) last.value more (made P s) made-is
 
-  pub host-member_of : (m : RevisionId) → m ≡ host (decision_of last.decision) → IsMemberOf s P m
-  host-member_of m e = record { problem = L; member = subst (λ r. In r (members P (made P s))) (sym e) host-there }
+  pub host-at : (m : RevisionId) → m ≡ host (decision_of last.decision) → In m (members P (made P s))
+  host-at m e = subst (λ r. In r (members P (made P s))) (sym e) host-there
 
   pub joined-there : (m : RevisionId) → last.joined ≡ Some m → In m (members P (made P s))
   joined-there m e = ((x.joined m).0 e).0

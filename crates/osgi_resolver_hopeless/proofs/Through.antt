@@ -1,6 +1,6 @@
 -- A clash that was none before the last decision comes through the decision's host: the member settles with it, or has a constraint
 -- that follows from what an export of one that settles with it uses.
-use Rattle.std.proofs.Common.{◌≡◌, ◌≢◌, ℕ, ◌⊎◌, inl, inr, List, ◌∷◌, refl, sym, ◌∙◌, ap, subst}
+use Rattle.std.proofs.Common.{◌≢◌, ℕ, ◌⊎◌, inl, inr, List, ◌∷◌, subst}
 use Rattle.osgi_base.specs.declared.ids.RevisionId.{RevisionId}
 use Rattle.osgi_resolver_hopeless.specs.computed.Through.{ComesThrough, Through, begins, goes_on}
 use Rattle.osgi_resolver_theory.proofs.Agree.{implied-starts, uses-part}
@@ -12,10 +12,10 @@ use Rattle.osgi_resolver_theory.proofs.Reasons.{alone-no_clash}
 use Rattle.osgi_resolver_theory.proofs.Settled.{Grew, settled-sources, settled-sources_back}
 use Rattle.osgi_resolver_theory.proofs.Settling.{settles-cases}
 use Rattle.osgi_resolver_theory.proofs.Views.{in_force-member, in_force-old}
-use Rattle.osgi_resolver_theory.specs.Reasons.{Joined, Reaches, SettlesNow, SettlesWithHost}
+use Rattle.osgi_resolver_theory.specs.Reasons.{Joined, SettlesNow, SettlesWithHost}
 use Rattle.osgi_world.specs.Decisions.{Decision, Made, host}
 use Rattle.osgi_world.specs.Hopeless as hopeless
-use Rattle.osgi_world.specs.Hopeless.{Hopeless, IsDecided, IsSettled, Settles}
+use Rattle.osgi_world.specs.Hopeless.{Hopeless, IsSettled, Settles}
 use Rattle.osgi_world.specs.Partial.{partial}
 use Rattle.osgi_world.specs.Sources.{Clash, Implied, Sources, follows, seen}
 use Rattle.osgi_world.specs.Wirings.{InForce}

@@ -1,16 +1,14 @@
 -- Where a host reexports what is not decided, nothing that reaches it is settled.
-use Rattle.std.proofs.Common.{◌≡◌, inl, inr, ℕ, List, sym, subst}
+use Rattle.std.proofs.Common.{inl, inr, ℕ, List, sym, subst}
 use Rattle.osgi_base.specs.declared.ids.RevisionId.{RevisionId}
 use Rattle.osgi_resolver_theory.proofs.Agree.{implied-starts, reexport-is_bundle}
 use Rattle.osgi_resolver_theory.specs.Reasons.{Reaches}
-use Rattle.osgi_world.specs.Decisions.{Made}
 use Rattle.osgi_world.specs.Hopeless.{IsSettled, ReachedFrom, first, more}
 use Rattle.osgi_world.specs.Partial.{partial}
 use Rattle.osgi_world.specs.declared.problem.Problem.{Problem}
 use Rattle.osgi_world.specs.declared.wiring.Wiring.{Wiring}
 use Rattle.osgi_world.specs.declared.world.Known.{Known}
 use Rattle.osgi_resolver_path.specs.Standing.{Standing, made}
-use Rattle.osgi_resolver_hopeless.specs.computed.Clashing.{HasClashAt, HasLostAt}
 use Rattle.osgi_resolver_hopeless.specs.computed.Onward.{HasSettledReason, clash, lost}
 use Rattle.osgi_resolver_hopeless.specs.computed.Open.{ReexportsOpen}
 use Rattle.osgi_resolver_hopeless.specs.computed.Through.{Through, begins, goes_on}

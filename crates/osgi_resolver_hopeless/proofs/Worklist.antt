@@ -6,7 +6,7 @@ use Rattle.osgi_resolver_hopeless.specs.computed.Leading.{LeadsBack}
 use Rattle.osgi_resolver_path.specs.Wires.{IsWiredTo}
 use Rattle.osgi_space_rows.specs.Agree.{id}
 use Rattle.osgi_space_sources.specs.computed.Adds.{Adds}
-use Rattle.osgi_space_sources.specs.computed.Reach.{Reach, starts, steps}
+use Rattle.osgi_space_sources.specs.computed.Reach.{starts, steps}
 use Rattle.osgi_world.specs.Decisions.{Made}
 use Rattle.osgi_world.specs.declared.problem.Problem.{Problem}
 

@@ -1,3 +1,2 @@
--- What the test for hopeless words presupposes, and what it computes.
-pub mod Before
+-- What the test for hopeless words computes.
 pub mod computed

@@ -3,7 +3,7 @@
 ghost use Rattle.std.specs.Prelude.{◌≡◌, ◌↔◌, IfOk, IsTrue, Some};
 ghost use Rattle.std.specs.Bool.{Decides};
 ghost use Rattle.osgi_base.specs.declared.ids.RevisionId.{RevisionId};
-ghost use Rattle.osgi_resolver_hopeless.specs.Before.{IsHopefulBefore};
+ghost use Rattle.osgi_resolver_search.specs.Before.{IsHopefulBefore};
 ghost use Rattle.osgi_resolver_hopeless.specs.computed.Onward.{HasNewRivals, HasTouchedStuck, IsAtOnce, HasSettledReason};
 ghost use Rattle.osgi_resolver_hopeless.specs.computed.Reasons.{Reason};
 ghost use Rattle.osgi_resolver_hopeless.specs.computed.Rivals.{HasRivals, IsCurrentSingleton};

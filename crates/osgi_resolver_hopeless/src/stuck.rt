@@ -1,10 +1,10 @@
 //! Whether a member makes what is decided hopeless by itself.
 
 ghost use Rattle.std.specs.Prelude.{◌≡◌, ◌↔◌, ◌∷◌, [], ◌++◌, IfOk, IsTrue, List, Some};
-ghost use Rattle.osgi_resolver_hopeless.specs.computed.Stuck.{AtMember, HasNamesake, IsAmiss, IsAmissBy, CannotBeMet, IsFragmentAmiss, IsMemberOf, IsNewlyAmiss, IsOtherFragment, IsStuck, IsStuckBy, OtherProvider, SameName, TwoProviders};
+ghost use Rattle.osgi_resolver_hopeless.specs.computed.Stuck.{AtMember, HasNamesake, IsAmiss, IsAmissBy, CannotBeMet, IsFragmentAmiss, IsNewlyAmiss, IsOtherFragment, IsStuck, IsStuckBy, OtherProvider, SameName, TwoProviders};
 ghost use Rattle.osgi_resolver_decisions.specs.DecisionOf.{decision_of};
 ghost use Rattle.osgi_resolver_path.specs.Last.{IsLast};
-ghost use Rattle.osgi_resolver_path.specs.Standing.{At, made};
+ghost use Rattle.osgi_resolver_path.specs.Standing.{At};
 ghost use Rattle.osgi_resolver_path.specs.declared.wired.Wired.{Wired};
 ghost use Rattle.osgi_world.specs.Candidates.{candidates};
 ghost use Rattle.osgi_world.specs.Decisions.{pick};
@@ -13,13 +13,12 @@ ghost use Rattle.osgi_world.specs.Partial.{partial};
 ghost use Rattle.osgi_world.specs.DueDecisions.{fragments_of, members, payload};
 ghost use Rattle.osgi_world.specs.Lists.{In, Two};
 ghost use Rattle.osgi_base.specs.declared.ids.RevisionId.{RevisionId};
-ghost use Rattle.osgi_world.specs.declared.problem.Problem.{Problem};
 ghost use Rattle.osgi_world.specs.declared.wiring.CapRef.{CapRef};
 
 use crate::offer::is_attached;
 use crate::place::known_at;
 use crate::providers::{has_other_provider, has_two_providers};
-use crate::unmet::{cannot_be_met, is_owner_lacking, is_unmet};
+use crate::unmet::{cannot_be_met, is_unmet};
 use osgi_base::RevisionId;
 use osgi_resolver_decisions::DecisionRef;
 use osgi_resolver_path::{Last, Path, Wired};
@@ -102,7 +101,7 @@ fn is_fragment_amiss(path: &Path, member: RevisionId, fragment: RevisionId) -> b
     ensures amiss { AtMember path.now member (λ P D. In fragment (fragments_of P D member)
         → IsTrue result ↔ IsFragmentAmiss P D member fragment) }
 {
-    if is_owner_lacking(path, fragment) {
+    if path.lacks_candidate(fragment) {
         return true;
     }
     has_namesake(path, member, fragment)
@@ -142,11 +141,11 @@ fn is_on_last(path: &Path, decision: DecisionRef, member: RevisionId, requiremen
 /// Whether the last decision, which is on a wire of the requirement, has the value no, and the requirement can get no wire any
 /// more. The wires are decided in the order of their candidates, so they are asked only after the decision on the last of these.
 fn is_refused_amiss(path: &Path, last: Last, member: RevisionId, requirement: ReqRef) -> bool
-    ensures amiss { (P : Problem) (c : CapRef) → IsMemberOf path.now P member
-        → IsLast P path.now last → decision_of last.decision ≡ pick member requirement c
-        → In requirement (payload P (made P path.now) member)
-        → IsTrue result ↔ (last.value ≡ 1) × In requirement (payload P (made P path.now) member)
-        × CannotBeMet P (made P path.now) member requirement }
+    ensures amiss { AtMember path.now member (λ P D. (c : CapRef) → IsLast P path.now last
+        → decision_of last.decision ≡ pick member requirement c
+        → In requirement (payload P D member)
+        → IsTrue result ↔ (last.value ≡ 1) × In requirement (payload P D member)
+        × CannotBeMet P D member requirement) }
 {
     if last.value != 1 {
         return false;
@@ -186,7 +185,7 @@ fn is_newly_amiss(alloc: Global, path: &Path, member: RevisionId) -> Result<bool
     let Some(last) = path.last() else {
         return Ok(is_amiss(alloc, path, member)?);
     };
-    if is_owner_lacking(path, member) {
+    if path.lacks_candidate(member) {
         return Ok(true);
     }
     Ok(is_amiss_by(path, last, member))

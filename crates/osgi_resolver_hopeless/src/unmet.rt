@@ -1,12 +1,10 @@
 //! Whether a requirement of a member can get no wire any more.
 
 ghost use Rattle.std.specs.Prelude.{◌≡◌, ◌↔◌, IsTrue};
-ghost use Rattle.osgi_resolver_hopeless.specs.computed.Stuck.{AtMember, AreRefused, CannotBeMet, IsMemberOf, IsOwner, IsOwnerLacking, IsRefused, IsUnmet, OwnUnmet};
-ghost use Rattle.osgi_base.specs.declared.ids.RevisionId.{RevisionId};
-ghost use Rattle.osgi_resolver_path.specs.Standing.{At, made};
+ghost use Rattle.osgi_resolver_hopeless.specs.computed.Stuck.{AtMember, AreRefused, CannotBeMet, IsOwner, IsRefused, IsUnmet, OwnUnmet};
+ghost use Rattle.osgi_resolver_path.specs.Standing.{At};
 ghost use Rattle.osgi_world.specs.DueDecisions.{fragments_of, payload};
 ghost use Rattle.osgi_world.specs.Lists.{In};
-ghost use Rattle.osgi_world.specs.declared.problem.Problem.{Problem};
 
 use crate::place::known_at;
 use osgi_base::RevisionId;
@@ -93,15 +91,4 @@ pub fn is_unmet(path: &Path, member: RevisionId, fragments: &[RevisionId]) -> bo
         }
     }
     false
-}
-
-// ---- what no decision changes
-
-/// Whether a requirement of this owner is needed, and has no candidate. It was found out when the owner came, so a member that
-/// cannot be had costs the same each time that it is tried, however much it requires.
-pub fn is_owner_lacking(path: &Path, owner: RevisionId) -> bool
-    ensures lacking { (P : Problem) (m : RevisionId) → IsMemberOf path.now P m
-        → IsOwner P (made P path.now) m owner → IsTrue result ↔ IsOwnerLacking P owner }
-{
-    path.lacks_candidate(owner)
 }

@@ -5,6 +5,7 @@ ghost use Rattle.std.specs.Bool.{Decides};
 ghost use Rattle.osgi_world.specs.declared.problem.Problem.{Problem};
 ghost use Rattle.osgi_world.specs.ChoiceWords.{IsComplete, made_by, width};
 ghost use Rattle.osgi_world.specs.Hopeless.{IsHopeless};
+ghost use Rattle.osgi_resolver_search.specs.Before.{IsHopefulBefore};
 ghost use Rattle.osgi_resolver_search.specs.Passing.{AreHopelessBetween};
 
 use std::alloc::AllocError;
@@ -21,7 +22,7 @@ pub trait Walker {
 
     /// The same, where the word without its last decision, if it has one, is not hopeless.
     fn has_become_hopeless(&self) -> Result<bool, AllocError>
-        requires before { (w : List ℕ) (v : ℕ) → word self.now ≡ w ++ v ∷ [] → ¬ IsHopeless (problem self.now) w }
+        requires before { IsHopefulBefore (problem self.now) (word self.now) }
         ensures hopeless { IfOk result (λ hopeless. Decides hopeless (IsHopeless (problem self.now) (word self.now))) };
 
     /// Whether no decision is left.

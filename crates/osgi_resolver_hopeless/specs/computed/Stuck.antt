@@ -1,7 +1,8 @@
 -- Members that make what is decided hopeless by themselves.
 use Rattle.std.specs.Prelude.{◌≡◌, ◌≢◌, ℕ, ◌<◌, ◌⊎◌, IsTrue, List, [], ◌∷◌, Option, Some}
 use Rattle.osgi_base.specs.declared.ids.RevisionId.{RevisionId}
-use Rattle.osgi_resolver_path.specs.Standing.{IsProblemOf, Standing, made}
+use Rattle.osgi_resolver_decisions.specs.Sure.{LacksCandidate}
+use Rattle.osgi_resolver_path.specs.Standing.{At, Standing}
 use Rattle.osgi_resolver_path.specs.declared.wired.Wired.{Wired}
 use Rattle.osgi_world.specs.Candidates.{candidates}
 use Rattle.osgi_world.specs.Decisions.{Decision, Made, attaching, choose, pick, value_made}
@@ -16,14 +17,9 @@ use Rattle.osgi_world.specs.declared.wiring.ReqRef.{ReqRef}
 use Rattle.osgi_world.specs.declared.wiring.Wiring.{Wiring}
 use Rattle.osgi_world.specs.declared.world.Known.{Known}
 
--- P is a problem of what a search resolves, and m a member of what it has decided
-pub record IsMemberOf (s : Standing) (P : Problem) (m : RevisionId) : Type 0 where
-  pub problem : IsProblemOf s P
-  pub member : In m (members P (made P s))
-
 -- it is so with the problem and with what is decided, where m is a member
 abbrev pub AtMember : Standing → RevisionId → (Problem → Made → Type 0) → Type 0
-AtMember s m F = (P : Problem) → IsMemberOf s P m → F P (made P s)
+AtMember s m F = At s (λ P D. In m (members P D) → F P D)
 
 -- ---- requirements that can get no wire any more
 
@@ -81,14 +77,6 @@ pub data IsStuck (P : Problem) (D : Made) (m : RevisionId) : Type 0 where
 
 -- ---- after one decision more
 
--- the requirement is needed, and has no candidate
-abbrev pub IsLacking : Problem → ReqRef → Type 0
-IsLacking P q = IsNeeded P.world.known q × (candidates P q ≡ [])
-
--- it is so with a requirement of this owner
-abbrev pub IsOwnerLacking : Problem → RevisionId → Type 0
-IsOwnerLacking P o = (i : ℕ) × (i < requirement_count P.world.known o) × IsLacking P (place o i)
-
 -- the wire is one of r, which has another provider of the package that the wire is for
 pub record OtherProvider (K : List Known) (W : List Wiring) (r : RevisionId) (w : Wired) : Type 0 where
   pub name : List ℕ
@@ -108,7 +96,7 @@ HasNamesake P D m f = (g : RevisionId) × IsOtherFragment P D m f g × SameName 
 
 -- a requirement of the fragment f has no candidate, or another fragment of m has its symbolic name
 abbrev pub IsFragmentAmiss : Problem → Made → RevisionId → RevisionId → Type 0
-IsFragmentAmiss P D m f = IsOwnerLacking P f ⊎ HasNamesake P D m f
+IsFragmentAmiss P D m f = LacksCandidate P f ⊎ HasNamesake P D m f
 
 -- the decision with this value, of which D tells already, attached to m a fragment that does not fit, or refused m a wire of a
 -- requirement that can get none any more
@@ -120,7 +108,7 @@ IsAmissBy P D (pick h q c) v m = (h ≡ m) × (v ≡ 1) × In q (payload P D m) 
 -- a requirement of m itself has no candidate, or the last decision made it amiss; where there is none, it is amiss
 abbrev pub IsNewlyAmiss : Problem → Made → RevisionId → Type 0
 IsNewlyAmiss P [] m = IsAmiss P [] m
-IsNewlyAmiss P (t ∷ D) m = IsOwnerLacking P m ⊎ IsAmissBy P (t ∷ D) t.0 t.1 m
+IsNewlyAmiss P (t ∷ D) m = LacksCandidate P m ⊎ IsAmissBy P (t ∷ D) t.0 t.1 m
 
 -- m is stuck by the last decision; two providers count only of the package that a wire of m, which is given, is for
 pub data IsStuckBy (P : Problem) (D : Made) (m : RevisionId) (wired : Option Wired) : Type 0 where

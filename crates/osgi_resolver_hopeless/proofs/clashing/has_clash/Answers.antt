@@ -1,6 +1,5 @@
 -- The numbers are those of all members.
-use Rattle.std.proofs.Common.{ℕ, List, subst, ◌↔◌, ◌∙◌, sym}
-use Rattle.osgi_base.specs.declared.ids.RevisionId.{RevisionId}
+use Rattle.std.proofs.Common.{ℕ, subst, ◌↔◌, sym}
 use Rattle.osgi_space.proofs.Ids.{contains-in, in-contains}
 use Rattle.osgi_resolver_path.specs.Standing.{made}
 use Rattle.osgi_space_rows.specs.Agree.{id}

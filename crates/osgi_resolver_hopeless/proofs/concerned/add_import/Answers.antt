@@ -1,5 +1,5 @@
 -- Nothing is added of another wire.
-use Rattle.std.proofs.Common.{inl, inr, refl, sym}
+use Rattle.std.proofs.Common.{inl, inr, refl}
 use Rattle.osgi_space_rules.proofs.Grow.{pushed}
 use Rattle.osgi_resolver_hopeless.proofs.concerned.add_import.Goals as goal
 

@@ -1,5 +1,5 @@
 -- One wire more.
-use Rattle.std.proofs.Common.{◌≡◌, inl, inr, List, get_or, sym, subst, take}
+use Rattle.std.proofs.Common.{◌≡◌, inl, inr, sym, subst}
 use Rattle.std.proofs.lemmas.List.{get_or_default, take_all}
 use Rattle.osgi_space_rows.specs.declared.rows.Import.{Import}
 use Rattle.osgi_space_rules.proofs.Grow.{in_more}

@@ -1,8 +1,7 @@
 -- One revision more.
-use Rattle.std.proofs.Common.{◌≡◌, ℕ, inl, inr, get_or, sym, subst}
+use Rattle.std.proofs.Common.{ℕ, inl, inr, get_or, sym, subst}
 use Rattle.std.proofs.lemmas.List.{get_or_default, take_all}
 use Rattle.osgi_space_rows.specs.Rows.{imports_of}
-use Rattle.osgi_space_rows.specs.declared.rows.Import.{Import}
 use Rattle.osgi_space_rules.proofs.Grow.{in_more}
 use Rattle.osgi_world.specs.Lists.{In}
 use Rattle.osgi_resolver_hopeless.proofs.concerned.imports_to.Goals as goal

@@ -1,6 +1,5 @@
 -- The host is; another one is where it clashes.
 use Rattle.std.proofs.Common.{inl, inr, refl}
-use Rattle.osgi_space_rules.proofs.OneValue.{not_true}
 use Rattle.osgi_resolver_hopeless.proofs.Answering.{refuted}
 use Rattle.osgi_resolver_hopeless.proofs.concerned.is_touched.Goals as goal
 

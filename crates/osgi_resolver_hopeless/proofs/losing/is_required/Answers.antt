@@ -20,8 +20,7 @@ use Rattle.osgi_resolver_hopeless.proofs.losing.is_required.Goals as goal
 
 pub returns-then-is_empty : goal.returns-then-is_empty
 returns-then-is_empty c = record {
-  required = λ P M.
-      let L = M.problem in
+  required = λ P L is_member.
       let W = partial P (made P c.args.path.now) in
       let world = c.rows.result.now in
       let N = name_numbered world.names in
@@ -46,8 +45,7 @@ loop-holder-preserved c =
 
 pub returns-then-has_bundle_wire : goal.returns-then-has_bundle_wire
 returns-then-has_bundle_wire c = record {
-  required = λ P M.
-      let L = M.problem in
+  required = λ P L is_member.
       let W = partial P (made P c.args.path.now) in
       let world = c.rows.result.now in
       let N = name_numbered world.names in
@@ -59,8 +57,7 @@ returns-then-has_bundle_wire c = record {
 
 pub returns : goal.returns
 returns c = record {
-  required = λ P M.
-      let L = M.problem in
+  required = λ P L is_member.
       let D = made P c.args.path.now in
       let host = c.args.host in
       let world = c.rows.result.now in
@@ -70,7 +67,7 @@ returns c = record {
       no (λ some.
       let r = some.0 in
       let b = some.1 in
-      let member = holder-member P L.is D r b.wire b.has (subst (λ (y : RevisionId). In y (members P D)) (sym b.provider) M.member) in
+      let member = holder-member P L.is D r b.wire b.has (subst (λ (y : RevisionId). In y (members P D)) (sym b.provider) is_member) in
       let wired = (c.wired_to-holder-items.ensures.wired P L r.0).1 (member, (b.wire, b.has, b.provider)) in
       none r.0 wired (subst (λ (R : RowLists). Requires R r.0 host.0) (sym c.rows-rows.ensures.rows) ((is.requires r.0 host.0).1 b)));
 }

@@ -15,8 +15,7 @@ use Rattle.osgi_resolver_hopeless.proofs.losing.may_lose.Goals as goal
 
 pub returns : goal.returns
 returns c = record {
-  all = λ P M s lost.
-      let L = M.problem in
+  all = λ P L is_member s lost.
       let h = c.args.host in
       let W = partial P (made P c.args.path.now) in
       let world = c.rows.result.now in
@@ -25,9 +24,9 @@ returns c = record {
       let alone : ¬ Any (λ (row : Required). row.provider ≡ h.0) world.rows.required =
       λ any.
       let at = row-required world.rows h.0 any in
-      not_true _ c.if-is_required.false ((c.is_required.ensures.required P M).1 (id at.0, (is.requires at.0 h.0).0 at.1)) in
+      not_true _ c.if-is_required.false ((c.is_required.ensures.required P L is_member).1 (id at.0, (is.requires at.0 h.0).0 at.1)) in
       let stays : ¬ ReplacesOwn world.rows h.0 =
       λ own. not_true _ c.if-replaces_own.false (c.replaces_own.ensures.replaces.1 (subst (λ (R : RowLists). ReplacesOwn R h.0) (sym c.rows-2.ensures.rows) own)) in
       let are = c.as_slice.ensures.value ∙ c.in_ok-fragments.ensures.fragments P L.is (L.world ∙ sym c.offers.ensures.world) in
-      some_item c.as_slice.result.now c.is_empty.result c.is_empty.ensures (λ none. nothing-lost P L.is (made P c.args.path.now) s h M.member N world.rows is alone stays (sym are ∙ none) lost);
+      some_item c.as_slice.result.now c.is_empty.result c.is_empty.ensures (λ none. nothing-lost P L.is (made P c.args.path.now) s h is_member N world.rows is alone stays (sym are ∙ none) lost);
 }

@@ -5,11 +5,11 @@ use Rattle.osgi_resolver_hopeless.proofs.offer.has_lost_at.Goals as goal
 pub returns-then-not-branch : goal.returns-then-not-branch
 returns-then-not-branch c = record {
   lost = λ P L t. let f = t in cc;
-  all = λ P M s lost. absurd (not_true _ c.if-not-branch.true (c.in_ok-may_lose.ensures.all P M s lost));
+  all = λ P L is_member s lost. absurd (not_true _ c.if-not-branch.true (c.in_ok-may_lose.ensures.all P L is_member s lost));
 }
 
 pub returns : goal.returns
 returns c = record {
   lost = λ P L. c.in_ok-is_one_lost_at.ensures.lost P L (c.marks.ensures.wires P L);
-  all = λ P M s. c.in_ok-is_one_lost_at.ensures.all P M.problem (c.marks.ensures.wires P M.problem);
+  all = λ P L is_member s. c.in_ok-is_one_lost_at.ensures.all P L (c.marks.ensures.wires P L);
 }

@@ -4,7 +4,7 @@ use Rattle.osgi_space_rules.proofs.OneValue.{not_true}
 use Rattle.osgi_resolver_hopeless.proofs.Answering.{no, yes}
 use Rattle.osgi_resolver_hopeless.proofs.Latest.{state-now}
 use Rattle.osgi_resolver_hopeless.proofs.Reasons.{reason-hopeless}
-use Rattle.osgi_resolver_hopeless.proofs.Tested.{host-member_of, tested}
+use Rattle.osgi_resolver_hopeless.proofs.Tested.{host-at, tested}
 use Rattle.osgi_resolver_hopeless.specs.computed.Onward.{HasSettledReason}
 use Rattle.osgi_resolver_path.specs.Standing.{made}
 use Rattle.osgi_world.specs.Hopeless.{IsDecided}
@@ -22,10 +22,10 @@ pub returns-then-not-is_decided : goal.returns-then-not-is_decided
 returns-then-not-is_decided c = record {
   hopeless = λ P L hopeful.
       let x = c.in-Some.ensures.last P L in
-      let M = host-member_of c.args.path.now P L c.in-Some.last x c.host-host.result c.host-host.ensures.host in
+      let is_member = host-at c.args.path.now P L c.in-Some.last x c.host-host.result c.host-host.ensures.host in
       no (λ h. elim (tested c.args.path.now P L c.in-Some.last x hopeful h) [
         | inl a ↦ not_true _ c.if-branch.false (c.in_ok-is_at_once.ensures.all P L x a)
-        | inr b ↦ not_true _ c.if-not-is_decided.true ((c.is_decided.ensures.decided P L M.member).1 (subst (IsDecided P (made P c.args.path.now)) (sym c.host-host.ensures.host) b.1))
+        | inr b ↦ not_true _ c.if-not-is_decided.true ((c.is_decided.ensures.decided P L is_member).1 (subst (IsDecided P (made P c.args.path.now)) (sym c.host-host.ensures.host) b.1))
       ]);
 }
 
@@ -33,11 +33,11 @@ pub returns : goal.returns
 returns c = record {
   hopeless = λ P L hopeful.
       let x = c.in-Some.ensures.last P L in
-      let M = host-member_of c.args.path.now P L c.in-Some.last x c.host-host.result c.host-host.ensures.host in (
-        λ t. reason-hopeless P (made P c.args.path.now) L.is (c.in_ok-has_settled_reason.ensures.reason P M t),
+      let is_member = host-at c.args.path.now P L c.in-Some.last x c.host-host.result c.host-host.ensures.host in (
+        λ t. reason-hopeless P (made P c.args.path.now) L.is (c.in_ok-has_settled_reason.ensures.reason P L is_member t),
         λ h. elim (tested c.args.path.now P L c.in-Some.last x hopeful h) [
           | inl a ↦ absurd (not_true _ c.if-branch.false (c.in_ok-is_at_once.ensures.all P L x a))
-          | inr b ↦ c.in_ok-has_settled_reason.ensures.all P M (state-now c.args.path.now P L c.in-Some.last x) (subst (HasSettledReason P c.args.path.now) (sym c.host-host.ensures.host) b.0)
+          | inr b ↦ c.in_ok-has_settled_reason.ensures.all P L is_member (state-now c.args.path.now P L c.in-Some.last x) (subst (HasSettledReason P c.args.path.now) (sym c.host-host.ensures.host) b.0)
         ],
       );
 }

@@ -1,6 +1,5 @@
 -- What is new has a rival, or none has.
 use Rattle.std.proofs.Common.{inl, inr, refl, ◌∙◌, sym, subst}
-use Rattle.osgi_base.specs.declared.ids.RevisionId.{RevisionId}
 use Rattle.osgi_space_rules.proofs.OneValue.{not_true}
 use Rattle.osgi_resolver_hopeless.proofs.Answering.{known-is}
 use Rattle.osgi_resolver_hopeless.proofs.Latest.{new-same, no-last}

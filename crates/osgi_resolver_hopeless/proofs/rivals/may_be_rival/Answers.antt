@@ -1,5 +1,5 @@
 -- A rival is another one, and a current singleton.
-use Rattle.std.proofs.Common.{refl, sym, subst}
+use Rattle.std.proofs.Common.{sym, subst}
 use Rattle.osgi_resolver_hopeless.specs.computed.Rivals.{IsCurrentSingleton}
 use Rattle.osgi_space_rows.specs.Agree.{id}
 use Rattle.std.proofs.Common.{ap}

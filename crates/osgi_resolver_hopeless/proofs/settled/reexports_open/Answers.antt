@@ -1,5 +1,5 @@
 -- The next bundle wire of the revision, and the first that reexports what is not decided.
-use Rattle.std.proofs.Common.{◌≡◌, ◌∙◌, ℕ, true, List, refl, sym, subst, Contains, get_or}
+use Rattle.std.proofs.Common.{◌≡◌, ◌∙◌, ℕ, true, List, refl, sym, subst, Contains}
 use Rattle.std.proofs.lemmas.List.{get_or_default}
 use Rattle.osgi_base.specs.declared.ids.RevisionId.{RevisionId}
 use Rattle.osgi_resolver_hopeless.proofs.Answering.{known-is, no, yes}
@@ -10,8 +10,7 @@ use Rattle.osgi_resolver_theory.proofs.Views.{in_force-member}
 use Rattle.osgi_space.proofs.Ids.{contains-in, in-contains}
 use Rattle.osgi_space_rows.specs.Agree.{AreRowsOf, id}
 use Rattle.osgi_space_rows.specs.Names.{name_numbered}
-use Rattle.osgi_space_rows.specs.Rows.{Reexports, Requires, RowLists, required_by}
-use Rattle.osgi_space_rows.specs.Worlds.{WorldLists}
+use Rattle.osgi_space_rows.specs.Rows.{RowLists, required_by}
 use Rattle.osgi_space_rows.specs.declared.rows.Required.{Required}
 use Rattle.osgi_space_rules.proofs.Grow.{at_in, each_done, each_step}
 use Rattle.osgi_space_rules.proofs.OneValue.{not_true}
@@ -45,51 +44,51 @@ open-of P D N R is r row among both = record {
 }
 
 pub loop-row-init : goal.loop-row-init
-loop-row-init c = λ P M row here. elim here [ ]
+loop-row-init c = λ P L is_member row here. elim here [ ]
 
 pub loop-row-preserved : goal.loop-row-preserved
-loop-row-preserved c = λ P M.
+loop-row-preserved c = λ P L is_member.
     let D = made P c.args.path.now in
     let rows = c.required_by-row-items.result.now in
     let world = c.rows.result.now in
     let N = name_numbered world.names in
-    let is : AreRowsOf P.world.known (partial P D) N world.rows = subst (λ K. AreRowsOf K (partial P D) N world.rows) (known-is c.args.path.now P M.problem world.known c.rows.ensures.known) (c.rows.ensures.rows P M.problem) in
+    let is : AreRowsOf P.world.known (partial P D) N world.rows = subst (λ K. AreRowsOf K (partial P D) N world.rows) (known-is c.args.path.now P L world.known c.rows.ensures.known) (c.rows.ensures.rows P L) in
     let listed : rows ≡ required_by world.rows c.args.revision.0 = c.required_by-row-items.ensures.rows ∙ (λ i. required_by (c.rows-2.ensures.rows i) c.args.revision.0) in
     let i = c.loop-row.row-index in
     let within = c.loop-row-test.true in
     let at = get_or_default rows i _ _ within in
-    let there = provider-there P M.problem.is D N world.rows is c.args.revision M.member _ (subst (In _) listed (at_in rows i _ within at)) in
-    each_step (λ (row : Required). ¬ IsOpenReexport P D row) rows i _ within at (c.loop-row.invariant P M) (λ some. not_true _ c.if-is_open_reexport.false ((c.is_open_reexport.ensures.waits P M.problem there).1 some))
+    let there = provider-there P L.is D N world.rows is c.args.revision is_member _ (subst (In _) listed (at_in rows i _ within at)) in
+    each_step (λ (row : Required). ¬ IsOpenReexport P D row) rows i _ within at (c.loop-row.invariant P L is_member) (λ some. not_true _ c.if-is_open_reexport.false ((c.is_open_reexport.ensures.waits P L there).1 some))
 
 pub returns-then-is_open_reexport : goal.returns-then-is_open_reexport
 returns-then-is_open_reexport c = record {
-  waits = λ P M.
+  waits = λ P L is_member.
       let D = made P c.args.path.now in
       let rows = c.required_by-row-items.result.now in
       let world = c.rows.result.now in
       let N = name_numbered world.names in
-      let is : AreRowsOf P.world.known (partial P D) N world.rows = subst (λ K. AreRowsOf K (partial P D) N world.rows) (known-is c.args.path.now P M.problem world.known c.rows.ensures.known) (c.rows.ensures.rows P M.problem) in
+      let is : AreRowsOf P.world.known (partial P D) N world.rows = subst (λ K. AreRowsOf K (partial P D) N world.rows) (known-is c.args.path.now P L world.known c.rows.ensures.known) (c.rows.ensures.rows P L) in
       let listed : rows ≡ required_by world.rows c.args.revision.0 = c.required_by-row-items.ensures.rows ∙ (λ i. required_by (c.rows-2.ensures.rows i) c.args.revision.0) in
       let i = c.loop-row.row-index in
       let within = c.loop-row-test.true in
       let at = get_or_default rows i _ _ within in
       let among = subst (In _) listed (at_in rows i _ within at) in
-      let there = provider-there P M.problem.is D N world.rows is c.args.revision M.member _ among in
-      let both = (c.is_open_reexport.ensures.waits P M.problem there).0 c.if-is_open_reexport.true in
+      let there = provider-there P L.is D N world.rows is c.args.revision is_member _ among in
+      let both = (c.is_open_reexport.ensures.waits P L there).0 c.if-is_open_reexport.true in
       yes (open-of P D N world.rows is c.args.revision _ among both);
 }
 
 pub returns : goal.returns
 returns c = record {
-  waits = λ P M.
+  waits = λ P L is_member.
       let D = made P c.args.path.now in
       let rows = c.required_by-row-items.result.now in
       let world = c.rows.result.now in
       let r = c.args.revision in
       let N = name_numbered world.names in
-      let is : AreRowsOf P.world.known (partial P D) N world.rows = subst (λ K. AreRowsOf K (partial P D) N world.rows) (known-is c.args.path.now P M.problem world.known c.rows.ensures.known) (c.rows.ensures.rows P M.problem) in
+      let is : AreRowsOf P.world.known (partial P D) N world.rows = subst (λ K. AreRowsOf K (partial P D) N world.rows) (known-is c.args.path.now P L world.known c.rows.ensures.known) (c.rows.ensures.rows P L) in
       let listed : rows ≡ required_by world.rows r.0 = c.required_by-row-items.ensures.rows ∙ (λ i. required_by (c.rows-2.ensures.rows i) r.0) in
-      let none = each_done (λ (row : Required). ¬ IsOpenReexport P D row) rows c.loop-row.row-index c.loop-row-test.false (c.loop-row.invariant P M) in
+      let none = each_done (λ (row : Required). ¬ IsOpenReexport P D row) rows c.loop-row.row-index c.loop-row-test.false (c.loop-row.invariant P L is_member) in
       no (λ some.
       let row : Required = record { revision = r.0; provider = some.bundle.0; reexport = true } in
       let at = (is.reexports r.0 some.bundle.0).1 some.reexports in

@@ -17,22 +17,22 @@ use Rattle.osgi_resolver_hopeless.proofs.stuck.has_namesake.Goals as goal
 
 pub returns-in_default : goal.returns-in_default
 returns-in_default c = record {
-  namesake = λ P M i. no (λ h.
-      let known = known-is c.args.path.now P M.problem c.known_at.result.now c.known_at.ensures.known in
-      let current = fragment-current P M.problem.is (made P c.args.path.now) c.args.member c.args.fragment i in
+  namesake = λ P L is_member i. no (λ h.
+      let known = known-is c.args.path.now P L c.known_at.result.now c.known_at.ensures.known in
+      let current = fragment-current P L.is (made P c.args.path.now) c.args.member c.args.fragment i in
       unknown-not_current c.known_at.result.now c.args.fragment (sym c.in_default.ensures.revision) (subst (λ (K : List Known). Rattle.std.proofs.Common.IsTrue (is_current K c.args.fragment)) (sym known) current));
 }
 
 pub loop-other-init : goal.loop-other-init
-loop-other-init c = λ P M t here. elim here [ ]
+loop-other-init c = λ P L is_member t here. elim here [ ]
 
 pub loop-other-preserved : goal.loop-other-preserved
-loop-other-preserved c = λ P M.
+loop-other-preserved c = λ P L is_member.
     let named = c.named-named.result.now in
     let i = c.loop-other.other-index in
     let within = c.loop-other-test.true in
-    each_step (λ (t : RevisionId). ¬ IsOtherFragment P (made P c.args.path.now) c.args.member c.args.fragment t) named i (get_or named i no_revision) within (there named i no_revision within) (c.loop-other.invariant P M)
-    (λ o. not_true _ c.if-is_other_fragment.false ((c.is_other_fragment.ensures.other P M).1 o))
+    each_step (λ (t : RevisionId). ¬ IsOtherFragment P (made P c.args.path.now) c.args.member c.args.fragment t) named i (get_or named i no_revision) within (there named i no_revision within) (c.loop-other.invariant P L is_member)
+    (λ o. not_true _ c.if-is_other_fragment.false ((c.is_other_fragment.ensures.other P L is_member).1 o))
 
 pub returns-then-is_other_fragment : goal.returns-then-is_other_fragment
 returns-then-is_other_fragment c =
@@ -48,9 +48,9 @@ returns-then-is_other_fragment c =
     let within = c.loop-other-test.true in
     let other = get_or named i no_revision in
     record {
-      namesake = λ P M j.
+      namesake = λ P L is_member j.
           let same_name : SameName s.world.known f other = sym ((are other).0 (at_in named i other within (there named i no_revision within))).1 in
-          yes (other, (c.is_other_fragment.ensures.other P M).0 c.if-is_other_fragment.true, subst (λ (K : List Known). SameName K f other) (known-is s P M.problem s.world.known refl) same_name);
+          yes (other, (c.is_other_fragment.ensures.other P L is_member).0 c.if-is_other_fragment.true, subst (λ (K : List Known). SameName K f other) (known-is s P L s.world.known refl) same_name);
     }
 
 pub returns : goal.returns
@@ -64,11 +64,11 @@ returns c =
     subst (λ (n : List ℕ). In t named ↔ (IsKnown s.world.known t × (symbolic_name s.world.known t ≡ n))) (sym name ∙ same)
     (subst (λ (w : World). In t named ↔ (IsKnown w.known t × (symbolic_name w.known t ≡ c.in-Some.says.now.name))) c.offers.ensures.world (c.named-named.ensures.named t)) in
     record {
-      namesake = λ P M j. no (λ h.
-          let known = known-is s P M.problem s.world.known refl in
+      namesake = λ P L is_member j. no (λ h.
+          let known = known-is s P L s.world.known refl in
           let D = made P s in
-          let none = each_done (λ (t : RevisionId). ¬ IsOtherFragment P D c.args.member f t) named c.loop-other.other-index c.loop-other-test.false (c.loop-other.invariant P M) in
-          let is_known : IsKnown s.world.known h.0 = subst (λ (K : List Known). IsKnown K h.0) (sym known) (current-known P.world.known h.0 (fragment-current P M.problem.is D c.args.member h.0 h.1.0)) in
+          let none = each_done (λ (t : RevisionId). ¬ IsOtherFragment P D c.args.member f t) named c.loop-other.other-index c.loop-other-test.false (c.loop-other.invariant P L is_member) in
+          let is_known : IsKnown s.world.known h.0 = subst (λ (K : List Known). IsKnown K h.0) (sym known) (current-known P.world.known h.0 (fragment-current P L.is D c.args.member h.0 h.1.0)) in
           let same_name : SameName s.world.known f h.0 = subst (λ (K : List Known). SameName K f h.0) (sym known) h.2 in
           none h.0 ((are h.0).1 (is_known, sym same_name)) h.1);
     }

@@ -4,16 +4,16 @@ use Rattle.osgi_space_rules.proofs.OneValue.{not_true}
 use Rattle.osgi_resolver_hopeless.proofs.Answering.{yes}
 use Rattle.osgi_resolver_hopeless.proofs.stuck.is_fragment_amiss.Goals as goal
 
-pub returns-then-is_owner_lacking : goal.returns-then-is_owner_lacking
-returns-then-is_owner_lacking c = record { amiss = λ P M i. yes (inl ((c.is_owner_lacking.ensures.lacking P c.args.member M (inr i)).0 c.if-is_owner_lacking.true)) }
+pub returns-then-lacks_candidate : goal.returns-then-lacks_candidate
+returns-then-lacks_candidate c = record { amiss = λ P L is_member i. yes (inl ((c.lacks_candidate.ensures.lacks P c.args.member L is_member (inr i)).0 c.if-lacks_candidate.true)) }
 
 pub returns : goal.returns
 returns c = record {
-  amiss = λ P M i.
-      let namesake = c.has_namesake.ensures.namesake P M i in (
+  amiss = λ P L is_member i.
+      let namesake = c.has_namesake.ensures.namesake P L is_member i in (
         λ t. inr (namesake.0 t),
         λ a. elim a [
-          | inl l ↦ absurd (not_true _ c.if-is_owner_lacking.false ((c.is_owner_lacking.ensures.lacking P c.args.member M (inr i)).1 l))
+          | inl l ↦ absurd (not_true _ c.if-lacks_candidate.false ((c.lacks_candidate.ensures.lacks P c.args.member L is_member (inr i)).1 l))
           | inr h ↦ namesake.1 h
         ],
       );

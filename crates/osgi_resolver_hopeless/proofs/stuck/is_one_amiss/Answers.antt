@@ -5,7 +5,7 @@ use Rattle.osgi_space_rules.proofs.Grow.{at_in, each_done, each_step}
 use Rattle.osgi_space_rules.proofs.Items.{no_revision, there}
 use Rattle.osgi_space_rules.proofs.OneValue.{not_true}
 use Rattle.osgi_resolver_hopeless.proofs.Answering.{no, yes}
-use Rattle.osgi_resolver_hopeless.specs.computed.Stuck.{IsMemberOf, IsAmiss}
+use Rattle.osgi_resolver_hopeless.specs.computed.Stuck.{IsAmiss}
 use Rattle.osgi_resolver_path.specs.Standing.{made}
 use Rattle.osgi_world.specs.Lists.{In}
 use Rattle.osgi_resolver_hopeless.proofs.stuck.is_one_amiss.Goals as goal
@@ -20,8 +20,8 @@ loop-member-preserved c = λ P L.
     let within = c.loop-member-test.true in
     let m = get_or members i no_revision in
     let at = there members i no_revision within in
-    let M : IsMemberOf c.args.path.now P m = record { problem = L; member = subst (In m) (c.members-member-items.ensures.members P L) (at_in members i m within at) } in
-    each_step (λ (r : RevisionId). ¬ IsAmiss P (made P c.args.path.now) r) members i m within at (c.loop-member.invariant P L) (λ s. not_true _ c.if-branch.false ((c.in_ok-is_amiss.ensures.amiss P M).1 s))
+    let is_member : In m (members P (made P c.args.path.now)) = subst (In m) (c.members-member-items.ensures.members P L) (at_in _ i m within at) in
+    each_step (λ (r : RevisionId). ¬ IsAmiss P (made P c.args.path.now) r) members i m within at (c.loop-member.invariant P L) (λ s. not_true _ c.if-branch.false ((c.in_ok-is_amiss.ensures.amiss P L is_member).1 s))
 
 pub returns-then-branch : goal.returns-then-branch
 returns-then-branch c = record {
@@ -31,8 +31,8 @@ returns-then-branch c = record {
       let within = c.loop-member-test.true in
       let m = get_or members i no_revision in
       let at = there members i no_revision within in
-      let M : IsMemberOf c.args.path.now P m = record { problem = L; member = subst (In m) (c.members-member-items.ensures.members P L) (at_in members i m within at) } in
-      yes (m, M.member, (c.in_ok-is_amiss.ensures.amiss P M).0 c.if-branch.true);
+      let is_member : In m (members P (made P c.args.path.now)) = subst (In m) (c.members-member-items.ensures.members P L) (at_in _ i m within at) in
+      yes (m, is_member, (c.in_ok-is_amiss.ensures.amiss P L is_member).0 c.if-branch.true);
 }
 
 pub returns : goal.returns

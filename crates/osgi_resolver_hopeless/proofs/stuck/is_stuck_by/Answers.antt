@@ -5,15 +5,15 @@ use Rattle.osgi_resolver_hopeless.specs.computed.Stuck.{by_itself, by_wire}
 use Rattle.osgi_resolver_hopeless.proofs.stuck.is_stuck_by.Goals as goal
 
 pub returns-then-branch : goal.returns-then-branch
-returns-then-branch c = record { stuck = λ P M. yes (by_itself ((c.in_ok-is_newly_amiss.ensures.amiss P M).0 c.if-branch.true)) }
+returns-then-branch c = record { stuck = λ P L is_member. yes (by_itself ((c.in_ok-is_newly_amiss.ensures.amiss P L is_member).0 c.if-branch.true)) }
 
 pub returns : goal.returns
 returns c = record {
-  stuck = λ P M.
-      let other = c.has_two_with.ensures.other P M.problem in (
+  stuck = λ P L is_member.
+      let other = c.has_two_with.ensures.other P L in (
         λ t. let some = other.0 t in by_wire some.0 some.1 some.2,
         λ s. elim s [
-          | by_itself a ↦ absurd (not_true _ c.if-branch.false ((c.in_ok-is_newly_amiss.ensures.amiss P M).1 a))
+          | by_itself a ↦ absurd (not_true _ c.if-branch.false ((c.in_ok-is_newly_amiss.ensures.amiss P L is_member).1 a))
           | by_wire w e o ↦ other.1 (w, e, o)
         ],
       );

@@ -2,7 +2,7 @@
 use Rattle.std.proofs.Common.{Ok, Err, refl, sym, subst}
 use Rattle.std.specs.Bool.{Decides}
 use Rattle.std.specs.Prelude.{IfOk}
-use Rattle.osgi_resolver_hopeless.specs.Before.{IsHopefulBefore}
+use Rattle.osgi_resolver_search.specs.Before.{IsHopefulBefore}
 use Rattle.osgi_resolver_path.specs.Standing.{IsProblemOf, Standing}
 use Rattle.osgi_resolver_theory.specs.WorldProblems.{the_problem}
 use Rattle.osgi_world.specs.Hopeless.{IsHopeless}
