@@ -1,5 +1,5 @@
 -- What is noted of the items that are out.
-use Rattle.std.proofs.Common.{◌≡◌, ◌≢◌, ℕ, ◌+◌, ◌⊎◌, ◌||◌, ◌==◌, Bool, true, false, not, inl, inr, IsTrue, List, [], ◌∷◌, ◌++◌, drop, get_or, reverse, Result, Ok, Err, OnErr, refl, sym, ap, ◌∙◌, arith}
+use Rattle.std.proofs.Common.{◌≡◌, ◌≢◌, ℕ, ◌⊎◌, ◌||◌, ◌==◌, Bool, true, false, not, inl, inr, IsTrue, List, [], ◌∷◌, ◌++◌, drop, get_or, reverse, Result, Ok, Err, OnErr, refl, sym, ap, ◌∙◌, arith}
 use Rattle.std.proofs.lemmas.List.{reverse-append}
 use Rattle.std.specs.declared.alloc.Global.{Global}
 use Rattle.std.specs.declared.vec.Vec.{Vec}

@@ -1,6 +1,6 @@
 -- Items that are taken out, and the candidates that they are.
 use Prim.Native.Nat.{zero, suc}
-use Rattle.std.proofs.Common.{◌≡◌, ℕ, ◌+◌, ◌-◌, ◌<◌, ◌≤◌, max, ◌⊎◌, ◌||◌, ◌==◌, Bool, true, false, not, cond, inl, inr, IsTrue, List, [], ◌∷◌, length, map, drop, Some, None, refl, sym, ap, ◌∙◌, subst, arith}
+use Rattle.std.proofs.Common.{◌≡◌, ℕ, ◌+◌, ◌<◌, ◌≤◌, max, ◌⊎◌, ◌||◌, ◌==◌, Bool, true, false, not, cond, inl, inr, IsTrue, List, [], ◌∷◌, length, map, drop, Some, None, refl, sym, ap, ◌∙◌, subst, arith}
 use Rattle.std.specs.Prelude.{filter}
 use Rattle.std.proofs.lemmas.List.{length-drop, length-map, map-append}
 use Rattle.osgi_base.specs.declared.ids.RevisionId.{RevisionId}

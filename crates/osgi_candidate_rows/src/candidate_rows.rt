@@ -1,6 +1,6 @@
 //! The candidates of a problem in linked rows.
 
-ghost use Rattle.std.specs.Prelude.{◌≡◌, ◌≤◌, ◌⊎◌, ◌<◌, [], drop, length, IfOk};
+ghost use Rattle.std.specs.Prelude.{◌≡◌, ◌≤◌, ◌⊎◌, [], drop, length, IfOk};
 ghost use Rattle.osgi_candidate_rows.specs.Listed.{AreOutBetween, TakesOut, listed};
 
 use crate::gone::Gone;
@@ -72,7 +72,8 @@ impl<'p> CandidateRows<'p> {
         }
     }
 
-    /// Takes the provider's candidates out of all rows. Gives how many were taken out then, where so many were before.
+    /// Takes the provider's candidates out of all rows. Gives how many were taken out then, where so many were before. Where memory
+    /// runs out, some of them stay.
     pub fn take_out(&mut self, provider: RevisionId, before: usize) -> usize
         ensures taken { TakesOut provider before self.old result self.new }
     {

@@ -4,7 +4,6 @@ ghost use Rattle.std.specs.Prelude.{◌≡◌, ◌↔◌, ◌<◌, IfOk, IsTrue}
 ghost use Rattle.osgi_world.specs.Candidates.{IsLacking, IsProblem};
 ghost use Rattle.osgi_world.specs.Lookups.{requirement_count};
 ghost use Rattle.osgi_world.specs.declared.problem.Problem.{Problem};
-ghost use Rattle.osgi_world.specs.declared.wiring.ReqRef.{ReqRef};
 ghost use Rattle.osgi_resolver.specs.Answers.{IsCause};
 
 use crate::answer::Cause;

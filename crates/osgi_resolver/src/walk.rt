@@ -1,6 +1,5 @@
 //! A walk over the words of the problem of resolving a root in a world.
 
-ghost use Rattle.std.specs.Prelude.{◌≡◌};
 ghost use Rattle.osgi_resolver_theory.specs.WorldProblems.{the_problem};
 
 use osgi_resolver_hopeless::{has_become_hopeless, is_hopeless};

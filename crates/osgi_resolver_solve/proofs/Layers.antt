@@ -1,5 +1,5 @@
 -- The layers of candidates that are out, when a decision is made and when it is taken back.
-use Rattle.std.proofs.Common.{◌≡◌, ℕ, ◌+◌, ◌<◌, ◌≤◌, inl, inr, List, [], ◌∷◌, ◌++◌, length, drop, reverse, Bool, true, false, if◌then◌else◌, Result, Ok, Err, is_ok, is_err, Option, None, Some, MatchOption, refl, sym, ◌∙◌, ap, subst, arith}
+use Rattle.std.proofs.Common.{◌≡◌, ℕ, ◌<◌, ◌≤◌, inl, inr, List, [], ◌∷◌, ◌++◌, length, drop, reverse, Bool, true, false, if◌then◌else◌, Result, Ok, Err, is_ok, is_err, Option, None, Some, MatchOption, refl, sym, ◌∙◌, ap, subst, arith}
 use Rattle.std.proofs.lemmas.List.{length-append, reverse-append, reverse-reverse}
 use Rattle.std.proofs.Math.Seq.{drop-append_seam}
 use Rattle.osgi_base.specs.declared.ids.RevisionId.{RevisionId}

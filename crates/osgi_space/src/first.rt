@@ -5,8 +5,6 @@ ghost use Rattle.std.specs.BTreeSet.{contains};
 ghost use Rattle.std.specs.Option.{ForSome};
 ghost use Rattle.std.specs.Ordering.{nat_cmp};
 ghost use Rattle.osgi_base.specs.declared.ids.RevisionId.{RevisionId};
-ghost use Rattle.osgi_space_sources.specs.computed.Amongst.{IsAmong};
-ghost use Rattle.osgi_space_sources.specs.computed.Clashes.{IsClash};
 ghost use Rattle.osgi_space_sources.specs.declared.given.Given.{Given};
 ghost use Rattle.osgi_space.specs.Violations.{IsFirstViolation};
 ghost use Rattle.osgi_space.specs.computed.Firsts.{IsBefore, IsFirstClash, IsFirstImplied};
