@@ -1,8 +1,10 @@
 -- What is known of an owner.
-use Rattle.std.proofs.Common.{◌⊎◌, inl, inr, Bool, true, false, ap, subst, ◌≡◌, ◌<◌, ℕ, IsTrue, List, Option, None, Some, filter, refl, sym, ◌∙◌}
+use Rattle.std.proofs.Common.{◌⊎◌, inl, inr, Bool, true, false, ap, subst, ◌≡◌, ◌<◌, ℕ, IsTrue, List, Bor, Option, None, Some, filter, length, refl, sym, ◌∙◌}
 use Rattle.std.specs.Prelude.{◌==◌, ◌≢◌, cond, slice_get}
 use Rattle.std.specs.Global.{Vec}
 use Rattle.std.specs.Option.{option_map}
+use Rattle.std.specs.Slice.{IsItemAt}
+use Rattle.std.proofs.lemmas.Option.{slice_get_read}
 use Rattle.osgi_base.specs.declared.ids.RevisionId.{RevisionId}
 use Rattle.std.proofs.lemmas.Bool.{eqb-true}
 use Rattle.osgi_base.specs.NumberMaps.{HoldsSame, Puts, value_at}
@@ -30,6 +32,12 @@ listed-at lists n cs e = go (slice_get lists n) e
     go : (o : Option (Vec CapRef)) → option_map (λ (list : Vec CapRef). list.items) o ≡ Some cs → items_of o ≡ cs
     go None e = cc
     go (Some list) e = some-inj list.items cs e
+
+-- the list that is lent of a place
+pub lent-listed : (lists : List (Vec CapRef)) (n : ℕ) (list : Bor (Vec CapRef)) (cs : List CapRef) → IsItemAt lists n (Some list) → option_map (λ (list : Vec CapRef). list.items) (slice_get lists n) ≡ Some cs → list.now.items ≡ cs
+lent-listed lists n list cs got e =
+    let there : slice_get lists n ≡ Some list.now = slice_get_read lists (length lists) n list.now refl got.3.0 (got.3.1 list.now) in
+    some-inj list.now.items cs (sym (ap (option_map (λ (list : Vec CapRef). list.items)) there) ∙ e)
 
 -- ---- two problems of one world
 

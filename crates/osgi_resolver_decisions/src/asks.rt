@@ -13,17 +13,17 @@ ghost use Rattle.osgi_resolver_decisions.specs.computed.Sureness.{list_at};
 
 use crate::decision_ref::DecisionRef;
 use crate::kind::Kind;
-use osgi_base::RevisionId;
+use osgi_base::{RevisionId, Shared};
 use osgi_candidates::Offers;
 use osgi_world::{CapRef, ReqRef};
 use std::alloc::AllocError;
 
 /// The list at a place, or an empty one where there is none.
-pub fn list_at(lists: &[Vec<CapRef>], index: u32) -> &[CapRef]
+pub fn list_at(lists: &[Shared<Vec<CapRef>>], index: u32) -> &[CapRef]
     ensures list { result.now ≡ list_at lists.now index }
 {
     match lists.get(index as usize) {
-        Some(list) => list.as_slice(),
+        Some(list) => list.get().as_slice(),
         None => &[],
     }
 }
@@ -52,7 +52,7 @@ fn add_picks(
 fn add_requirement(
     asks: &mut Vec<DecisionRef>,
     offers: &Offers,
-    lists: &[Vec<CapRef>],
+    lists: &[Shared<Vec<CapRef>>],
     host: RevisionId,
     requirement: ReqRef,
 ) -> Result<(), AllocError>
@@ -74,7 +74,7 @@ fn add_requirement(
 fn add_of_kind(
     asks: &mut Vec<DecisionRef>,
     offers: &Offers,
-    lists: &[Vec<CapRef>],
+    lists: &[Shared<Vec<CapRef>>],
     host: RevisionId,
     kind: Kind,
     requirement: ReqRef,
@@ -97,7 +97,7 @@ fn add_of_kind(
 pub fn add_owner(
     asks: &mut Vec<DecisionRef>,
     offers: &Offers,
-    lists: &[Vec<CapRef>],
+    lists: &[Shared<Vec<CapRef>>],
     host: RevisionId,
     kind: Kind,
     owner: RevisionId,

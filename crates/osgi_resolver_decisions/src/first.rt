@@ -11,7 +11,7 @@ ghost use Rattle.osgi_resolver_decisions.specs.computed.Known.{AreListsOf, IsPro
 use crate::asks::add_owner;
 use crate::decision_ref::DecisionRef;
 use crate::kind::Kind;
-use osgi_base::RevisionId;
+use osgi_base::{RevisionId, Shared};
 use osgi_candidates::Offers;
 use osgi_world::CapRef;
 use std::alloc::{AllocError, Global};
@@ -39,7 +39,7 @@ fn attachments_of(
 fn own_asks(
     alloc: Global,
     offers: &Offers,
-    lists: &[Vec<CapRef>],
+    lists: &[Shared<Vec<CapRef>>],
     member: RevisionId,
 ) -> Result<Vec<DecisionRef>, AllocError>
     requires lists { AreListsOf offers.now member lists.now }
@@ -58,7 +58,7 @@ fn own_asks(
 pub fn first_decisions(
     alloc: Global,
     offers: &Offers,
-    lists: &[Vec<CapRef>],
+    lists: &[Shared<Vec<CapRef>>],
     fragments: &[RevisionId],
     member: RevisionId,
 ) -> Result<Vec<DecisionRef>, AllocError>

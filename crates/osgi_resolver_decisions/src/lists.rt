@@ -13,8 +13,8 @@ use crate::asks::list_at;
 use crate::decisions::Decisions;
 use crate::owned::{Owned, owned_with};
 use crate::plain::{add_plain_of, are_alike};
-use crate::same::ask_alike;
-use osgi_base::{NumberMap, RevisionId, Text};
+use crate::same::list_before;
+use osgi_base::{NumberMap, RevisionId, Shared, Text};
 use osgi_candidates::Offers;
 use osgi_world::{CapRef, ReqRef};
 use std::alloc::{AllocError, Global};
@@ -86,7 +86,11 @@ impl<'w> Lists<'w> {
     }
 
     /// The candidates of the owner's requirements, by their places.
-    fn lists_of(&self, alloc: Global, owner: RevisionId) -> Result<Vec<Vec<CapRef>>, AllocError>
+    fn lists_of(
+        &self,
+        alloc: Global,
+        owner: RevisionId,
+    ) -> Result<Vec<Shared<Vec<CapRef>>>, AllocError>
         ensures lists { IfOk result (λ lists. AreListsOf self.now.offers owner lists.items) }
     {
         let mut lists = Vec::new(alloc);
@@ -105,43 +109,36 @@ impl<'w> Lists<'w> {
         &self,
         alloc: Global,
         requirement: ReqRef,
-        before: &[Vec<CapRef>],
-    ) -> Result<Vec<CapRef>, AllocError>
+        before: &[Shared<Vec<CapRef>>],
+    ) -> Result<Shared<Vec<CapRef>>, AllocError>
         requires before { AreListsBefore self.now.offers requirement before.now }
         ensures list { IfOk result (λ list. (P : Problem) → IsProblemIn self.now.offers P
             → CanBeAsked P.world.known requirement → list.items ≡ candidates P requirement) }
     {
-        let Some(index) = requirement.index.checked_sub(1) else {
-            return self.list_of(alloc, requirement);
-        };
-        let previous = ReqRef {
-            owner: requirement.owner,
-            index,
-        };
-        if ask_alike(self.offers(), requirement, previous) {
-            return Ok(Vec::from_slice(alloc, list_at(before, index))?);
+        match list_before(self.offers(), requirement, before) {
+            Some(list) => Ok(list.copy(alloc)?),
+            None => self.list_of(alloc, requirement),
         }
-        self.list_of(alloc, requirement)
     }
 
     /// The candidates of the requirement, if it is effective: those of one like it, if one is known, and else those that are offered.
-    fn list_of(&self, alloc: Global, requirement: ReqRef) -> Result<Vec<CapRef>, AllocError>
+    fn list_of(&self, alloc: Global, requirement: ReqRef) -> Result<Shared<Vec<CapRef>>, AllocError>
         ensures list { IfOk result (λ list. (P : Problem) → IsProblemIn self.now.offers P
             → CanBeAsked P.world.known requirement → list.items ≡ candidates P requirement) }
     {
         if !self.offers().known().is_effective(requirement) {
-            return Ok(Vec::new(alloc));
+            return Ok(Shared::new(alloc, Vec::new(alloc))?);
         }
         match self.listed_alike(requirement) {
-            Some(list) => Ok(Vec::from_slice(alloc, list)?),
-            None => Ok(self.offers().candidates(alloc, requirement)?),
+            Some(list) => Ok(list.copy(alloc)?),
+            None => Ok(Shared::new(alloc, self.offers().candidates(alloc, requirement)?)?),
         }
     }
 
     /// The candidates of an import that is known and asks for the same package, where neither asks for anything else.
-    fn listed_alike(&self, requirement: ReqRef) -> Option<&[CapRef]>
+    fn listed_alike(&self, requirement: ReqRef) -> Option<&Shared<Vec<CapRef>>>
         ensures alike { IfSome result (λ list. (P : Problem) → IsProblemIn self.now.offers P
-            → CanBeAsked P.world.known requirement → list.now ≡ candidates P requirement) }
+            → CanBeAsked P.world.known requirement → list.now.items ≡ candidates P requirement) }
     {
         let name = &self.offers().known().requirement(requirement)?.name;
         let other = *self.plain.get(name)?;
@@ -152,14 +149,12 @@ impl<'w> Lists<'w> {
     }
 
     /// The candidates of a requirement, if its owner is known.
-    fn listed(&self, requirement: ReqRef) -> Option<&[CapRef]>
+    fn listed(&self, requirement: ReqRef) -> Option<&Shared<Vec<CapRef>>>
         ensures listed { IfSome result (λ list. (P : Problem) → IsProblemIn self.now.offers P
-            → CanBeAsked P.world.known requirement → list.now ≡ candidates P requirement) }
+            → CanBeAsked P.world.known requirement → list.now.items ≡ candidates P requirement) }
     {
-        if self.owned(requirement.owner).is_some() {
-            return Some(self.candidates(requirement));
-        }
-        None
+        let owned = self.owned(requirement.owner)?;
+        owned.lists.get(requirement.index as usize)
     }
 
     /// What was found out of the owner, if it is known.
@@ -172,7 +167,7 @@ impl<'w> Lists<'w> {
     }
 
     /// The candidates of the requirements of an owner that is known, by their places.
-    pub fn of_owner(&self, owner: RevisionId) -> &[Vec<CapRef>]
+    pub fn of_owner(&self, owner: RevisionId) -> &[Shared<Vec<CapRef>>]
         ensures lists { Knows self.now owner → AreListsOf self.now.offers owner result.now }
     {
         match self.owned(owner) {

@@ -15,7 +15,7 @@ ghost use Rattle.osgi_resolver_decisions.specs.computed.Sureness.{IsSureBy, list
 use crate::asks::list_at;
 use crate::decisions::Decisions;
 use crate::first::first_decisions;
-use osgi_base::RevisionId;
+use osgi_base::{RevisionId, Shared};
 use osgi_candidates::Offers;
 use osgi_lookup::{is_bundle, is_package};
 use osgi_world::{CapRef, ReqRef};
@@ -23,8 +23,9 @@ use std::alloc::{AllocError, Global};
 
 /// What a world offers to an owner.
 pub struct Owned {
-    /// The candidates of its requirements, by their places. One that is not effective has none here.
-    pub lists: Vec<Vec<CapRef>>,
+    /// The candidates of its requirements, by their places. One that is not effective has none here. Requirements that ask for the
+    /// same share a list.
+    pub lists: Vec<Shared<Vec<CapRef>>>,
     /// The fragments that may be attached to it, by bundle id.
     pub fragments: Vec<RevisionId>,
     /// Its decisions as a member of which nothing is decided yet.
@@ -55,7 +56,7 @@ impl Drop for Owned {
 
 /// Whether a requirement that is needed has a candidate in its list, and may have one wire alone. Where the answer is false, that
 /// need not be so.
-fn is_sure(offers: &Offers, lists: &[Vec<CapRef>], requirement: ReqRef) -> bool
+fn is_sure(offers: &Offers, lists: &[Shared<Vec<CapRef>>], requirement: ReqRef) -> bool
     ensures sure { IsTrue result → IsNeeded offers.now.known requirement
         → IsSureBy offers.now.known (list_at lists.now requirement.index) requirement }
 {
@@ -66,14 +67,11 @@ fn is_sure(offers: &Offers, lists: &[Vec<CapRef>], requirement: ReqRef) -> bool
     if known.is_multiple(requirement) {
         return false;
     }
-    match lists.get(requirement.index as usize) {
-        Some(list) => !list.is_empty(),
-        None => false,
-    }
+    !list_at(lists, requirement.index).is_empty()
 }
 
 /// Whether it is so with each requirement of the owner. Where the answer is false, that need not be so.
-fn are_sure(offers: &Offers, lists: &[Vec<CapRef>], owner: RevisionId) -> bool
+fn are_sure(offers: &Offers, lists: &[Shared<Vec<CapRef>>], owner: RevisionId) -> bool
     ensures sure { IsTrue result → (q : ReqRef) → q.owner ≡ owner
         → q.index < requirement_count offers.now.known owner → IsNeeded offers.now.known q
         → IsSureBy offers.now.known (list_at lists.now q.index) q }
@@ -91,7 +89,7 @@ fn are_sure(offers: &Offers, lists: &[Vec<CapRef>], owner: RevisionId) -> bool
 }
 
 /// Whether the requirement is needed, and has no candidate in its list.
-fn is_lacking(offers: &Offers, lists: &[Vec<CapRef>], requirement: ReqRef) -> bool
+fn is_lacking(offers: &Offers, lists: &[Shared<Vec<CapRef>>], requirement: ReqRef) -> bool
     ensures lacking { IsTrue result ↔ IsNeeded offers.now.known requirement
         × (list_at lists.now requirement.index ≡ []) }
 {
@@ -102,7 +100,7 @@ fn is_lacking(offers: &Offers, lists: &[Vec<CapRef>], requirement: ReqRef) -> bo
 }
 
 /// Whether the owner is current, and it is so with a requirement of it. The lists are those of the owner.
-fn has_lacking(offers: &Offers, lists: &[Vec<CapRef>], owner: RevisionId) -> bool
+fn has_lacking(offers: &Offers, lists: &[Shared<Vec<CapRef>>], owner: RevisionId) -> bool
     requires lists { AreListsOf offers.now owner lists.now }
     ensures lacks { (P : Problem) → IsProblemIn offers.now P → IsTrue result
         ↔ IsTrue (is_current P.world.known owner) × LacksCandidate P owner }
@@ -175,7 +173,7 @@ pub fn owned_with(
     alloc: Global,
     offers: &Offers,
     owner: RevisionId,
-    lists: Vec<Vec<CapRef>>,
+    lists: Vec<Shared<Vec<CapRef>>>,
 ) -> Result<Owned, AllocError>
     requires lists { AreListsOf offers.now owner lists.items }
     ensures right { IfOk result (λ owned. (P : Problem) → IsProblemIn offers.now P

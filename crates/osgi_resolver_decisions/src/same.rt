@@ -1,17 +1,17 @@
 //! Requirements that ask for the same: they have the same candidates.
 
-ghost use Rattle.std.specs.Prelude.{◌≡◌, IsTrue};
+ghost use Rattle.std.specs.Prelude.{◌≡◌, IfSome, IsTrue};
 ghost use Rattle.osgi_world.specs.Candidates.{CanBeAsked, candidates};
 ghost use Rattle.osgi_world.specs.declared.problem.Problem.{Problem};
-ghost use Rattle.osgi_resolver_decisions.specs.computed.Known.{IsProblemIn};
+ghost use Rattle.osgi_resolver_decisions.specs.computed.Known.{AreListsBefore, IsProblemIn};
 ghost use Rattle.osgi_resolver_decisions.specs.computed.Same.{AskTheSame};
 
 use crate::plain::can_be_asked;
-use osgi_base::ExactEq;
+use osgi_base::{ExactEq, Shared};
 use osgi_candidates::Offers;
 use osgi_lookup::{is_bundle, is_package};
 use osgi_model::{Filter, Test};
-use osgi_world::{ReqRef, Requirement};
+use osgi_world::{CapRef, ReqRef, Requirement};
 
 /// Whether both tests are the same. Where the answer is false, they may be so.
 fn is_same_test(one: &Test, other: &Test) -> bool
@@ -85,7 +85,7 @@ fn ask_the_same(one: &Requirement, other: &Requirement) -> bool
 
 /// Whether the one is effective and asks for the same as the other, which has candidates to tell. Where the answer is false, their
 /// candidates may be the same.
-pub fn ask_alike(offers: &Offers, one: ReqRef, other: ReqRef) -> bool
+fn ask_alike(offers: &Offers, one: ReqRef, other: ReqRef) -> bool
     ensures same { IsTrue result → (P : Problem) → IsProblemIn offers.now P
         → CanBeAsked P.world.known one → CanBeAsked P.world.known other
         × (candidates P other ≡ candidates P one) }
@@ -104,4 +104,25 @@ pub fn ask_alike(offers: &Offers, one: ReqRef, other: ReqRef) -> bool
         return false;
     }
     can_be_asked(known, other)
+}
+
+/// The list of the requirement before this one, if both ask for the same. The lists are those of the requirements before it.
+pub fn list_before<'l>(
+    offers: &Offers,
+    requirement: ReqRef,
+    before: &'l [Shared<Vec<CapRef>>],
+) -> Option<&'l Shared<Vec<CapRef>>>
+    requires before { AreListsBefore offers.now requirement before.now }
+    ensures alike { IfSome result (λ list. (P : Problem) → IsProblemIn offers.now P
+        → CanBeAsked P.world.known requirement → list.now.items ≡ candidates P requirement) }
+{
+    let index = requirement.index.checked_sub(1)?;
+    let previous = ReqRef {
+        owner: requirement.owner,
+        index,
+    };
+    if !ask_alike(offers, requirement, previous) {
+        return None;
+    }
+    before.get(index as usize)
 }
