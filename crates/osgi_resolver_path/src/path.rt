@@ -12,12 +12,11 @@ ghost use Rattle.osgi_world.specs.Lists.{In};
 ghost use Rattle.osgi_world.specs.Lookups.{is_effective};
 ghost use Rattle.osgi_world.specs.Partial as partial;
 ghost use Rattle.osgi_world.specs.Wirings.{HasWire};
-ghost use Rattle.osgi_world.specs.declared.problem.Problem.{Problem};
 ghost use Rattle.osgi_space_rows.specs.Worlds.{AreRowsIn};
 ghost use Rattle.osgi_resolver_path.specs.Last.{IsLast};
 ghost use Rattle.osgi_resolver_decisions.specs.Sure.{AreSure, LacksCandidate};
 ghost use Rattle.osgi_resolver_decisions.specs.DecisionOf.{decision_of};
-ghost use Rattle.osgi_resolver_path.specs.Standing.{At, HasValue, IsProblemOf, made};
+ghost use Rattle.osgi_resolver_path.specs.Standing.{At, HasValue};
 ghost use Rattle.osgi_resolver_path.specs.Wires.{IsWiredTo, wired_in};
 ghost use Rattle.osgi_resolver_path.specs.declared.wired.Wired.{Wired};
 
@@ -245,10 +244,9 @@ impl<'w> Path<'w> {
 
     /// The candidates of an effective requirement of a member's payload.
     pub fn candidates(&self, requirement: ReqRef) -> &[CapRef]
-        ensures candidates { (P : Problem) (m : RevisionId) → IsProblemOf self.now P
-            → In m (members P (made P self.now)) → In requirement (payload P (made P self.now) m)
-            → IsTrue (is_effective P.world.known requirement)
-            → result.now ≡ candidates P requirement }
+        ensures candidates { At self.now (λ P D. (m : RevisionId) → In m (members P D)
+            → In requirement (payload P D m) → IsTrue (is_effective P.world.known requirement)
+            → result.now ≡ candidates P requirement) }
     {
         self.lists.candidates(requirement)
     }
@@ -256,19 +254,17 @@ impl<'w> Path<'w> {
     /// Whether each requirement that is needed of an owner of a member's payload has a candidate, and may have one wire alone.
     /// Where the answer is false, that need not be so.
     pub fn is_sure(&self, owner: RevisionId) -> bool
-        ensures sure { IsTrue result → (P : Problem) (m : RevisionId) → IsProblemOf self.now P
-            → In m (members P (made P self.now)) → (owner ≡ m)
-            ⊎ In owner (fragments_of P (made P self.now) m) → AreSure P owner }
+        ensures sure { IsTrue result → At self.now (λ P D. (m : RevisionId) → In m (members P D)
+            → (owner ≡ m) ⊎ In owner (fragments_of P D m) → AreSure P owner) }
     {
         self.lists.is_sure(owner)
     }
 
     /// Whether a requirement that is needed of an owner of a member's payload has no candidate. It was found out when the owner came.
     pub fn lacks_candidate(&self, owner: RevisionId) -> bool
-        ensures lacks { (P : Problem) (m : RevisionId) → IsProblemOf self.now P
-            → In m (members P (made P self.now)) → (owner ≡ m)
-            ⊎ In owner (fragments_of P (made P self.now) m) → IsTrue result
-            ↔ LacksCandidate P owner }
+        ensures lacks { At self.now (λ P D. (m : RevisionId) → In m (members P D)
+            → (owner ≡ m) ⊎ In owner (fragments_of P D m)
+            → IsTrue result ↔ LacksCandidate P owner) }
     {
         self.lists.lacks_candidate(owner)
     }

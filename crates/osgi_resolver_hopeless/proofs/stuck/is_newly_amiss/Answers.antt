@@ -27,7 +27,7 @@ returns-then-lacks_candidate c = record {
       let last = c.in-Some.last in
       let x = c.in-Some.ensures.last P L in
       let newly = last-newly P (made P s) (made_by P x.before) (decision_of last.decision) last.value c.args.member (made-is s P L last x) in
-      yes (newly.0 (inl ((c.lacks_candidate.ensures.lacks P c.args.member L is_member (inl refl)).0 c.if-lacks_candidate.true)));
+      yes (newly.0 (inl ((c.lacks_candidate.ensures.lacks P L c.args.member is_member (inl refl)).0 c.if-lacks_candidate.true)));
 }
 
 pub returns : goal.returns
@@ -40,7 +40,7 @@ returns c = record {
       let by = c.is_amiss_by.ensures.amiss P L is_member x in (
         λ t. newly.0 (inr (by.0 t)),
         λ a. elim (newly.1 a) [
-          | inl l ↦ absurd (not_true _ c.if-lacks_candidate.false ((c.lacks_candidate.ensures.lacks P c.args.member L is_member (inl refl)).1 l))
+          | inl l ↦ absurd (not_true _ c.if-lacks_candidate.false ((c.lacks_candidate.ensures.lacks P L c.args.member is_member (inl refl)).1 l))
           | inr b ↦ by.1 b
         ],
       );

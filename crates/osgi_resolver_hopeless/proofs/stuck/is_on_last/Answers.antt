@@ -23,7 +23,7 @@ pub returns-in_default : goal.returns-in_default
 returns-in_default c = record {
   last = λ P L is_member i effective.
       let xs = c.candidates.result.now in
-      let are = c.candidates.ensures.candidates P c.args.member L is_member i effective in
+      let are = c.candidates.ensures.candidates P L c.args.member is_member i effective in
       no (λ end. let some = at-end xs end.0 end.1 (are ∙ end.2) in let none = c.in_default.ensures.value in cc);
 }
 
@@ -31,7 +31,7 @@ pub returns : goal.returns
 returns c = record {
   last = λ P L is_member i effective.
       let xs = c.candidates.result.now in
-      let are = c.candidates.ensures.candidates P c.args.member L is_member i effective in
+      let are = c.candidates.ensures.candidates P L c.args.member is_member i effective in
       let x = c.in-Some.capability.now in
       let d = decision_of c.args.decision in
       let p = pick c.args.member c.args.requirement x in

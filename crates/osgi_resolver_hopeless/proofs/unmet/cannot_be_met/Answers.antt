@@ -22,7 +22,7 @@ returns-then-is_empty c = record {
   unmet = λ P L is_member i.
       let known = known-is c.args.path.now P L c.known_at-known.result.now c.known_at-known.ensures.known in
       let needed = subst (λ K. IsNeeded K c.args.requirement) known (c.is_needed.ensures.needed.0 c.if-not-is_needed.false) in
-      let are = c.candidates-candidates.ensures.candidates P c.args.member L is_member i needed.effective in
+      let are = c.candidates-candidates.ensures.candidates P L c.args.member is_member i needed.effective in
       yes (record { needed = needed; no_wire = inl (sym are ∙ empty-true c.candidates-candidates.result.now (sym c.is_empty.ensures ∙ c.if-is_empty.true)) });
 }
 
@@ -31,7 +31,7 @@ returns-then-not-is_multiple c = record {
   unmet = λ P L is_member i.
       let known = known-is c.args.path.now P L c.known_at-known.result.now c.known_at-known.ensures.known in
       let needed = subst (λ K. IsNeeded K c.args.requirement) known (c.is_needed.ensures.needed.0 c.if-not-is_needed.false) in
-      let are = c.candidates-candidates.ensures.candidates P c.args.member L is_member i needed.effective in
+      let are = c.candidates-candidates.ensures.candidates P L c.args.member is_member i needed.effective in
       no (λ u. elim u.no_wire [
         | inl none ↦ false≢true (sym c.if-is_empty.false ∙ c.is_empty.ensures ∙ ap (λ (cs : List CapRef). length cs == 0) (are ∙ none))
         | inr m ↦ not_true _ c.if-not-is_multiple.true (c.is_multiple.ensures.multiple ∙ subst (λ K. IsTrue (is_multiple K c.args.requirement)) (sym known) m.0)
@@ -43,7 +43,7 @@ returns c = record {
   unmet = λ P L is_member i.
       let known = known-is c.args.path.now P L c.known_at-known.result.now c.known_at-known.ensures.known in
       let needed = subst (λ K. IsNeeded K c.args.requirement) known (c.is_needed.ensures.needed.0 c.if-not-is_needed.false) in
-      let are = c.candidates-candidates.ensures.candidates P c.args.member L is_member i needed.effective in
+      let are = c.candidates-candidates.ensures.candidates P L c.args.member is_member i needed.effective in
       let refused = c.are_refused.ensures.refused P L in
       let Refused : List CapRef → Type 0 = AreRefused (made P c.args.path.now) c.args.member c.args.requirement in
       let multiple : IsTrue (is_multiple P.world.known c.args.requirement) = subst (λ K. IsTrue (is_multiple K c.args.requirement)) known (sym c.is_multiple.ensures.multiple ∙ c.if-not-is_multiple.false) in (

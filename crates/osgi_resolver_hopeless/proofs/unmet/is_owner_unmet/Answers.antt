@@ -11,7 +11,7 @@ use Rattle.osgi_resolver_hopeless.proofs.unmet.is_owner_unmet.Goals as goal
 pub returns-then-is_sure : goal.returns-then-is_sure
 returns-then-is_sure c = record {
   unmet = λ P L is_member o. no (λ u.
-      let sure = c.is_sure.ensures.sure c.if-is_sure.true P c.args.member L is_member o (place c.args.owner u.0) refl u.1 u.2.needed in
+      let sure = c.is_sure.ensures.sure c.if-is_sure.true P L c.args.member is_member o (place c.args.owner u.0) refl u.1 u.2.needed in
       elim u.2.no_wire [ inl none ↦ sure.some none | inr m ↦ sure.single m.0 ]);
 }
 

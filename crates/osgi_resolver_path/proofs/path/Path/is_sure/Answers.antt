@@ -5,7 +5,7 @@ use Rattle.osgi_resolver_path.proofs.path.Path.is_sure.Goals as goal
 
 pub returns : goal.returns
 returns c = record {
-  sure = λ t P m of i own.
+  sure = λ t P of m i own.
       let on = c.self.invariant in
       let in_it = lists-at c.self.inside.world.now c.self.inside.root c.self.inside.lists c.self.inside.spaces c.self.inside.course on c.args.self.now (sym c.self.view_is) P of in
       sure-at c.self.inside.world.now c.self.inside.root c.self.inside.lists c.self.inside.spaces c.self.inside.course on c.args.self.now (sym c.self.view_is) P of m c.args.owner i own

@@ -12,7 +12,7 @@ use Rattle.osgi_resolver_path.proofs.path.Path.lacks_candidate.Goals as goal
 
 pub returns : goal.returns
 returns c = record {
-  lacks = λ P m of i own.
+  lacks = λ P of m i own.
       let on = c.self.invariant in
       let in_it = lists-at c.self.inside.world.now c.self.inside.root c.self.inside.lists c.self.inside.spaces c.self.inside.course on c.args.self.now (sym c.self.view_is) P of in
       let is = c.lacks_candidate.ensures.lacks P in_it in (
