@@ -57,8 +57,10 @@ impl<'w> ClassSpaces<'w> {
         revision: RevisionId,
         package: &Text,
     ) -> Result<List<RevisionId>, AllocError>
-        ensures rising { IfOk result (λ list. IsStrictlyIncreasing (map (λ (r : RevisionId). r.0) list)) }
-        ensures sources { IfOk result (λ list. (x : RevisionId) → In x list ↔ Sources self.now.known self.now.wirings revision «package».now x) }
+        ensures rising { IfOk result (λ list.
+            IsStrictlyIncreasing (map (λ (r : RevisionId). r.0) list)) }
+        ensures sources { IfOk result (λ list. (x : RevisionId) → In x list
+            ↔ Sources self.now.known self.now.wirings revision «package».now x) }
     {
         Ok(sources_in(alloc, &self.rows, revision, package)?)
     }
@@ -77,7 +79,9 @@ impl<'w> ClassSpaces<'w> {
     /// The implied constraints of the revision, each once, by rising revision that sees the package, then by the package's bytes.
     pub fn implied(&self, alloc: Global, revision: RevisionId) -> Result<List<Implied>, AllocError>
         ensures ordered { IfOk result AreInOrder }
-        ensures implied { IfOk result (λ list. (v : Implied) → In v list ↔ relation.Implied self.now.known self.now.wirings (λ x. Unit {0}) revision v.seen_by v.package) }
+        ensures implied { IfOk result (λ list. (v : Implied) → In v list
+            ↔ relation.Implied self.now.known self.now.wirings (λ x. Unit {0})
+            revision v.seen_by v.package) }
     {
         Ok(implied_in(alloc, &self.rows, revision)?)
     }
@@ -90,8 +94,10 @@ pub fn sources(
     revision: RevisionId,
     package: &Text,
 ) -> Result<List<RevisionId>, AllocError>
-    ensures rising { IfOk result (λ list. IsStrictlyIncreasing (map (λ (r : RevisionId). r.0) list)) }
-    ensures sources { IfOk result (λ list. (x : RevisionId) → In x list ↔ Sources world.now.known world.now.wirings revision «package».now x) }
+    ensures rising { IfOk result (λ list.
+        IsStrictlyIncreasing (map (λ (r : RevisionId). r.0) list)) }
+    ensures sources { IfOk result (λ list. (x : RevisionId) → In x list
+        ↔ Sources world.now.known world.now.wirings revision «package».now x) }
 {
     let spaces = ClassSpaces::new(alloc, world)?;
     spaces.sources(alloc, revision, package)
@@ -104,7 +110,9 @@ pub fn implied(
     revision: RevisionId,
 ) -> Result<List<Implied>, AllocError>
     ensures ordered { IfOk result AreInOrder }
-    ensures implied { IfOk result (λ list. (v : Implied) → In v list ↔ relation.Implied world.now.known world.now.wirings (λ x. Unit {0}) revision v.seen_by v.package) }
+    ensures implied { IfOk result (λ list. (v : Implied) → In v list
+        ↔ relation.Implied world.now.known world.now.wirings (λ x. Unit {0})
+        revision v.seen_by v.package) }
 {
     let spaces = ClassSpaces::new(alloc, world)?;
     spaces.implied(alloc, revision)

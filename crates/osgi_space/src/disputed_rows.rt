@@ -128,7 +128,8 @@ impl<'w> DisputedRows<'w> {
 
     /// Adds a wire to the revision, and returns its row. If memory runs out, nothing changes.
     pub fn add_wire(&mut self, revision: RevisionId, wire: &Wire) -> Result<Added, AllocError>
-        ensures added { IfOk result (λ added. AddsStep self.old self.new (wired revision wire.now) added) }
+        ensures added { IfOk result (λ added.
+            AddsStep self.old self.new (wired revision wire.now) added) }
         ensures unchanged { OnErr result (self.new ≡ self.old) }
     {
         let added = self.rows.add_wire(revision, wire)?;
@@ -141,7 +142,8 @@ impl<'w> DisputedRows<'w> {
 
     /// Attaches the fragment to the host, and returns the row. If memory runs out, nothing changes.
     pub fn attach(&mut self, host: RevisionId, fragment: RevisionId) -> Result<Added, AllocError>
-        ensures added { IfOk result (λ added. AddsStep self.old self.new (attached host fragment) added) }
+        ensures added { IfOk result (λ added.
+            AddsStep self.old self.new (attached host fragment) added) }
         ensures unchanged { OnErr result (self.new ≡ self.old) }
     {
         let added = self.rows.attach(host, fragment)?;

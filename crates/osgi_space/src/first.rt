@@ -53,7 +53,8 @@ fn is_before(names: &Names, first: Given, second: Given) -> bool
 fn is_earlier(names: &Names, pair: Given, first: Option<Given>) -> bool
     requires named { pair.package < length names.now }
     requires first_named { ForSome first (λ (f : Given). f.package < length names.now) }
-    ensures earlier { IsTrue result ↔ MatchOption first (Unit {0}) (λ f. IsBefore names.now pair f) }
+    ensures earlier { IsTrue result
+        ↔ MatchOption first (Unit {0}) (λ f. IsBefore names.now pair f) }
 {
     match first {
         Some(first) => is_before(names, pair, first),
@@ -69,7 +70,8 @@ fn first_clash(
     pairs: &[Given],
 ) -> Result<Option<Given>, AllocError>
     requires named { All (λ (g : Given). g.package < length rows.now.names) pairs.now }
-    ensures first { IfOk result (λ first. IsFirstClash rows.now.rows rows.now.names revision pairs.now first) }
+    ensures first { IfOk result (λ first.
+        IsFirstClash rows.now.rows rows.now.names revision pairs.now first) }
 {
     let mut first = None;
     for pair in pairs {
@@ -87,7 +89,8 @@ fn first_of(
     listed: &BTreeSet<u32>,
     revision: u32,
 ) -> Result<Option<Given>, AllocError>
-    ensures first { IfOk result (λ first. IsFirstImplied rows.now.rows rows.now.names (λ r. IsTrue (contains nat_cmp listed.now r)) revision first) }
+    ensures first { IfOk result (λ first. IsFirstImplied rows.now.rows rows.now.names
+        (λ r. IsTrue (contains nat_cmp listed.now r)) revision first) }
 {
     let found = constraints_of(alloc, rows.rows(), Among::Listed(listed), revision)?;
     Ok(first_clash(alloc, rows, revision, found.items())?)
@@ -95,13 +98,15 @@ fn first_of(
 
 /// The numbers of the revisions.
 fn numbers(alloc: Global, revisions: &[RevisionId]) -> Result<Vec<u32>, AllocError>
-    ensures numbers { IfOk result (λ numbers. numbers.items ≡ map (λ (r : RevisionId). r.0) revisions.now) }
+    ensures numbers { IfOk result (λ numbers.
+        numbers.items ≡ map (λ (r : RevisionId). r.0) revisions.now) }
 {
     revisions.iter().map(|revision| revision.0).collect(alloc)
 }
 
 fn listed(alloc: Global, numbers: &[u32]) -> Result<BTreeSet<u32>, AllocError>
-    ensures listed { IfOk result (λ set. (n : ℕ) → IsTrue (contains nat_cmp set n) ↔ Contains numbers.now n) }
+    ensures listed { IfOk result (λ set. (n : ℕ) → IsTrue (contains nat_cmp set n)
+        ↔ Contains numbers.now n) }
 {
     let mut set = BTreeSet::new(alloc);
     for number in numbers {
@@ -118,7 +123,12 @@ fn violation_of(
     pair: Given,
 ) -> Result<Violation, AllocError>
     requires named { pair.package < length names.now }
-    ensures violation { IfOk result (λ v. v ≡ record { revision = id revision; seen_by = id pair.source; «package» = name_numbered names.now pair.package }) }
+    ensures violation { IfOk result (λ v.
+        v ≡ record {
+          revision = id revision;
+          seen_by = id pair.source;
+          «package» = name_numbered names.now pair.package;
+        }) }
 {
     Ok(Violation {
         revision: RevisionId(revision),
@@ -134,7 +144,8 @@ pub fn first_violation(
     rows: &WorldRows,
     among: &[RevisionId],
 ) -> Result<Option<Violation>, AllocError>
-    ensures first { IfOk result (λ answer. (W : List Wiring) → AreRowsIn rows.now W → IsFirstViolation rows.now.known W (λ r. In r among.now) answer) }
+    ensures first { IfOk result (λ answer. (W : List Wiring) → AreRowsIn rows.now W
+        → IsFirstViolation rows.now.known W (λ r. In r among.now) answer) }
 {
     let numbers = rising(numbers(alloc, among)?);
     let listed = listed(alloc, numbers.as_slice())?;

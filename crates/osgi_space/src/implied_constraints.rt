@@ -42,7 +42,8 @@ fn named_pairs(
     pairs: &[Given],
 ) -> Result<BTreeSet<Implied>, AllocError>
     requires named { All (λ (g : Given). g.package < length names.now) pairs.now }
-    ensures pairs { IfOk result (λ set. (v : Implied) → IsTrue (contains implied_cmp set v) ↔ Any (λ (g : Given). named_pair names.now g ≡ v) pairs.now) }
+    ensures pairs { IfOk result (λ set. (v : Implied) → IsTrue (contains implied_cmp set v)
+        ↔ Any (λ (g : Given). named_pair names.now g ≡ v) pairs.now) }
 {
     let mut set = BTreeSet::new(alloc);
     for pair in pairs {
@@ -65,7 +66,9 @@ pub fn implied_in(
     revision: RevisionId,
 ) -> Result<List<Implied>, AllocError>
     ensures ordered { IfOk result AreInOrder }
-    ensures implied { IfOk result (λ list. (W : List Wiring) → AreRowsIn rows.now W → (v : Implied) → In v list ↔ relation.Implied rows.now.known W (λ x. Unit {0}) revision v.seen_by v.package) }
+    ensures implied { IfOk result (λ list. (W : List Wiring) → AreRowsIn rows.now W → (v : Implied)
+        → In v list
+        ↔ relation.Implied rows.now.known W (λ x. Unit {0}) revision v.seen_by v.package) }
 {
     let found = constraints_of(alloc, rows.rows(), Among::All, revision.0)?;
     let pairs = named_pairs(alloc, rows.names(), found.items())?;

@@ -22,7 +22,8 @@ pub fn rising(mut numbers: Vec<u32>) -> Vec<u32>
 }
 
 fn sources(alloc: Global, givens: &[Given]) -> Result<Vec<u32>, AllocError>
-    ensures sources { IfOk result (λ numbers. numbers.items ≡ map (λ (g : Given). g.source) givens.now) }
+    ensures sources { IfOk result (λ numbers.
+        numbers.items ≡ map (λ (g : Given). g.source) givens.now) }
 {
     givens.iter().map(|given| given.source).collect(alloc)
 }
@@ -41,7 +42,8 @@ pub fn as_ids(alloc: Global, numbers: &[u32]) -> Result<List<RevisionId>, AllocE
 /// The sources as revisions, each once and rising.
 pub fn source_ids(alloc: Global, givens: &[Given]) -> Result<List<RevisionId>, AllocError>
     ensures rising { IfOk result (λ ids. IsStrictlyIncreasing (map (λ (r : RevisionId). r.0) ids)) }
-    ensures same { IfOk result (λ ids. (x : RevisionId) → In x ids ↔ Any (λ (g : Given). g.source ≡ x.0) givens.now) }
+    ensures same { IfOk result (λ ids. (x : RevisionId) → In x ids
+        ↔ Any (λ (g : Given). g.source ≡ x.0) givens.now) }
 {
     let numbers = rising(sources(alloc, givens)?);
     Ok(as_ids(alloc, numbers.as_slice())?)

@@ -21,8 +21,10 @@ pub fn sources_in(
     revision: RevisionId,
     package: &Text,
 ) -> Result<List<RevisionId>, AllocError>
-    ensures rising { IfOk result (λ list. IsStrictlyIncreasing (map (λ (r : RevisionId). r.0) list)) }
-    ensures sources { IfOk result (λ list. (W : List Wiring) → AreRowsIn rows.now W → (x : RevisionId) → In x list ↔ Sources rows.now.known W revision «package».now x) }
+    ensures rising { IfOk result (λ list.
+        IsStrictlyIncreasing (map (λ (r : RevisionId). r.0) list)) }
+    ensures sources { IfOk result (λ list. (W : List Wiring) → AreRowsIn rows.now W
+        → (x : RevisionId) → In x list ↔ Sources rows.now.known W revision «package».now x) }
 {
     let Some(number) = rows.names().number(package) else {
         return Ok(source_ids(alloc, &[])?);

@@ -73,7 +73,8 @@ fn entry(
     sources: &BTreeSet<u32>,
 ) -> Result<PackageSources, AllocError>
     ensures entry { IfOk result (λ entry. entry ≡ as_entry («package».now, sources.now)) }
-    ensures rising { IfOk result (λ entry. IsStrictlyIncreasing (map (λ (r : RevisionId). r.0) entry.sources)) }
+    ensures rising { IfOk result (λ entry.
+        IsStrictlyIncreasing (map (λ (r : RevisionId). r.0) entry.sources)) }
 {
     let numbers: Vec<u32> = sources.iter().copied().collect(alloc)?;
     Ok(PackageSources {
@@ -89,7 +90,9 @@ fn in_order(
 ) -> Result<List<PackageSources>, AllocError>
     ensures same { IfOk result (λ list. list ≡ map as_entry space.now.entries) }
     ensures ordered { IfOk result (λ list. IsOrdered text_cmp space.now) }
-    ensures rising { IfOk result (λ list. All (λ (s : PackageSources). IsStrictlyIncreasing (map (λ (r : RevisionId). r.0) s.sources)) list) }
+    ensures rising { IfOk result (λ list.
+        All (λ (s : PackageSources).
+        IsStrictlyIncreasing (map (λ (r : RevisionId). r.0) s.sources)) list) }
 {
     let mut list = List::with_capacity(alloc, space.len())?;
     for (package, sources) in space.iter() {
@@ -104,7 +107,8 @@ pub fn space_in(
     rows: &WorldRows,
     revision: RevisionId,
 ) -> Result<List<PackageSources>, AllocError>
-    ensures space { IfOk result (λ list. (W : List Wiring) → AreRowsIn rows.now W → IsClassSpace rows.now.known W revision list) }
+    ensures space { IfOk result (λ list. (W : List Wiring) → AreRowsIn rows.now W
+        → IsClassSpace rows.now.known W revision list) }
 {
     let givens = space_of(alloc, rows.rows(), revision.0)?;
     let space = by_name(alloc, rows.names(), givens.as_slice())?;

@@ -40,7 +40,8 @@ impl Named {
     /// Adds what these of the known revisions export and use. If memory runs out, some of it may have been added.
     pub fn add_known(&mut self, known: &KnownIndex, more: &[Known]) -> Result<(), AllocError>
         requires named { AreNamed self.old }
-        ensures adds { OnOk result (Adds self.old self.new (OneSays (KnownSays known.now) more.now)) }
+        ensures adds { OnOk result (Adds self.old self.new
+            (OneSays (KnownSays known.now) more.now)) }
     {
         for each in more {
             if let Some(revision) = known.revision(each.id) {
@@ -56,7 +57,8 @@ impl Named {
         capabilities: &[Capability],
     ) -> Result<(), AllocError>
         requires named { AreNamed self.old }
-        ensures adds { OnOk result (Adds self.old self.new (OneSays (Says owner) capabilities.now)) }
+        ensures adds { OnOk result (Adds self.old self.new
+            (OneSays (Says owner) capabilities.now)) }
     {
         for capability in capabilities {
             self.add_capability(owner, capability)?;
@@ -90,7 +92,8 @@ impl Named {
     fn add_uses(&mut self, owner: u32, exported: u32, uses: &[Text]) -> Result<(), AllocError>
         requires named { AreNamed self.old }
         requires known { (name : List ℕ) × HasNumber self.old.names name exported }
-        ensures adds { OnOk result ((name : List ℕ) → HasNumber self.old.names name exported → Adds self.old self.new (Used owner name uses.now)) }
+        ensures adds { OnOk result ((name : List ℕ) → HasNumber self.old.names name exported
+            → Adds self.old self.new (Used owner name uses.now)) }
     {
         for used in uses {
             self.add_use(owner, exported, used)?;
@@ -101,7 +104,8 @@ impl Named {
     fn add_use(&mut self, owner: u32, exported: u32, used: &Text) -> Result<(), AllocError>
         requires named { AreNamed self.old }
         requires known { (name : List ℕ) × HasNumber self.old.names name exported }
-        ensures adds { OnOk result ((name : List ℕ) → HasNumber self.old.names name exported → Adds self.old self.new (Used owner name (used.now ∷ []))) }
+        ensures adds { OnOk result ((name : List ℕ) → HasNumber self.old.names name exported
+            → Adds self.old self.new (Used owner name (used.now ∷ []))) }
     {
         let used = self.names.intern(used)?;
         self.rows.add_use(Use {

@@ -60,7 +60,9 @@ impl Names {
 
     /// The number of a name; None exactly where it has none.
     pub fn number(&self, text: &Text) -> Option<u32>
-        ensures number { MatchOption result ((number : ℕ) → ¬ HasNumber self.now text.now number) (λ number. HasNumber self.now text.now number) }
+        ensures number { MatchOption result
+            ((number : ℕ) → ¬ HasNumber self.now text.now number)
+            (λ number. HasNumber self.now text.now number) }
         ensures once { AreOnce self.now }
     {
         match self.by_digest.get(&digest(text)).copied() {

@@ -78,7 +78,13 @@ impl Model for Rows {
 
     ghost Value = { RowLists };
 
-    ghost view = { λ r. record { imports = r.imports; required = r.required; attached = r.attached; exports = r.exports; uses = r.uses } };
+    ghost view = { λ r. record {
+      imports = r.imports;
+      required = r.required;
+      attached = r.attached;
+      exports = r.exports;
+      uses = r.uses;
+    } };
 }
 
 impl Rows {
@@ -136,24 +142,30 @@ impl Rows {
 
     /// Takes back the wire for a package that was added last. It takes no memory.
     pub fn take_back_import(&mut self)
-        ensures taken { (R : RowLists) (row : Import) → self.old ≡ with_import R row → self.new ≡ R }
-        ensures rest { (last : List Import) × (self.old ≡ record self.new { imports = self.new.imports ++ last }) }
+        ensures taken { (R : RowLists) (row : Import) → self.old ≡ with_import R row
+            → self.new ≡ R }
+        ensures rest { (last : List Import)
+            × (self.old ≡ record self.new { imports = self.new.imports ++ last }) }
     {
         self.imports.pop();
     }
 
     /// Takes back the wire for a required bundle that was added last. It takes no memory.
     pub fn take_back_required(&mut self)
-        ensures taken { (R : RowLists) (row : Required) → self.old ≡ with_required R row → self.new ≡ R }
-        ensures rest { (last : List Required) × (self.old ≡ record self.new { required = self.new.required ++ last }) }
+        ensures taken { (R : RowLists) (row : Required) → self.old ≡ with_required R row
+            → self.new ≡ R }
+        ensures rest { (last : List Required)
+            × (self.old ≡ record self.new { required = self.new.required ++ last }) }
     {
         self.required.pop();
     }
 
     /// Takes back the attachment that was added last. It takes no memory.
     pub fn take_back_attachment(&mut self)
-        ensures taken { (R : RowLists) (row : Attachment) → self.old ≡ with_attachment R row → self.new ≡ R }
-        ensures rest { (last : List Attachment) × (self.old ≡ record self.new { attached = self.new.attached ++ last }) }
+        ensures taken { (R : RowLists) (row : Attachment) → self.old ≡ with_attachment R row
+            → self.new ≡ R }
+        ensures rest { (last : List Attachment)
+            × (self.old ≡ record self.new { attached = self.new.attached ++ last }) }
     {
         self.attached.pop();
     }

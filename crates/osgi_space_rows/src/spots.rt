@@ -59,7 +59,8 @@ impl<V: Spotted> Spots<V> {
 
     /// The rows of the revision and the name.
     pub fn of(&self, revision: u32, name: u32) -> &[V]
-        ensures rows { result.now ≡ filter (λ row. (V.number_of row == revision) && (V.name_of row == name)) self.now }
+        ensures rows { result.now ≡ filter
+            (λ row. (V.number_of row == revision) && (V.name_of row == name)) self.now }
     {
         self.groups.of(revision, name)
     }

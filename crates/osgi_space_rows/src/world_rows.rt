@@ -82,7 +82,10 @@ impl<'w> WorldRows<'w> {
         requires named { AreNamed named }
         requires first { first ≤ length known.now }
         ensures known { IfOk result (λ made. made.known ≡ known.now) }
-        ensures added { IfOk result (λ made. (W : List Wiring) → AreAllKnown (take first known.now) W → AreRowsOf (take first known.now) W (name_numbered named.names) named.rows → AddsKnown (take first known.now) W named made) }
+        ensures added { IfOk result (λ made. (W : List Wiring)
+            → AreAllKnown (take first known.now) W
+            → AreRowsOf (take first known.now) W (name_numbered named.names) named.rows
+            → AddsKnown (take first known.now) W named made) }
         ensures numbered { IfOk result (λ made. AreNumbered made.names made.rows) }
     {
         let index = KnownIndex::new(alloc, known)?;
@@ -137,7 +140,8 @@ impl<'w> WorldRows<'w> {
 
     /// Adds a wire to the revision, and returns its row. If memory runs out, nothing changes.
     pub fn add_wire(&mut self, revision: RevisionId, wire: &Wire) -> Result<Added, AllocError>
-        ensures added { IfOk result (λ added. AddsStep self.old self.new (wired revision wire.now) added) }
+        ensures added { IfOk result (λ added.
+            AddsStep self.old self.new (wired revision wire.now) added) }
         ensures unchanged { OnErr result (self.new ≡ self.old) }
     {
         let added = self.row_of(revision, wire);
@@ -147,7 +151,8 @@ impl<'w> WorldRows<'w> {
 
     /// Attaches the fragment to the host, and returns the row. If memory runs out, nothing changes.
     pub fn attach(&mut self, host: RevisionId, fragment: RevisionId) -> Result<Added, AllocError>
-        ensures added { IfOk result (λ added. AddsStep self.old self.new (attached host fragment) added) }
+        ensures added { IfOk result (λ added.
+            AddsStep self.old self.new (attached host fragment) added) }
         ensures unchanged { OnErr result (self.new ≡ self.old) }
     {
         let added = Added::Attachment(Attachment {
@@ -204,7 +209,8 @@ impl<'w> WorldRows<'w> {
 
     fn add(&mut self, added: Added) -> Result<(), AllocError>
         requires numbered { IsNumbered self.old.names added }
-        ensures added { OnOk result (self.new ≡ record self.old { rows = with_added self.old.rows added }) }
+        ensures added { OnOk result (self.new
+            ≡ record self.old { rows = with_added self.old.rows added }) }
         ensures numbered { OnOk result (AreNumbered self.new.names self.new.rows) }
         ensures unchanged { OnErr result (self.new ≡ self.old) }
     {
@@ -226,7 +232,8 @@ impl<'w> WorldRows<'w> {
     }
 
     fn add_wires(&mut self, revision: RevisionId, wires: &[Wire]) -> Result<(), AllocError>
-        ensures added { OnOk result (AddsWirings self.old self.new (record { revision = revision; wires = wires.now; fragments = [] } ∷ [])) }
+        ensures added { OnOk result (AddsWirings self.old self.new
+            (record { revision = revision; wires = wires.now; fragments = [] } ∷ [])) }
     {
         for wire in wires {
             self.add_wire(revision, wire)?;
@@ -239,7 +246,8 @@ impl<'w> WorldRows<'w> {
         host: RevisionId,
         fragments: &[RevisionId],
     ) -> Result<(), AllocError>
-        ensures added { OnOk result (AddsWirings self.old self.new (record { revision = host; wires = []; fragments = fragments.now } ∷ [])) }
+        ensures added { OnOk result (AddsWirings self.old self.new
+            (record { revision = host; wires = []; fragments = fragments.now } ∷ [])) }
     {
         for fragment in fragments {
             self.attach(host, *fragment)?;
