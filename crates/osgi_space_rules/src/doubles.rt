@@ -41,7 +41,9 @@ pub fn are_names_single(
     known: &KnownIndex,
     fragments: &[RevisionId],
 ) -> Result<bool, AllocError>
-    ensures single { IfOk result (λ ok. IsTrue ok ↔ ¬ Two (λ (e f : RevisionId). symbolic_name known.now e ≡ symbolic_name known.now f) fragments.now) }
+    ensures single { IfOk result (λ ok. IsTrue ok
+        ↔ ¬ Two (λ (e f : RevisionId). symbolic_name known.now e ≡ symbolic_name known.now f)
+        fragments.now) }
 {
     if fragments.len() < 2 {
         return Ok(true);

@@ -20,7 +20,9 @@ pub fn package_providers(
     known: &KnownIndex,
     wirings: &[Wiring],
 ) -> Result<Option<BTreeMap<PackageAt, RevisionId>>, AllocError>
-    ensures providers { IfOk result (λ found. MatchOption found (¬ OneProvider known.now wirings.now) (AreProviders known.now wirings.now)) }
+    ensures providers { IfOk result (λ found.
+        MatchOption found (¬ OneProvider known.now wirings.now)
+        (AreProviders known.now wirings.now)) }
 {
     let mut providers = BTreeMap::new(alloc);
     for wiring in wirings {
@@ -37,7 +39,8 @@ fn add_imports(
     providers: &mut BTreeMap<PackageAt, RevisionId>,
     wiring: &Wiring,
 ) -> Result<bool, AllocError>
-    ensures added { IfOk result (λ ok. Extends ok (HasEntry package_cmp providers.old) (HasEntry package_cmp providers.new)
+    ensures added { IfOk result (λ ok.
+        Extends ok (HasEntry package_cmp providers.old) (HasEntry package_cmp providers.new)
         (λ e. AnyOf (λ wire. IsImport known.now wiring.now.revision wire e) wiring.now.wires)) }
 {
     for wire in wiring.wires.items() {
@@ -55,7 +58,9 @@ fn add_import(
     id: RevisionId,
     wire: &Wire,
 ) -> Result<bool, AllocError>
-    ensures added { IfOk result (λ ok. Extends ok (HasEntry package_cmp providers.old) (HasEntry package_cmp providers.new) (IsImport known.now id wire.now)) }
+    ensures added { IfOk result (λ ok.
+        Extends ok (HasEntry package_cmp providers.old) (HasEntry package_cmp providers.new)
+        (IsImport known.now id wire.now)) }
 {
     let capability = wire.capability;
     let Some(name) = known.exported_package(capability.owner, capability.index) else {

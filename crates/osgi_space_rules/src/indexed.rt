@@ -33,7 +33,8 @@ impl<'w> Model for WiringIndex<'w> {
 
     ghost view = { λ i. i.wirings.now };
 
-    ghost invariant = { λ i. AreInForce i.in_force i.wirings.now × AreAttached i.attached i.wirings.now × AreWired i.wired i.wirings.now };
+    ghost invariant = { λ i. AreInForce i.in_force i.wirings.now
+        × AreAttached i.attached i.wirings.now × AreWired i.wired i.wirings.now };
 }
 
 impl<'w> WiringIndex<'w> {

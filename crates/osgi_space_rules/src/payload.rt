@@ -19,7 +19,8 @@ pub fn is_payload_met(known: &KnownIndex, index: &WiringIndex, wiring: &Wiring) 
 }
 
 fn are_fragments_met(known: &KnownIndex, index: &WiringIndex, wiring: &Wiring) -> bool
-    ensures met { IsTrue result ↔ Each (IsMet known.now index.now wiring.now.revision) wiring.now.fragments }
+    ensures met { IsTrue result
+        ↔ Each (IsMet known.now index.now wiring.now.revision) wiring.now.fragments }
 {
     for fragment in wiring.fragments.items() {
         if !is_met(known, index, wiring.revision, *fragment) {
@@ -48,7 +49,8 @@ fn is_met(known: &KnownIndex, index: &WiringIndex, id: RevisionId, owner: Revisi
 
 /// Whether each fragment matches its host, and the host permits fragments.
 pub fn do_fragments_match(known: &KnownIndex, wiring: &Wiring) -> bool
-    ensures matching { IsTrue result ↔ Each (λ f. IsTrue (is_host_of known.now f wiring.now.revision)) wiring.now.fragments }
+    ensures matching { IsTrue result
+        ↔ Each (λ f. IsTrue (is_host_of known.now f wiring.now.revision)) wiring.now.fragments }
 {
     for fragment in wiring.fragments.items() {
         if !known.is_host_of(*fragment, wiring.revision) {

@@ -30,7 +30,8 @@ pub fn keeps_wiring_rules(
     wirings: &[Wiring],
 ) -> Result<bool, AllocError>
     ensures rules { IfOk result (λ ok. IsTrue ok ↔ KeepsRules known.now wirings.now) }
-    ensures holds { IfOk result (λ ok. IsTrue ok → UsesHold known.now wirings.now → IsCoherent known.now wirings.now) }
+    ensures holds { IfOk result (λ ok. IsTrue ok → UsesHold known.now wirings.now
+        → IsCoherent known.now wirings.now) }
     ensures needed { IfOk result (λ ok. IsCoherent known.now wirings.now → IsTrue ok) }
 {
     let Some(providers) = package_providers(alloc, known, wirings)? else {
@@ -50,7 +51,8 @@ fn each_holds(
     providers: &BTreeMap<PackageAt, RevisionId>,
 ) -> Result<bool, AllocError>
     requires providers { AreProviders known.now index.now providers.now }
-    ensures each { IfOk result (λ ok. IsTrue ok ↔ Each (WiringHolds known.now index.now) index.now) }
+    ensures each { IfOk result (λ ok. IsTrue ok
+        ↔ Each (WiringHolds known.now index.now) index.now) }
 {
     for wiring in index.all() {
         if !wiring_holds(alloc, known, index, providers, wiring)? {
@@ -90,7 +92,8 @@ fn do_wires_hold(
     wiring: &Wiring,
 ) -> Result<bool, AllocError>
     requires providers { AreProviders known.now index.now providers.now }
-    ensures each { IfOk result (λ ok. IsTrue ok ↔ Each (WireHolds known.now index.now wiring.now.revision) wiring.now.wires) }
+    ensures each { IfOk result (λ ok. IsTrue ok
+        ↔ Each (WireHolds known.now index.now wiring.now.revision) wiring.now.wires) }
 {
     for wire in wiring.wires.items() {
         if !wire_holds(alloc, known, index, providers, wiring.revision, wire)? {

@@ -37,7 +37,9 @@ fn add_payload(
     singletons: &mut BTreeMap<Text, RevisionId>,
     wiring: &Wiring,
 ) -> Result<bool, AllocError>
-    ensures added { IfOk result (λ ok. Extends ok (HasEntry text_cmp singletons.old) (HasEntry text_cmp singletons.new) (IsEntryOf known.now wiring.now)) }
+    ensures added { IfOk result (λ ok.
+        Extends ok (HasEntry text_cmp singletons.old) (HasEntry text_cmp singletons.new)
+        (IsEntryOf known.now wiring.now)) }
 {
     if !add_singleton(alloc, known, singletons, wiring.revision)? {
         return Ok(false);
@@ -52,7 +54,8 @@ fn add_fragments(
     singletons: &mut BTreeMap<Text, RevisionId>,
     fragments: &[RevisionId],
 ) -> Result<bool, AllocError>
-    ensures added { IfOk result (λ ok. Extends ok (HasEntry text_cmp singletons.old) (HasEntry text_cmp singletons.new)
+    ensures added { IfOk result (λ ok.
+        Extends ok (HasEntry text_cmp singletons.old) (HasEntry text_cmp singletons.new)
         (λ e. AnyOf (λ fragment. IsEntry known.now fragment e) fragments.now)) }
 {
     for fragment in fragments {
@@ -69,7 +72,9 @@ fn add_singleton(
     singletons: &mut BTreeMap<Text, RevisionId>,
     id: RevisionId,
 ) -> Result<bool, AllocError>
-    ensures added { IfOk result (λ ok. Extends ok (HasEntry text_cmp singletons.old) (HasEntry text_cmp singletons.new) (IsEntry known.now id)) }
+    ensures added { IfOk result (λ ok.
+        Extends ok (HasEntry text_cmp singletons.old) (HasEntry text_cmp singletons.new)
+        (IsEntry known.now id)) }
 {
     if !is_current_singleton(known, id) {
         return Ok(true);
@@ -79,7 +84,8 @@ fn add_singleton(
 }
 
 fn is_current_singleton(known: &KnownIndex, id: RevisionId) -> bool
-    ensures both { IsTrue result ↔ IsTrue (is_current known.now id) × IsTrue (is_singleton known.now id) }
+    ensures both { IsTrue result ↔ IsTrue (is_current known.now id)
+        × IsTrue (is_singleton known.now id) }
 {
     known.is_singleton(id) && known.is_current(id)
 }

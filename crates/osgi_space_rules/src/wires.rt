@@ -60,7 +60,8 @@ fn has_requirement(
 
 /// Whether it is no bundle wire to the owner of its requirement.
 fn is_to_another(known: &KnownIndex, wire: &Wire) -> bool
-    ensures another { IsTrue result ↔ (IsBundleWire known.now wire.now → wire.now.capability.provider ≢ wire.now.requirement.owner) }
+    ensures another { IsTrue result ↔ (IsBundleWire known.now wire.now
+        → wire.now.capability.provider ≢ wire.now.requirement.owner) }
 {
     let capability = wire.capability;
     capability.provider != wire.requirement.owner
@@ -90,14 +91,16 @@ fn is_offered(
 }
 
 fn has_capability(known: &KnownIndex, index: &WiringIndex, capability: CapRef) -> bool
-    ensures has { IsTrue result ↔ HasCapability known.now index.now capability.provider capability.owner capability.index }
+    ensures has { IsTrue result
+        ↔ HasCapability known.now index.now capability.provider capability.owner capability.index }
 {
     let count = known.capability_count(capability.owner);
     index.owns(capability.provider, capability.owner) && (capability.index as usize) < count
 }
 
 fn is_from_elsewhere(providers: &BTreeMap<PackageAt, RevisionId>, package: &PackageAt) -> bool
-    ensures elsewhere { IsTrue result ↔ ((x : RevisionId) × (get package_cmp providers.now «package».now ≡ Some x) × (x ≢ «package».now.revision)) }
+    ensures elsewhere { IsTrue result ↔ ((x : RevisionId)
+        × (get package_cmp providers.now «package».now ≡ Some x) × (x ≢ «package».now.revision)) }
 {
     match providers.get(package).copied() {
         Some(from) => from != package.revision,
