@@ -26,7 +26,8 @@ pub fn problem(alloc: Global, world: World, root: RevisionId) -> Result<Problem,
     ensures world { IfOk result (λ problem. problem.world ≡ world) }
     ensures root { IfOk result (λ problem. problem.root ≡ root) }
     ensures problem { IfOk result IsProblem }
-    ensures rows { IfOk result (λ problem. map (λ (row : Choice). row.requirement) problem.choices ≡ asked_requirements world.known) }
+    ensures rows { IfOk result (λ problem.
+        map (λ (row : Choice). row.requirement) problem.choices ≡ asked_requirements world.known) }
 {
     let choices = choices_in(alloc, &world)?;
     Ok(Problem {
@@ -58,8 +59,10 @@ fn add_choices(
     choices: &mut List<Choice>,
     known: &Known,
 ) -> Result<(), AllocError>
-    ensures added { OnOk result (IsFit offers.now → known_at offers.now.known known.now.id ≡ Some known.now
-        → AddsChoices offers.now (own_requirements offers.now.known known.now.id) choices.old choices.new) }
+    ensures added { OnOk result (IsFit offers.now
+        → known_at offers.now.known known.now.id ≡ Some known.now
+        → AddsChoices offers.now (own_requirements offers.now.known known.now.id)
+        choices.old choices.new) }
 {
     if !known.current {
         return Ok(());
@@ -81,7 +84,8 @@ fn add_choice(
     choices: &mut List<Choice>,
     at: ReqRef,
 ) -> Result<(), AllocError>
-    ensures added { OnOk result (IsFit offers.now → at.index < requirement_count offers.now.known at.owner
+    ensures added { OnOk result (IsFit offers.now
+        → at.index < requirement_count offers.now.known at.owner
         → AddsChoices offers.now (at ∷ []) choices.old choices.new) }
 {
     if !has_candidates(offers.known(), at) {

@@ -19,7 +19,8 @@ use std::collections::BTreeSet;
 impl Offers<'_> {
     /// The candidates of a requirement, the preferred first. Of a dynamic import nothing is said.
     pub fn listed(&self, alloc: Global, at: ReqRef) -> Result<Vec<CapRef>, AllocError>
-        ensures exact { IfOk result (λ list. IsFit self.now → CanBeAsked self.now.known at → AreCandidates self.now at list.items) }
+        ensures exact { IfOk result (λ list. IsFit self.now → CanBeAsked self.now.known at
+            → AreCandidates self.now at list.items) }
     {
         match self.known.requirement(at) {
             Some(requirement) => {
@@ -37,7 +38,8 @@ impl Offers<'_> {
         at: ReqRef,
         requirement: &Requirement,
     ) -> Result<BTreeSet<Ranked>, AllocError>
-        ensures collected { IfOk result (λ found. IsFit self.now → Asks self.now at requirement.now → Collects self.now at found) }
+        ensures collected { IfOk result (λ found. IsFit self.now → Asks self.now at requirement.now
+            → Collects self.now at found) }
     {
         match asked_text(requirement) {
             Some(asked) => {
@@ -54,7 +56,8 @@ impl Offers<'_> {
         at: ReqRef,
         requirement: &Requirement,
     ) -> Result<BTreeSet<Ranked>, AllocError>
-        ensures collected { IfOk result (λ found. IsFit self.now → Asks self.now at requirement.now → Collects self.now at found) }
+        ensures collected { IfOk result (λ found. IsFit self.now → Asks self.now at requirement.now
+            → Collects self.now at found) }
     {
         let mut found = BTreeSet::new(alloc);
         let places = self.index.names.capabilities.of(&requirement.name);
@@ -70,7 +73,8 @@ impl Offers<'_> {
         requirement: &Requirement,
         key: &TextKey,
     ) -> Result<BTreeSet<Ranked>, AllocError>
-        ensures collected { IfOk result (λ found. IsFit self.now → Asks self.now at requirement.now → AsksText requirement.now key.now → Collects self.now at found) }
+        ensures collected { IfOk result (λ found. IsFit self.now → Asks self.now at requirement.now
+            → AsksText requirement.now key.now → Collects self.now at found) }
     {
         let texts = &self.index.names.texts;
         let mut found = BTreeSet::new(alloc);
@@ -101,7 +105,8 @@ impl Offers<'_> {
         requirement: &Requirement,
         places: &[Place],
     ) -> Result<(), AllocError>
-        ensures added { OnOk result (IsFit self.now → Asks self.now at requirement.now → Extends self.now at found.old found.new (IsAtSome places.now)) }
+        ensures added { OnOk result (IsFit self.now → Asks self.now at requirement.now
+            → Extends self.now at found.old found.new (IsAtSome places.now)) }
     {
         for place in places {
             self.add_place(alloc, found, at, requirement, *place)?;
@@ -118,7 +123,8 @@ impl Offers<'_> {
         requirement: &Requirement,
         place: Place,
     ) -> Result<(), AllocError>
-        ensures added { OnOk result (IsFit self.now → Asks self.now at requirement.now → Extends self.now at found.old found.new (IsAt place)) }
+        ensures added { OnOk result (IsFit self.now → Asks self.now at requirement.now
+            → Extends self.now at found.old found.new (IsAt place)) }
     {
         self.add_candidate(alloc, found, at, requirement, place, place.owner)?;
         if let Some(owner) = self.known.revision(place.owner) {
@@ -139,7 +145,8 @@ impl Offers<'_> {
         place: Place,
         hosts: &[RevisionId],
     ) -> Result<(), AllocError>
-        ensures added { OnOk result (IsFit self.now → Asks self.now at requirement.now → Extends self.now at found.old found.new (IsAtOf place hosts.now)) }
+        ensures added { OnOk result (IsFit self.now → Asks self.now at requirement.now
+            → Extends self.now at found.old found.new (IsAtOf place hosts.now)) }
     {
         for host in hosts {
             self.add_candidate(alloc, found, at, requirement, place, *host)?;
@@ -157,7 +164,8 @@ impl Offers<'_> {
         place: Place,
         provider: RevisionId,
     ) -> Result<(), AllocError>
-        ensures added { OnOk result (IsFit self.now → Asks self.now at requirement.now → Extends self.now at found.old found.new (IsOf place provider)) }
+        ensures added { OnOk result (IsFit self.now → Asks self.now at requirement.now
+            → Extends self.now at found.old found.new (IsOf place provider)) }
     {
         let capability = CapRef {
             provider,

@@ -14,7 +14,8 @@ use osgi_world::{CapRef, ReqRef, Requirement};
 impl Offers<'_> {
     /// Whether the capability is a candidate of the requirement, which stands at this place.
     pub fn is_candidate(&self, at: ReqRef, requirement: &Requirement, capability: CapRef) -> bool
-        ensures candidate { IsFit self.now → requirement_at self.now.known at ≡ Some requirement.now → is_dynamic self.now.known at ≡ false
+        ensures candidate { IsFit self.now → requirement_at self.now.known at ≡ Some requirement.now
+            → is_dynamic self.now.known at ≡ false
             → IsTrue result ↔ IsCandidate (bare self.now) at capability }
     {
         if !self.meets(requirement, capability) {
@@ -60,7 +61,8 @@ impl Offers<'_> {
     }
 
     fn has_capability(&self, capability: CapRef) -> bool
-        ensures has { IsTrue result ↔ (capability.index < capability_count self.now.known capability.owner) }
+        ensures has { IsTrue result
+            ↔ (capability.index < capability_count self.now.known capability.owner) }
     {
         (capability.index as usize) < self.known.capability_count(capability.owner)
     }

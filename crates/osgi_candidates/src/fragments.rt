@@ -22,7 +22,8 @@ pub struct Bundled {
 impl Offers<'_> {
     /// The current fragments that match the host, by bundle id.
     pub fn attachable(&self, alloc: Global, host: RevisionId) -> Result<Vec<RevisionId>, AllocError>
-        ensures exact { IfOk result (λ list. IsFit self.now → AreAttachable self.now host list.items) }
+        ensures exact { IfOk result (λ list. IsFit self.now
+            → AreAttachable self.now host list.items) }
     {
         match self.known.revision(host) {
             Some(revision) => {
@@ -41,7 +42,8 @@ impl Offers<'_> {
         host: &Revision,
         among: &[RevisionId],
     ) -> Result<BTreeSet<Bundled>, AllocError>
-        ensures bundled { IfOk result (λ set. AreBundled self.now.known host.now among.now set.keys) }
+        ensures bundled { IfOk result (λ set.
+            AreBundled self.now.known host.now among.now set.keys) }
     {
         let mut bundled = BTreeSet::new(alloc);
         for fragment in among {

@@ -39,7 +39,8 @@ impl HeldWirings {
 
     /// Adds a wiring.
     pub fn add(&mut self, known: &KnownIndex, wiring: &Wiring) -> Result<(), AllocError>
-        ensures added { OnOk result ((W : List Wiring) → AreHeld known.now W self.old → AreHeld known.now (W ++ wiring.now ∷ []) self.new) }
+        ensures added { OnOk result ((W : List Wiring) → AreHeld known.now W self.old
+            → AreHeld known.now (W ++ wiring.now ∷ []) self.new) }
     {
         let held = Held {
             fragments: fragment_ids(self.alloc, wiring.fragments.items())?,
@@ -51,7 +52,8 @@ impl HeldWirings {
 
     /// Adds wirings.
     pub fn add_all(&mut self, known: &KnownIndex, wirings: &[Wiring]) -> Result<(), AllocError>
-        ensures added { OnOk result ((W : List Wiring) → AreHeld known.now W self.old → AreHeld known.now (W ++ wirings.now) self.new) }
+        ensures added { OnOk result ((W : List Wiring) → AreHeld known.now W self.old
+            → AreHeld known.now (W ++ wirings.now) self.new) }
     {
         for wiring in wirings {
             self.add(known, wiring)?;
@@ -106,7 +108,8 @@ fn add_elsewhere(
     revision: RevisionId,
     wire: &Wire,
 ) -> Result<(), AllocError>
-    ensures added { OnOk result (PutsElsewhere packages.old packages.new (IsElsewhere known.now revision wire.now)) }
+    ensures added { OnOk result (PutsElsewhere packages.old packages.new
+        (IsElsewhere known.now revision wire.now)) }
 {
     let capability = wire.capability;
     if capability.provider == revision {

@@ -10,7 +10,8 @@ use std::collections::BTreeSet;
 
 /// Adds the revisions of the wirings, and their fragments.
 pub fn add_all_in_use(in_use: &mut BTreeSet<u32>, wirings: &[Wiring]) -> Result<(), AllocError>
-    ensures added { OnOk result ((W : List Wiring) → AreInUse W in_use.old → AreInUse (W ++ wirings.now) in_use.new) }
+    ensures added { OnOk result ((W : List Wiring) → AreInUse W in_use.old
+        → AreInUse (W ++ wirings.now) in_use.new) }
 {
     for wiring in wirings {
         add_in_use(in_use, wiring)?;

@@ -64,7 +64,8 @@ impl KnownNames {
 
     /// Adds known revisions, each of which is known once, to those that stand before them.
     pub fn add_all(&mut self, alloc: Global, known: &[Known]) -> Result<(), AllocError>
-        ensures added { OnOk result ((K : List Known) → AreOnce (K ++ known.now) → AreNames K self.old → AreNames (K ++ known.now) self.new) }
+        ensures added { OnOk result ((K : List Known) → AreOnce (K ++ known.now)
+            → AreNames K self.old → AreNames (K ++ known.now) self.new) }
     {
         for one in known {
             self.add(alloc, one)?;

@@ -60,7 +60,8 @@ impl OfferIndex {
         requires consistent { Consistent world.now.known world.now.wirings }
         ensures covers { OnOk result (Covers self.new world.now.known world.now.wirings) }
         ensures follows { CoversFirst self.new world.now.known world.now.wirings }
-        ensures nothing { OnErr result ((K : List Known) (W : List Wiring) → CoversFirst self.new K W) }
+        ensures nothing { OnErr result ((K : List Known) (W : List Wiring)
+            → CoversFirst self.new K W) }
     {
         match self.add_new(alloc, world) {
             Ok(()) => Ok(()),

@@ -38,7 +38,8 @@ impl<'w> Model for Offers<'w> {
 
     ghost view = { λ o. o.world.now };
 
-    ghost invariant = { λ o. (o.known ≡ o.world.now.known) × Covers o.index.now o.world.now.known o.world.now.wirings };
+    ghost invariant = { λ o. (o.known ≡ o.world.now.known)
+        × Covers o.index.now o.world.now.known o.world.now.wirings };
 }
 
 impl<'w> Offers<'w> {
@@ -80,7 +81,8 @@ impl<'w> Offers<'w> {
 
     /// The known revisions with this symbolic name, in no promised order.
     pub fn named(&self, name: &Text) -> &[RevisionId]
-        ensures named { (r : RevisionId) → In r result.now ↔ IsKnown self.now.known r × (symbolic_name self.now.known r ≡ name.now) }
+        ensures named { (r : RevisionId) → In r result.now ↔ IsKnown self.now.known r
+            × (symbolic_name self.now.known r ≡ name.now) }
     {
         self.index.names.revisions.of(name)
     }
@@ -88,7 +90,8 @@ impl<'w> Offers<'w> {
     /// The candidates of an effective requirement of a current revision, the preferred first. Said of a consistent world in order
     /// that has an unresolved revision; of others nothing is said.
     pub fn candidates(&self, alloc: Global, requirement: ReqRef) -> Result<Vec<CapRef>, AllocError>
-        ensures candidates { IfOk result (λ list. (P : Problem) → IsProblem P → P.world ≡ self.now → CanBeAsked P.world.known requirement → list.items ≡ candidates P requirement) }
+        ensures candidates { IfOk result (λ list. (P : Problem) → IsProblem P → P.world ≡ self.now
+            → CanBeAsked P.world.known requirement → list.items ≡ candidates P requirement) }
     {
         let list = self.listed(alloc, requirement)?;
         Ok(list)
@@ -100,7 +103,8 @@ impl<'w> Offers<'w> {
         alloc: Global,
         host: RevisionId,
     ) -> Result<Vec<RevisionId>, AllocError>
-        ensures fragments { IfOk result (λ list. (P : Problem) → IsProblem P → P.world ≡ self.now → list.items ≡ matching P host) }
+        ensures fragments { IfOk result (λ list. (P : Problem) → IsProblem P → P.world ≡ self.now
+            → list.items ≡ matching P host) }
     {
         let list = self.attachable(alloc, host)?;
         Ok(list)

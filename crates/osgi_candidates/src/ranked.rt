@@ -38,7 +38,8 @@ impl Ranked {
 
 /// The capabilities, the preferred first.
 pub fn in_order(alloc: Global, ranked: &BTreeSet<Ranked>) -> Result<Vec<CapRef>, AllocError>
-    ensures capabilities { IfOk result (λ list. list.items ≡ reverse (map capability_of ranked.now.keys)) }
+    ensures capabilities { IfOk result (λ list.
+        list.items ≡ reverse (map capability_of ranked.now.keys)) }
     ensures ordered { OnOk result (IsOrdered ranked_cmp ranked.now) }
 {
     let mut list = Vec::with_capacity(alloc, ranked.len())?;

@@ -33,7 +33,8 @@ impl Offers<'_> {
 
     /// The version of the bundle that provides it, if it is a bundle, and else its attribute `version`.
     fn preferred_version(&self, alloc: Global, capability: CapRef) -> Result<Version, AllocError>
-        ensures version { IfOk result (λ version. parts version ≡ preference_version self.now.known capability) }
+        ensures version { IfOk result (λ version.
+            parts version ≡ preference_version self.now.known capability) }
     {
         if self.known.is_bundle(capability.owner, capability.index) {
             return match self.known.revision(capability.provider) {
@@ -56,7 +57,8 @@ fn version_in(alloc: Global, attributes: &Attributes) -> Result<Version, AllocEr
 }
 
 fn version_of(alloc: Global, value: Option<&Value>) -> Result<Version, AllocError>
-    ensures version { IfOk result (λ version. parts version ≡ version_of (option_copied value.entry)) }
+    ensures version { IfOk result (λ version.
+        parts version ≡ version_of (option_copied value.entry)) }
 {
     match value {
         Some(Value::Version(version)) => version.copy(alloc),

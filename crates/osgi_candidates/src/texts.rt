@@ -33,7 +33,8 @@ pub struct TextKey {
 
 /// The text that is asked for of the capabilities of a name.
 pub fn text_key(alloc: Global, name: &Text, asked: AskedText<'_>) -> Result<TextKey, AllocError>
-    ensures key { IfOk result (λ key. key ≡ text_key name.now asked.entry.attribute.now asked.entry.text.now) }
+    ensures key { IfOk result (λ key.
+        key ≡ text_key name.now asked.entry.attribute.now asked.entry.text.now) }
 {
     let attribute = AttributeKey {
         attribute: asked.attribute.copy(alloc)?,
@@ -83,7 +84,8 @@ fn has_many(attributes: &[Attribute]) -> bool {
 
 /// The text that a value is, if it is one.
 fn text_of(value: &Value) -> Option<&Text>
-    ensures text { IfSome result (λ text. (t : List ℕ) → passes (Equal t) value.now ≡ bytes_eq text.now t) }
+    ensures text { IfSome result (λ text. (t : List ℕ)
+        → passes (Equal t) value.now ≡ bytes_eq text.now t) }
 {
     match value {
         Value::Text(text) => Some(text),
@@ -93,7 +95,8 @@ fn text_of(value: &Value) -> Option<&Text>
 
 /// The elements of a value, if it is a list.
 fn elements_of(value: &Value) -> Option<&[Value]>
-    ensures elements { IfSome result (λ elements. (t : List ℕ) → passes (Equal t) value.now ≡ one_of (map (passes (Equal t)) elements.now)) }
+    ensures elements { IfSome result (λ elements. (t : List ℕ)
+        → passes (Equal t) value.now ≡ one_of (map (passes (Equal t)) elements.now)) }
 {
     match value {
         Value::List(values) => Some(values.items()),
@@ -133,7 +136,8 @@ impl TextIndex {
         place: Place,
         capability: &Capability,
     ) -> Result<(), AllocError>
-        ensures added { OnOk result (AddsTexts self.old self.new (IsTextOfOne place capability.now)) }
+        ensures added { OnOk result (AddsTexts self.old self.new
+            (IsTextOfOne place capability.now)) }
     {
         if is_bundle(capability.namespace.bytes()) {
             return Ok(());
@@ -158,7 +162,8 @@ impl TextIndex {
         name: &Text,
         attributes: &[Attribute],
     ) -> Result<(), AllocError>
-        ensures added { OnOk result (AddsTexts self.old self.new (IsSomeText place name.now attributes.now)) }
+        ensures added { OnOk result (AddsTexts self.old self.new
+            (IsSomeText place name.now attributes.now)) }
     {
         for attribute in attributes {
             self.add_value(alloc, place, name, &attribute.name, &attribute.value)?;
@@ -175,7 +180,8 @@ impl TextIndex {
         attribute: &Text,
         value: &Value,
     ) -> Result<(), AllocError>
-        ensures added { OnOk result (AddsTexts self.old self.new (IsValueText place name.now attribute.now value.now)) }
+        ensures added { OnOk result (AddsTexts self.old self.new
+            (IsValueText place name.now attribute.now value.now)) }
     {
         match elements_of(value) {
             Some(elements) => {
@@ -194,7 +200,8 @@ impl TextIndex {
         attribute: &Text,
         values: &[Value],
     ) -> Result<(), AllocError>
-        ensures added { OnOk result (AddsTexts self.old self.new (IsSomeValue place name.now attribute.now values.now)) }
+        ensures added { OnOk result (AddsTexts self.old self.new
+            (IsSomeValue place name.now attribute.now values.now)) }
     {
         for value in values {
             self.add_element(alloc, place, name, attribute, value)?;
@@ -211,7 +218,8 @@ impl TextIndex {
         attribute: &Text,
         value: &Value,
     ) -> Result<(), AllocError>
-        ensures added { OnOk result (AddsTexts self.old self.new (IsValueText place name.now attribute.now value.now)) }
+        ensures added { OnOk result (AddsTexts self.old self.new
+            (IsValueText place name.now attribute.now value.now)) }
     {
         let key = AttributeKey {
             attribute: attribute.copy(alloc)?,
