@@ -44,7 +44,7 @@ fn add_imports(
     ensures added { OnOk result ((row : Import) → In row (imports_of rows.now revision)
         → row.provider ≡ host → In row list.new.items) }
 {
-    for row in rows.imports_of(revision) {
+    for row in rows.imports.of_revision(revision) {
         add_import(list, *row, host)?;
     }
     Ok(())

@@ -22,14 +22,14 @@ fn is_replacing(rows: &Rows, revision: u32, row: Import) -> bool
     if row.provider == revision {
         return false;
     }
-    !rows.exports_for(revision, row.imported).is_empty()
+    !rows.exports.of(revision, row.imported).is_empty()
 }
 
 /// Whether the revision imports from elsewhere a package that it exports itself.
 fn replaces_own(rows: &Rows, revision: u32) -> bool
     ensures replaces { IsTrue result ↔ ReplacesOwn rows.now revision }
 {
-    let imports = rows.imports_of(revision);
+    let imports = rows.imports.of_revision(revision);
     for row in imports {
         if is_replacing(rows, revision, *row) {
             return true;
@@ -42,7 +42,7 @@ fn replaces_own(rows: &Rows, revision: u32) -> bool
 fn has_bundle_wire(rows: &Rows, revision: u32, bundle: u32) -> bool
     ensures wire { IsTrue result ↔ Requires rows.now revision bundle }
 {
-    for row in rows.required_by(revision) {
+    for row in rows.required.of(revision) {
         if row.provider == bundle {
             return true;
         }
@@ -56,7 +56,7 @@ pub fn is_required(path: &Path, host: RevisionId) -> bool
         ↔ ((r : RevisionId) × BundleWire P.world.known (partial P D) r host)) }
 {
     let rows = path.rows().rows();
-    if rows.required().is_empty() {
+    if rows.required.all().is_empty() {
         return false;
     }
     for holder in path.wired_to(host) {

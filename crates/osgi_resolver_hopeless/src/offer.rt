@@ -30,7 +30,7 @@ use std::alloc::{AllocError, Global};
 pub fn is_attached(rows: &Rows, host: u32, fragment: u32) -> bool
     ensures attached { IsTrue result ↔ Attaches rows.now host fragment }
 {
-    for row in rows.attached_to(host) {
+    for row in rows.attached.of(host) {
         if row.fragment == fragment {
             return true;
         }
@@ -55,7 +55,12 @@ fn is_replaced(rows: &WorldRows, capability: CapRef) -> bool
         ↔ ((p : List ℕ) × IsExport rows.now.known capability.owner capability.index p
         × ImportsElsewhere rows.now.known W capability.provider p) }
 {
-    if rows.rows().imports_of(capability.provider.0).is_empty() {
+    if rows
+        .rows()
+        .imports
+        .of_revision(capability.provider.0)
+        .is_empty()
+    {
         return false;
     }
     match exported_number(rows, capability) {
@@ -156,7 +161,7 @@ fn may_reach(rows: &Rows, wired: Wired, host: RevisionId) -> bool
     if provider.0 == host.0 {
         return true;
     }
-    !rows.required_by(provider.0).is_empty()
+    !rows.required.of(provider.0).is_empty()
 }
 
 /// Whether the wire's provider is settled, and does not have the capability on offer. True only where it is so, and true wherever

@@ -18,7 +18,7 @@ fn first_differs(rows: &Rows, revision: u32, package: u32, provider: u32) -> boo
     ensures differs { IsTrue result
         ↔ FirstDiffers (imports_for rows.now revision «package») provider }
 {
-    match rows.imports_for(revision, package) {
+    match rows.imports.of(revision, package) {
         [row, ..] => row.provider != provider,
         [] => false,
     }
@@ -28,7 +28,7 @@ fn first_differs(rows: &Rows, revision: u32, package: u32, provider: u32) -> boo
 pub fn has_two_providers(rows: &Rows, revision: u32) -> bool
     ensures two { IsTrue result ↔ HasTwoProviders rows.now revision }
 {
-    let imports = rows.imports_of(revision);
+    let imports = rows.imports.of_revision(revision);
     if imports.len() < 2 {
         return false;
     }
@@ -66,7 +66,7 @@ pub fn has_other_provider(rows: &WorldRows, revision: RevisionId, wired: Wired) 
     let capability = wired.wire.capability;
     match exported_number(rows, capability) {
         Some(number) => has_another(
-            rows.rows().imports_for(revision.0, number),
+            rows.rows().imports.of(revision.0, number),
             capability.provider.0,
         ),
         None => false,

@@ -53,7 +53,7 @@ pub fn is_settled(alloc: Global, path: &Path, revision: RevisionId) -> Result<bo
         return Ok(false);
     }
     let rows = path.rows().rows();
-    if rows.required_by(revision.0).is_empty() {
+    if rows.required.of(revision.0).is_empty() {
         return Ok(true);
     }
     let reached = reached_bundles(alloc, rows, revision.0)?;
@@ -76,7 +76,7 @@ pub fn reexports_open(path: &Path, revision: RevisionId) -> bool
     ensures waits { AtMember path.now revision (λ P D. IsTrue result
         ↔ ReexportsOpen P D revision) }
 {
-    for row in path.rows().rows().required_by(revision.0) {
+    for row in path.rows().rows().required.of(revision.0) {
         if is_open_reexport(path, *row) {
             return true;
         }
@@ -91,7 +91,7 @@ fn is_unsettled_by_wire(alloc: Global, path: &Path, member: RevisionId) -> Resul
     ensures decided { IfOk result (λ answer. At path.now (λ P D. In member (members P D)
         → IsDecided P D member → ¬ IsTrue answer → IsSettled P D member)) }
 {
-    if path.rows().rows().required_by(member.0).is_empty() {
+    if path.rows().rows().required.of(member.0).is_empty() {
         return Ok(false);
     }
     Ok(!is_settled(alloc, path, member)?)
@@ -123,7 +123,7 @@ pub fn unsettled(alloc: Global, path: &Path) -> Result<RevisionSet, AllocError>
     ensures unsettled { IfOk result (λ set. At path.now (λ P D. AreUnsettled P D set)) }
 {
     let mut set = undecided(alloc, path)?;
-    if path.rows().rows().required().is_empty() {
+    if path.rows().rows().required.all().is_empty() {
         return Ok(set);
     }
     for member in path.members() {

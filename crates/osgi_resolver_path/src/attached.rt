@@ -20,7 +20,7 @@ use std::alloc::{AllocError, Global};
 fn attached_numbers(alloc: Global, rows: &Rows, host: RevisionId) -> Result<RevisionSet, AllocError>
     ensures numbers { IfOk result (λ set. (n : ℕ) → Contains set n ↔ Attaches rows.now host.0 n) }
 {
-    let attached = rows.attached_to(host.0);
+    let attached = rows.attached.of(host.0);
     let mut numbers = Vec::with_capacity(alloc, attached.len())?;
     for row in attached {
         numbers.push(row.fragment)?;

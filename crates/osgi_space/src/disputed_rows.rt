@@ -179,9 +179,9 @@ impl Places {
         ensures attached { result.attached ≡ length rows.now.attached }
     {
         Places {
-            imports: rows.imports().len(),
-            required: rows.required().len(),
-            attached: rows.attached().len(),
+            imports: rows.imports.all().len(),
+            required: rows.required.all().len(),
+            attached: rows.attached.all().len(),
         }
     }
 }
@@ -231,8 +231,8 @@ fn with_more(possible: Possible, rows: &Rows, places: Places) -> Result<Possible
     ensures extends { IfOk result (Extends rows.now possible) }
 {
     let mut more = possible;
-    note_imports(&mut more, rows, &rows.imports()[places.imports..])?;
-    note_bundles(&mut more, rows, &rows.required()[places.required..])?;
-    note_fragments(&mut more, rows, &rows.attached()[places.attached..])?;
+    note_imports(&mut more, rows, &rows.imports.all()[places.imports..])?;
+    note_bundles(&mut more, rows, &rows.required.all()[places.required..])?;
+    note_fragments(&mut more, rows, &rows.attached.all()[places.attached..])?;
     Ok(more)
 }

@@ -4,14 +4,12 @@ use Rattle.osgi_space_rows.specs.declared.rows.Attachment.{Attachment}
 use Rattle.osgi_space_rows.specs.declared.rows.Export.{Export}
 use Rattle.osgi_space_rows.specs.declared.rows.Import.{Import}
 use Rattle.osgi_space_rows.specs.declared.rows.Required.{Required}
+use Rattle.osgi_space_rows.specs.declared.rows.Rows.{Rows}
 use Rattle.osgi_space_rows.specs.declared.rows.Use.{Use}
 
-pub record RowLists : Type 0 where
-  pub imports : List Import
-  pub required : List Required
-  pub attached : List Attachment
-  pub exports : List Export
-  pub uses : List Use
+-- what contracts see of `Rows`: the list of the rows of each kind
+abbrev pub RowLists : Type 0
+RowLists = Rows
 
 -- ---- look-ups
 

@@ -19,4 +19,6 @@ pub use grouped::Grouped;
 pub use named::Named;
 pub use names::Names;
 pub use rows::{Attachment, Export, Import, Required, Rows, Use};
+pub use spots::Spots;
+pub use table::Table;
 pub use world_rows::WorldRows;

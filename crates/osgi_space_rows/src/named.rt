@@ -85,7 +85,7 @@ impl Named {
         ensures adds { OnOk result (Adds self.old self.new (Exported owner name.now)) }
     {
         let exported = self.names.intern(name)?;
-        self.rows.add_export(Export { owner, exported })?;
+        self.rows.exports.push(Export { owner, exported })?;
         Ok(exported)
     }
 
@@ -108,7 +108,7 @@ impl Named {
             → Adds self.old self.new (Used owner name (used.now ∷ []))) }
     {
         let used = self.names.intern(used)?;
-        self.rows.add_use(Use {
+        self.rows.uses.push(Use {
             owner,
             exported,
             used,

@@ -168,9 +168,15 @@ impl<'w> WorldRows<'w> {
         ensures taken { TakesBack self.old self.new added }
     {
         match added {
-            Added::Import(_) => self.named.rows.take_back_import(),
-            Added::Required(_) => self.named.rows.take_back_required(),
-            Added::Attachment(_) => self.named.rows.take_back_attachment(),
+            Added::Import(_) => {
+                self.named.rows.imports.pop();
+            }
+            Added::Required(_) => {
+                self.named.rows.required.pop();
+            }
+            Added::Attachment(_) => {
+                self.named.rows.attached.pop();
+            }
             Added::Nothing => {}
         }
     }
@@ -215,9 +221,9 @@ impl<'w> WorldRows<'w> {
         ensures unchanged { OnErr result (self.new ≡ self.old) }
     {
         match added {
-            Added::Import(row) => self.named.rows.add_import(row)?,
-            Added::Required(row) => self.named.rows.add_required(row)?,
-            Added::Attachment(row) => self.named.rows.add_attachment(row)?,
+            Added::Import(row) => self.named.rows.imports.push(row)?,
+            Added::Required(row) => self.named.rows.required.push(row)?,
+            Added::Attachment(row) => self.named.rows.attached.push(row)?,
             Added::Nothing => {}
         }
         Ok(())

@@ -13,7 +13,7 @@ use std::alloc::{AllocError, Global};
 fn add_required(found: &mut Found<u32>, rows: &Rows, revision: u32) -> Result<(), AllocError>
     ensures added { OnOk result (Adds (Requires rows.now revision) found.old found.new) }
 {
-    for row in rows.required_by(revision) {
+    for row in rows.required.of(revision) {
         found.add(row.provider)?;
     }
     Ok(())
@@ -23,7 +23,7 @@ fn add_required(found: &mut Found<u32>, rows: &Rows, revision: u32) -> Result<()
 fn add_reexported(found: &mut Found<u32>, rows: &Rows, bundle: u32) -> Result<(), AllocError>
     ensures added { OnOk result (Adds (Reexports rows.now bundle) found.old found.new) }
 {
-    for row in rows.required_by(bundle) {
+    for row in rows.required.of(bundle) {
         if row.reexport {
             found.add(row.provider)?;
         }

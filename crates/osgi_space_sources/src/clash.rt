@@ -67,7 +67,7 @@ fn only_source(rows: &Rows, revision: u32, package: u32) -> Option<u32>
     ensures only { MatchOption result (length (imports_for rows.now revision «package») ≢ 1)
         (IsOnlySource rows.now revision «package») }
 {
-    let imports = rows.imports_for(revision, package);
+    let imports = rows.imports.of(revision, package);
     if imports.len() != 1 {
         return None;
     }

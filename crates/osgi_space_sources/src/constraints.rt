@@ -25,7 +25,7 @@ fn add_own_uses(
     ensures added { OnOk result (Adds (IsOwnUse rows.now exporter owner «package»)
         found.old found.new) }
 {
-    for row in rows.uses_of(owner, package) {
+    for row in rows.uses.of(owner, package) {
         found.add(Given {
             package: row.used,
             source: exporter,
@@ -44,7 +44,7 @@ fn add_uses(
     ensures added { OnOk result (Adds (IsUse rows.now exporter «package») found.old found.new) }
 {
     add_own_uses(found, rows, exporter, exporter, package)?;
-    for row in rows.attached_to(exporter) {
+    for row in rows.attached.of(exporter) {
         add_own_uses(found, rows, exporter, row.fragment, package)?;
     }
     Ok(())
@@ -54,10 +54,10 @@ fn add_uses(
 pub(crate) fn may_use(rows: &Rows, exporter: u32, package: u32) -> bool
     ensures uses { IsTrue result ↔ MayUse rows.now exporter «package» }
 {
-    if !rows.uses_of(exporter, package).is_empty() {
+    if !rows.uses.of(exporter, package).is_empty() {
         return true;
     }
-    !rows.attached_to(exporter).is_empty()
+    !rows.attached.of(exporter).is_empty()
 }
 
 /// Adds what the export of the package by its source uses, if constraints may come from the source.
@@ -128,7 +128,7 @@ fn add_next(
     ensures added { OnOk result (Adds (IsNext rows.now (IsAmong among.entry) pair)
         found.old found.new) }
 {
-    let imports = rows.imports_for(pair.source, pair.package);
+    let imports = rows.imports.of(pair.source, pair.package);
     if !imports.is_empty() {
         return Ok(add_uses_of_imports(found, rows, among, imports)?);
     }
@@ -173,6 +173,6 @@ pub fn constraints_of(
         return Ok(Found::new(alloc));
     }
     let givens = unwired_of(alloc, rows, revision)?;
-    let imports = rows.imports_of(revision);
+    let imports = rows.imports.of_revision(revision);
     Ok(constraints_from(alloc, rows, among, imports, givens.as_slice())?)
 }

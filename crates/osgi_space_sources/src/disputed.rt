@@ -125,7 +125,7 @@ pub fn note_fragment(
     ensures nothing_lost { HoldsAll possible.old possible.new }
     ensures ends { possible.new.disputed.ends ≡ possible.old.disputed.ends }
 {
-    for row in rows.exports_of(fragment) {
+    for row in rows.exports.of_revision(fragment) {
         possible.note(row.exported, host)?;
     }
     Ok(())
@@ -157,7 +157,7 @@ fn note_exports(possible: &mut Possible, rows: &Rows, revision: u32) -> Result<(
     ensures ends { possible.new.disputed.ends ≡ possible.old.disputed.ends }
 {
     note_fragment(possible, rows, revision, revision)?;
-    for row in rows.attached_to(revision) {
+    for row in rows.attached.of(revision) {
         note_fragment(possible, rows, revision, row.fragment)?;
     }
     Ok(())
@@ -266,8 +266,8 @@ pub fn possible_sources(alloc: Global, rows: &Rows) -> Result<Possible, AllocErr
     ensures noted { IfOk result (λ possible. AreNoted rows.now possible) }
 {
     let mut possible = Possible::new(alloc);
-    note_imports(&mut possible, rows, rows.imports())?;
-    note_bundles(&mut possible, rows, rows.required())?;
+    note_imports(&mut possible, rows, rows.imports.all())?;
+    note_bundles(&mut possible, rows, rows.required.all())?;
     Ok(possible)
 }
 

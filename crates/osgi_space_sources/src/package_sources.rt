@@ -15,14 +15,14 @@ use std::alloc::{AllocError, Global};
 fn owns_export(rows: &Rows, owner: u32, package: u32) -> bool
     ensures exports { IsTrue result ↔ OwnExport rows.now owner «package» }
 {
-    !rows.exports_for(owner, package).is_empty()
+    !rows.exports.of(owner, package).is_empty()
 }
 
 /// Whether a fragment of the revision exports the package.
 fn fragments_export(rows: &Rows, revision: u32, package: u32) -> bool
     ensures exports { IsTrue result ↔ AttachedExports rows.now revision «package» }
 {
-    for row in rows.attached_to(revision) {
+    for row in rows.attached.of(revision) {
         if owns_export(rows, row.fragment, package) {
             return true;
         }
@@ -41,7 +41,7 @@ fn has_export(rows: &Rows, revision: u32, package: u32) -> bool
 pub fn imports_elsewhere(rows: &Rows, revision: u32, package: u32) -> bool
     ensures elsewhere { IsTrue result ↔ ImportsElsewhere rows.now revision «package» }
 {
-    for row in rows.imports_for(revision, package) {
+    for row in rows.imports.of(revision, package) {
         if row.provider != revision {
             return true;
         }
@@ -59,7 +59,7 @@ fn add_elsewhere(
     ensures added { OnOk result (Adds (IsElsewhere rows.now bundle «package»)
         givens.old.items givens.new.items) }
 {
-    for row in rows.imports_for(bundle, package) {
+    for row in rows.imports.of(bundle, package) {
         if row.provider != bundle {
             givens.push(Given {
                 package,
@@ -151,7 +151,7 @@ pub fn sources_of(
     ensures sources { IfOk result (λ givens.
         AreAll (IsSourceOf rows.now revision «package») givens.items) }
 {
-    let imports = rows.imports_for(revision, package);
+    let imports = rows.imports.of(revision, package);
     let mut givens = Vec::with_capacity(alloc, imports.len())?;
     if imports.is_empty() {
         add_given(alloc, &mut givens, rows, revision, package)?;

@@ -24,7 +24,7 @@ fn add_unless_imported(
     ensures added { OnOk result (Adds (IsGivenOf rows.now revision bundle «package»)
         givens.old.items givens.new.items) }
 {
-    if rows.imports_for(revision, package).is_empty() {
+    if rows.imports.of(revision, package).is_empty() {
         add_exported(givens, rows, bundle, package)?;
     }
     Ok(())
@@ -42,7 +42,7 @@ fn add_owner(
     ensures added { OnOk result (Adds (IsGivenByOwner rows.now revision bundle owner)
         givens.old.items givens.new.items) }
 {
-    for row in rows.exports_of(owner) {
+    for row in rows.exports.of_revision(owner) {
         add_unless_imported(givens, rows, revision, bundle, row.exported)?;
     }
     Ok(())
@@ -59,7 +59,7 @@ fn add_bundle(
         givens.old.items givens.new.items) }
 {
     add_owner(givens, rows, revision, bundle, bundle)?;
-    for row in rows.attached_to(bundle) {
+    for row in rows.attached.of(bundle) {
         add_owner(givens, rows, revision, bundle, row.fragment)?;
     }
     Ok(())
@@ -70,7 +70,7 @@ fn add_imports(givens: &mut Vec<Given>, rows: &Rows, revision: u32) -> Result<()
     ensures added { OnOk result (Adds (IsWired rows.now revision)
         givens.old.items givens.new.items) }
 {
-    for row in rows.imports_of(revision) {
+    for row in rows.imports.of_revision(revision) {
         givens.push(Given {
             package: row.imported,
             source: row.provider,
@@ -89,7 +89,7 @@ fn add_reached(
     ensures added { OnOk result (Adds (IsGivenByReached rows.now revision)
         givens.old.items givens.new.items) }
 {
-    if rows.required_by(revision).is_empty() {
+    if rows.required.of(revision).is_empty() {
         return Ok(());
     }
     let reached = reached_bundles(alloc, rows, revision)?;
@@ -117,7 +117,7 @@ pub(crate) fn unwired_of(
 pub fn space_of(alloc: Global, rows: &Rows, revision: u32) -> Result<Vec<Given>, AllocError>
     ensures sources { IfOk result (λ givens. AreAll (IsSeen rows.now revision) givens.items) }
 {
-    let mut givens = Vec::with_capacity(alloc, rows.imports_of(revision).len())?;
+    let mut givens = Vec::with_capacity(alloc, rows.imports.of_revision(revision).len())?;
     add_imports(&mut givens, rows, revision)?;
     add_reached(alloc, &mut givens, rows, revision)?;
     add_bundle(&mut givens, rows, revision, revision)?;

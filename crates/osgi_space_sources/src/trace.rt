@@ -153,7 +153,7 @@ fn trace_own_uses(
         → IsTracedTo rows.now (IsAmong among.entry)
         (IsDisputed disputed.now) trace.new export (record { «package» = u; source = x })) }
 {
-    for row in rows.uses_of(owner, export.package) {
+    for row in rows.uses.of(owner, export.package) {
         trace_use(alloc, trace, rows, disputed, among, export, row.used)?;
     }
     Ok(())
@@ -173,7 +173,7 @@ fn trace_export(
         (IsDisputed disputed.now) trace.new export) }
 {
     trace_own_uses(alloc, trace, rows, disputed, among, export, export.source)?;
-    for row in rows.attached_to(export.source) {
+    for row in rows.attached.of(export.source) {
         trace_own_uses(alloc, trace, rows, disputed, among, export, row.fragment)?;
     }
     Ok(())

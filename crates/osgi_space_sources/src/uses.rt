@@ -96,10 +96,10 @@ pub fn are_kept(
 pub(crate) fn has_wires(rows: &Rows, revision: u32) -> bool
     ensures wires { IsTrue result ↔ HasWires rows.now revision }
 {
-    if !rows.imports_of(revision).is_empty() {
+    if !rows.imports.of_revision(revision).is_empty() {
         return true;
     }
-    !rows.required_by(revision).is_empty()
+    !rows.required.of(revision).is_empty()
 }
 
 /// Whether no constraint of the revision that comes from these revisions alone is violated. One without wires has all packages
@@ -124,7 +124,7 @@ pub fn keeps_uses(
     if !has_wires(rows, revision) {
         return Ok(true);
     }
-    let imports = rows.imports_of(revision);
+    let imports = rows.imports.of_revision(revision);
     let givens = unwired_of(alloc, rows, revision)?;
     if !sees_disputed(imports, givens.as_slice(), disputed) {
         return Ok(true);

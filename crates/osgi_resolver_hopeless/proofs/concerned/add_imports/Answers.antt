@@ -11,7 +11,7 @@ loop-row-init c = record { kept = λ row i. i; added = λ row none same. elim no
 
 pub loop-row-preserved : goal.loop-row-preserved
 loop-row-preserved c =
-    let rows = c.imports_of-row-items.result.now in
+    let rows = c.of_revision-row-items.result.now in
     let i = c.loop-row.row-index in
     let within = c.loop-row-test.true in
     let more = in_more rows i _ within (get_or_default rows i _ _ within) in
@@ -25,8 +25,8 @@ loop-row-preserved c =
 
 pub returns : goal.returns
 returns c =
-    let rows = c.imports_of-row-items.result.now in
+    let rows = c.of_revision-row-items.result.now in
     record {
       kept = c.loop-row.invariant.kept;
-      added = λ row j same. c.loop-row.invariant.added row (subst (In row) (sym (take_all c.loop-row.row-index rows c.loop-row-test.false)) (subst (In row) (sym c.imports_of-row-items.ensures.rows) j)) same;
+      added = λ row j same. c.loop-row.invariant.added row (subst (In row) (sym (take_all c.loop-row.row-index rows c.loop-row-test.false)) (subst (In row) (sym c.of_revision-row-items.ensures.rows) j)) same;
     }

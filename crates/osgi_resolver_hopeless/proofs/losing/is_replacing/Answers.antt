@@ -15,7 +15,7 @@ returns c =
     let p = c.args.row.imported in
     record {
       replacing = (
-        λ t. (c.if-row-revision.false, has_export R r p (λ none. not_empty c.exports_for.result.now c.is_empty.result c.is_empty.ensures t (c.exports_for.ensures.rows ∙ none))),
-        λ own. some_item c.exports_for.result.now c.is_empty.result c.is_empty.ensures (λ none. no_export R r p (sym c.exports_for.ensures.rows ∙ none) own.1),
+        λ t. (c.if-row-revision.false, has_export R r p (λ none. not_empty c.of.result.now c.is_empty.result c.is_empty.ensures t (c.of.ensures.rows ∙ none))),
+        λ own. some_item c.of.result.now c.is_empty.result c.is_empty.ensures (λ none. no_export R r p (sym c.of.ensures.rows ∙ none) own.1),
       );
     }

@@ -25,7 +25,7 @@ returns-then-is_empty c = record {
       let world = c.rows.result.now in
       let N = name_numbered world.names in
       let is : AreRowsOf P.world.known W N world.rows = subst (λ K. AreRowsOf K W N world.rows) (known-is c.args.path.now P L world.known c.rows.ensures.known) (c.rows.ensures.rows P L) in
-      let empty : c.rows-rows.result.now.required ≡ [] = sym c.required.ensures.rows ∙ empty-true c.required.result.now (sym c.is_empty.ensures ∙ c.if-is_empty.true) in
+      let empty : c.rows-rows.result.now.required ≡ [] = sym c.all.ensures.rows ∙ empty-true c.all.result.now (sym c.is_empty.ensures ∙ c.if-is_empty.true) in
       let none : world.rows.required ≡ [] = subst (λ (R : RowLists). R.required ≡ []) c.rows-rows.ensures.rows empty in
       let Q : Required → Type 0 = λ row. row.provider ≡ c.args.host.0 in
       no (λ some.

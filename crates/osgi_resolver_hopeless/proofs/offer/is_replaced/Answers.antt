@@ -17,7 +17,7 @@ returns-then-is_empty c = record {
   replaced = λ W is. no (λ r.
       let world = c.args.rows.now in
       let provider = c.args.capability.provider in
-      let none : imports_of world.rows provider.0 ≡ [] = ap (λ (R : RowLists). imports_of R provider.0) (sym c.rows.ensures.rows) ∙ sym c.imports_of.ensures.rows ∙ empty-true c.imports_of.result.now (sym c.is_empty.ensures ∙ c.if-is_empty.true) in
+      let none : imports_of world.rows provider.0 ≡ [] = ap (λ (R : RowLists). imports_of R provider.0) (sym c.rows.ensures.rows) ∙ sym c.of_revision.ensures.rows ∙ empty-true c.of_revision.result.now (sym c.is_empty.ensures ∙ c.if-is_empty.true) in
       let at = is.imports_from provider.0 r.2.from.0 r.0 r.2.imports in
       no-import-of world.rows provider.0 none at.0 r.2.from.0 at.2);
 }

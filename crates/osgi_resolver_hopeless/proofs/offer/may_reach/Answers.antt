@@ -10,10 +10,10 @@ returns c =
     let r = c.args.wired.wire.capability.provider.0 in
     record {
       may = (
-        λ t. inr (wire-there R r (λ none. not_empty c.required_by.result.now c.is_empty.result c.is_empty.ensures t (c.required_by.ensures.rows ∙ none))),
+        λ t. inr (wire-there R r (λ none. not_empty c.of.result.now c.is_empty.result c.is_empty.ensures t (c.of.ensures.rows ∙ none))),
         λ may. elim may [
           | inl e ↦ absurd (c.if-provider-host.false e)
-          | inr some ↦ some_item c.required_by.result.now c.is_empty.result c.is_empty.ensures (λ none. row-there R r some.0 some.1 (sym c.required_by.ensures.rows ∙ none))
+          | inr some ↦ some_item c.of.result.now c.is_empty.result c.is_empty.ensures (λ none. row-there R r some.0 some.1 (sym c.of.ensures.rows ∙ none))
         ],
       );
     }

@@ -27,7 +27,7 @@ returns-in-Some c = record {
       let export : IsExport world.known w.wire.capability.owner w.wire.capability.index (N n) = subst (λ p. IsExport world.known w.wire.capability.owner w.wire.capability.index p) (sym (named world.names at.0 n at.2)) at.1 in
       let other = other-provider world.known W N world.rows is r w n export (ap id c.if-wired-revision.false) in
       let Q : Import → Type 0 = λ row. row.provider ≢ w.wire.capability.provider.0 in
-      let rows : c.imports_for.result.now ≡ imports_for world.rows r.0 n = c.imports_for.ensures.rows ∙ ap (λ (R : RowLists). imports_for R r.0 n) c.rows.ensures.rows in (
+      let rows : c.of.result.now ≡ imports_for world.rows r.0 n = c.of.ensures.rows ∙ ap (λ (R : RowLists). imports_for R r.0 n) c.rows.ensures.rows in (
         λ t. other.0 (subst (λ xs. Any Q xs) rows (c.has_another.ensures.another.0 t)),
         λ o. c.has_another.ensures.another.1 (subst (λ xs. Any Q xs) (sym rows) (other.1 o)),
       );

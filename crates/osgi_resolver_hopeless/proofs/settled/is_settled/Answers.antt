@@ -24,7 +24,7 @@ returns-then-is_empty c = record {
       let rows = c.rows.result.now in
       let N = name_numbered rows.names in
       let is : AreRowsOf P.world.known (partial P D) N rows.rows = subst (λ K. AreRowsOf K (partial P D) N rows.rows) (known-is c.args.path.now P L rows.known c.rows.ensures.known) (c.rows.ensures.rows P L) in
-      let none : required_by c.rows-rows.result.now c.args.revision.0 ≡ [] = sym c.required_by.ensures.rows ∙ empty-true c.required_by.result.now (sym c.is_empty.ensures ∙ c.if-is_empty.true) in
+      let none : required_by c.rows-rows.result.now c.args.revision.0 ≡ [] = sym c.of.ensures.rows ∙ empty-true c.of.result.now (sym c.is_empty.ensures ∙ c.if-is_empty.true) in
       let none' : required_by rows.rows c.args.revision.0 ≡ [] = subst (λ R. required_by R c.args.revision.0 ≡ []) c.rows-rows.ensures.rows none in
       yes (settled-by P L.is D N rows.rows is c.args.revision ((c.is_decided.ensures.decided P L i).0 c.if-not-is_decided.false) (λ n l. absurd (none-reached rows.rows c.args.revision.0 none' n l)));
 }

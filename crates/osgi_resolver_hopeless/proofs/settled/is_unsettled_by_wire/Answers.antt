@@ -20,7 +20,7 @@ returns-then-is_empty c = record {
       let rows = c.rows.result.now in
       let N = name_numbered rows.names in
       let is : AreRowsOf P.world.known (partial P D) N rows.rows = subst (λ K. AreRowsOf K (partial P D) N rows.rows) (known-is c.args.path.now P L rows.known c.rows.ensures.known) (c.rows.ensures.rows P L) in
-      let empty : required_by c.rows-2.result.now m.0 ≡ [] = sym c.required_by.ensures.rows ∙ empty-true c.required_by.result.now (sym c.is_empty.ensures ∙ c.if-is_empty.true) in
+      let empty : required_by c.rows-2.result.now m.0 ≡ [] = sym c.of.ensures.rows ∙ empty-true c.of.result.now (sym c.is_empty.ensures ∙ c.if-is_empty.true) in
       let none : required_by rows.rows m.0 ≡ [] = subst (λ R. required_by R m.0 ≡ []) c.rows-2.ensures.rows empty in
       settled-by P L.is D N rows.rows is m own (λ x l. absurd (none-reached rows.rows m.0 none x l));
 }

@@ -49,11 +49,11 @@ loop-row-init c = λ P L is_member row here. elim here [ ]
 pub loop-row-preserved : goal.loop-row-preserved
 loop-row-preserved c = λ P L is_member.
     let D = made P c.args.path.now in
-    let rows = c.required_by-row-items.result.now in
+    let rows = c.of-row-items.result.now in
     let world = c.rows.result.now in
     let N = name_numbered world.names in
     let is : AreRowsOf P.world.known (partial P D) N world.rows = subst (λ K. AreRowsOf K (partial P D) N world.rows) (known-is c.args.path.now P L world.known c.rows.ensures.known) (c.rows.ensures.rows P L) in
-    let listed : rows ≡ required_by world.rows c.args.revision.0 = c.required_by-row-items.ensures.rows ∙ (λ i. required_by (c.rows-2.ensures.rows i) c.args.revision.0) in
+    let listed : rows ≡ required_by world.rows c.args.revision.0 = c.of-row-items.ensures.rows ∙ (λ i. required_by (c.rows-2.ensures.rows i) c.args.revision.0) in
     let i = c.loop-row.row-index in
     let within = c.loop-row-test.true in
     let at = get_or_default rows i _ _ within in
@@ -64,11 +64,11 @@ pub returns-then-is_open_reexport : goal.returns-then-is_open_reexport
 returns-then-is_open_reexport c = record {
   waits = λ P L is_member.
       let D = made P c.args.path.now in
-      let rows = c.required_by-row-items.result.now in
+      let rows = c.of-row-items.result.now in
       let world = c.rows.result.now in
       let N = name_numbered world.names in
       let is : AreRowsOf P.world.known (partial P D) N world.rows = subst (λ K. AreRowsOf K (partial P D) N world.rows) (known-is c.args.path.now P L world.known c.rows.ensures.known) (c.rows.ensures.rows P L) in
-      let listed : rows ≡ required_by world.rows c.args.revision.0 = c.required_by-row-items.ensures.rows ∙ (λ i. required_by (c.rows-2.ensures.rows i) c.args.revision.0) in
+      let listed : rows ≡ required_by world.rows c.args.revision.0 = c.of-row-items.ensures.rows ∙ (λ i. required_by (c.rows-2.ensures.rows i) c.args.revision.0) in
       let i = c.loop-row.row-index in
       let within = c.loop-row-test.true in
       let at = get_or_default rows i _ _ within in
@@ -82,12 +82,12 @@ pub returns : goal.returns
 returns c = record {
   waits = λ P L is_member.
       let D = made P c.args.path.now in
-      let rows = c.required_by-row-items.result.now in
+      let rows = c.of-row-items.result.now in
       let world = c.rows.result.now in
       let r = c.args.revision in
       let N = name_numbered world.names in
       let is : AreRowsOf P.world.known (partial P D) N world.rows = subst (λ K. AreRowsOf K (partial P D) N world.rows) (known-is c.args.path.now P L world.known c.rows.ensures.known) (c.rows.ensures.rows P L) in
-      let listed : rows ≡ required_by world.rows r.0 = c.required_by-row-items.ensures.rows ∙ (λ i. required_by (c.rows-2.ensures.rows i) r.0) in
+      let listed : rows ≡ required_by world.rows r.0 = c.of-row-items.ensures.rows ∙ (λ i. required_by (c.rows-2.ensures.rows i) r.0) in
       let none = each_done (λ (row : Required). ¬ IsOpenReexport P D row) rows c.loop-row.row-index c.loop-row-test.false (c.loop-row.invariant P L is_member) in
       no (λ some.
       let row : Required = record { revision = r.0; provider = some.bundle.0; reexport = true } in

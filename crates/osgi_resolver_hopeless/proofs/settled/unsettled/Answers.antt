@@ -22,7 +22,7 @@ returns-then-is_empty c = record {
       let rows = c.rows.result.now in
       let N = name_numbered rows.names in
       let is : AreRowsOf P.world.known (partial P D) N rows.rows = subst (λ K. AreRowsOf K (partial P D) N rows.rows) (known-is c.args.path.now P L rows.known c.rows.ensures.known) (c.rows.ensures.rows P L) in
-      let empty : c.rows-2.result.now.required ≡ [] = sym c.required.ensures.rows ∙ empty-true c.required.result.now (sym c.is_empty.ensures ∙ c.if-is_empty.true) in
+      let empty : c.rows-2.result.now.required ≡ [] = sym c.all.ensures.rows ∙ empty-true c.all.result.now (sym c.is_empty.ensures ∙ c.if-is_empty.true) in
       let none : rows.rows.required ≡ [] = subst (λ (R : RowLists). R.required ≡ []) c.rows-2.ensures.rows empty in
       alone-unsettled P L.is D N rows.rows is none c.in_ok-set.set (c.in_ok-set.ensures.undecided P L);
 }

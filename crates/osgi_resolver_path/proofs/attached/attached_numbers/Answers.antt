@@ -11,7 +11,7 @@ loop-row-init c = no-row c.in_ok-numbers.numbers.items c.in_ok-numbers.ensures.i
 
 pub loop-row-preserved : goal.loop-row-preserved
 loop-row-preserved c =
-    let rows = c.attached_to-attached.result.now in
+    let rows = c.of-attached.result.now in
     let i = c.loop-row.row-index in
     let within = c.loop-row-test.true in
     let none : Attachment = record { host = 0; fragment = 0 } in
@@ -25,5 +25,5 @@ returns c = record {
       let R = c.args.rows.now in
       let h = c.args.host in
       subst (λ (xs : List ℕ). Contains xs n ↔ Attaches R h.0 n) (sym c.in_ok-of.ensures.revisions)
-      (all-rows R h.0 c.loop-row.numbers.items c.attached_to-attached.result.now c.loop-row.row-index c.attached_to-attached.ensures.rows c.loop-row-test.false c.loop-row.invariant n);
+      (all-rows R h.0 c.loop-row.numbers.items c.of-attached.result.now c.loop-row.row-index c.of-attached.ensures.rows c.loop-row-test.false c.loop-row.invariant n);
 }

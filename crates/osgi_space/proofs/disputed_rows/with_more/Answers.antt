@@ -19,12 +19,12 @@ returns c =
     record {
       imports = λ r p x at.
           let done = c.in_ok-note_imports.ensures.noted r p x
-          (subst (λ (l : List Import). Contains l (record { revision = r; imported = p; provider = x })) (sym (take_rest c.imports.result.now places.imports ∙ ap (drop places.imports) c.imports.ensures.rows)) at) in
+          (subst (λ (l : List Import). Contains l (record { revision = r; imported = p; provider = x })) (sym (take_rest c.all.result.now places.imports ∙ ap (drop places.imports) c.all.ensures.rows)) at) in
           (later.sources p x done.0, later.ends r done.1, later.ends x done.2);
       required = λ row at.
-          let done = bundles.ends row (subst (λ (l : List Required). Contains l row) (sym (take_rest c.required.result.now places.required ∙ ap (drop places.required) c.required.ensures.rows)) at) in
+          let done = bundles.ends row (subst (λ (l : List Required). Contains l row) (sym (take_rest c.all-2.result.now places.required ∙ ap (drop places.required) c.all-2.ensures.rows)) at) in
           (attached.ends row.revision done.0, attached.ends row.provider done.1);
       attached = λ h f p at own. last.noted h f p
-          (subst (λ (l : List Attachment). Contains l (record { host = h; fragment = f })) (sym (take_rest c.attached.result.now places.attached ∙ ap (drop places.attached) c.attached.ensures.rows)) at) own;
+          (subst (λ (l : List Attachment). Contains l (record { host = h; fragment = f })) (sym (take_rest c.all-3.result.now places.attached ∙ ap (drop places.attached) c.all-3.ensures.rows)) at) own;
       extends = extends-then R c.in_ok-note_imports.ensures.extends later;
     }

@@ -13,7 +13,7 @@ gives row t = IsTrue row.reexport × (t ≡ row.provider)
 
 pub loop-row-preserved : goal.loop-row-preserved
 loop-row-preserved c =
-    let rows = c.required_by-row-items.result.now in
+    let rows = c.of-row-items.result.now in
     let at = get_or_default rows c.loop-row.row-index _ _ c.loop-row-test.true in
     elim c.if-row.branch [
       | then-row+in_ok-add w ↦ rw w.found-is (adds-more gives rows c.loop-row.row-index _ c.loop-row-test.true at c.loop-row.invariant (adds-same (λ t. (λ e. (w.if-row.true, e), λ both. both.1)) w.in_ok-add.ensures.added))
@@ -25,5 +25,5 @@ returns c = record {
   added =
       let P : List Required → Type 0 = λ rows. Adds (Each gives rows) c.args.found.now c.loop-row.found in
       adds-same (reexports-each c.args.rows.now c.args.bundle)
-      (subst P c.required_by-row-items.ensures.rows (adds-whole gives c.required_by-row-items.result.now c.loop-row.row-index c.loop-row-test.false c.loop-row.invariant));
+      (subst P c.of-row-items.ensures.rows (adds-whole gives c.of-row-items.result.now c.loop-row.row-index c.loop-row-test.false c.loop-row.invariant));
 }

@@ -20,10 +20,10 @@ returns-then-not-is_empty c = record {
       let A = IsAmong c.args.among in
       let pair = c.args.pair in
       let rows = imports_for R pair.source pair.package in
-      let is : c.is_empty.result ≡ (length rows == 0) = c.is_empty.ensures ∙ ap (λ (xs : List Import). length xs == 0) c.imports_for-imports.ensures.rows in
+      let is : c.is_empty.result ≡ (length rows == 0) = c.is_empty.ensures ∙ ap (λ (xs : List Import). length xs == 0) c.of-imports.ensures.rows in
       let there = some_import R pair.source pair.package (empty-false rows (sym is ∙ c.if-not-is_empty.true)) in
       adds-same (wired-next R A pair there)
-      (subst (λ xs. Adds (IsUseOfWired R A xs) c.args.found.now c.add_uses_of_imports.new.found) c.imports_for-imports.ensures.rows c.in_ok-add_uses_of_imports.ensures.added);
+      (subst (λ xs. Adds (IsUseOfWired R A xs) c.args.found.now c.add_uses_of_imports.new.found) c.of-imports.ensures.rows c.in_ok-add_uses_of_imports.ensures.added);
 }
 
 pub returns : goal.returns

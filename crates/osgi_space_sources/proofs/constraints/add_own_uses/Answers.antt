@@ -15,7 +15,7 @@ gives e row g = g ≡ record { «package» = row.used; source = e }
 
 pub loop-row-preserved : goal.loop-row-preserved
 loop-row-preserved c =
-    let rows = c.uses_of-row-items.result.now in
+    let rows = c.of-row-items.result.now in
     let at = get_or_default rows c.loop-row.row-index _ _ c.loop-row-test.true in
     adds-more (gives c.args.exporter) rows c.loop-row.row-index _ c.loop-row-test.true at c.loop-row.invariant c.in_ok-add.ensures.added
 
@@ -30,8 +30,8 @@ own-each R e o p g =
 pub returns : goal.returns
 returns c = record {
   added =
-      let rows = c.uses_of-row-items.result.now in
+      let rows = c.of-row-items.result.now in
       let P : List Use → Type 0 = λ xs. Adds (Each (gives c.args.exporter) xs) c.args.found.now c.loop-row.found in
       adds-same (own-each c.args.rows.now c.args.exporter c.args.owner c.args.package)
-      (subst P c.uses_of-row-items.ensures.rows (adds-whole (gives c.args.exporter) rows c.loop-row.row-index c.loop-row-test.false c.loop-row.invariant));
+      (subst P c.of-row-items.ensures.rows (adds-whole (gives c.args.exporter) rows c.loop-row.row-index c.loop-row-test.false c.loop-row.invariant));
 }

@@ -15,7 +15,7 @@ gives R e p row g = IsOwnUse R e row.fragment p g
 
 pub loop-row-preserved : goal.loop-row-preserved
 loop-row-preserved c =
-    let rows = c.attached_to-row-items.result.now in
+    let rows = c.of-row-items.result.now in
     let at = get_or_default rows c.loop-row.row-index _ _ c.loop-row-test.true in
     adds-more (gives c.args.rows.now c.args.exporter c.args.package) rows c.loop-row.row-index _ c.loop-row-test.true at c.loop-row.invariant c.in_ok-add_own_uses-2.ensures.added
 
@@ -36,8 +36,8 @@ pub returns : goal.returns
 returns c = record {
   added =
       let R = c.args.rows.now in
-      let rows = c.attached_to-row-items.result.now in
+      let rows = c.of-row-items.result.now in
       let P : List Attachment → Type 0 = λ xs. Adds (Each (gives R c.args.exporter c.args.package) xs) c.add_own_uses.new.found c.loop-row.found in
       adds-same (owners R c.args.exporter c.args.package)
-      (adds-then c.in_ok-add_own_uses.ensures.added (subst P c.attached_to-row-items.ensures.rows (adds-whole (gives R c.args.exporter c.args.package) rows c.loop-row.row-index c.loop-row-test.false c.loop-row.invariant)));
+      (adds-then c.in_ok-add_own_uses.ensures.added (subst P c.of-row-items.ensures.rows (adds-whole (gives R c.args.exporter c.args.package) rows c.loop-row.row-index c.loop-row-test.false c.loop-row.invariant)));
 }

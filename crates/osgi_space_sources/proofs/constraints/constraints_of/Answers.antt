@@ -20,11 +20,11 @@ returns c = record {
   implied =
       let R = c.args.rows.now in
       let A = IsAmong c.args.among in
-      let imports = c.imports_of-imports.result.now in
+      let imports = c.of_revision-imports.result.now in
       let givens = c.in_ok-givens.givens.items in
       let there : A c.args.revision = c.has.ensures.among.0 c.if-not-has.false in
       λ g.
       let following = subst (λ xs. Contains c.in_ok-constraints_from.field-0 g ↔ IsFollowing R A imports xs g) c.as_slice.ensures.value (c.in_ok-constraints_from.ensures.following g) in
-      let carried = space-implied R A c.args.revision there imports c.imports_of-imports.ensures.rows givens c.in_ok-givens.ensures.sources g in
+      let carried = space-implied R A c.args.revision there imports c.of_revision-imports.ensures.rows givens c.in_ok-givens.ensures.sources g in
       (λ at. carried.0 (following.0 at), λ i. following.1 (carried.1 i));
 }

@@ -11,7 +11,7 @@ use Rattle.osgi_space_sources.proofs.disputed.note_exports.Goals as goal
 
 pub loop-row-preserved : goal.loop-row-preserved
 loop-row-preserved c =
-    let rows = c.attached_to-row-items.result.now in
+    let rows = c.of-row-items.result.now in
     let at = get_or_default rows c.loop-row.row-index _ _ c.loop-row-test.true in
     let note = c.in_ok-note_fragment-2.ensures in
     record {
@@ -27,8 +27,8 @@ pub returns-clause-noted : goal.returns-clause-noted
 returns-clause-noted c = λ p has. elim has.1 [
   | inl same ↦ c.loop-row.invariant.own p (subst (λ o. OwnExport c.args.rows.now o p) same has.2)
   | inr attached ↦
-      let rows = c.attached_to-row-items.result.now in
+      let rows = c.of-row-items.result.now in
       let row : Attachment = record { host = c.args.revision; fragment = has.0 } in
       all-of (λ (row : Attachment). (p : ℕ) → OwnExport c.args.rows.now row.fragment p → IsNoted c.loop-row.possible p c.args.revision) rows c.loop-row.row-index c.loop-row-test.false c.loop-row.invariant.noted
-      row (subst (λ (xs : List Attachment). Contains xs row) (sym c.attached_to-row-items.ensures.rows) (contains-filter (λ (i : Attachment). i.host == c.args.revision) c.args.rows.now.attached row attached (eq-eqb c.args.revision c.args.revision refl))) p has.2
+      row (subst (λ (xs : List Attachment). Contains xs row) (sym c.of-row-items.ensures.rows) (contains-filter (λ (i : Attachment). i.host == c.args.revision) c.args.rows.now.attached row attached (eq-eqb c.args.revision c.args.revision refl))) p has.2
 ]

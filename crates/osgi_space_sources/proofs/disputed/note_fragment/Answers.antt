@@ -10,7 +10,7 @@ use Rattle.osgi_space_sources.proofs.disputed.note_fragment.Goals as goal
 
 pub loop-row-preserved : goal.loop-row-preserved
 loop-row-preserved c =
-    let rows = c.exports_of-row-items.result.now in
+    let rows = c.of_revision-row-items.result.now in
     let at = get_or_default rows c.loop-row.row-index _ _ c.loop-row-test.true in
     record {
       noted = all-more (λ (row : Export). IsNoted c.loop-row.possible row.exported c.args.host) (λ (row : Export). IsNoted c.note.new.self row.exported c.args.host) rows c.loop-row.row-index _ c.loop-row-test.true at
@@ -21,7 +21,7 @@ loop-row-preserved c =
 
 pub returns-clause-noted : goal.returns-clause-noted
 returns-clause-noted c = λ p at.
-    let rows = c.exports_of-row-items.result.now in
+    let rows = c.of_revision-row-items.result.now in
     let row : Export = record { owner = c.args.fragment; exported = p } in
     all-of (λ (row : Export). IsNoted c.loop-row.possible row.exported c.args.host) rows c.loop-row.row-index c.loop-row-test.false c.loop-row.invariant.noted
-    row (subst (λ xs. Contains xs row) (sym c.exports_of-row-items.ensures.rows) (contains-filter (λ (x : Export). x.owner == c.args.fragment) c.args.rows.now.exports row at (eq-eqb c.args.fragment c.args.fragment refl)))
+    row (subst (λ xs. Contains xs row) (sym c.of_revision-row-items.ensures.rows) (contains-filter (λ (x : Export). x.owner == c.args.fragment) c.args.rows.now.exports row at (eq-eqb c.args.fragment c.args.fragment refl)))

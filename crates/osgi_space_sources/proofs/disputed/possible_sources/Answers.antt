@@ -16,10 +16,10 @@ returns c =
     let more = c.note_bundles.ensures.extends in
     let extends = extends-then R c.note_imports.ensures.extends more in
     let import : (r p x : ℕ) → Imports R r p x → IsNoted made p x × IsEnd made.disputed r × IsEnd made.disputed x = λ r p x at.
-    let done = c.in_ok-note_imports.ensures.noted r p x (subst (λ (xs : List Import). Contains xs (record { revision = r; imported = p; provider = x })) (sym c.imports.ensures.rows) at) in
+    let done = c.in_ok-note_imports.ensures.noted r p x (subst (λ (xs : List Import). Contains xs (record { revision = r; imported = p; provider = x })) (sym c.all.ensures.rows) at) in
     (more.sources p x done.0, more.ends r done.1, more.ends x done.2) in
     let bundle : (row : Required) → Contains R.required row → IsEnd made.disputed row.revision × IsEnd made.disputed row.provider = λ row at.
-    c.in_ok-note_bundles.ensures.ends row (subst (λ (xs : List Required). Contains xs row) (sym c.required.ensures.rows) at) in
+    c.in_ok-note_bundles.ensures.ends row (subst (λ (xs : List Required). Contains xs row) (sym c.all-2.ensures.rows) at) in
     record {
       noted = noted-more no_rows R none made (none-noted none) extends
           (λ x end. inr (elim end [

@@ -16,7 +16,7 @@ gives b p row g = (row.provider ≢ b) × (g ≡ record { «package» = p; sourc
 
 pub loop-row-preserved : goal.loop-row-preserved
 loop-row-preserved c =
-    let rows = c.imports_for-row-items.result.now in
+    let rows = c.of-row-items.result.now in
     let P = gives c.args.bundle c.args.package in
     let at = get_or_default rows c.loop-row.row-index _ _ c.loop-row-test.true in
     let old = c.loop-row.givens.items in
@@ -36,9 +36,9 @@ elsewhere-each R b p g =
 
 pub returns : goal.returns
 returns c =
-    let rows = c.imports_for-row-items.result.now in
+    let rows = c.of-row-items.result.now in
     let P : List Import → Type 0 = λ xs. Adds (Each (gives c.args.bundle c.args.package) xs) c.args.givens.now.items c.loop-row.givens.items in
     record {
       added = adds-same (elsewhere-each c.args.rows.now c.args.bundle c.args.package)
-          (subst P c.imports_for-row-items.ensures.rows (adds-whole (gives c.args.bundle c.args.package) rows c.loop-row.row-index c.loop-row-test.false c.loop-row.invariant));
+          (subst P c.of-row-items.ensures.rows (adds-whole (gives c.args.bundle c.args.package) rows c.loop-row.row-index c.loop-row-test.false c.loop-row.invariant));
     }

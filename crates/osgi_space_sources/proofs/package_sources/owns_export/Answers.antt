@@ -10,7 +10,7 @@ pub returns : goal.returns
 returns c =
     let R = c.args.rows.now in
     let rows = exports_for R c.args.owner c.args.package in
-    let is : c.is_empty.result ≡ (length rows == 0) = c.is_empty.ensures ∙ ap (λ (xs : List Export). length xs == 0) c.exports_for.ensures.rows in
+    let is : c.is_empty.result ≡ (length rows == 0) = c.is_empty.ensures ∙ ap (λ (xs : List Export). length xs == 0) c.of.ensures.rows in
     record {
       exports = (
         λ t. has_export R c.args.owner c.args.package (not_empty rows c.is_empty.result is t),

@@ -16,13 +16,13 @@ gives R r b row g = IsGivenByOwner R r b row.fragment g
 
 pub add_owner-requires-in-loop-row : goal.add_owner-requires-in-loop-row
 add_owner-requires-in-loop-row c =
-    let rows = c.attached_to-row-items.result.now in
+    let rows = c.of-row-items.result.now in
     let at = get_or_default rows c.loop-row.row-index _ _ c.loop-row-test.true in
-    record { owns = inr (attached-at c.args.rows.now c.args.bundle rows c.loop-row.row-index _ c.attached_to-row-items.ensures.rows c.loop-row-test.true at) }
+    record { owns = inr (attached-at c.args.rows.now c.args.bundle rows c.loop-row.row-index _ c.of-row-items.ensures.rows c.loop-row-test.true at) }
 
 pub loop-row-preserved : goal.loop-row-preserved
 loop-row-preserved c =
-    let rows = c.attached_to-row-items.result.now in
+    let rows = c.of-row-items.result.now in
     let at = get_or_default rows c.loop-row.row-index _ _ c.loop-row-test.true in
     adds-more (gives c.args.rows.now c.args.revision c.args.bundle) rows c.loop-row.row-index _ c.loop-row-test.true at c.loop-row.invariant c.in_ok-add_owner-2.ensures.added
 
@@ -53,9 +53,9 @@ owners R r b g =
 pub returns : goal.returns
 returns c =
     let R = c.args.rows.now in
-    let rows = c.attached_to-row-items.result.now in
+    let rows = c.of-row-items.result.now in
     let P : List Attachment → Type 0 = λ xs. Adds (Each (gives R c.args.revision c.args.bundle) xs) c.add_owner.new.givens.items c.loop-row.givens.items in
     record {
       added = adds-same (owners R c.args.revision c.args.bundle)
-          (adds-then c.in_ok-add_owner.ensures.added (subst P c.attached_to-row-items.ensures.rows (adds-whole (gives R c.args.revision c.args.bundle) rows c.loop-row.row-index c.loop-row-test.false c.loop-row.invariant)));
+          (adds-then c.in_ok-add_owner.ensures.added (subst P c.of-row-items.ensures.rows (adds-whole (gives R c.args.revision c.args.bundle) rows c.loop-row.row-index c.loop-row-test.false c.loop-row.invariant)));
     }

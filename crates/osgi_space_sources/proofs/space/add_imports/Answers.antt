@@ -15,7 +15,7 @@ gives row g = g ≡ record { «package» = row.imported; source = row.provider }
 
 pub loop-row-preserved : goal.loop-row-preserved
 loop-row-preserved c =
-    let rows = c.imports_of-row-items.result.now in
+    let rows = c.of_revision-row-items.result.now in
     let at = get_or_default rows c.loop-row.row-index _ _ c.loop-row-test.true in
     rw c.in_ok-push.ensures.items (adds-more gives rows c.loop-row.row-index _ c.loop-row-test.true at c.loop-row.invariant (adds-push c.loop-row.givens.items _))
 
@@ -28,9 +28,9 @@ wired-each R r g =
 
 pub returns : goal.returns
 returns c =
-    let rows = c.imports_of-row-items.result.now in
+    let rows = c.of_revision-row-items.result.now in
     let P : List Import → Type 0 = λ xs. Adds (Each gives xs) c.args.givens.now.items c.loop-row.givens.items in
     record {
       added = adds-same (wired-each c.args.rows.now c.args.revision)
-          (subst P c.imports_of-row-items.ensures.rows (adds-whole gives rows c.loop-row.row-index c.loop-row-test.false c.loop-row.invariant));
+          (subst P c.of_revision-row-items.ensures.rows (adds-whole gives rows c.loop-row.row-index c.loop-row-test.false c.loop-row.invariant));
     }

@@ -17,7 +17,7 @@ pub returns-then-is_empty : goal.returns-then-is_empty
 returns-then-is_empty c =
     let R = c.args.rows.now in
     let r = c.args.revision in
-    let none : required_by R r ≡ [] = sym c.required_by.ensures.rows ∙ empty-true c.required_by.result.now (sym c.is_empty.ensures ∙ c.if-is_empty.true) in
+    let none : required_by R r ≡ [] = sym c.of.ensures.rows ∙ empty-true c.of.result.now (sym c.is_empty.ensures ∙ c.if-is_empty.true) in
     record { added = adds-nothing _ c.args.givens.now.items (λ g given. none-reached R r none given.0 given.1) }
 
 pub loop-bundle-preserved : goal.loop-bundle-preserved

@@ -23,7 +23,7 @@ pub loop-row-init : goal.loop-row-init
 loop-row-init c = record {
   kept = c.in_ok-trace_own_uses.ensures.kept;
   own = c.in_ok-trace_own_uses.ensures.traced;
-  attached = each-none (λ (row : Attachment). IsBy c.args.rows.now (IsAmong c.args.among) (IsDisputed c.args.disputed.now) c.args.export c.trace_own_uses.new.trace row.fragment) c.attached_to-row-items.result.now;
+  attached = each-none (λ (row : Attachment). IsBy c.args.rows.now (IsAmong c.args.among) (IsDisputed c.args.disputed.now) c.args.export c.trace_own_uses.new.trace row.fragment) c.of-row-items.result.now;
 }
 
 pub loop-row-preserved : goal.loop-row-preserved
@@ -32,7 +32,7 @@ loop-row-preserved c =
     let A = IsAmong c.args.among in
     let D = IsDisputed c.args.disputed.now in
     let h = c.args.export in
-    let rows = c.attached_to-row-items.result.now in
+    let rows = c.of-row-items.result.now in
     let i = c.loop-row.row-index in
     let row : Attachment = get_or rows i (record { host = 0; fragment = 0 }) in
     let old = c.loop-row.trace in
@@ -52,14 +52,14 @@ returns-clause-traced c = λ s uses.
     let D = IsDisputed c.args.disputed.now in
     let h = c.args.export in
     let t = c.loop-row.trace in
-    let rows = c.attached_to-row-items.result.now in
+    let rows = c.of-row-items.result.now in
     let o = uses.0.0 in
     elim uses.0.1 [
       | inl own ↦ c.loop-row.invariant.own s.package s.source (subst (λ p. OwnUse R p h.package s.package) own uses.0.2) uses.1
       | inr attached ↦
           let P : Attachment → Type 0 = λ row. row.fragment ≡ o in
           let some = (some-attached R (λ f. f ≡ o) h.source).1 (o, attached, refl) in
-          let at : Contains rows some.1 = subst (λ (xs : List Attachment). Contains xs some.1) (sym c.attached_to-row-items.ensures.rows) (any-in P (attached_to R h.source) some) in
+          let at : Contains rows some.1 = subst (λ (xs : List Attachment). Contains xs some.1) (sym c.of-row-items.ensures.rows) (any-in P (attached_to R h.source) some) in
           let by = each-whole (λ (row : Attachment). IsBy R A D h t row.fragment) rows c.loop-row.row-index c.loop-row-test.false c.loop-row.invariant.attached some.1 at in
           by s.package s.source (subst (λ p. OwnUse R p h.package s.package) (sym some.4) uses.0.2) uses.1
     ]

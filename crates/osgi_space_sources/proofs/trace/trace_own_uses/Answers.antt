@@ -22,7 +22,7 @@ IsBy R A D h t row = (x : ℕ) → Sources R h.source row.used x → IsTracedTo 
 pub loop-row-init : goal.loop-row-init
 loop-row-init c = record {
   kept = keeps-same c.args.trace.now;
-  traced = each-none (IsBy c.args.rows.now (IsAmong c.args.among) (IsDisputed c.args.disputed.now) c.args.export c.args.trace.now) c.uses_of-row-items.result.now;
+  traced = each-none (IsBy c.args.rows.now (IsAmong c.args.among) (IsDisputed c.args.disputed.now) c.args.export c.args.trace.now) c.of-row-items.result.now;
 }
 
 pub loop-row-preserved : goal.loop-row-preserved
@@ -31,7 +31,7 @@ loop-row-preserved c =
     let A = IsAmong c.args.among in
     let D = IsDisputed c.args.disputed.now in
     let h = c.args.export in
-    let rows = c.uses_of-row-items.result.now in
+    let rows = c.of-row-items.result.now in
     let i = c.loop-row.row-index in
     let row : Use = get_or rows i (record { owner = 0; exported = 0; used = 0 }) in
     let old = c.loop-row.trace in
@@ -49,10 +49,10 @@ returns-clause-traced c = λ u x own source.
     let D = IsDisputed c.args.disputed.now in
     let h = c.args.export in
     let t = c.loop-row.trace in
-    let rows = c.uses_of-row-items.result.now in
+    let rows = c.of-row-items.result.now in
     let P : Use → Type 0 = λ row. row.used ≡ u in
     let some = (some-use R (λ v. v ≡ u) c.args.owner h.package).1 (u, own, refl) in
-    let at : Contains rows some.1 = subst (λ (xs : List Use). Contains xs some.1) (sym c.uses_of-row-items.ensures.rows) (any-in P (uses_for R c.args.owner h.package) some) in
+    let at : Contains rows some.1 = subst (λ (xs : List Use). Contains xs some.1) (sym c.of-row-items.ensures.rows) (any-in P (uses_for R c.args.owner h.package) some) in
     let by = each-whole (IsBy R A D h t) rows c.loop-row.row-index c.loop-row-test.false c.loop-row.invariant.traced some.1 at in
     let Q : ℕ → Type 0 = λ v. Sources R h.source v x → IsTracedTo R A D t h (record { «package» = v; source = x }) in
     subst Q some.4 (by x) source

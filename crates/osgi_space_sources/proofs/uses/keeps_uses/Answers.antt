@@ -45,9 +45,9 @@ returns-then-not-sees_disputed c =
     let givens = c.in_ok-givens.givens.items in
     let away : (e u : ℕ) → Implied R A r e u → Clash R r e u → ¬ D u = λ e u implied clash there.
     let h : Given = record { «package» = u; source = clash.ours } in
-    let sees : Any (λ (row : Import). D row.imported) c.imports_of-imports.result.now ⊎ Any (λ (g : Given). D g.package) c.as_slice.result.now =
+    let sees : Any (λ (row : Import). D row.imported) c.of_revision-imports.result.now ⊎ Any (λ (g : Given). D g.package) c.as_slice.result.now =
     elim ((seen-parts R r h).1 clash.ours_in) [
-      | inl wired ↦ inl (subst (λ xs. Any (λ (row : Import). D row.imported) xs) (sym c.imports_of-imports.ensures.rows) ((some-imported R (λ p x. D p) r).1 (u, clash.ours, wired, there)))
+      | inl wired ↦ inl (subst (λ xs. Any (λ (row : Import). D row.imported) xs) (sym c.of_revision-imports.ensures.rows) ((some-imported R (λ p x. D p) r).1 (u, clash.ours, wired, there)))
       | inr unwired ↦ inr (subst (λ xs. Any (λ (g : Given). D g.package) xs) (sym c.as_slice.ensures.value) (any-of (λ (g : Given). D g.package) givens h ((c.in_ok-givens.ensures.sources h).1 unwired) there))
     ] in
     let yes = c.sees_disputed.ensures.disputed.1 sees in
@@ -61,13 +61,13 @@ returns c =
     let P : Given → Type 0 = λ g. IsClash R r g in
     let A = IsAmong c.args.among in
     let pairs = c.in_ok-found.found in
-    let imports = c.imports_of-imports.result.now in
+    let imports = c.of_revision-imports.result.now in
     let givens = c.in_ok-givens.givens.items in
     let there : A r = c.has.ensures.among.0 c.if-not-has.false in
     let following : (g : Given) → Contains pairs g ↔ IsFollowing R A imports givens g =
     subst (λ xs. (g : Given) → Contains pairs g ↔ IsFollowing R A imports xs g) c.as_slice-2.ensures.value c.in_ok-found.ensures.following in
     let implied : (g : Given) → Contains pairs g ↔ IsImplied R A r g = λ g.
-    let carried = space-implied R A r there imports c.imports_of-imports.ensures.rows givens c.in_ok-givens.ensures.sources g in
+    let carried = space-implied R A r there imports c.of_revision-imports.ensures.rows givens c.in_ok-givens.ensures.sources g in
     (λ at. carried.0 ((following g).0 at), λ i. (following g).1 (carried.1 i)) in
     let kept : IsTrue c.in_ok-are_kept.field-0 ↔ ¬ Any P pairs = subst (λ xs. IsTrue c.in_ok-are_kept.field-0 ↔ ¬ Any P xs) c.items.ensures.items c.in_ok-are_kept.ensures.uses in
     record {
