@@ -33,7 +33,7 @@ module _ (R : RowLists) (disputed : Disputed) (are : AreDisputed R disputed) whe
   given-possible {b = b} end (itself e) = inr (are.ends b end, e.0)
   given-possible end (reexported {b = b} at g) = given-possible (inr (inr (b, (true, at)))) g
 
-  source-possible : {r p x : ℕ} → IsEnd disputed r → Sources R r p x → IsPossible R (IsEnd disputed) p x
+  pub source-possible : {r p x : ℕ} → IsEnd disputed r → Sources R r p x → IsPossible R (IsEnd disputed) p x
   source-possible {r} end (inl at) = inl (r, at)
   source-possible {r} end (inr (none, inl (b, at, g))) = given-possible (inr (inr (r, at))) g
   source-possible {p = p} end (inr (none, inr (e, x))) = inr (subst (IsEnd disputed) (sym e) end, subst (λ y. HasExport R y p) (sym e) x.0)

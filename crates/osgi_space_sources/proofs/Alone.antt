@@ -27,7 +27,7 @@ module _ (R : RowLists) (r : ℕ) (none : ¬ HasWires R r) where
 
 -- ---- which rows show wires
 
-some-row : {X : Type 0} (xs : List X) → ¬ (xs ≡ []) → (x : X) × Contains xs x
+pub some-row : {X : Type 0} (xs : List X) → ¬ (xs ≡ []) → (x : X) × Contains xs x
 some-row [] some = absurd (some refl)
 some-row (x ∷ xs) some = (x, here x xs x refl)
 

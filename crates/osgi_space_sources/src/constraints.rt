@@ -1,12 +1,15 @@
 //! The constraints that the `uses` of exports imply.
 
-ghost use Rattle.std.specs.Prelude.{◌↔◌, IfOk, OnOk, IsTrue};
+ghost use Rattle.std.specs.Prelude.{◌↔◌, ℕ, IfOk, OnOk, IsTrue};
 ghost use Rattle.osgi_space_sources.specs.computed.Adds.{Adds, AreAll};
 ghost use Rattle.osgi_space_sources.specs.computed.Amongst.{IsAmong};
+ghost use Rattle.osgi_space_sources.specs.computed.Disputes.{AreDisputed, AreFollowed, IsEnd};
 ghost use Rattle.osgi_space_sources.specs.computed.Pairs.{IsFollowing, IsImplied, IsNext, IsOwnUse, IsUse, IsUseAmong, IsUseOfSome, IsUseOfWired, MayUse};
+ghost use Rattle.osgi_space_sources.specs.computed.RowSources.{Sources};
 ghost use Rattle.osgi_space_sources.specs.declared.given.Given.{Given};
 
 use crate::among::Among;
+use crate::disputed::Disputed;
 use crate::found::Found;
 use crate::given::Given;
 use crate::package_sources::sources_of;
@@ -117,23 +120,57 @@ fn add_uses_of_imports(
 }
 
 /// Adds the constraints that follow from one at once: what the exports of its package use, by its sources for the one that sees
-/// it.
+/// it. Whether that has any; where the answer is false, it may have some.
 fn add_next(
     alloc: Global,
     found: &mut Found<Given>,
     rows: &Rows,
     among: Among,
     pair: Given,
-) -> Result<(), AllocError>
+) -> Result<bool, AllocError>
     ensures added { OnOk result (Adds (IsNext rows.now (IsAmong among.entry) pair)
         found.old found.new) }
+    ensures some { IfOk result (λ some. IsTrue some → (x : ℕ)
+        × Sources rows.now pair.source pair.package x) }
 {
     let imports = rows.imports.of(pair.source, pair.package);
     if !imports.is_empty() {
-        return Ok(add_uses_of_imports(found, rows, among, imports)?);
+        add_uses_of_imports(found, rows, among, imports)?;
+        return Ok(true);
     }
     let sources = sources_of(alloc, rows, pair.source, pair.package)?;
     add_uses_of_all(found, rows, among, sources.as_slice())?;
+    Ok(!sources.as_slice().is_empty())
+}
+
+/// The same, unless the package is among these that were followed: packages that are not disputed, of which all that the export by
+/// their only source uses was added.
+fn follow(
+    alloc: Global,
+    found: &mut Found<Given>,
+    followed: &mut Found<u32>,
+    rows: &Rows,
+    disputed: &Disputed,
+    among: Among,
+    pair: Given,
+) -> Result<(), AllocError>
+    requires disputed { AreDisputed rows.now disputed.now }
+    requires end { IsEnd disputed.now pair.source }
+    requires followed { AreFollowed rows.now (IsAmong among) (IsEnd disputed.now)
+        followed.old found.old }
+    ensures added { OnOk result (Adds (IsNext rows.now (IsAmong among.entry) pair)
+        found.old found.new) }
+    ensures followed { OnOk result (AreFollowed rows.now (IsAmong among.entry)
+        (IsEnd disputed.now) followed.new found.new) }
+{
+    if followed.has(pair.package) {
+        return Ok(());
+    }
+    let some = add_next(alloc, found, rows, among, pair)?;
+    if !some || disputed.has(pair.package) {
+        return Ok(());
+    }
+    followed.add(pair.package)?;
     Ok(())
 }
 
@@ -155,6 +192,43 @@ pub fn constraints_from(
     while next < found.len() {
         let pair = found.items()[next];
         add_next(alloc, &mut found, rows, among, pair)?;
+        next += 1;
+    }
+    Ok(found)
+}
+
+/// The same, where ends of wires see these constraints. A package that is not disputed has one source for all of them, and is
+/// followed once.
+pub(crate) fn constraints_between(
+    alloc: Global,
+    rows: &Rows,
+    disputed: &Disputed,
+    among: Among,
+    imports: &[Import],
+    givens: &[Given],
+) -> Result<Found<Given>, AllocError>
+    requires disputed { AreDisputed rows.now disputed.now }
+    requires ends { (g : Given) → IsFollowing rows.now (IsAmong among) imports.now givens.now g
+        → IsEnd disputed.now g.source }
+    ensures following { IfOk result (AreAll (IsFollowing rows.now (IsAmong among.entry)
+        imports.now givens.now)) }
+{
+    let mut found = Found::new(alloc);
+    let mut followed = Found::new(alloc);
+    add_uses_of_imports(&mut found, rows, among, imports)?;
+    add_uses_of_all(&mut found, rows, among, givens)?;
+    let mut next = 0;
+    while next < found.len() {
+        let pair = found.items()[next];
+        follow(
+            alloc,
+            &mut found,
+            &mut followed,
+            rows,
+            disputed,
+            among,
+            pair,
+        )?;
         next += 1;
     }
     Ok(found)

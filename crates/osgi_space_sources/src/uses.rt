@@ -9,7 +9,7 @@ ghost use Rattle.osgi_world.specs.declared.wiring.Wiring.{Wiring};
 
 use crate::among::Among;
 use crate::clash::clashes;
-use crate::constraints::constraints_from;
+use crate::constraints::constraints_between;
 use crate::disputed::{Disputed, disputed_packages};
 use crate::given::Given;
 use crate::space::unwired_of;
@@ -129,7 +129,7 @@ pub fn keeps_uses(
     if !sees_disputed(imports, givens.as_slice(), disputed) {
         return Ok(true);
     }
-    let found = constraints_from(alloc, rows, among, imports, givens.as_slice())?;
+    let found = constraints_between(alloc, rows, disputed, among, imports, givens.as_slice())?;
     Ok(are_kept(alloc, rows, disputed, revision, found.items())?)
 }
 

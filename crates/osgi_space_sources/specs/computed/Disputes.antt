@@ -1,14 +1,16 @@
 -- Packages of which revisions that wires join may have different sources.
-use Rattle.std.specs.Prelude.{◌≡◌, ℕ, ◌⊎◌, IsTrue, Some}
+use Rattle.std.specs.Prelude.{◌≡◌, ℕ, ◌⊎◌, Contains, IsTrue, List, Some}
 use Rattle.std.specs.BTreeSet.{contains}
 use Rattle.std.specs.Ordering.{nat_cmp}
 use Rattle.osgi_base.specs.NumberMaps.{value_at}
 use Rattle.osgi_space_rows.specs.Rows.{RowLists, Imports, Requires}
 use Rattle.osgi_space_sources.specs.computed.Clashes.{HasWires}
 use Rattle.osgi_space_sources.specs.computed.Marks.{IsMarked}
+use Rattle.osgi_space_sources.specs.computed.Pairs.{IsUse}
 use Rattle.osgi_space_sources.specs.computed.RowSources.{HasExport}
 use Rattle.osgi_space_sources.specs.declared.disputed.Disputed.{Disputed}
 use Rattle.osgi_space_sources.specs.declared.disputed.Possible.{Possible}
+use Rattle.osgi_space_sources.specs.declared.given.Given.{Given}
 
 -- x has a wire, or one goes to it
 abbrev pub IsWireEnd : RowLists → ℕ → Type 0
@@ -50,3 +52,7 @@ pub record AreNoted (R : RowLists) (possible : Possible) : Type 0 where
 pub record AreDisputed (R : RowLists) (disputed : Disputed) : Type 0 where
   pub ends : (x : ℕ) → IsWireEnd R x → IsEnd disputed x
   pub alike : (p x y : ℕ) → IsPossible R (IsEnd disputed) p x → IsPossible R (IsEnd disputed) p y → (x ≡ y) ⊎ IsDisputed disputed p
+
+-- all that exports of these packages use is found, by their possible sources of A, where E are the ends
+abbrev pub AreFollowed : RowLists → (ℕ → Type 0) → (ℕ → Type 0) → List ℕ → List Given → Type 0
+AreFollowed R A E followed found = (p x : ℕ) → Contains followed p → IsPossible R E p x → A x → (g : Given) → IsUse R x p g → Contains found g

@@ -12,7 +12,7 @@ use Rattle.osgi_space_sources.proofs.Carried.{space-implied}
 use Rattle.osgi_space_sources.proofs.Givers.{seen-parts}
 use Rattle.osgi_space_sources.proofs.Rows.{some-imported}
 use Rattle.osgi_space_rows.specs.declared.rows.Import.{Import}
-use Rattle.osgi_space_sources.proofs.Agreeing.{agrees-unless}
+use Rattle.osgi_space_sources.proofs.Agreeing.{agrees-unless, implied-end}
 use Rattle.osgi_space_sources.specs.laws.Following.{none-implied}
 use Rattle.osgi_space_sources.proofs.uses.keeps_uses.Goals as goal
 
@@ -53,6 +53,23 @@ returns-then-not-sees_disputed c =
     let yes = c.sees_disputed.ensures.disputed.1 sees in
     let no = c.if-not-sees_disputed.true in cc in
     record { uses = (λ t. agrees-unless R disputed c.requires.disputed A r away, λ k. refl) }
+
+-- the constraints of a revision with wires are seen by ends of wires
+pub constraints_between-requires : goal.constraints_between-requires
+constraints_between-requires c =
+    let R = c.args.rows.now in
+    let r = c.args.revision in
+    let A = IsAmong c.args.among in
+    let there : A r = c.has.ensures.among.0 c.if-not-has.false in
+    let wires : HasWires R r = c.has_wires.ensures.wires.0 c.if-not-has_wires.false in
+    let imports = c.of_revision-imports.result.now in
+    let givens = c.in_ok-givens.givens.items in
+    record {
+      disputed = c.requires.disputed;
+      ends = λ g follows.
+          let carried = space-implied R A r there imports c.of_revision-imports.ensures.rows givens c.in_ok-givens.ensures.sources g in
+          c.requires.disputed.ends g.source (implied-end R (inl wires) (carried.0 (subst (λ xs. IsFollowing R A imports xs g) c.as_slice-2.ensures.value follows)));
+    }
 
 pub returns : goal.returns
 returns c =
