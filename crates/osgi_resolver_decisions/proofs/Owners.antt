@@ -21,7 +21,7 @@ use Rattle.osgi_world.specs.declared.problem.Problem.{Problem}
 use Rattle.osgi_world.specs.declared.wiring.CapRef.{CapRef}
 use Rattle.osgi_world.specs.declared.wiring.ReqRef.{ReqRef}
 use Rattle.osgi_world.specs.declared.world.World.{World}
-use Rattle.osgi_resolver_decisions.specs.computed.Known.{Found, IsProblemIn, IsRightOf, KnowsAll}
+use Rattle.osgi_resolver_decisions.specs.computed.Known.{FoundOut, IsProblemIn, IsRightOf, KnowsMore}
 use Rattle.osgi_resolver_decisions.specs.computed.Sureness.{items_of, list_at}
 use Rattle.osgi_resolver_decisions.specs.declared.owned.Owned.{Owned}
 
@@ -84,5 +84,5 @@ right-same P old new same before owner of at = before owner of (sym (same owner.
 
 -- ---- what stays known
 
-pub still-all : (old more new : Found) → KnowsAll old more → KnowsAll more new → KnowsAll old new
+pub still-all : (old more new : FoundOut) → KnowsMore old more → KnowsMore more new → KnowsMore old new
 still-all old more new a b = record { offers = b.offers ∙ a.offers; owners = λ o k. b.owners o (a.owners o k) }

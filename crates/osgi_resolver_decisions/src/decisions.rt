@@ -7,7 +7,8 @@ use std::alloc::{AllocError, Global};
 use std::marker::Model;
 use std::rc::Rc;
 
-/// Decisions that do not change. However many they are, one holder more costs the same. Contracts see their list.
+/// Decisions that do not change, shared by a count of holders: one holder more costs the same however many they are. Contracts see
+/// their list.
 #[derive(Drop)]
 pub struct Decisions {
     /// None where there are none.

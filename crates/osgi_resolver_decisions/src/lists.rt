@@ -7,7 +7,7 @@ ghost use Rattle.osgi_world.specs.declared.problem.Problem.{Problem};
 ghost use Rattle.osgi_resolver_decisions.specs.Sure.{AreSure, LacksCandidate};
 ghost use Rattle.osgi_resolver_decisions.specs.computed.Asks.{decisions_in, first_due};
 ghost use Rattle.osgi_resolver_decisions.specs.computed.Free.{is_free};
-ghost use Rattle.osgi_resolver_decisions.specs.computed.Known.{AreListsBefore, AreListsOf, IsProblemIn, IsRightOf, Knows, KnowsAll};
+ghost use Rattle.osgi_resolver_decisions.specs.computed.Known.{AreListsBefore, AreListsOf, IsProblemIn, IsRightOf, Knows, KnowsMore};
 
 use crate::asks::list_at;
 use crate::decisions::Decisions;
@@ -35,9 +35,9 @@ impl<'w> Model for Lists<'w> {
     ghost use Rattle.std.specs.Coded.{codes};
     ghost use Rattle.osgi_model.specs.contracts.filter.Filter as filter;
     ghost use Rattle.osgi_model.specs.contracts.value.Value as value;
-    ghost use Rattle.osgi_resolver_decisions.specs.computed.Known.{AreRight, Found};
+    ghost use Rattle.osgi_resolver_decisions.specs.computed.Known.{AreRight, FoundOut};
 
-    ghost Value = { Found };
+    ghost Value = { FoundOut };
 
     ghost coded = { Prim.hlevel (codes, filter.the_row.coded, value.the_row.coded) };
 
@@ -73,7 +73,7 @@ impl<'w> Lists<'w> {
 
     /// Finds out what is to be known of the owner, unless it is known.
     pub fn learn(&mut self, alloc: Global, owner: RevisionId) -> Result<(), AllocError>
-        ensures nothing_lost { KnowsAll self.old self.new }
+        ensures nothing_lost { KnowsMore self.old self.new }
         ensures known { OnOk result (Knows self.new owner) }
     {
         if self.by_owner.get(owner.0).is_some() {

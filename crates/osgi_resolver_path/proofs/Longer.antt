@@ -23,7 +23,7 @@ use Rattle.osgi_resolver_theory.proofs.Words.{made-more, word-more}
 use Rattle.osgi_resolver_decisions.specs.DecisionOf.{decision_of}
 use Rattle.osgi_resolver_decisions.specs.computed.Asks.{decisions_in}
 use Rattle.osgi_resolver_path.specs.computed.Courses.{AreKnown, AreSteps, CourseLists, IsRight, lists_of, made_of, taken_back, word_of}
-use Rattle.osgi_resolver_decisions.specs.computed.Known.{IsProblemIn, Knows, KnowsAll}
+use Rattle.osgi_resolver_decisions.specs.computed.Known.{IsProblemIn, Knows, KnowsMore}
 use Rattle.osgi_resolver_path.specs.computed.Moving.{AreLearnt, IsLearnt, IsLonger, IsMarkOf}
 use Rattle.osgi_resolver_path.specs.computed.Nexts.{IsDecidedWith, IsSameCourse}
 use Rattle.osgi_resolver_path.specs.computed.Steps.{IsAsked, IsListed, steps_in}
@@ -124,8 +124,8 @@ module _ (P : Problem) (L : IsProblem P) (lists : Lists) (c : Course) (r : IsRig
 
 -- ---- and what they know with one decision more
 
-pub learnt-more : (known learnt new : Lists) (c d : Course) (mark : Mark) (joining : Option RevisionId) → IsLearnt known c → KnowsAll known learnt → ((h f : RevisionId) → steps_in mark.step ≡ attached h f ∷ [] → Knows learnt f) → ((r : RevisionId) → joining ≡ Some r → Knows learnt r) →
-    KnowsAll learnt new → d.ids.items ≡ c.ids.items ++ option_to_list joining → d.marks.items ≡ c.marks.items ++ mark ∷ [] → IsLearnt new d
+pub learnt-more : (known learnt new : Lists) (c d : Course) (mark : Mark) (joining : Option RevisionId) → IsLearnt known c → KnowsMore known learnt → ((h f : RevisionId) → steps_in mark.step ≡ attached h f ∷ [] → Knows learnt f) → ((r : RevisionId) → joining ≡ Some r → Knows learnt r) →
+    KnowsMore learnt new → d.ids.items ≡ c.ids.items ++ option_to_list joining → d.marks.items ≡ c.marks.items ++ mark ∷ [] → IsLearnt new d
 learnt-more known learnt new c d mark joining old kept fragment joins more ids marks = record {
   members = λ m i. elim (in-append_cases c.ids.items (option_to_list joining) m (subst (In m) ids i)) [
     | inl a ↦ more.owners m (kept.owners m (old.members m a))
@@ -142,7 +142,7 @@ learnt-more known learnt new c d mark joining old kept fragment joins more ids m
     joined-is (Some x) m (inl e) = ap Some (sym e)
     joined-is (Some x) m (inr i) = elim i [ ]
 
-pub learnt-still : (known new : Lists) (c d : Course) → IsLearnt known c → KnowsAll known new → IsSameCourse c d → IsLearnt new d
+pub learnt-still : (known new : Lists) (c d : Course) → IsLearnt known c → KnowsMore known new → IsSameCourse c d → IsLearnt new d
 learnt-still known new c d old kept same = record {
   members = λ m i. kept.owners m (old.members m (subst (In m) (ap (λ (F : CourseLists). F.ids) same.lists) i));
   fragments = λ k h f i e. kept.owners f (old.fragments k h f (subst (λ ms. In k (reverse ms)) same.marks i) e);

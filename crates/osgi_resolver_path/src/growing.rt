@@ -11,7 +11,7 @@ ghost use Rattle.osgi_world.specs.declared.problem.Problem.{Problem};
 ghost use Rattle.osgi_resolver_decisions.specs.DecisionOf.{decision_of};
 ghost use Rattle.osgi_resolver_decisions.specs.computed.Asks.{decisions_in, first_due};
 ghost use Rattle.osgi_resolver_path.specs.computed.Courses.{made_of};
-ghost use Rattle.osgi_resolver_decisions.specs.computed.Known.{IsProblemIn, Knows, KnowsAll};
+ghost use Rattle.osgi_resolver_decisions.specs.computed.Known.{IsProblemIn, Knows, KnowsMore};
 ghost use Rattle.osgi_resolver_path.specs.computed.Placed.{ArePlaces, IsNoMember};
 ghost use Rattle.osgi_resolver_path.specs.computed.Steps.{steps_in};
 
@@ -84,7 +84,7 @@ pub fn is_first(value: Option<u64>) -> bool
 
 /// Asks for the candidates of all owners.
 pub fn learn_all(alloc: Global, lists: &mut Lists, owners: &[RevisionId]) -> Result<(), AllocError>
-    ensures nothing_lost { KnowsAll lists.old lists.new }
+    ensures nothing_lost { KnowsMore lists.old lists.new }
     ensures known { OnOk result (All (Knows lists.new) owners.now) }
 {
     for owner in owners {
@@ -99,7 +99,7 @@ pub fn first_of(
     lists: &mut Lists,
     member: RevisionId,
 ) -> Result<Decisions, AllocError>
-    ensures nothing_lost { KnowsAll lists.old lists.new }
+    ensures nothing_lost { KnowsMore lists.old lists.new }
     ensures first { IfOk result (λ list. (P : Problem) → IsProblemIn lists.old.offers P
         → IsTrue (is_current P.world.known member) → decisions_in list ≡ first_due P member) }
 {

@@ -16,7 +16,7 @@ ghost use Rattle.osgi_resolver_path.specs.computed.Moving.{IsSpaceOf};
 ghost use Rattle.osgi_resolver_path.specs.computed.Placed.{ArePlaces, IsNoMember};
 ghost use Rattle.osgi_resolver_path.specs.computed.Nexts.{AreRowsBefore, IsDecidedBy, IsDecidedWith, IsNextOf, IsOpenedBy, IsSameCourse};
 ghost use Rattle.osgi_resolver_path.specs.computed.Steps.{steps_in};
-ghost use Rattle.osgi_resolver_decisions.specs.computed.Known.{IsProblemIn, Knows, KnowsAll};
+ghost use Rattle.osgi_resolver_decisions.specs.computed.Known.{IsProblemIn, Knows, KnowsMore};
 
 use crate::attached::owners_of;
 use crate::course::{Course, Mark};
@@ -38,7 +38,7 @@ fn asks_with(
     fragment: RevisionId,
     value: u64,
 ) -> Result<Decisions, AllocError>
-    ensures nothing_lost { KnowsAll lists.old lists.new }
+    ensures nothing_lost { KnowsMore lists.old lists.new }
     ensures asks { IfOk result (λ asks. (P : Problem) (D : Made) → IsProblemIn lists.old.offers P
         → AreAttached rows.now D host →
         All (λ (o : RevisionId). IsTrue (is_current P.world.known o))
@@ -60,7 +60,7 @@ pub fn asks_after(
     decision: DecisionRef,
     value: u64,
 ) -> Result<Decisions, AllocError>
-    ensures nothing_lost { KnowsAll lists.old lists.new }
+    ensures nothing_lost { KnowsMore lists.old lists.new }
     ensures asks { IfOk result (λ asks. (P : Problem) (D : Made) → IsProblemIn lists.old.offers P
         → AreAttached rows.now D (decisions.host (decision_of decision))
         → IsAskedAfter P D (decision_of decision) value (decisions_in asks)) }
@@ -88,7 +88,7 @@ fn take(spaces: &mut Linked, step: Option<Step>) -> Result<(), AllocError>
 
 /// Asks for the candidates of a fragment that is attached.
 fn learn_attached(alloc: Global, lists: &mut Lists, step: Option<Step>) -> Result<(), AllocError>
-    ensures nothing_lost { KnowsAll lists.old lists.new }
+    ensures nothing_lost { KnowsMore lists.old lists.new }
     ensures known { OnOk result ((h f : RevisionId) → steps_in step ≡ attached h f ∷ []
         → Knows lists.new f) }
 {
@@ -104,7 +104,7 @@ fn learn_joining(
     lists: &mut Lists,
     joining: Option<RevisionId>,
 ) -> Result<(), AllocError>
-    ensures nothing_lost { KnowsAll lists.old lists.new }
+    ensures nothing_lost { KnowsMore lists.old lists.new }
     ensures known { OnOk result ((r : RevisionId) → joining ≡ Some r → Knows lists.new r) }
 {
     if let Some(revision) = joining {
@@ -124,7 +124,7 @@ fn more_after(
 ) -> Result<More, AllocError>
     requires rows { AreRowsBefore rows.now lists.old.offers course.now decision value }
     requires last_in { course.now.last < length course.now.ids.items }
-    ensures nothing_lost { KnowsAll lists.old lists.new }
+    ensures nothing_lost { KnowsMore lists.old lists.new }
     ensures more { IfOk result (λ more. (P : Problem) (ids : List RevisionId)
         → IsProblemIn lists.old.offers P
         → IsRight P (reverse course.now.marks.items) (record (lists_of course.now) { ids = ids }) →
@@ -154,7 +154,7 @@ fn decide(
 ) -> Result<(), AllocError>
     requires spaces { IsSpaceOf lists.old.offers course.old spaces.old }
     requires last_in { course.old.last < length course.old.ids.items }
-    ensures nothing_lost { KnowsAll lists.old lists.new }
+    ensures nothing_lost { KnowsMore lists.old lists.new }
     ensures spaces { OnOk result (spaces.new
         ≡ record spaces.old { steps = steps_in mark.step ++ spaces.old.steps }) }
     ensures marks { OnOk result (course.new.marks.items ≡ course.old.marks.items ++ mark ∷ []) }
@@ -202,7 +202,7 @@ pub fn learn_new(
     step: Option<Step>,
     joining: Option<RevisionId>,
 ) -> Result<(), AllocError>
-    ensures nothing_lost { KnowsAll lists.old lists.new }
+    ensures nothing_lost { KnowsMore lists.old lists.new }
     ensures attached { OnOk result ((h f : RevisionId) → steps_in step ≡ attached h f ∷ []
         → Knows lists.new f) }
     ensures joined { OnOk result ((r : RevisionId) → joining ≡ Some r → Knows lists.new r) }
@@ -225,7 +225,7 @@ pub fn decide_with(
     requires new { IsNoMember joining course.old.ids.items }
     requires placed { ArePlaces course.old.places course.old.ids.items }
     requires last_in { course.old.last < length course.old.ids.items }
-    ensures nothing_lost { KnowsAll lists.old lists.new }
+    ensures nothing_lost { KnowsMore lists.old lists.new }
     ensures placed { ArePlaces course.new.places course.new.ids.items }
     ensures spaces { OnOk result (spaces.new
         ≡ record spaces.old { steps = steps_in mark.step ++ spaces.old.steps }) }

@@ -7,7 +7,7 @@ ghost use Rattle.osgi_world.specs.DueDecisions.{members};
 ghost use Rattle.osgi_world.specs.declared.problem.Problem.{Problem};
 ghost use Rattle.osgi_resolver_theory.specs.States.{State};
 ghost use Rattle.osgi_resolver_decisions.specs.computed.Asks.{decisions_in};
-ghost use Rattle.osgi_resolver_decisions.specs.computed.Known.{IsProblemIn, KnowsAll};
+ghost use Rattle.osgi_resolver_decisions.specs.computed.Known.{IsProblemIn, KnowsMore};
 ghost use Rattle.osgi_resolver_path.specs.computed.Openings.{IsOpened, Waits};
 
 use crate::growing::first_of;
@@ -30,7 +30,7 @@ pub fn open(
     more: More,
 ) -> Result<More, AllocError>
     requires last_in { more.last < length ids.now }
-    ensures nothing_lost { KnowsAll lists.old lists.new }
+    ensures nothing_lost { KnowsMore lists.old lists.new }
     ensures opened { IfOk result (λ r. (P : Problem) (D : Made) (qs : List decisions.Decision)
         → IsProblemIn lists.old.offers P → State P D → ids.now ≡ members P D
         → length qs ≡ length D →

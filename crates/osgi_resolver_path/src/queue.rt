@@ -6,9 +6,8 @@ use osgi_resolver_decisions::{DecisionRef, Decisions};
 use std::alloc::{AllocError, Global};
 use std::marker::Model;
 
-/// Decisions in order, to whose end others are put and taken off again. Those that came last are shared with where they came from, and
-/// are copied once others come after them, so that it costs the same to put any number to the end and to take them off again. Contracts
-/// see the list.
+/// Decisions in order, appended and removed at the end. The list appended last is shared with its owner, and is copied when another
+/// comes after it: so to append one costs as much as the one before it is long, and nothing by its own length. Contracts see the list.
 pub struct Queue {
     before: Vec<DecisionRef>,
     last: Decisions,

@@ -19,7 +19,7 @@ use Rattle.osgi_space_rows.specs.declared.rows.Import.{Import}
 use Rattle.osgi_space_rows.specs.declared.rows.Required.{Required}
 use Rattle.osgi_space_rows.specs.laws.AllKnown.{capability-known, is-known, known-in}
 use Rattle.osgi_space_rows.proofs.Stepped.{in-append_cases}
-use Rattle.osgi_space_sources.specs.computed.Disputes.{AreNoted, Extends, IsEnd, IsNoted, IsWireEnd}
+use Rattle.osgi_space_sources.specs.computed.Disputes.{AreNoted, NotesMore, IsNotedEnd, IsNoted, IsWireEnd}
 use Rattle.osgi_space_sources.specs.computed.RowSources.{HasExport}
 use Rattle.osgi_space_sources.specs.declared.disputed.Possible.{Possible}
 use Rattle.osgi_space_sources.specs.laws.Noted.{noted-more}
@@ -34,10 +34,10 @@ beyond xs ys x (more, is) at = elim (Contains-append_cases xs more x (subst (λ 
 
 module _ (K : List Known) (first : ℕ) (W : List Wiring) (old : Named) (before after : WorldLists) (possible noted : Possible)
     (known : before.known ≡ K) (adds : AddsKnown (take first K) W old before) (all_known : AreAllKnown (take first K) W) (grown : AddsWires before.rows after.rows)
-    (extends : Extends after.rows possible noted) (were_noted : AreNoted old.rows possible)
-    (owners : (k : Known) (p : ℕ) → In k (drop first K) → IsEnd possible.disputed k.id.0 → OwnExport before.rows k.id.0 p → IsNoted noted p k.id.0)
-    (providers : (r p x : ℕ) → Contains (drop (length before.rows.imports) after.rows.imports) (record { revision = r; imported = p; provider = x }) → IsNoted noted p x × IsEnd noted.disputed r × IsEnd noted.disputed x)
-    (bundles : (row : Required) → Contains (drop (length before.rows.required) after.rows.required) row → IsEnd noted.disputed row.revision × IsEnd noted.disputed row.provider)
+    (extends : NotesMore after.rows possible noted) (were_noted : AreNoted old.rows possible)
+    (owners : (k : Known) (p : ℕ) → In k (drop first K) → IsNotedEnd possible.disputed k.id.0 → OwnExport before.rows k.id.0 p → IsNoted noted p k.id.0)
+    (providers : (r p x : ℕ) → Contains (drop (length before.rows.imports) after.rows.imports) (record { revision = r; imported = p; provider = x }) → IsNoted noted p x × IsNotedEnd noted.disputed r × IsNotedEnd noted.disputed x)
+    (bundles : (row : Required) → Contains (drop (length before.rows.required) after.rows.required) row → IsNotedEnd noted.disputed row.revision × IsNotedEnd noted.disputed row.provider)
     (hosts : (h f p : ℕ) → Contains (drop (length before.rows.attached) after.rows.attached) (record { host = h; fragment = f }) → OwnExport after.rows f p → IsNoted noted p h) where
   own-before : (o p : ℕ) → OwnExport after.rows o p → OwnExport before.rows o p
   own-before o p own = subst (λ (xs : List Export). Contains xs (record { owner = o; exported = p })) grown.exports own
@@ -49,12 +49,12 @@ module _ (K : List Known) (first : ℕ) (W : List Wiring) (old : Named) (before 
       let found = known-in before.known (id o) (capability-known before.known (id o) e.0 e.1.0) in
       (found.0, subst (In found.0) (known ∙ sym (take-append-drop first K)) found.1, found.2)
 
-  own-noted : (o p : ℕ) → IsEnd possible.disputed o → OwnExport before.rows o p → HasExport old.rows o p ⊎ IsNoted noted p o
+  own-noted : (o p : ℕ) → IsNotedEnd possible.disputed o → OwnExport before.rows o p → HasExport old.rows o p ⊎ IsNoted noted p o
   own-noted o p end own = let k = owner-known o p own in elim (in-append_cases k.0 (take first K) (drop first K) k.1) [
     | inl early ↦ inl (o, inl refl, adds.exports o p (is-known (take first K) k.0 (id o) early k.2) own)
     | inr late ↦
         let same : k.0.id.0 ≡ o = ap (λ (i : RevisionId). i.0) k.2 in
-        inr (subst (IsNoted noted p) same (owners k.0 p late (subst (IsEnd possible.disputed) (sym same) end) (subst (λ n. OwnExport before.rows n p) (sym same) own)))
+        inr (subst (IsNoted noted p) same (owners k.0 p late (subst (IsNotedEnd possible.disputed) (sym same) end) (subst (λ n. OwnExport before.rows n p) (sym same) own)))
   ]
 
   fragment-noted : (h f p : ℕ) → Attaches after.rows h f → OwnExport after.rows f p → HasExport old.rows h p ⊎ IsNoted noted p h
@@ -67,25 +67,25 @@ module _ (K : List Known) (first : ℕ) (W : List Wiring) (old : Named) (before 
   ]
 
   -- each row is one of those before, or its ends and its source are noted
-  import-noted : (r p x : ℕ) → Imports after.rows r p x → Imports old.rows r p x ⊎ IsNoted noted p x × IsEnd noted.disputed r × IsEnd noted.disputed x
+  import-noted : (r p x : ℕ) → Imports after.rows r p x → Imports old.rows r p x ⊎ IsNoted noted p x × IsNotedEnd noted.disputed r × IsNotedEnd noted.disputed x
   import-noted r p x at = elim (beyond before.rows.imports after.rows.imports (record { revision = r; imported = p; provider = x }) grown.imports at) [
     | inl early ↦ inl (subst (λ (xs : List Import). Contains xs (record { revision = r; imported = p; provider = x })) adds.imports early)
     | inr late ↦ inr (providers r p x late)
   ]
 
-  bundle-noted : (row : Required) → Contains after.rows.required row → Contains old.rows.required row ⊎ IsEnd noted.disputed row.revision × IsEnd noted.disputed row.provider
+  bundle-noted : (row : Required) → Contains after.rows.required row → Contains old.rows.required row ⊎ IsNotedEnd noted.disputed row.revision × IsNotedEnd noted.disputed row.provider
   bundle-noted row at = elim (beyond before.rows.required after.rows.required row grown.required at) [
     | inl early ↦ inl (subst (λ (xs : List Required). Contains xs row) adds.required early)
     | inr late ↦ inr (bundles row late)
   ]
 
-  end-noted : (x : ℕ) → IsWireEnd after.rows x → IsWireEnd old.rows x ⊎ IsEnd noted.disputed x
+  end-noted : (x : ℕ) → IsWireEnd after.rows x → IsWireEnd old.rows x ⊎ IsNotedEnd noted.disputed x
   end-noted x (inl (inl (p, y, at))) = elim (import-noted x p y at) [ inl early ↦ inl (inl (inl (p, y, early))) | inr late ↦ inr late.1 ]
   end-noted x (inl (inr (b, q))) = elim (bundle-noted (record { revision = x; provider = b; reexport = q.0 }) q.1) [ inl early ↦ inl (inl (inr (b, (q.0, early)))) | inr late ↦ inr late.0 ]
   end-noted x (inr (inl (r, p, at))) = elim (import-noted r p x at) [ inl early ↦ inl (inr (inl (r, p, early))) | inr late ↦ inr late.2 ]
   end-noted x (inr (inr (r, q))) = elim (bundle-noted (record { revision = r; provider = x; reexport = q.0 }) q.1) [ inl early ↦ inl (inr (inr (r, (q.0, early)))) | inr late ↦ inr late.1 ]
 
-  export-noted : (x p : ℕ) → IsEnd possible.disputed x → HasExport after.rows x p → HasExport old.rows x p ⊎ IsNoted noted p x
+  export-noted : (x p : ℕ) → IsNotedEnd possible.disputed x → HasExport after.rows x p → HasExport old.rows x p ⊎ IsNoted noted p x
   export-noted x p end (o, inl own, e) = own-noted x p end (subst (λ n. OwnExport before.rows n p) own (own-before o p e))
   export-noted x p end (o, inr at, e) = fragment-noted x o p at e
 

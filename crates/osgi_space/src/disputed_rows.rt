@@ -1,7 +1,7 @@
 //! The rows of a world, and the packages that may be disputed in them.
 
 ghost use Rattle.std.specs.Prelude.{◌≡◌, ◌≤◌, ℕ, Contains, IfOk, OnOk, OnErr, drop, length};
-ghost use Rattle.osgi_space_sources.specs.computed.Disputes.{AreDisputed, AreNoted, Extends, HoldsAll, IsEnd, IsNoted};
+ghost use Rattle.osgi_space_sources.specs.computed.Disputes.{AreDisputed, AreNoted, NotesMore, HoldsAll, IsNotedEnd, IsNoted};
 ghost use Rattle.osgi_space.specs.Kept.{FollowsRows};
 ghost use Rattle.osgi_space_rows.specs.AllKnown.{AreAllKnown};
 ghost use Rattle.osgi_space_rows.specs.Rows.{OwnExport, RowLists};
@@ -14,15 +14,15 @@ use crate::kept_rows::KeptRows;
 use osgi_base::RevisionId;
 use osgi_space_rows::{Added, Rows, WorldRows};
 use osgi_space_sources::{
-    Disputed, Possible, note_bundles, note_fragment, note_fragments, note_import, note_imports,
-    note_known, note_required, possible_sources,
+    Disputed, Possible, note_bundle_wire, note_bundle_wires, note_fragment, note_fragments,
+    note_known, note_package_wire, note_package_wires, possible_sources,
 };
 use osgi_world::{Known, Wire, Wiring};
 use std::alloc::{AllocError, Global};
 use std::marker::Model;
 
-/// Rows with the packages that may have more than one source in them, which are kept as wires and fragments are added. What is
-/// taken back leaves them as they are: of a package that is not among them there is still at most one possible source.
+/// Rows with the packages of which ends of wires may have different sources, which are kept up as wires and fragments are added. What
+/// is taken back leaves them as they are: of any other package the ends of wires still have at most one possible source.
 pub struct DisputedRows<'w> {
     rows: WorldRows<'w>,
     possible: Possible,
@@ -119,7 +119,7 @@ impl<'w> DisputedRows<'w> {
         &self.rows
     }
 
-    /// The packages of which revisions that wires join may have different sources.
+    /// The packages of which ends of wires may have different sources.
     pub fn disputed(&self) -> &Disputed
         ensures disputed { AreDisputed self.now.rows result.now }
     {
@@ -186,25 +186,25 @@ impl Places {
     }
 }
 
-/// Notes the sources that a row adds.
+/// Notes the sources and the ends that a row adds.
 fn note(possible: &mut Possible, rows: &Rows, added: Added) -> Result<(), AllocError>
     ensures noted { OnOk result ((R : RowLists) → rows.now ≡ with_added R added
         → AreNoted R possible.old → AreNoted rows.now possible.new) }
-    ensures extends { Extends rows.now possible.old possible.new }
+    ensures extends { NotesMore rows.now possible.old possible.new }
 {
     match added {
-        Added::Import(row) => note_import(possible, rows, row)?,
+        Added::Import(row) => note_package_wire(possible, rows, row)?,
         Added::Attachment(row) => note_fragment(possible, rows, row.host, row.fragment)?,
-        Added::Required(row) => note_required(possible, rows, row)?,
+        Added::Required(row) => note_bundle_wire(possible, rows, row)?,
         Added::Nothing => {}
     }
     Ok(())
 }
 
-/// The possible sources with those of these revisions that have wires, or to which wires go, as what their own exports come from.
+/// The possible sources with those of these revisions that are noted as ends as the sources of their own exports.
 fn with_known(possible: Possible, rows: &Rows, known: &[Known]) -> Result<Possible, AllocError>
     ensures noted { IfOk result (λ more. (k : Known) (p : ℕ) → In k known.now
-        → IsEnd possible.disputed k.id.0 → OwnExport rows.now k.id.0 p → IsNoted more p k.id.0) }
+        → IsNotedEnd possible.disputed k.id.0 → OwnExport rows.now k.id.0 p → IsNoted more p k.id.0) }
     ensures nothing_lost { IfOk result (HoldsAll possible) }
     ensures ends { IfOk result (λ more. more.disputed.ends ≡ possible.disputed.ends) }
 {
@@ -221,18 +221,18 @@ fn with_more(possible: Possible, rows: &Rows, places: Places) -> Result<Possible
     ensures imports { IfOk result (λ more. (r p x : ℕ)
         → Contains (drop places.imports rows.now.imports)
         (record { revision = r; imported = p; provider = x })
-        → IsNoted more p x × IsEnd more.disputed r × IsEnd more.disputed x) }
+        → IsNoted more p x × IsNotedEnd more.disputed r × IsNotedEnd more.disputed x) }
     ensures required { IfOk result (λ more. (row : Required)
         → Contains (drop places.required rows.now.required) row
-        → IsEnd more.disputed row.revision × IsEnd more.disputed row.provider) }
+        → IsNotedEnd more.disputed row.revision × IsNotedEnd more.disputed row.provider) }
     ensures attached { IfOk result (λ more. (h f p : ℕ)
         → Contains (drop places.attached rows.now.attached) (record { host = h; fragment = f })
         → OwnExport rows.now f p → IsNoted more p h) }
-    ensures extends { IfOk result (Extends rows.now possible) }
+    ensures extends { IfOk result (NotesMore rows.now possible) }
 {
     let mut more = possible;
-    note_imports(&mut more, rows, &rows.imports.all()[places.imports..])?;
-    note_bundles(&mut more, rows, &rows.required.all()[places.required..])?;
+    note_package_wires(&mut more, rows, &rows.imports.all()[places.imports..])?;
+    note_bundle_wires(&mut more, rows, &rows.required.all()[places.required..])?;
     note_fragments(&mut more, rows, &rows.attached.all()[places.attached..])?;
     Ok(more)
 }

@@ -2,7 +2,7 @@
 use Rattle.std.proofs.Common.{◌⊎◌, inl, inr, ℕ, true, sym, subst}
 use Rattle.osgi_space_rows.specs.Rows.{RowLists}
 use Rattle.osgi_space_sources.specs.computed.Clashes.{HasWires, KeepsUsesAmong}
-use Rattle.osgi_space_sources.specs.computed.Disputes.{AreDisputed, IsDisputed, IsEnd, IsPossible, IsWireEnd}
+use Rattle.osgi_space_sources.specs.computed.Disputes.{AreDisputed, IsDisputed, IsNotedEnd, IsPossible, IsWireEnd}
 use Rattle.osgi_space_sources.specs.computed.RowSources.{Clash, GivesPackage, HasExport, Implied, Sources, follows, itself, reexported, seen, substituted}
 use Rattle.osgi_space_sources.specs.declared.disputed.Disputed.{Disputed}
 use Rattle.osgi_space_sources.proofs.Alone.{agrees-with-itself}
@@ -28,17 +28,17 @@ module _ (R : RowLists) where
 -- ---- what is not disputed
 
 module _ (R : RowLists) (disputed : Disputed) (are : AreDisputed R disputed) where
-  given-possible : {p b x : ℕ} → IsWireEnd R b → GivesPackage R p b x → IsPossible R (IsEnd disputed) p x
+  given-possible : {p b x : ℕ} → IsWireEnd R b → GivesPackage R p b x → IsPossible R (IsNotedEnd disputed) p x
   given-possible end (substituted {b = b} at other has) = inl (b, at)
   given-possible {b = b} end (itself e) = inr (are.ends b end, e.0)
   given-possible end (reexported {b = b} at g) = given-possible (inr (inr (b, (true, at)))) g
 
-  pub source-possible : {r p x : ℕ} → IsEnd disputed r → Sources R r p x → IsPossible R (IsEnd disputed) p x
+  pub source-possible : {r p x : ℕ} → IsNotedEnd disputed r → Sources R r p x → IsPossible R (IsNotedEnd disputed) p x
   source-possible {r} end (inl at) = inl (r, at)
   source-possible {r} end (inr (none, inl (b, at, g))) = given-possible (inr (inr (r, at))) g
-  source-possible {p = p} end (inr (none, inr (e, x))) = inr (subst (IsEnd disputed) (sym e) end, subst (λ y. HasExport R y p) (sym e) x.0)
+  source-possible {p = p} end (inr (none, inr (e, x))) = inr (subst (IsNotedEnd disputed) (sym e) end, subst (λ y. HasExport R y p) (sym e) x.0)
 
-  pub clash-disputed : {r e u : ℕ} → IsEnd disputed r → IsEnd disputed e → Clash R r e u → IsDisputed disputed u
+  pub clash-disputed : {r e u : ℕ} → IsNotedEnd disputed r → IsNotedEnd disputed e → Clash R r e u → IsDisputed disputed u
   clash-disputed {r} {e} {u} here there c =
       elim (are.alike u c.ours c.theirs (source-possible here c.ours_in) (source-possible there c.theirs_in)) [
         | inl same ↦ absurd (c.theirs_out (subst (λ x. Sources R r u x) same c.ours_in))

@@ -3,7 +3,7 @@
 ghost use Rattle.std.specs.Prelude.{◌↔◌, ℕ, IfOk, OnOk, IsTrue};
 ghost use Rattle.osgi_space_sources.specs.computed.Adds.{Adds, AreAll};
 ghost use Rattle.osgi_space_sources.specs.computed.Amongst.{IsAmong};
-ghost use Rattle.osgi_space_sources.specs.computed.Disputes.{AreDisputed, AreFollowed, IsEnd};
+ghost use Rattle.osgi_space_sources.specs.computed.Disputes.{AreDisputed, AreFollowed, IsNotedEnd};
 ghost use Rattle.osgi_space_sources.specs.computed.Pairs.{IsFollowing, IsImplied, IsNext, IsOwnUse, IsUse, IsUseAmong, IsUseOfSome, IsUseOfWired, MayUse};
 ghost use Rattle.osgi_space_sources.specs.computed.RowSources.{Sources};
 ghost use Rattle.osgi_space_sources.specs.declared.given.Given.{Given};
@@ -155,13 +155,13 @@ fn follow(
     pair: Given,
 ) -> Result<(), AllocError>
     requires disputed { AreDisputed rows.now disputed.now }
-    requires end { IsEnd disputed.now pair.source }
-    requires followed { AreFollowed rows.now (IsAmong among) (IsEnd disputed.now)
+    requires end { IsNotedEnd disputed.now pair.source }
+    requires followed { AreFollowed rows.now (IsAmong among) (IsNotedEnd disputed.now)
         followed.old found.old }
     ensures added { OnOk result (Adds (IsNext rows.now (IsAmong among.entry) pair)
         found.old found.new) }
     ensures followed { OnOk result (AreFollowed rows.now (IsAmong among.entry)
-        (IsEnd disputed.now) followed.new found.new) }
+        (IsNotedEnd disputed.now) followed.new found.new) }
 {
     if followed.has(pair.package) {
         return Ok(());
@@ -209,7 +209,7 @@ pub(crate) fn constraints_between(
 ) -> Result<Found<Given>, AllocError>
     requires disputed { AreDisputed rows.now disputed.now }
     requires ends { (g : Given) → IsFollowing rows.now (IsAmong among) imports.now givens.now g
-        → IsEnd disputed.now g.source }
+        → IsNotedEnd disputed.now g.source }
     ensures following { IfOk result (AreAll (IsFollowing rows.now (IsAmong among.entry)
         imports.now givens.now)) }
 {

@@ -1,9 +1,9 @@
-//! The packages of which revisions that wires join may have different sources.
+//! The packages of which ends of wires may have different sources.
 
-ghost use Rattle.std.specs.Prelude.{◌≡◌, ◌↔◌, ◌⊎◌, ℕ, Contains, IfOk, IsTrue, OnOk};
+ghost use Rattle.std.specs.Prelude.{◌≡◌, ◌↔◌, length, ◌⊎◌, ℕ, Contains, IfOk, IsTrue, OnOk};
 ghost use Rattle.osgi_world.specs.Lists.{In};
 ghost use Rattle.osgi_world.specs.declared.world.Known.{Known};
-ghost use Rattle.osgi_space_sources.specs.computed.Disputes.{AreDisputed, AreNoted, Extends, HoldsAll, IsDisputed, IsEnd, IsNoted};
+ghost use Rattle.osgi_space_sources.specs.computed.Disputes.{AreDisputed, AreNoted, HasNoPackage, HoldsAll, IsDisputed, IsNoted, IsNotedEnd, NotesMore};
 ghost use Rattle.osgi_space_sources.specs.computed.RowSources.{HasExport};
 ghost use Rattle.osgi_space_rows.specs.Rows.{OwnExport};
 
@@ -15,8 +15,8 @@ use osgi_world::Known;
 use std::alloc::{AllocError, Global};
 use std::collections::BTreeSet;
 
-/// At least the packages of which two revisions at the ends of wires may have different sources, and at least these revisions. Who
-/// has no wire, and to whom none goes, has its packages from itself, and no other has any from it.
+/// At least the ends of wires, and at least the packages of which they may have different sources. Who has no wire, and to whom none
+/// goes, has its packages from itself, and no other has any from it.
 #[derive(Drop)]
 pub struct Disputed {
     packages: BTreeSet<u32>,
@@ -26,7 +26,7 @@ pub struct Disputed {
 impl Disputed {
     fn new(alloc: Global) -> Disputed
         ensures no_package { (p : ℕ) → ¬ IsDisputed result p }
-        ensures no_end { (x : ℕ) → ¬ IsEnd result x }
+        ensures no_end { (x : ℕ) → ¬ IsNotedEnd result x }
     {
         Disputed {
             packages: BTreeSet::new(alloc),
@@ -34,15 +34,17 @@ impl Disputed {
         }
     }
 
-    /// Whether no package is disputed. Where it is true, none is.
+    /// Whether no package is disputed.
     pub fn is_empty(&self) -> bool
-        ensures none { IsTrue result → (p : ℕ) → ¬ IsDisputed self.now p }
+        ensures none { IsTrue result ↔ HasNoPackage self.now }
     {
         self.packages.is_empty()
     }
 
-    /// How many packages are.
-    pub fn len(&self) -> usize {
+    /// How many packages are disputed.
+    pub fn len(&self) -> usize
+        ensures len { result ≡ length self.now.packages.keys }
+    {
         self.packages.len()
     }
 
@@ -53,23 +55,24 @@ impl Disputed {
         self.packages.contains(&package)
     }
 
-    /// Whether the revision is known as the end of a wire.
+    /// Whether the revision is noted as an end.
     fn has_end(&self, revision: u32) -> bool
-        ensures has { IsTrue result ↔ IsEnd self.now revision }
+        ensures has { IsTrue result ↔ IsNotedEnd self.now revision }
     {
         self.ends.has(revision)
     }
 
-    /// Whether the revision, and the one that sees the package, may have different sources of it.
+    /// Whether the revision, and the one that sees the package, may have different sources of it. Where the answer is true, that need
+    /// not be so.
     pub(crate) fn may_differ(&self, revision: u32, pair: Given) -> bool
-        ensures differ { ¬ IsTrue result → IsEnd self.now revision × IsEnd self.now pair.source
+        ensures differ { ¬ IsTrue result → IsNotedEnd self.now revision × IsNotedEnd self.now pair.source
             × ¬ IsDisputed self.now pair.package }
     {
         self.has(pair.package) || !self.has_end(revision) || !self.has_end(pair.source)
     }
 }
 
-/// One possible source of each package, and the packages that have others.
+/// One possible source of each package, and what is disputed.
 #[derive(Drop)]
 pub struct Possible {
     first: NumberMap<u32>,
@@ -79,7 +82,7 @@ pub struct Possible {
 impl Possible {
     pub fn new(alloc: Global) -> Possible
         ensures none { (p x : ℕ) → ¬ IsNoted result p x }
-        ensures no_end { (x : ℕ) → ¬ IsEnd result.disputed x }
+        ensures no_end { (x : ℕ) → ¬ IsNotedEnd result.disputed x }
     {
         Possible {
             first: NumberMap::new(alloc),
@@ -87,7 +90,7 @@ impl Possible {
         }
     }
 
-    /// At least the packages that have more than one possible source.
+    /// The ends of wires that were noted, and at least the packages that have more than one possible source among them.
     pub fn disputed(&self) -> &Disputed
         ensures disputed { result.now ≡ self.now.disputed }
     {
@@ -165,8 +168,8 @@ fn note_exports(possible: &mut Possible, rows: &Rows, revision: u32) -> Result<(
 
 /// Notes the revision as the end of a wire, and what its payload exports, unless it was noted before.
 fn note_end(possible: &mut Possible, rows: &Rows, revision: u32) -> Result<(), AllocError>
-    ensures noted { OnOk result (IsEnd possible.new.disputed revision) }
-    ensures extends { Extends rows.now possible.old possible.new }
+    ensures noted { OnOk result (IsNotedEnd possible.new.disputed revision) }
+    ensures extends { NotesMore rows.now possible.old possible.new }
 {
     if possible.disputed.has_end(revision) {
         return Ok(());
@@ -177,11 +180,15 @@ fn note_end(possible: &mut Possible, rows: &Rows, revision: u32) -> Result<(), A
 }
 
 /// Notes the provider of a wire for a package, and its ends.
-pub fn note_import(possible: &mut Possible, rows: &Rows, row: Import) -> Result<(), AllocError>
+pub fn note_package_wire(
+    possible: &mut Possible,
+    rows: &Rows,
+    row: Import,
+) -> Result<(), AllocError>
     ensures noted { OnOk result (IsNoted possible.new row.imported row.provider) }
-    ensures ends { OnOk result (IsEnd possible.new.disputed row.revision
-        × IsEnd possible.new.disputed row.provider) }
-    ensures extends { Extends rows.now possible.old possible.new }
+    ensures ends { OnOk result (IsNotedEnd possible.new.disputed row.revision
+        × IsNotedEnd possible.new.disputed row.provider) }
+    ensures extends { NotesMore rows.now possible.old possible.new }
 {
     possible.note(row.imported, row.provider)?;
     note_end(possible, rows, row.revision)?;
@@ -190,10 +197,14 @@ pub fn note_import(possible: &mut Possible, rows: &Rows, row: Import) -> Result<
 }
 
 /// Notes the ends of a wire for a required bundle.
-pub fn note_required(possible: &mut Possible, rows: &Rows, row: Required) -> Result<(), AllocError>
-    ensures ends { OnOk result (IsEnd possible.new.disputed row.revision
-        × IsEnd possible.new.disputed row.provider) }
-    ensures extends { Extends rows.now possible.old possible.new }
+pub fn note_bundle_wire(
+    possible: &mut Possible,
+    rows: &Rows,
+    row: Required,
+) -> Result<(), AllocError>
+    ensures ends { OnOk result (IsNotedEnd possible.new.disputed row.revision
+        × IsNotedEnd possible.new.disputed row.provider) }
+    ensures extends { NotesMore rows.now possible.old possible.new }
 {
     note_end(possible, rows, row.revision)?;
     note_end(possible, rows, row.provider)?;
@@ -201,42 +212,42 @@ pub fn note_required(possible: &mut Possible, rows: &Rows, row: Required) -> Res
 }
 
 /// Notes the providers of wires for packages, and their ends.
-pub fn note_imports(
+pub fn note_package_wires(
     possible: &mut Possible,
     rows: &Rows,
     imports: &[Import],
 ) -> Result<(), AllocError>
     ensures noted { OnOk result ((r p x : ℕ)
         → Contains imports.now (record { revision = r; imported = p; provider = x })
-        → IsNoted possible.new p x × IsEnd possible.new.disputed r
-        × IsEnd possible.new.disputed x) }
-    ensures extends { Extends rows.now possible.old possible.new }
+        → IsNoted possible.new p x × IsNotedEnd possible.new.disputed r
+        × IsNotedEnd possible.new.disputed x) }
+    ensures extends { NotesMore rows.now possible.old possible.new }
 {
     for row in imports {
-        note_import(possible, rows, *row)?;
+        note_package_wire(possible, rows, *row)?;
     }
     Ok(())
 }
 
 /// Notes the ends of wires for required bundles.
-pub fn note_bundles(
+pub fn note_bundle_wires(
     possible: &mut Possible,
     rows: &Rows,
     required: &[Required],
 ) -> Result<(), AllocError>
     ensures ends { OnOk result ((row : Required) → Contains required.now row
-        → IsEnd possible.new.disputed row.revision × IsEnd possible.new.disputed row.provider) }
-    ensures extends { Extends rows.now possible.old possible.new }
+        → IsNotedEnd possible.new.disputed row.revision × IsNotedEnd possible.new.disputed row.provider) }
+    ensures extends { NotesMore rows.now possible.old possible.new }
 {
     for row in required {
-        note_required(possible, rows, *row)?;
+        note_bundle_wire(possible, rows, *row)?;
     }
     Ok(())
 }
 
-/// Notes the revision as what its own exports come from, if it is noted as the end of a wire.
+/// Notes the revision as the source of its own exports, if it is noted as an end.
 fn note_own(possible: &mut Possible, rows: &Rows, revision: u32) -> Result<(), AllocError>
-    ensures noted { OnOk result (IsEnd possible.old.disputed revision → (p : ℕ)
+    ensures noted { OnOk result (IsNotedEnd possible.old.disputed revision → (p : ℕ)
         → OwnExport rows.now revision p → IsNoted possible.new p revision) }
     ensures nothing_lost { HoldsAll possible.old possible.new }
     ensures ends { possible.new.disputed.ends ≡ possible.old.disputed.ends }
@@ -247,10 +258,10 @@ fn note_own(possible: &mut Possible, rows: &Rows, revision: u32) -> Result<(), A
     note_fragment(possible, rows, revision, revision)
 }
 
-/// Notes those of these revisions that are noted as ends of wires as what their own exports come from.
+/// Notes each of these revisions that is noted as an end as the source of its own exports.
 pub fn note_known(possible: &mut Possible, rows: &Rows, known: &[Known]) -> Result<(), AllocError>
     ensures noted { OnOk result ((k : Known) (p : ℕ) → In k known.now
-        → IsEnd possible.old.disputed k.id.0 → OwnExport rows.now k.id.0 p
+        → IsNotedEnd possible.old.disputed k.id.0 → OwnExport rows.now k.id.0 p
         → IsNoted possible.new p k.id.0) }
     ensures nothing_lost { OnOk result (HoldsAll possible.old possible.new) }
     ensures ends { OnOk result (possible.new.disputed.ends ≡ possible.old.disputed.ends) }
@@ -266,12 +277,12 @@ pub fn possible_sources(alloc: Global, rows: &Rows) -> Result<Possible, AllocErr
     ensures noted { IfOk result (λ possible. AreNoted rows.now possible) }
 {
     let mut possible = Possible::new(alloc);
-    note_imports(&mut possible, rows, rows.imports.all())?;
-    note_bundles(&mut possible, rows, rows.required.all())?;
+    note_package_wires(&mut possible, rows, rows.imports.all())?;
+    note_bundle_wires(&mut possible, rows, rows.required.all())?;
     Ok(possible)
 }
 
-/// At least the packages of which two revisions at the ends of wires may have different sources, with these revisions.
+/// The ends of wires in the rows, and at least the packages of which they may have different sources.
 pub fn disputed_packages(alloc: Global, rows: &Rows) -> Result<Disputed, AllocError>
     ensures disputed { IfOk result (λ disputed. AreDisputed rows.now disputed) }
 {

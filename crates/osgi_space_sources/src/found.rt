@@ -86,9 +86,10 @@ impl<T: Node> Found<T> {
         self.set.contains(&node)
     }
 
-    /// Adds a value, unless it is there.
+    /// Adds a value, unless it is there. If memory runs out, nothing changes.
     pub fn add(&mut self, node: T) -> Result<(), AllocError>
         ensures added { OnOk result (Adds (λ x. x ≡ node) self.old self.new) }
+        ensures unchanged { OnErr result (self.new ≡ self.old) }
     {
         if self.has(node) {
             return Ok(());

@@ -24,8 +24,8 @@ pub use bundles::reached_bundles;
 pub use clash::clashes;
 pub use constraints::{constraints_from, constraints_of};
 pub use disputed::{
-    Disputed, Possible, note_bundles, note_fragment, note_fragments, note_import, note_imports,
-    note_known, note_required, possible_sources,
+    Disputed, Possible, note_bundle_wire, note_bundle_wires, note_fragment, note_fragments,
+    note_known, note_package_wire, note_package_wires, possible_sources,
 };
 pub use found::Found;
 pub use given::Given;

@@ -55,7 +55,8 @@ fn sees_disputed(imports: &[Import], givens: &[Given], disputed: &Disputed) -> b
     has_disputed(givens, disputed)
 }
 
-/// Whether the constraint is violated. Only disputed packages are looked at, since of others all have the same source.
+/// Whether the constraint is violated. Sources are compared only where they may differ: ends of wires have the same source of a
+/// package that is not disputed.
 fn is_violated(
     alloc: Global,
     rows: &Rows,

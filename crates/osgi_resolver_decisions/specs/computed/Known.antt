@@ -39,26 +39,26 @@ pub record IsRightOf (P : Problem) (owner : RevisionId) (of : Owned) : Type 0 wh
   pub sure_is : IsTrue (is_current P.world.known owner) → IsTrue of.is_sure → AreSure P owner
   pub lacks_is : IsTrue of.lacks_candidate ↔ IsTrue (is_current P.world.known owner) × LacksCandidate P owner
 
--- what a world offers, and what was found out of each owner that was asked about: of those with small numbers by these, and of others in
--- order
-pub record Found : Type 0 where
+-- what a world offers, and what was found out about each owner that was asked about: about those with small numbers by their numbers,
+-- about others in order
+pub record FoundOut : Type 0 where
   pub offers : World
   pub low : List (Option Owned)
   pub high : List (ℕ × Owned)
 
--- what was found out of the owner
-abbrev pub found_of : Found → RevisionId → Option Owned
+-- what was found out about the owner
+abbrev pub found_of : FoundOut → RevisionId → Option Owned
 found_of found owner = cond (ltb owner.0 65536) (slice_index_or found.low owner.0 None) (lookup (is_at (nat_cmp owner.0)) found.high)
 
 -- what was found out is so in any problem of the world
-abbrev pub AreRight : Found → Type 0
+abbrev pub AreRight : FoundOut → Type 0
 AreRight found = (P : Problem) → IsProblemIn found.offers P → (owner : RevisionId) (of : Owned) → found_of found owner ≡ Some of → IsRightOf P owner of
 
--- something was found out of the owner
-abbrev pub Knows : Found → RevisionId → Type 0
+-- something was found out about the owner
+abbrev pub Knows : FoundOut → RevisionId → Type 0
 Knows found owner = IsSome (found_of found owner)
 
 -- the world is the same, and what was known still is
-pub record KnowsAll (old new : Found) : Type 0 where
+pub record KnowsMore (old new : FoundOut) : Type 0 where
   pub offers : new.offers ≡ old.offers
   pub owners : (owner : RevisionId) → Knows old owner → Knows new owner

@@ -8,6 +8,6 @@ use Rattle.osgi_space_sources.specs.declared.found.TheConstants.{FEW}
 abbrev pub Has : {T : Type 0} → (T → T → Ordering) → BTreeSet T → (T → Type 0) → Type 0
 Has {T} cmp set Q = (x : T) → IsTrue (contains cmp set x) ↔ Q x
 
--- once the list has more than a few values, the set has the same ones; before that nothing is looked for in it
+-- once the list has more than a few values, the set has the same ones; of a shorter list's set nothing is said
 abbrev pub IsCollected : {T : Type 0} → (T → T → Ordering) → BTreeSet T → List T → Type 0
 IsCollected cmp set list = FEW < length list → Has cmp set (Contains list)

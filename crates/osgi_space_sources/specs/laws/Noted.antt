@@ -1,7 +1,7 @@
 -- Which sources and ends of wires a row adds to those that are noted.
 use Rattle.std.proofs.Common.{◌≡◌, ◌⊎◌, inl, inr, ℕ, List, [], ◌∷◌, ◌++◌, refl, sym, ◌∙◌, ap, subst, arith, Contains}
 use Rattle.std.proofs.lemmas.List.Elements.{Contains-append_left, Contains-push_cases}
-use Rattle.osgi_space_sources.specs.computed.Disputes.{AreDisputed, AreNoted, Extends, HoldsAll, IsDisputed, IsEnd, IsNoted, IsPossible, IsWireEnd}
+use Rattle.osgi_space_sources.specs.computed.Disputes.{AreDisputed, AreNoted, NotesMore, HoldsAll, IsDisputed, IsNotedEnd, IsNoted, IsPossible, IsWireEnd}
 use Rattle.osgi_space_sources.specs.computed.RowSources.{HasExport}
 use Rattle.osgi_space_sources.specs.declared.disputed.Possible.{Possible}
 use Rattle.osgi_space_rows.specs.Rows.{Imports, OwnExport, Requires, RowLists, no_rows, with_attachment, with_import, with_required}
@@ -39,17 +39,17 @@ none-noted possible = record {
 }
 
 -- the ends are the same, and no source is lost
-pub extends-ends : (R : RowLists) (old new : Possible) → HoldsAll old new → new.disputed.ends ≡ old.disputed.ends → Extends R old new
+pub extends-ends : (R : RowLists) (old new : Possible) → HoldsAll old new → new.disputed.ends ≡ old.disputed.ends → NotesMore R old new
 extends-ends R old new kept ends = record {
   sources = kept;
-  ends = λ x end. subst (λ set. IsEnd (record new.disputed { ends = set }) x) (sym ends) end;
-  exports = λ x end. inl (subst (λ set. IsEnd (record new.disputed { ends = set }) x) ends end);
+  ends = λ x end. subst (λ set. IsNotedEnd (record new.disputed { ends = set }) x) (sym ends) end;
+  exports = λ x end. inl (subst (λ set. IsNotedEnd (record new.disputed { ends = set }) x) ends end);
 }
 
-pub extends-same : (R : RowLists) (possible : Possible) → Extends R possible possible
+pub extends-same : (R : RowLists) (possible : Possible) → NotesMore R possible possible
 extends-same R possible = extends-ends R possible possible (λ p x noted. noted) refl
 
-pub extends-then : (R : RowLists) {a b c : Possible} → Extends R a b → Extends R b c → Extends R a c
+pub extends-then : (R : RowLists) {a b c : Possible} → NotesMore R a b → NotesMore R b c → NotesMore R a c
 extends-then R first second = record {
   sources = λ p x noted. second.sources p x (first.sources p x noted);
   ends = λ x end. second.ends x (first.ends x end);
@@ -60,10 +60,10 @@ extends-then R first second = record {
 }
 
 -- what was noted of the rows before, and what is of those that are new
-pub noted-more : (R S : RowLists) (old new : Possible) → AreNoted R old → Extends S old new →
-    ((x : ℕ) → IsWireEnd S x → IsWireEnd R x ⊎ IsEnd new.disputed x) →
+pub noted-more : (R S : RowLists) (old new : Possible) → AreNoted R old → NotesMore S old new →
+    ((x : ℕ) → IsWireEnd S x → IsWireEnd R x ⊎ IsNotedEnd new.disputed x) →
     ((r p x : ℕ) → Imports S r p x → Imports R r p x ⊎ IsNoted new p x) →
-    ((x p : ℕ) → IsEnd old.disputed x → HasExport S x p → HasExport R x p ⊎ IsNoted new p x) → AreNoted S new
+    ((x p : ℕ) → IsNotedEnd old.disputed x → HasExport S x p → HasExport R x p ⊎ IsNoted new p x) → AreNoted S new
 noted-more R S old new before extends ends imports exports = record {
   ends = λ x end. elim (ends x end) [ inl early ↦ extends.ends x (before.ends x early) | inr late ↦ late ];
   sources = λ p x possible. elim possible [
@@ -115,13 +115,13 @@ attached-cases R row p x (o, inr a, e) = elim (Contains-push_cases R.attached ro
 ]
 
 -- of two ends of a row, one
-one-end : (possible : Possible) {a b : ℕ} → IsEnd possible.disputed a × IsEnd possible.disputed b → (x : ℕ) → (x ≡ a) ⊎ (x ≡ b) → IsEnd possible.disputed x
-one-end possible ends x (inl e) = subst (IsEnd possible.disputed) (sym e) ends.0
-one-end possible ends x (inr e) = subst (IsEnd possible.disputed) (sym e) ends.1
+one-end : (possible : Possible) {a b : ℕ} → IsNotedEnd possible.disputed a × IsNotedEnd possible.disputed b → (x : ℕ) → (x ≡ a) ⊎ (x ≡ b) → IsNotedEnd possible.disputed x
+one-end possible ends x (inl e) = subst (IsNotedEnd possible.disputed) (sym e) ends.0
+one-end possible ends x (inr e) = subst (IsNotedEnd possible.disputed) (sym e) ends.1
 
 -- what the row adds is noted
 module _ (R : RowLists) (old new : Possible) (before : AreNoted R old) where
-  pub noted-import : (row : Import) → Extends (with_import R row) old new → IsNoted new row.imported row.provider → IsEnd new.disputed row.revision × IsEnd new.disputed row.provider → AreNoted (with_import R row) new
+  pub noted-import : (row : Import) → NotesMore (with_import R row) old new → IsNoted new row.imported row.provider → IsNotedEnd new.disputed row.revision × IsNotedEnd new.disputed row.provider → AreNoted (with_import R row) new
   noted-import row extends here ends = noted-more R (with_import R row) old new before extends
       (λ x end. elim (import-end R row x end) [ inl early ↦ inl early | inr e ↦ inr (one-end new ends x e) ])
       (λ r p x at. elim (Contains-push_cases R.imports row _ at) [
@@ -130,13 +130,13 @@ module _ (R : RowLists) (old new : Possible) (before : AreNoted R old) where
       ])
       (λ x p end has. inl has)
 
-  pub noted-required : (row : Required) → Extends (with_required R row) old new → IsEnd new.disputed row.revision × IsEnd new.disputed row.provider → AreNoted (with_required R row) new
+  pub noted-required : (row : Required) → NotesMore (with_required R row) old new → IsNotedEnd new.disputed row.revision × IsNotedEnd new.disputed row.provider → AreNoted (with_required R row) new
   noted-required row extends ends = noted-more R (with_required R row) old new before extends
       (λ x end. elim (required-end R row x end) [ inl early ↦ inl early | inr e ↦ inr (one-end new ends x e) ])
       (λ r p x at. inl at)
       (λ x p end has. inl has)
 
-  pub noted-attachment : (row : Attachment) → Extends (with_attachment R row) old new → ((p : ℕ) → OwnExport R row.fragment p → IsNoted new p row.host) → AreNoted (with_attachment R row) new
+  pub noted-attachment : (row : Attachment) → NotesMore (with_attachment R row) old new → ((p : ℕ) → OwnExport R row.fragment p → IsNoted new p row.host) → AreNoted (with_attachment R row) new
   noted-attachment row extends here = noted-more R (with_attachment R row) old new before extends
       (λ x end. inl end)
       (λ r p x at. inl at)
@@ -183,7 +183,7 @@ noted-fewer R added possible noted = record {
 }
 
 -- where the row was not added after all, what was noted of it does no harm
-pub noted-still : (R : RowLists) (added : Added) (old new : Possible) → AreNoted R old → Extends (with_added R added) old new → AreNoted R new
+pub noted-still : (R : RowLists) (added : Added) (old new : Possible) → AreNoted R old → NotesMore (with_added R added) old new → AreNoted R new
 noted-still R added old new before extends = noted-more R R old new before
     (record {
       sources = extends.sources;

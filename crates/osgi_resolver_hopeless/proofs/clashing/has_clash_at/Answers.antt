@@ -3,6 +3,8 @@ use Rattle.std.proofs.Common.{ℕ, subst, sym}
 use Rattle.osgi_resolver_hopeless.proofs.Answering.{known-is}
 use Rattle.osgi_resolver_hopeless.proofs.Clashes.{none-disputed}
 use Rattle.osgi_resolver_path.specs.Standing.{IsProblemOf, made}
+use Rattle.osgi_space_sources.specs.laws.Sets.{none_in}
+use Rattle.std.specs.Ordering.{nat_cmp}
 use Rattle.osgi_space_rows.specs.Agree.{AreRowsOf, id}
 use Rattle.osgi_space_rows.specs.Names.{name_numbered}
 use Rattle.osgi_world.specs.DueDecisions.{members}
@@ -19,7 +21,7 @@ returns-then-is_empty c = record {
       let rows = c.disputed_rows.result.now in
       let N = name_numbered rows.names in
       let is : AreRowsOf P.world.known W N rows.rows = subst (λ K. AreRowsOf K W N rows.rows) (known-is c.args.path.now P L rows.known c.disputed_rows.ensures.known) (c.disputed_rows.ensures.rows P L) in
-      absurd (none-disputed P (made P c.args.path.now) N rows.rows is c.disputed.result.now c.disputed.ensures.disputed (c.is_empty.ensures.none c.if-is_empty.true) h.clash);
+      absurd (none-disputed P (made P c.args.path.now) N rows.rows is c.disputed.result.now c.disputed.ensures.disputed (none_in nat_cmp c.disputed.result.now.packages (c.is_empty.ensures.none.0 c.if-is_empty.true)) h.clash);
 }
 
 pub has_clash_among-requires : goal.has_clash_among-requires

@@ -1,22 +1,22 @@
 -- What a row adds is noted.
 use Rattle.std.proofs.Common.{◌≡◌, ◌∙◌, ap, sym, subst}
-use Rattle.osgi_space_sources.specs.computed.Disputes.{AreNoted, Extends}
+use Rattle.osgi_space_sources.specs.computed.Disputes.{AreNoted, NotesMore}
 use Rattle.osgi_space_sources.specs.laws.Noted.{extends-ends, extends-same, noted-attachment, noted-import, noted-required}
 use Rattle.osgi_space_rows.specs.Rows.{OwnExport, RowLists, with_attachment, with_import, with_required}
 use Rattle.osgi_space_rows.specs.Worlds.{with_added}
 use Rattle.osgi_space.proofs.disputed_rows.note.Goals as goal
 
-pub returns-in_ok-note_import-in-Import : goal.returns-in_ok-note_import-in-Import
-returns-in_ok-note_import-in-Import c =
+pub returns-in_ok-note_package_wire-in-Import : goal.returns-in_ok-note_package_wire-in-Import
+returns-in_ok-note_package_wire-in-Import c =
     let old = c.args.possible.now in
-    let new = c.note_import.new.possible in
+    let new = c.note_package_wire.new.possible in
     let row = c.in-Import.row in
-    let note = c.in_ok-note_import-in-Import.ensures in
+    let note = c.in_ok-note_package_wire-in-Import.ensures in
     record {
       noted = λ R is before.
           let more : c.args.rows.now ≡ with_import R row = is ∙ ap (with_added R) c.in-Import.is in
           subst (λ (S : RowLists). AreNoted S new) (sym more)
-          (noted-import R old new before row (subst (λ (S : RowLists). Extends S old new) more note.extends) note.noted note.ends);
+          (noted-import R old new before row (subst (λ (S : RowLists). NotesMore S old new) more note.extends) note.noted note.ends);
       extends = note.extends;
     }
 
@@ -34,17 +34,17 @@ returns-in_ok-note_fragment-in-Attachment c =
       extends = extends-ends c.args.rows.now old new note.nothing_lost note.ends;
     }
 
-pub returns-in_ok-note_required-in-Required : goal.returns-in_ok-note_required-in-Required
-returns-in_ok-note_required-in-Required c =
+pub returns-in_ok-note_bundle_wire-in-Required : goal.returns-in_ok-note_bundle_wire-in-Required
+returns-in_ok-note_bundle_wire-in-Required c =
     let old = c.args.possible.now in
-    let new = c.note_required.new.possible in
+    let new = c.note_bundle_wire.new.possible in
     let row = c.in-Required.row in
-    let note = c.in_ok-note_required-in-Required.ensures in
+    let note = c.in_ok-note_bundle_wire-in-Required.ensures in
     record {
       noted = λ R is before.
           let more : c.args.rows.now ≡ with_required R row = is ∙ ap (with_added R) c.in-Required.is in
           subst (λ (S : RowLists). AreNoted S new) (sym more)
-          (noted-required R old new before row (subst (λ (S : RowLists). Extends S old new) more note.extends) note.ends);
+          (noted-required R old new before row (subst (λ (S : RowLists). NotesMore S old new) more note.extends) note.ends);
       extends = note.extends;
     }
 

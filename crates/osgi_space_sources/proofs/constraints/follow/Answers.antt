@@ -3,7 +3,7 @@ use Rattle.std.proofs.Common.{◌≡◌, ℕ, inl, inr, List, [], refl, sym, sub
 use Rattle.osgi_space_rows.specs.Rows.{RowLists}
 use Rattle.osgi_space_sources.specs.computed.Adds.{Adds}
 use Rattle.osgi_space_sources.specs.computed.Amongst.{IsAmong}
-use Rattle.osgi_space_sources.specs.computed.Disputes.{AreDisputed, AreFollowed, IsDisputed, IsEnd, IsPossible}
+use Rattle.osgi_space_sources.specs.computed.Disputes.{AreDisputed, AreFollowed, IsDisputed, IsNotedEnd, IsPossible}
 use Rattle.osgi_space_sources.specs.computed.Pairs.{IsNext, IsUse}
 use Rattle.osgi_space_sources.specs.computed.RowSources.{Sources}
 use Rattle.osgi_space_sources.specs.declared.disputed.Disputed.{Disputed}
@@ -11,9 +11,9 @@ use Rattle.osgi_space_sources.specs.declared.given.Given.{Given}
 use Rattle.osgi_space_sources.proofs.Agreeing.{source-possible}
 use Rattle.osgi_space_sources.proofs.constraints.follow.Goals as goal
 
-module _ (R : RowLists) (A : ℕ → Type 0) (d : Disputed) (are : AreDisputed R d) (pair : Given) (end : IsEnd d pair.source) where
+module _ (R : RowLists) (A : ℕ → Type 0) (d : Disputed) (are : AreDisputed R d) (pair : Given) (end : IsNotedEnd d pair.source) where
   -- nothing new follows from a package that was followed
-  nothing-new : (followed : List ℕ) (found : List Given) → AreFollowed R A (IsEnd d) followed found → Contains followed pair.package → Adds (IsNext R A pair) found found
+  nothing-new : (followed : List ℕ) (found : List Given) → AreFollowed R A (IsNotedEnd d) followed found → Contains followed pair.package → Adds (IsNext R A pair) found found
   nothing-new followed found all at = record {
     grown = ([], sym (append-nil found));
     exact = λ g. (
@@ -26,11 +26,11 @@ module _ (R : RowLists) (A : ℕ → Type 0) (d : Disputed) (are : AreDisputed R
   }
 
   -- a package that is not disputed is followed once it was followed for one that has a source of it
-  followed-more : (old new : List ℕ) (before found : List Given) → AreFollowed R A (IsEnd d) old before → Adds (IsNext R A pair) before found → Adds (λ p. p ≡ pair.package) old new → (x : ℕ) → Sources R pair.source pair.package x → ¬ IsDisputed d pair.package
-      → AreFollowed R A (IsEnd d) new found
+  followed-more : (old new : List ℕ) (before found : List Given) → AreFollowed R A (IsNotedEnd d) old before → Adds (IsNext R A pair) before found → Adds (λ p. p ≡ pair.package) old new → (x : ℕ) → Sources R pair.source pair.package x → ¬ IsDisputed d pair.package
+      → AreFollowed R A (IsNotedEnd d) new found
   followed-more old new before found all adds added x source undisputed p y at possible among g uses = elim ((added.exact p).0 at) [
     | inl early ↦ (adds.exact g).1 (inl (all p y early possible among g uses))
-    | inr same ↦ elim (are.alike pair.package x y (source-possible R d are end source) (subst (λ q. IsPossible R (IsEnd d) q y) same possible)) [
+    | inr same ↦ elim (are.alike pair.package x y (source-possible R d are end source) (subst (λ q. IsPossible R (IsNotedEnd d) q y) same possible)) [
       | inr disputed ↦ absurd (undisputed disputed)
       | inl one ↦
           let h : Given = record { «package» = pair.package; source = x } in
@@ -51,7 +51,7 @@ returns-then-has c = record {
 pub returns-then-not-some : goal.returns-then-not-some
 returns-then-not-some c = record {
   added = c.in_ok-some.ensures.added;
-  followed = followed-kept c.args.rows.now (IsAmong c.args.among) (IsEnd c.args.disputed.now) c.args.followed.now c.args.found.now c.add_next.new.found c.in_ok-some.ensures.added c.requires.followed;
+  followed = followed-kept c.args.rows.now (IsAmong c.args.among) (IsNotedEnd c.args.disputed.now) c.args.followed.now c.args.found.now c.add_next.new.found c.in_ok-some.ensures.added c.requires.followed;
 }
 
 pub returns : goal.returns

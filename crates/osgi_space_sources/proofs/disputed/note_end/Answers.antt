@@ -1,6 +1,6 @@
 -- The exports of an end that is new are noted before it is.
 use Rattle.std.proofs.Common.{inl, inr, refl, sym, subst}
-use Rattle.osgi_space_sources.specs.computed.Disputes.{IsEnd, IsNoted}
+use Rattle.osgi_space_sources.specs.computed.Disputes.{IsNotedEnd, IsNoted}
 use Rattle.osgi_space_sources.specs.computed.RowSources.{HasExport}
 use Rattle.osgi_space_sources.specs.laws.Noted.{extends-ends, extends-same}
 use Rattle.osgi_space_sources.proofs.disputed.note_end.Goals as goal
@@ -25,9 +25,9 @@ returns c =
       noted = (put c.args.revision).1 (inr refl);
       extends = record {
         sources = c.note_exports.ensures.nothing_lost;
-        ends = λ x end. (put x).1 (inl (subst (λ set. IsEnd (record old.disputed { ends = set }) x) (sym same) end));
+        ends = λ x end. (put x).1 (inl (subst (λ set. IsNotedEnd (record old.disputed { ends = set }) x) (sym same) end));
         exports = λ x end. elim ((put x).0 end) [
-          | inl before ↦ inl (subst (λ set. IsEnd (record old.disputed { ends = set }) x) same before)
+          | inl before ↦ inl (subst (λ set. IsNotedEnd (record old.disputed { ends = set }) x) same before)
           | inr e ↦ inr (subst (λ y. (p : _) → HasExport R y p → IsNoted noted p y) e c.in_ok-note_exports.ensures.noted)
         ];
       };
@@ -42,6 +42,6 @@ returns-in_err-insert-clause-extends c =
     let still = c.in_err-insert.ensures.unchanged in
     record {
       sources = c.note_exports.ensures.nothing_lost;
-      ends = λ x end. (still x).1 (subst (λ set. IsEnd (record old.disputed { ends = set }) x) (sym same) end);
-      exports = λ x end. inl (subst (λ set. IsEnd (record old.disputed { ends = set }) x) same ((still x).0 end));
+      ends = λ x end. (still x).1 (subst (λ set. IsNotedEnd (record old.disputed { ends = set }) x) (sym same) end);
+      exports = λ x end. inl (subst (λ set. IsNotedEnd (record old.disputed { ends = set }) x) same ((still x).0 end));
     }

@@ -6,7 +6,7 @@ use Rattle.osgi_world.specs.declared.world.Known.{Known}
 use Rattle.osgi_space_rows.specs.Rows.{OwnExport}
 use Rattle.osgi_space_rows.proofs.Payload.{in-more}
 use Rattle.osgi_space_rows.proofs.Stepped.{in-one}
-use Rattle.osgi_space_sources.specs.computed.Disputes.{IsEnd, IsNoted}
+use Rattle.osgi_space_sources.specs.computed.Disputes.{IsNotedEnd, IsNoted}
 use Rattle.osgi_space_sources.proofs.disputed.note_known.Goals as goal
 
 pub loop-each-preserved : goal.loop-each-preserved
@@ -19,9 +19,9 @@ loop-each-preserved c =
         | inl before ↦ note.nothing_lost p k.id.0 (c.loop-each.invariant.noted k p before end own)
         | inr new ↦
             let same = in-one k each new in
-            let still = subst (λ set. IsEnd (record now { ends = set }) k.id.0) (sym c.loop-each.invariant.ends) end in
+            let still = subst (λ set. IsNotedEnd (record now { ends = set }) k.id.0) (sym c.loop-each.invariant.ends) end in
             subst (λ (j : Known). IsNoted c.note_own.new.possible p j.id.0) (sym same)
-            (note.noted (subst (λ (j : Known). IsEnd now j.id.0) same still) p (subst (λ (j : Known). OwnExport c.args.rows.now j.id.0 p) same own))
+            (note.noted (subst (λ (j : Known). IsNotedEnd now j.id.0) same still) p (subst (λ (j : Known). OwnExport c.args.rows.now j.id.0 p) same own))
       ];
       kept = λ p x before. note.nothing_lost p x (c.loop-each.invariant.kept p x before);
       ends = note.ends ∙ c.loop-each.invariant.ends;

@@ -14,11 +14,13 @@ use Rattle.osgi_space_sources.proofs.Rows.{some-imported}
 use Rattle.osgi_space_rows.specs.declared.rows.Import.{Import}
 use Rattle.osgi_space_sources.proofs.Agreeing.{agrees-unless, implied-end}
 use Rattle.osgi_space_sources.specs.laws.Following.{none-implied}
+use Rattle.osgi_space_sources.specs.laws.Sets.{none_in}
+use Rattle.std.specs.Ordering.{nat_cmp}
 use Rattle.osgi_space_sources.proofs.uses.keeps_uses.Goals as goal
 
 pub returns-then-is_empty : goal.returns-then-is_empty
 returns-then-is_empty c =
-    let none = c.is_empty.ensures.none c.if-is_empty.true in
+    let none = none_in nat_cmp c.args.disputed.now.packages (c.is_empty.ensures.none.0 c.if-is_empty.true) in
     let keeps : KeepsUsesAmong c.args.rows.now (IsAmong c.args.among) c.args.revision =
     agrees-unless c.args.rows.now c.args.disputed.now c.requires.disputed (IsAmong c.args.among) c.args.revision (λ e u implied clash. none u) in
     record { uses = (λ t. keeps, λ k. refl) }

@@ -1,6 +1,6 @@
 -- What the row adds is noted; where that fails, the row is taken back.
 use Rattle.std.proofs.Common.{◌∙◌, sym, subst}
-use Rattle.osgi_space_sources.specs.computed.Disputes.{AreNoted, Extends}
+use Rattle.osgi_space_sources.specs.computed.Disputes.{AreNoted, NotesMore}
 use Rattle.osgi_space_sources.specs.laws.Noted.{noted-still}
 use Rattle.osgi_space_rows.specs.Rows.{RowLists}
 use Rattle.osgi_space_rows.specs.Worlds.{WorldLists}
@@ -15,7 +15,7 @@ invariant_of-self-in-Err c =
     let added = c.in_ok-added.added in
     let old = c.self.inside.possible in
     let back = c.take_back.ensures.taken.rows R c.in_ok-added.ensures.added.rows in
-    let extends = subst (λ (S : RowLists). Extends S old c.note.new.possible) (c.rows.ensures.rows ∙ c.in_ok-added.ensures.added.rows) c.note.ensures.extends in
+    let extends = subst (λ (S : RowLists). NotesMore S old c.note.new.possible) (c.rows.ensures.rows ∙ c.in_ok-added.ensures.added.rows) c.note.ensures.extends in
     subst (λ (S : RowLists). AreNoted S c.note.new.possible) (sym back) (noted-still R added old c.note.new.possible c.self.invariant extends)
 
 pub invariant_of-self-in_default : goal.invariant_of-self-in_default

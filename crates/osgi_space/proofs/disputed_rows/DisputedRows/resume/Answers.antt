@@ -2,7 +2,7 @@
 use Rattle.std.proofs.Common.{◌≡◌, ◌-◌, ◌++◌, ◌∙◌, List, length, take, drop, ap, sym, subst, Contains}
 use Rattle.std.proofs.lemmas.List.{take-append-drop, take_rest}
 use Rattle.osgi_space.proofs.Resumed.{once-of, resumed-noted}
-use Rattle.osgi_space_sources.specs.computed.Disputes.{Extends}
+use Rattle.osgi_space_sources.specs.computed.Disputes.{NotesMore}
 use Rattle.osgi_space_sources.specs.laws.Noted.{extends-ends, extends-then}
 use Rattle.osgi_world.specs.Lists.{In}
 use Rattle.osgi_world.specs.declared.wiring.Wiring.{Wiring}
@@ -29,8 +29,8 @@ invariant_of-result c =
     let second = c.in_ok-possible-2.ensures in
     let places = c.at_end-places.ensures in
     let now : c.rows-3.result.now ≡ after.rows = c.rows-3.ensures.rows in
-    let extends : Extends after.rows kept.possible c.in_ok-possible-2.possible =
-    extends-then after.rows (extends-ends after.rows kept.possible c.in_ok-possible.possible first.nothing_lost first.ends) (subst (λ (R : RowLists). Extends R c.in_ok-possible.possible c.in_ok-possible-2.possible) now second.extends) in
+    let extends : NotesMore after.rows kept.possible c.in_ok-possible-2.possible =
+    extends-then after.rows (extends-ends after.rows kept.possible c.in_ok-possible.possible first.nothing_lost first.ends) (subst (λ (R : RowLists). NotesMore R c.in_ok-possible.possible c.in_ok-possible-2.possible) now second.extends) in
     resumed-noted K kept.known front kept.named before after kept.possible c.in_ok-possible-2.possible c.in_ok-before.ensures.known (c.in_ok-before.ensures.added front follows.all_known follows.rows) follows.all_known
     c.in_ok-rows.ensures.added.grown extends follows.noted
     (λ k p at end own. second.extends.sources p k.id.0 (first.noted k p (subst (λ (l : List Known). In k l) (sym (take_rest K kept.known)) at) end (subst (λ (R : RowLists). OwnExport R k.id.0 p) (sym c.rows.ensures.rows) own)))

@@ -1,6 +1,6 @@
 -- The wire and its ends are noted, one after another.
 use Rattle.osgi_space_sources.specs.laws.Noted.{extends-ends, extends-then}
-use Rattle.osgi_space_sources.proofs.disputed.note_import.Goals as goal
+use Rattle.osgi_space_sources.proofs.disputed.note_package_wire.Goals as goal
 
 pub returns : goal.returns
 returns c =

@@ -1,6 +1,6 @@
 -- Both ends are noted, one after the other.
 use Rattle.osgi_space_sources.specs.laws.Noted.{extends-then}
-use Rattle.osgi_space_sources.proofs.disputed.note_required.Goals as goal
+use Rattle.osgi_space_sources.proofs.disputed.note_bundle_wire.Goals as goal
 
 pub returns : goal.returns
 returns c = record {
