@@ -23,6 +23,7 @@ pub struct Requirement {
     pub equal: Shared<Attributes>,
     pub filter: Option<Shared<Filter>>,
     pub optional: bool,
+    /// Whether it may have several wires.
     pub multiple: bool,
     /// Whether those who require the bundle see what it requires here.
     pub reexport: bool,
