@@ -47,7 +47,7 @@ pub struct Use {
     pub used: u32,
 }
 
-/// Rows, found by the numbers that they begin with. Wires and attachments can be taken back, those that were added last first.
+/// Rows, found by the numbers that they begin with. Each kind can be added to, and its last row taken off.
 pub struct Rows {
     pub imports: Spots<Import>,
     pub required: Table<Required>,

@@ -1,12 +1,11 @@
 //! The rows of a world, and what is known of its revisions.
 
-ghost use Rattle.std.specs.Prelude.{◌≡◌, ◌≤◌, ◌++◌, ◌∷◌, [], List, IfOk, OnOk, OnErr, length, take};
+ghost use Rattle.std.specs.Prelude.{◌≡◌, ◌≤◌, ◌∷◌, [], List, IfOk, OnOk, OnErr, length, take};
 ghost use Rattle.osgi_world.specs.Decisions.{attached, wired};
 ghost use Rattle.osgi_world.specs.declared.wiring.Wiring.{Wiring};
 ghost use Rattle.osgi_space_rows.specs.Agree.{AreRowsOf};
 ghost use Rattle.osgi_space_rows.specs.AllKnown.{AreAllKnown};
 ghost use Rattle.osgi_space_rows.specs.Names.{name_numbered};
-ghost use Rattle.osgi_space_rows.specs.Steps.{step_wiring};
 ghost use Rattle.osgi_space_rows.specs.Worlds.{AddsKnown, AddsStep, AddsWirings, AreNumbered, AreRowsIn, AreNamed, TakesBack, with_added};
 ghost use Rattle.osgi_space_rows.specs.computed.Growing.{IsNumbered, RowsAfter};
 

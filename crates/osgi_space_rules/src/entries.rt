@@ -1,6 +1,6 @@
 //! Maps in which a key has one value.
 
-ghost use Rattle.std.specs.Prelude.{◌≡◌, IfOk};
+ghost use Rattle.std.specs.Prelude.{IfOk};
 ghost use Rattle.osgi_space_rules.specs.computed.Growing.{PutsOne};
 
 use osgi_base::RevisionId;

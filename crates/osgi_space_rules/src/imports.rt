@@ -1,6 +1,6 @@
 //! The providers of the packages that revisions import.
 
-ghost use Rattle.std.specs.Prelude.{◌≡◌, IfOk, MatchOption};
+ghost use Rattle.std.specs.Prelude.{IfOk, MatchOption};
 ghost use Rattle.osgi_space_rules.specs.computed.Entries.{AreProviders, IsImport, OneProvider};
 ghost use Rattle.osgi_space_rules.specs.computed.Growing.{Extends, HasEntry, AnyOf};
 ghost use Rattle.osgi_space_rules.specs.computed.Keys.{package_cmp};

@@ -1,5 +1,5 @@
 -- One more wire.
-use Rattle.std.proofs.Common.{rules, ◌≡◌, get_or, subst}
+use Rattle.std.proofs.Common.{rules, ◌≡◌, get_or}
 use Rattle.std.proofs.lemmas.List.{get_or_default}
 use Rattle.osgi_space_rules.specs.computed.Keys.{wired_place}
 use Rattle.osgi_space_rules.proofs.Grow.{grow_done, grow_step, pushed}
