@@ -157,7 +157,7 @@ impl<'w> Lists<'w> {
         owned.lists.get(requirement.index as usize)
     }
 
-    /// What was found out of the owner, if it is known.
+    /// What was found out about the owner, if it is known.
     fn owned(&self, owner: RevisionId) -> Option<&Owned>
         ensures known { IsSome result ↔ Knows self.now owner }
         ensures right { IfSome result (λ of. (P : Problem) → IsProblemIn self.now.offers P

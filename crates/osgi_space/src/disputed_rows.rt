@@ -1,7 +1,7 @@
 //! The rows of a world, and the packages that may be disputed in them.
 
 ghost use Rattle.std.specs.Prelude.{◌≡◌, ◌≤◌, ℕ, Contains, IfOk, OnOk, OnErr, drop, length};
-ghost use Rattle.osgi_space_sources.specs.computed.Disputes.{AreDisputed, AreNoted, NotesMore, HoldsAll, IsNotedEnd, IsNoted};
+ghost use Rattle.osgi_space_sources.specs.computed.Disputes.{AreDisputed, AreNoted, HasSameEnds, HoldsAll, NotesMore, IsNotedEnd, IsNoted};
 ghost use Rattle.osgi_space.specs.Kept.{FollowsRows};
 ghost use Rattle.osgi_space_rows.specs.AllKnown.{AreAllKnown};
 ghost use Rattle.osgi_space_rows.specs.Rows.{OwnExport, RowLists};
@@ -119,7 +119,7 @@ impl<'w> DisputedRows<'w> {
         &self.rows
     }
 
-    /// The packages of which ends of wires may have different sources.
+    /// At least the ends of wires, and at least the packages of which they may have different sources.
     pub fn disputed(&self) -> &Disputed
         ensures disputed { AreDisputed self.now.rows result.now }
     {
@@ -204,9 +204,10 @@ fn note(possible: &mut Possible, rows: &Rows, added: Added) -> Result<(), AllocE
 /// The possible sources with those of these revisions that are noted as ends as the sources of their own exports.
 fn with_known(possible: Possible, rows: &Rows, known: &[Known]) -> Result<Possible, AllocError>
     ensures noted { IfOk result (λ more. (k : Known) (p : ℕ) → In k known.now
-        → IsNotedEnd possible.disputed k.id.0 → OwnExport rows.now k.id.0 p → IsNoted more p k.id.0) }
+        → IsNotedEnd possible.disputed k.id.0 → OwnExport rows.now k.id.0 p
+        → IsNoted more p k.id.0) }
     ensures nothing_lost { IfOk result (HoldsAll possible) }
-    ensures ends { IfOk result (λ more. more.disputed.ends ≡ possible.disputed.ends) }
+    ensures ends { IfOk result (HasSameEnds possible) }
 {
     let mut more = possible;
     note_known(&mut more, rows, known)?;

@@ -1,5 +1,5 @@
 -- Of a package with one possible source no two ends of wires have different sources.
-use Rattle.std.proofs.Common.{◌⊎◌, inl, inr, ℕ, true, sym, subst}
+use Rattle.std.proofs.Common.{inl, inr, ℕ, true, sym, subst}
 use Rattle.osgi_space_rows.specs.Rows.{RowLists}
 use Rattle.osgi_space_sources.specs.computed.Clashes.{HasWires, KeepsUsesAmong}
 use Rattle.osgi_space_sources.specs.computed.Disputes.{AreDisputed, IsDisputed, IsNotedEnd, IsPossible, IsWireEnd}

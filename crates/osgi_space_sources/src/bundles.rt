@@ -1,7 +1,7 @@
 //! The bundles that a revision reaches along its bundle wires.
 
 ghost use Rattle.std.specs.Prelude.{IfOk, OnOk};
-ghost use Rattle.osgi_space_sources.specs.computed.Adds.{Adds, AreAll};
+ghost use Rattle.osgi_space_sources.specs.computed.Adds.{Adds, AreExactly};
 ghost use Rattle.osgi_space_sources.specs.computed.Reach.{Reach};
 ghost use Rattle.osgi_space_rows.specs.Rows.{Reexports, Requires};
 
@@ -33,7 +33,7 @@ fn add_reexported(found: &mut Found<u32>, rows: &Rows, bundle: u32) -> Result<()
 
 /// The bundles that the revision requires, and those that they reexport, and so on.
 pub fn reached_bundles(alloc: Global, rows: &Rows, revision: u32) -> Result<Found<u32>, AllocError>
-    ensures reached { IfOk result (AreAll
+    ensures reached { IfOk result (AreExactly
         (Reach (Requires rows.now revision) (Reexports rows.now))) }
 {
     let mut found = Found::new(alloc);

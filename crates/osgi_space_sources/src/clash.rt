@@ -1,7 +1,7 @@
 //! Whether two revisions have different sources of a package.
 
 ghost use Rattle.std.specs.Prelude.{◌↔◌, ◌≢◌, length, Contains, IfOk, IsTrue, MatchOption};
-ghost use Rattle.osgi_space_sources.specs.computed.Adds.{AreAll};
+ghost use Rattle.osgi_space_sources.specs.computed.Adds.{AreExactly};
 ghost use Rattle.osgi_space_sources.specs.computed.Clashes.{IsClash, IsOnlySource, Lacks};
 ghost use Rattle.osgi_space_sources.specs.declared.given.Given.{Given};
 ghost use Rattle.osgi_space_rows.specs.Rows.{imports_for};
@@ -13,7 +13,7 @@ use osgi_space_rows::Rows;
 use std::alloc::{AllocError, Global};
 
 fn collect(alloc: Global, givens: &[Given]) -> Result<Found<Given>, AllocError>
-    ensures same { IfOk result (AreAll (Contains givens.now)) }
+    ensures same { IfOk result (AreExactly (Contains givens.now)) }
 {
     let mut found = Found::new(alloc);
     for given in givens {

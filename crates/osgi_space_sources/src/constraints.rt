@@ -1,7 +1,7 @@
 //! The constraints that the `uses` of exports imply.
 
 ghost use Rattle.std.specs.Prelude.{◌↔◌, ℕ, IfOk, OnOk, IsTrue};
-ghost use Rattle.osgi_space_sources.specs.computed.Adds.{Adds, AreAll};
+ghost use Rattle.osgi_space_sources.specs.computed.Adds.{Adds, AreExactly};
 ghost use Rattle.osgi_space_sources.specs.computed.Amongst.{IsAmong};
 ghost use Rattle.osgi_space_sources.specs.computed.Disputes.{AreDisputed, AreFollowed, IsNotedEnd};
 ghost use Rattle.osgi_space_sources.specs.computed.Pairs.{IsFollowing, IsImplied, IsNext, IsOwnUse, IsUse, IsUseAmong, IsUseOfSome, IsUseOfWired, MayUse};
@@ -120,7 +120,7 @@ fn add_uses_of_imports(
 }
 
 /// Adds the constraints that follow from one at once: what the exports of its package use, by its sources for the one that sees
-/// it. Whether that has any; where the answer is false, it may have some.
+/// it. Answers true only where the one that sees the package has a source of it.
 fn add_next(
     alloc: Global,
     found: &mut Found<Given>,
@@ -143,8 +143,8 @@ fn add_next(
     Ok(!sources.as_slice().is_empty())
 }
 
-/// The same, unless the package is among these that were followed: packages that are not disputed, of which all that the export by
-/// their only source uses was added.
+/// Adds the constraints that follow from one at once, unless its package was followed before. Followed are packages that are not
+/// disputed, once all that the export by their only source uses was added.
 fn follow(
     alloc: Global,
     found: &mut Found<Given>,
@@ -182,7 +182,7 @@ pub fn constraints_from(
     imports: &[Import],
     givens: &[Given],
 ) -> Result<Found<Given>, AllocError>
-    ensures following { IfOk result (AreAll (IsFollowing rows.now (IsAmong among.entry)
+    ensures following { IfOk result (AreExactly (IsFollowing rows.now (IsAmong among.entry)
         imports.now givens.now)) }
 {
     let mut found = Found::new(alloc);
@@ -210,7 +210,7 @@ pub(crate) fn constraints_between(
     requires disputed { AreDisputed rows.now disputed.now }
     requires ends { (g : Given) → IsFollowing rows.now (IsAmong among) imports.now givens.now g
         → IsNotedEnd disputed.now g.source }
-    ensures following { IfOk result (AreAll (IsFollowing rows.now (IsAmong among.entry)
+    ensures following { IfOk result (AreExactly (IsFollowing rows.now (IsAmong among.entry)
         imports.now givens.now)) }
 {
     let mut found = Found::new(alloc);
@@ -241,7 +241,7 @@ pub fn constraints_of(
     among: Among,
     revision: u32,
 ) -> Result<Found<Given>, AllocError>
-    ensures implied { IfOk result (AreAll (IsImplied rows.now (IsAmong among.entry) revision)) }
+    ensures implied { IfOk result (AreExactly (IsImplied rows.now (IsAmong among.entry) revision)) }
 {
     if !among.has(revision) {
         return Ok(Found::new(alloc));

@@ -1,11 +1,12 @@
 //! The packages of which ends of wires may have different sources.
 
-ghost use Rattle.std.specs.Prelude.{◌≡◌, ◌↔◌, length, ◌⊎◌, ℕ, Contains, IfOk, IsTrue, OnOk};
+ghost use Rattle.std.specs.Prelude.{◌≡◌, ◌↔◌, length, ℕ, Contains, IfOk, IsTrue, OnOk};
 ghost use Rattle.osgi_world.specs.Lists.{In};
 ghost use Rattle.osgi_world.specs.declared.world.Known.{Known};
-ghost use Rattle.osgi_space_sources.specs.computed.Disputes.{AreDisputed, AreNoted, HasNoPackage, HoldsAll, IsDisputed, IsNoted, IsNotedEnd, NotesMore};
+ghost use Rattle.osgi_space_sources.specs.computed.Clashes.{IsClash};
+ghost use Rattle.osgi_space_sources.specs.computed.Disputes.{AreDisputed, AreNoted, HasNoPackage, HasSameEnds, HoldsAll, IsDisputed, IsNoted, IsNotedEnd, NotesMore};
 ghost use Rattle.osgi_space_sources.specs.computed.RowSources.{HasExport};
-ghost use Rattle.osgi_space_rows.specs.Rows.{OwnExport};
+ghost use Rattle.osgi_space_rows.specs.Rows.{OwnExport, RowLists};
 
 use crate::given::Given;
 use crate::number_set::NumberSet;
@@ -65,8 +66,8 @@ impl Disputed {
     /// Whether the revision, and the one that sees the package, may have different sources of it. Where the answer is true, that need
     /// not be so.
     pub(crate) fn may_differ(&self, revision: u32, pair: Given) -> bool
-        ensures differ { ¬ IsTrue result → IsNotedEnd self.now revision × IsNotedEnd self.now pair.source
-            × ¬ IsDisputed self.now pair.package }
+        ensures same { ¬ IsTrue result → (R : RowLists) → AreDisputed R self.now
+            → ¬ IsClash R revision pair }
     {
         self.has(pair.package) || !self.has_end(revision) || !self.has_end(pair.source)
     }
@@ -100,7 +101,7 @@ impl Possible {
     fn note(&mut self, package: u32, source: u32) -> Result<(), AllocError>
         ensures noted { OnOk result (IsNoted self.new «package» source) }
         ensures nothing_lost { HoldsAll self.old self.new }
-        ensures ends { self.new.disputed.ends ≡ self.old.disputed.ends }
+        ensures ends { HasSameEnds self.old self.new }
     {
         match self.first.get(package).copied() {
             None => {
@@ -126,7 +127,7 @@ pub fn note_fragment(
     ensures noted { OnOk result ((p : ℕ) → OwnExport rows.now fragment p
         → IsNoted possible.new p host) }
     ensures nothing_lost { HoldsAll possible.old possible.new }
-    ensures ends { possible.new.disputed.ends ≡ possible.old.disputed.ends }
+    ensures ends { HasSameEnds possible.old possible.new }
 {
     for row in rows.exports.of_revision(fragment) {
         possible.note(row.exported, host)?;
@@ -143,8 +144,8 @@ pub fn note_fragments(
     ensures noted { OnOk result ((h f p : ℕ)
         → Contains attached.now (record { host = h; fragment = f }) → OwnExport rows.now f p
         → IsNoted possible.new p h) }
-    ensures nothing_lost { OnOk result (HoldsAll possible.old possible.new) }
-    ensures ends { OnOk result (possible.new.disputed.ends ≡ possible.old.disputed.ends) }
+    ensures nothing_lost { HoldsAll possible.old possible.new }
+    ensures ends { HasSameEnds possible.old possible.new }
 {
     for row in attached {
         note_fragment(possible, rows, row.host, row.fragment)?;
@@ -157,7 +158,7 @@ fn note_exports(possible: &mut Possible, rows: &Rows, revision: u32) -> Result<(
     ensures noted { OnOk result ((p : ℕ) → HasExport rows.now revision p
         → IsNoted possible.new p revision) }
     ensures nothing_lost { HoldsAll possible.old possible.new }
-    ensures ends { possible.new.disputed.ends ≡ possible.old.disputed.ends }
+    ensures ends { HasSameEnds possible.old possible.new }
 {
     note_fragment(possible, rows, revision, revision)?;
     for row in rows.attached.of(revision) {
@@ -236,7 +237,8 @@ pub fn note_bundle_wires(
     required: &[Required],
 ) -> Result<(), AllocError>
     ensures ends { OnOk result ((row : Required) → Contains required.now row
-        → IsNotedEnd possible.new.disputed row.revision × IsNotedEnd possible.new.disputed row.provider) }
+        → IsNotedEnd possible.new.disputed row.revision
+        × IsNotedEnd possible.new.disputed row.provider) }
     ensures extends { NotesMore rows.now possible.old possible.new }
 {
     for row in required {
@@ -250,7 +252,7 @@ fn note_own(possible: &mut Possible, rows: &Rows, revision: u32) -> Result<(), A
     ensures noted { OnOk result (IsNotedEnd possible.old.disputed revision → (p : ℕ)
         → OwnExport rows.now revision p → IsNoted possible.new p revision) }
     ensures nothing_lost { HoldsAll possible.old possible.new }
-    ensures ends { possible.new.disputed.ends ≡ possible.old.disputed.ends }
+    ensures ends { HasSameEnds possible.old possible.new }
 {
     if !possible.disputed.has_end(revision) {
         return Ok(());
@@ -263,8 +265,8 @@ pub fn note_known(possible: &mut Possible, rows: &Rows, known: &[Known]) -> Resu
     ensures noted { OnOk result ((k : Known) (p : ℕ) → In k known.now
         → IsNotedEnd possible.old.disputed k.id.0 → OwnExport rows.now k.id.0 p
         → IsNoted possible.new p k.id.0) }
-    ensures nothing_lost { OnOk result (HoldsAll possible.old possible.new) }
-    ensures ends { OnOk result (possible.new.disputed.ends ≡ possible.old.disputed.ends) }
+    ensures nothing_lost { HoldsAll possible.old possible.new }
+    ensures ends { HasSameEnds possible.old possible.new }
 {
     for each in known {
         note_own(possible, rows, each.id.0)?;
@@ -282,7 +284,7 @@ pub fn possible_sources(alloc: Global, rows: &Rows) -> Result<Possible, AllocErr
     Ok(possible)
 }
 
-/// The ends of wires in the rows, and at least the packages of which they may have different sources.
+/// At least the ends of wires in the rows, and at least the packages of which they may have different sources.
 pub fn disputed_packages(alloc: Global, rows: &Rows) -> Result<Disputed, AllocError>
     ensures disputed { IfOk result (λ disputed. AreDisputed rows.now disputed) }
 {

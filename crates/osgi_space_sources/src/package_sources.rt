@@ -1,7 +1,7 @@
 //! Where a package comes from.
 
 ghost use Rattle.std.specs.Prelude.{◌↔◌, IfOk, OnOk, IsTrue};
-ghost use Rattle.osgi_space_sources.specs.computed.Adds.{Adds, AreAll};
+ghost use Rattle.osgi_space_sources.specs.computed.Adds.{Adds, AreExactly};
 ghost use Rattle.osgi_space_sources.specs.declared.given.Given.{Given};
 ghost use Rattle.osgi_space_sources.specs.computed.RowSources.{HasExport, ImportsElsewhere};
 ghost use Rattle.osgi_space_sources.specs.computed.Givens.{AttachedExports, IsDirect, IsElsewhere, IsGivenTo, IsProvider, IsSourceOf};
@@ -149,7 +149,7 @@ pub fn sources_of(
     package: u32,
 ) -> Result<Vec<Given>, AllocError>
     ensures sources { IfOk result (λ givens.
-        AreAll (IsSourceOf rows.now revision «package») givens.items) }
+        AreExactly (IsSourceOf rows.now revision «package») givens.items) }
 {
     let imports = rows.imports.of(revision, package);
     let mut givens = Vec::with_capacity(alloc, imports.len())?;

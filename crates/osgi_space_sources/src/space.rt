@@ -1,7 +1,7 @@
 //! The class space of a revision: all packages that it sees, with their sources.
 
 ghost use Rattle.std.specs.Prelude.{IfOk, OnOk};
-ghost use Rattle.osgi_space_sources.specs.computed.Adds.{Adds, AreAll};
+ghost use Rattle.osgi_space_sources.specs.computed.Adds.{Adds, AreExactly};
 ghost use Rattle.osgi_space_sources.specs.computed.Givens.{IsGivenBy, IsGivenByOwner, IsGivenByReached, IsGivenOf, IsSeen, IsUnwired, IsWired};
 ghost use Rattle.osgi_space_sources.specs.computed.RowSources.{HasExport, Owns};
 ghost use Rattle.osgi_space_sources.specs.declared.given.Given.{Given};
@@ -105,7 +105,8 @@ pub(crate) fn unwired_of(
     rows: &Rows,
     revision: u32,
 ) -> Result<Vec<Given>, AllocError>
-    ensures sources { IfOk result (λ givens. AreAll (IsUnwired rows.now revision) givens.items) }
+    ensures sources { IfOk result (λ givens.
+        AreExactly (IsUnwired rows.now revision) givens.items) }
 {
     let mut givens = Vec::new(alloc);
     add_reached(alloc, &mut givens, rows, revision)?;
@@ -115,7 +116,7 @@ pub(crate) fn unwired_of(
 
 /// The packages that the revision sees, with their sources.
 pub fn space_of(alloc: Global, rows: &Rows, revision: u32) -> Result<Vec<Given>, AllocError>
-    ensures sources { IfOk result (λ givens. AreAll (IsSeen rows.now revision) givens.items) }
+    ensures sources { IfOk result (λ givens. AreExactly (IsSeen rows.now revision) givens.items) }
 {
     let mut givens = Vec::with_capacity(alloc, rows.imports.of_revision(revision).len())?;
     add_imports(&mut givens, rows, revision)?;

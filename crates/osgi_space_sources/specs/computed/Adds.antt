@@ -7,5 +7,5 @@ pub record Adds {T : Type 0} (Q : T → Type 0) (old new : List T) : Type 0 wher
   pub exact : (x : T) → Contains new x ↔ (Contains old x ⊎ Q x)
 
 -- these are all of which Q holds, and no others
-abbrev pub AreAll : {T : Type 0} → (T → Type 0) → List T → Type 0
-AreAll {T} Q list = (x : T) → Contains list x ↔ Q x
+abbrev pub AreExactly : {T : Type 0} → (T → Type 0) → List T → Type 0
+AreExactly {T} Q list = (x : T) → Contains list x ↔ Q x

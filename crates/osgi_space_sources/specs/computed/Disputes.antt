@@ -28,7 +28,7 @@ HasNoPackage disputed = IsEmpty disputed.packages
 abbrev pub IsNotedEnd : Disputed → ℕ → Type 0
 IsNotedEnd disputed x = IsMarked disputed.ends x
 
--- one of the revisions E may have p from x: some revision has a wire for p to x, or x is one of E and its payload exports p
+-- x may be a source of p for E: a wire for p goes to x, or x is one of E and its payload exports p
 abbrev pub IsPossible : RowLists → (ℕ → Type 0) → ℕ → ℕ → Type 0
 IsPossible R E p x = ((r : ℕ) × Imports R r p x) ⊎ E x × HasExport R x p
 
@@ -39,6 +39,10 @@ IsNoted possible p x = (first : ℕ) × (value_at possible.first p ≡ Some firs
 -- each source that was noted still is
 abbrev pub HoldsAll : Possible → Possible → Type 0
 HoldsAll old new = (p x : ℕ) → IsNoted old p x → IsNoted new p x
+
+-- the same revisions are noted as ends
+abbrev pub HasSameEnds : Possible → Possible → Type 0
+HasSameEnds old new = new.disputed.ends ≡ old.disputed.ends
 
 -- each source and each end that was noted still is, and of each end that is new the exports are
 pub record NotesMore (R : RowLists) (old new : Possible) : Type 0 where
@@ -56,6 +60,6 @@ pub record AreDisputed (R : RowLists) (disputed : Disputed) : Type 0 where
   pub ends : (x : ℕ) → IsWireEnd R x → IsNotedEnd disputed x
   pub alike : (p x y : ℕ) → IsPossible R (IsNotedEnd disputed) p x → IsPossible R (IsNotedEnd disputed) p y → (x ≡ y) ⊎ IsDisputed disputed p
 
--- all that exports of these packages use is found, by their possible sources of A, where E are the ends
+-- of each of these packages all is found that its exports use, by those of A from which one of E may have it
 abbrev pub AreFollowed : RowLists → (ℕ → Type 0) → (ℕ → Type 0) → List ℕ → List Given → Type 0
 AreFollowed R A E followed found = (p x : ℕ) → Contains followed p → IsPossible R E p x → A x → (g : Given) → IsUse R x p g → Contains found g

@@ -1,7 +1,7 @@
 -- Which sources and ends of wires a row adds to those that are noted.
-use Rattle.std.proofs.Common.{◌≡◌, ◌⊎◌, inl, inr, ℕ, List, [], ◌∷◌, ◌++◌, refl, sym, ◌∙◌, ap, subst, arith, Contains}
+use Rattle.std.proofs.Common.{◌≡◌, ◌⊎◌, inl, inr, ℕ, [], ◌∷◌, refl, sym, ◌∙◌, ap, subst, arith}
 use Rattle.std.proofs.lemmas.List.Elements.{Contains-append_left, Contains-push_cases}
-use Rattle.osgi_space_sources.specs.computed.Disputes.{AreDisputed, AreNoted, NotesMore, HoldsAll, IsDisputed, IsNotedEnd, IsNoted, IsPossible, IsWireEnd}
+use Rattle.osgi_space_sources.specs.computed.Disputes.{AreDisputed, AreNoted, HasSameEnds, HoldsAll, IsDisputed, IsNoted, IsNotedEnd, IsWireEnd, NotesMore}
 use Rattle.osgi_space_sources.specs.computed.RowSources.{HasExport}
 use Rattle.osgi_space_sources.specs.declared.disputed.Possible.{Possible}
 use Rattle.osgi_space_rows.specs.Rows.{Imports, OwnExport, Requires, RowLists, no_rows, with_attachment, with_import, with_required}
@@ -39,7 +39,7 @@ none-noted possible = record {
 }
 
 -- the ends are the same, and no source is lost
-pub extends-ends : (R : RowLists) (old new : Possible) → HoldsAll old new → new.disputed.ends ≡ old.disputed.ends → NotesMore R old new
+pub extends-ends : (R : RowLists) (old new : Possible) → HoldsAll old new → HasSameEnds old new → NotesMore R old new
 extends-ends R old new kept ends = record {
   sources = kept;
   ends = λ x end. subst (λ set. IsNotedEnd (record new.disputed { ends = set }) x) (sym ends) end;

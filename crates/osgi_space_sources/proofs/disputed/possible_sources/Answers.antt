@@ -4,7 +4,6 @@ use Rattle.osgi_space_rows.specs.Rows.{Imports, no_rows}
 use Rattle.osgi_space_rows.specs.declared.rows.Import.{Import}
 use Rattle.osgi_space_rows.specs.declared.rows.Required.{Required}
 use Rattle.osgi_space_sources.specs.computed.Disputes.{IsNotedEnd, IsNoted}
-use Rattle.osgi_space_sources.specs.declared.disputed.Possible.{Possible}
 use Rattle.osgi_space_sources.specs.laws.Noted.{extends-then, noted-more, none-noted}
 use Rattle.osgi_space_sources.proofs.disputed.possible_sources.Goals as goal
 

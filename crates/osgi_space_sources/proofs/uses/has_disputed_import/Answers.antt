@@ -1,5 +1,5 @@
 -- The answer is true at the first wire for a disputed package.
-use Rattle.std.proofs.Common.{Any, refl, sym, ◌∙◌}
+use Rattle.std.proofs.Common.{Any, refl}
 use Rattle.std.proofs.lemmas.Bool.{false≢true}
 use Rattle.std.proofs.lemmas.List.{get_or_default}
 use Rattle.osgi_space_sources.specs.computed.Disputes.{IsDisputed}
