@@ -1,6 +1,6 @@
 //! The candidates of a requirement, collected in their order.
 
-ghost use Rattle.std.specs.Prelude.{◌≡◌, IfOk, OnOk};
+ghost use Rattle.std.specs.Prelude.{IfOk, OnOk};
 ghost use Rattle.osgi_candidates.specs.computed.Collecting.{AreCandidates, Asks, Collects, Extends, IsAt, IsAtOf, IsAtSome, IsOf};
 ghost use Rattle.osgi_candidates.specs.computed.Fitting.{IsFit};
 ghost use Rattle.osgi_candidates.specs.computed.Texts.{AsksText};
@@ -18,7 +18,7 @@ use std::collections::BTreeSet;
 
 impl Offers<'_> {
     /// The candidates of a requirement, the preferred first. Of a dynamic import nothing is said.
-    pub fn listed(&self, alloc: Global, at: ReqRef) -> Result<Vec<CapRef>, AllocError>
+    pub(crate) fn listed(&self, alloc: Global, at: ReqRef) -> Result<Vec<CapRef>, AllocError>
         ensures exact { IfOk result (λ list. IsFit self.now → CanBeAsked self.now.known at
             → AreCandidates self.now at list.items) }
     {

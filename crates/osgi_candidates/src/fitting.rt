@@ -4,7 +4,6 @@ ghost use Rattle.std.specs.Prelude.{◌≡◌, ◌↔◌, ◌<◌, false, IsTrue
 ghost use Rattle.osgi_candidates.specs.computed.Fitting.{IsFit, IsHeldOffer, IsReplaced, IsToCome, MayProvide, Meets, Stands, bare};
 ghost use Rattle.osgi_world.specs.Candidates.{IsCandidate};
 ghost use Rattle.osgi_world.specs.Lookups.{capability_count, is_dynamic, requirement_at};
-ghost use Rattle.osgi_world.specs.Wirings.{IsWorld};
 
 use crate::held::Held;
 use crate::offers::Offers;
@@ -13,7 +12,12 @@ use osgi_world::{CapRef, ReqRef, Requirement};
 
 impl Offers<'_> {
     /// Whether the capability is a candidate of the requirement, which stands at this place.
-    pub fn is_candidate(&self, at: ReqRef, requirement: &Requirement, capability: CapRef) -> bool
+    pub(crate) fn is_candidate(
+        &self,
+        at: ReqRef,
+        requirement: &Requirement,
+        capability: CapRef,
+    ) -> bool
         ensures candidate { IsFit self.now → requirement_at self.now.known at ≡ Some requirement.now
             → is_dynamic self.now.known at ≡ false
             → IsTrue result ↔ IsCandidate (bare self.now) at capability }

@@ -21,7 +21,11 @@ pub struct Bundled {
 
 impl Offers<'_> {
     /// The current fragments that match the host, by bundle id.
-    pub fn attachable(&self, alloc: Global, host: RevisionId) -> Result<Vec<RevisionId>, AllocError>
+    pub(crate) fn attachable(
+        &self,
+        alloc: Global,
+        host: RevisionId,
+    ) -> Result<Vec<RevisionId>, AllocError>
         ensures exact { IfOk result (λ list. IsFit self.now
             → AreAttachable self.now host list.items) }
     {

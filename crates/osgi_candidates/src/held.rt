@@ -4,7 +4,7 @@ ghost use Rattle.std.specs.Prelude.{◌≡◌, ◌↔◌, [], ◌∷◌, ◌++�
 ghost use Rattle.std.specs.BTreeMap.{get};
 ghost use Rattle.std.specs.Option.{option_copied};
 ghost use Rattle.std.specs.Ordering.{nat_cmp};
-ghost use Rattle.osgi_candidates.specs.computed.Holding.{AreElsewhere, AreFragments, AreHeld, Holds, IsElsewhere, PutsElsewhere};
+ghost use Rattle.osgi_candidates.specs.computed.Holding.{AreElsewhere, AreFragments, AreHeld, IsElsewhere, PutsElsewhere};
 ghost use Rattle.osgi_world.specs.declared.wiring.Wiring.{Wiring};
 
 use osgi_base::{RevisionId, Text};

@@ -18,7 +18,7 @@ use std::cmp::Reverse;
 
 impl Offers<'_> {
     /// The capability with what it is preferred by.
-    pub fn ranked(&self, alloc: Global, capability: CapRef) -> Result<Ranked, AllocError>
+    pub(crate) fn ranked(&self, alloc: Global, capability: CapRef) -> Result<Ranked, AllocError>
         ensures rank { IfOk result (IsRankOf self.now capability) }
     {
         Ok(Ranked {
