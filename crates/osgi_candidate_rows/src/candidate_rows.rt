@@ -34,9 +34,13 @@ impl<'p> Model for CandidateRows<'p> {
 
     ghost Value = { Listed };
 
-    ghost view = { λ r. record { choices = r.choices.now; out = map (candidate r.choices.now) r.rows.removed } };
+    ghost view = { λ r. record {
+      choices = r.choices.now;
+      out = map (candidate r.choices.now) r.rows.removed;
+    } };
 
-    ghost invariant = { λ r. HoldsPlaces r.choices.now r.rows × IsIndexOf r.choices.now r.index × Tells r.gone r.rows.removed };
+    ghost invariant = { λ r. HoldsPlaces r.choices.now r.rows × IsIndexOf r.choices.now r.index
+        × Tells r.gone r.rows.removed };
 }
 
 impl<'p> CandidateRows<'p> {

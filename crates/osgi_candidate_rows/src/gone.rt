@@ -15,7 +15,8 @@ pub struct Gone {
 
 /// Marks the item, if it is there.
 fn mark(is_out: &mut [bool], item: usize, mark: bool)
-    ensures others { (x : ℕ) → x ≢ item → slice_index_or is_out.new x true ≡ slice_index_or is_out.old x true }
+    ensures others { (x : ℕ) → x ≢ item
+        → slice_index_or is_out.new x true ≡ slice_index_or is_out.old x true }
     ensures item { mark ≡ true → slice_index_or is_out.new item true ≡ true }
 {
     if item < is_out.len() {
@@ -36,7 +37,8 @@ impl Gone {
 
     /// Whether the item is there, and is not out.
     pub fn is_left(&self, item: usize) -> bool
-        ensures left { (removed : List ℕ) → Tells self.now removed → IsTrue result → has removed item ≡ false }
+        ensures left { (removed : List ℕ) → Tells self.now removed → IsTrue result
+            → has removed item ≡ false }
     {
         match self.is_out.get(item) {
             Some(is_out) => !*is_out,
@@ -46,8 +48,10 @@ impl Gone {
 
     /// Notes that the item, which was not out, is taken out. If memory runs out, nothing is noted.
     pub fn note(&mut self, item: usize) -> Result<(), AllocError>
-        ensures noted { OnOk result ((removed : List ℕ) → Tells self.old removed → has removed item ≡ false → Tells self.new (item ∷ removed)) }
-        ensures unchanged { OnErr result ((removed : List ℕ) → Tells self.old removed → Tells self.new removed) }
+        ensures noted { OnOk result ((removed : List ℕ) → Tells self.old removed
+            → has removed item ≡ false → Tells self.new (item ∷ removed)) }
+        ensures unchanged { OnErr result ((removed : List ℕ) → Tells self.old removed
+            → Tells self.new removed) }
     {
         self.order.push(item)?;
         mark(&mut self.is_out, item, true);
@@ -56,7 +60,8 @@ impl Gone {
 
     /// Notes that the item that was taken out last is put back.
     pub fn forget_last(&mut self)
-        ensures forgotten { (item : ℕ) (removed : List ℕ) → Tells self.old (item ∷ removed) → Tells self.new removed }
+        ensures forgotten { (item : ℕ) (removed : List ℕ) → Tells self.old (item ∷ removed)
+            → Tells self.new removed }
     {
         let Some(item) = self.order.pop() else {
             return;

@@ -68,7 +68,8 @@ fn first_items(alloc: Global, choices: &[Choice]) -> Result<Vec<usize>, AllocErr
 
 /// Whether the candidate at the spot is one of this provider.
 fn is_of(choices: &[Choice], spot: Spot, provider: RevisionId) -> bool
-    ensures of { IsTrue result → IsItemOf choices.now provider spot.row (first_number choices.now spot.row + spot.place) }
+    ensures of { IsTrue result
+        → IsItemOf choices.now provider spot.row (first_number choices.now spot.row + spot.place) }
 {
     let Some(choice) = choices.get(spot.row) else {
         return false;

@@ -19,7 +19,8 @@ pub fn count_in(choices: &[Choice], row: usize) -> u64
 /// None where no candidate is left.
 pub fn place_from(rows: &Rows, row: usize, from: u64) -> Option<u64>
     requires row { row < length rows.now.rows }
-    ensures place { (choices : List Choice) → HoldsPlaces choices rows.now → row < length choices → IsNextPlace choices rows.now.removed row from result }
+    ensures place { (choices : List Choice) → HoldsPlaces choices rows.now → row < length choices
+        → IsNextPlace choices rows.now.removed row from result }
 {
     let Some(mut item) = rows.first(row) else {
         return None;

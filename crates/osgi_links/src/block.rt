@@ -11,7 +11,8 @@ pub struct Block {
     lease: Lease<Global>,
     alloc: Global,
     room: usize,
-    ghost leased: { (lease.alloc ≡ alloc) × (lease.at ≡ nodes.start) × (lease.room ≡ room) × (nodes.room ≡ room) },
+    ghost leased: { (lease.alloc ≡ alloc) × (lease.at ≡ nodes.start) × (lease.room ≡ room)
+        × (nodes.room ≡ room) },
 }
 
 impl Block {

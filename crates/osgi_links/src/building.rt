@@ -60,7 +60,8 @@ pub(crate) fn push_values(nodes: &mut Nodes, lists: &[Vec<u64>]) -> usize
     ensures values { values_of nodes.new.links ≡ concat (contents lists.now) }
     ensures straight { IsStraight nodes.new.links }
     ensures block { (nodes.new.start ≡ nodes.old.start) × (nodes.new.room ≡ nodes.old.room) }
-    ensures count { (result ≡ length (concat (contents lists.now))) × (result ≡ length nodes.new.links) }
+    ensures count { (result ≡ length (concat (contents lists.now)))
+        × (result ≡ length nodes.new.links) }
 {
     let mut at = 0;
     for list in lists {
@@ -73,9 +74,11 @@ pub(crate) fn push_values(nodes: &mut Nodes, lists: &[Vec<u64>]) -> usize
 pub(crate) fn push_bounds(nodes: &mut Nodes, first: usize, lists: &[Vec<u64>])
     requires first { first ≡ length nodes.old.links }
     requires room { first + length lists.now + 1 ≤ nodes.old.room }
-    requires fits { (first + length lists.now + 1 < 2 ^ 64) × (length (concat (contents lists.now)) < 2 ^ 64) }
+    requires fits { (first + length lists.now + 1 < 2 ^ 64)
+        × (length (concat (contents lists.now)) < 2 ^ 64) }
     requires straight { IsStraight nodes.old.links }
-    ensures values { values_of nodes.new.links ≡ values_of nodes.old.links ++ bounds_from 0 (contents lists.now) }
+    ensures values { values_of nodes.new.links
+        ≡ values_of nodes.old.links ++ bounds_from 0 (contents lists.now) }
     ensures whole { IsWhole nodes.new.links }
     ensures block { (nodes.new.start ≡ nodes.old.start) × (nodes.new.room ≡ nodes.old.room) }
     ensures count { length nodes.new.links ≡ first + length lists.now + 1 }

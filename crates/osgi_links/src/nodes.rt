@@ -69,7 +69,8 @@ impl Nodes {
     /// Room for this many nodes, in a block of the allocator's; none where it has no memory.
     pub(crate) fn new<A: Allocator>(alloc: &A, room: usize) -> Option<(Nodes, Lease<A>)>
         requires fits { room * 48 < 2 ^ 63 }
-        ensures made { IfSome result (λ n. (n.0.links ≡ []) × (n.0.room ≡ room) × (n.1.alloc ≡ alloc.now) × (n.1.at ≡ n.0.start) × (n.1.room ≡ room)) }
+        ensures made { IfSome result (λ n. (n.0.links ≡ []) × (n.0.room ≡ room)
+            × (n.1.alloc ≡ alloc.now) × (n.1.at ≡ n.0.start) × (n.1.room ≡ room)) }
     {
         match alloc.allocate(room * NODE_BYTES, NODE_ALIGN) {
             Ok(block) => {
@@ -83,7 +84,8 @@ impl Nodes {
 
     /// Gives the block back to its allocator.
     pub(crate) fn free<A: Allocator>(self, lease: Lease<A>, alloc: &A, room: usize)
-        requires same { (lease.alloc ≡ alloc.now) × (lease.at ≡ self.start) × (lease.room ≡ room) × (self.room ≡ room) }
+        requires same { (lease.alloc ≡ alloc.now) × (lease.at ≡ self.start) × (lease.room ≡ room)
+            × (self.room ≡ room) }
     {
         let Nodes { start } = self;
         let Lease { marker: _ } = lease;
@@ -96,7 +98,8 @@ impl Nodes {
         requires room { at < self.old.room }
         requires before { prev < self.old.room }
         requires behind { next < self.old.room }
-        ensures pushed { (self.new.links ≡ self.old.links ++ fresh_link prev next value ∷ []) × (self.new.start ≡ self.old.start) × (self.new.room ≡ self.old.room) }
+        ensures pushed { (self.new.links ≡ self.old.links ++ fresh_link prev next value ∷ [])
+            × (self.new.start ≡ self.old.start) × (self.new.room ≡ self.old.room) }
     {
         unsafe {
             self.start.add(at).write(Node {
@@ -133,7 +136,8 @@ impl Nodes {
         requires inside { at < length self.old.links }
         requires before { prev_at self.old.links at < length self.old.links }
         requires behind { next_at self.old.links at < length self.old.links }
-        ensures nodes { (self.new.links ≡ with_linked self.old.links at is_linked under row) × (self.new.start ≡ self.old.start) × (self.new.room ≡ self.old.room) }
+        ensures nodes { (self.new.links ≡ with_linked self.old.links at is_linked under row)
+            × (self.new.start ≡ self.old.start) × (self.new.room ≡ self.old.room) }
     {
         unsafe {
             let node = self.start.add(at);

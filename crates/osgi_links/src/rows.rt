@@ -84,7 +84,8 @@ impl Rows {
     pub fn first(&self, row: usize) -> Option<usize>
         requires row { row < length self.now.rows }
         ensures first { result ≡ first_of (linked self.now row) }
-        ensures item { IfSome result (λ x. IsTrue (has (linked self.now row) x) × (x < length self.now.values)) }
+        ensures item { IfSome result (λ x. IsTrue (has (linked self.now row) x)
+            × (x < length self.now.values)) }
     {
         let bound = self.block.nodes.look(self.items + row).value as usize;
         next_item(&self.block.nodes, self.items, row, bound + row)
@@ -94,7 +95,8 @@ impl Rows {
     pub fn next(&self, row: usize, item: usize) -> Option<usize>
         requires item { IsTrue (has (linked self.now row) item) }
         ensures next { result ≡ after item (linked self.now row) }
-        ensures item { IfSome result (λ x. IsTrue (has (linked self.now row) x) × (x < length self.now.values)) }
+        ensures item { IfSome result (λ x. IsTrue (has (linked self.now row) x)
+            × (x < length self.now.values)) }
     {
         next_item(&self.block.nodes, self.items, row, item + row + 1)
     }
@@ -125,7 +127,8 @@ impl Rows {
     pub fn relink(&mut self)
         requires one_out { 0 < length self.old.removed }
         ensures removed { self.new ≡ record self.old { removed = drop 1 self.old.removed } }
-        ensures undone { (r : ℕ) → linked self.old r ≡ without (slice_index self.old.removed 0) (linked self.new r) }
+        ensures undone { (r : ℕ)
+            → linked self.old r ≡ without (slice_index self.old.removed 0) (linked self.new r) }
     {
         let node = self.top;
         let Shown { under, row, .. } = self.block.nodes.look(node);

@@ -51,7 +51,8 @@ impl Model for IndexedWirings {
 
     ghost view = { λ w. w.wirings };
 
-    ghost invariant = { λ w. FollowsWorld w.index w.wirings.world × AreOf w.refusals w.wirings.world };
+    ghost invariant = { λ w. FollowsWorld w.index w.wirings.world
+        × AreOf w.refusals w.wirings.world };
 }
 
 impl IndexedWirings {
@@ -100,8 +101,10 @@ impl IndexedWirings {
         requires no_current { current_in self.old.world.known bundle ≡ None }
         ensures id { IfOk result (λ id. id.0 ≡ self.old.issued + 1) }
         ensures issued { OnOk result (self.new.issued ≡ self.old.issued + 1) }
-        ensures world { IfOk result (λ id. self.new.world ≡ with_known self.old.world (current_of id bundle revision)) }
-        ensures known { IfOk result (λ id. BecomesKnown self.old.world self.new.world (current_of id bundle revision)) }
+        ensures world { IfOk result (λ id.
+            self.new.world ≡ with_known self.old.world (current_of id bundle revision)) }
+        ensures known { IfOk result (λ id.
+            BecomesKnown self.old.world self.new.world (current_of id bundle revision)) }
         ensures holds { OnOk result (IsKeptWorld self.new.world self.new.issued) }
         ensures unchanged { OnErr result (self.new ≡ self.old) }
         ensures room { 0 < self.old.spare → IsOk result }

@@ -64,7 +64,8 @@ impl Refusals {
 
     /// The answer to the resolve of the root within the budget, where it was refused before.
     pub fn answer(&self, root: RevisionId, budget: u64) -> Option<Answer>
-        ensures answer { (world : World) → AreOf self.now world → IfSome result (IsAnswerTo world root budget) }
+        ensures answer { (world : World) → AreOf self.now world
+            → IfSome result (IsAnswerTo world root budget) }
     {
         let refused = self.by_root.get(&root.0)?;
         if refused.budget != budget {
@@ -75,7 +76,8 @@ impl Refusals {
 
     /// Keeps the answer, if it is a refusal. If memory runs out, it is not kept.
     pub fn keep(&mut self, root: RevisionId, budget: u64, answer: &Answer)
-        ensures of { (world : World) → AreOf self.old world → IsAnswerTo world root budget answer.now → AreOf self.new world }
+        ensures of { (world : World) → AreOf self.old world
+            → IsAnswerTo world root budget answer.now → AreOf self.new world }
     {
         let Some(refusal) = Refusal::of(answer) else {
             return;

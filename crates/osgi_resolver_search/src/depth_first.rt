@@ -29,9 +29,15 @@ fn go_on<W: Walker>(walker: &mut W, most: u64) -> Result<Option<u64>, AllocError
     requires hopeful { ¬ IsHopeless (W.problem walker.old) (W.word walker.old) }
     requires most { 0 < most }
     ensures problem { OnOk result (W.problem walker.new ≡ W.problem walker.old) }
-    ensures most { IfOk result (λ visited. MatchOption visited (Unit {0}) (λ k. (0 < k) × (k ≤ most))) }
-    ensures word { IfOk result (λ visited. (n : ℕ) → IsAt (W.problem walker.old) (W.word walker.old) n → ¬ IsComplete (W.problem walker.old) (W.word walker.old) →
-        MatchOption visited (((w : List ℕ) → ¬ IsGood (W.problem walker.old) w) × IsEffort (W.problem walker.old) (n + 1)) (λ k. IsAt (W.problem walker.old) (W.word walker.new) (n + k))) }
+    ensures most { IfOk result (λ visited. MatchOption visited (Unit {0})
+        (λ k. (0 < k) × (k ≤ most))) }
+    ensures word { IfOk result (λ visited. (n : ℕ)
+        → IsAt (W.problem walker.old) (W.word walker.old) n
+        → ¬ IsComplete (W.problem walker.old) (W.word walker.old)
+        → MatchOption visited
+        (((w : List ℕ) → ¬ IsGood (W.problem walker.old) w)
+        × IsEffort (W.problem walker.old) (n + 1))
+        (λ k. IsAt (W.problem walker.old) (W.word walker.new) (n + k))) }
 {
     let made = leap(walker, most)?;
     if made > 0 {
@@ -50,7 +56,8 @@ pub fn search<W: Walker>(walker: &mut W, budget: u64) -> Result<Outcome, AllocEr
     requires empty { W.word walker.old ≡ [] }
     requires budget { budget < 2 ^ 64 - 1 }
     ensures problem { OnOk result (W.problem walker.new ≡ W.problem walker.old) }
-    ensures outcome { IfOk result (λ outcome. IsOutcome (W.problem walker.old) budget (W.word walker.new) outcome) }
+    ensures outcome { IfOk result (λ outcome.
+        IsOutcome (W.problem walker.old) budget (W.word walker.new) outcome) }
 {
     if walker.is_hopeless()? {
         return Ok(Outcome::NoWord);

@@ -1,6 +1,6 @@
 //! From one word that is not hopeless to the next, value by value.
 
-ghost use Rattle.std.specs.Prelude.{◌≡◌, ◌+◌, ◌^◌, ◌<◌, ℕ, List, IfOk, OnOk, MatchBool};
+ghost use Rattle.std.specs.Prelude.{◌≡◌, ◌+◌, ◌<◌, ℕ, List, IfOk, OnOk, MatchBool};
 ghost use Rattle.osgi_world.specs.Candidates.{IsProblem};
 ghost use Rattle.osgi_world.specs.ChoiceWords.{IsGood, IsWord};
 ghost use Rattle.osgi_world.specs.Effort.{IsEffort};
@@ -16,8 +16,12 @@ pub fn advance<W: Walker>(walker: &mut W) -> Result<bool, AllocError>
     requires word { IsWord (W.problem walker.old) (W.word walker.old) }
     requires hopeful { ¬ IsHopeless (W.problem walker.old) (W.word walker.old) }
     ensures problem { OnOk result (W.problem walker.new ≡ W.problem walker.old) }
-    ensures word { IfOk result (λ more. (n : ℕ) → HasTried (W.problem walker.old) (W.word walker.old) 0 n →
-        MatchBool more (IsAt (W.problem walker.old) (W.word walker.new) n) (((w : List ℕ) → ¬ IsGood (W.problem walker.old) w) × IsEffort (W.problem walker.old) n)) }
+    ensures word { IfOk result (λ more. (n : ℕ)
+        → HasTried (W.problem walker.old) (W.word walker.old) 0 n
+        → MatchBool more
+        (IsAt (W.problem walker.old) (W.word walker.new) n)
+        (((w : List ℕ) → ¬ IsGood (W.problem walker.old) w)
+        × IsEffort (W.problem walker.old) n)) }
 {
     let mut values = walker.values();
     let mut value = walker.next_value(0);

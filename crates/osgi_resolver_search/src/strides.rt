@@ -1,7 +1,6 @@
 //! Several decisions at once, each with its first value.
 
 ghost use Rattle.std.specs.Prelude.{◌≡◌, ◌+◌, ◌<◌, ◌≤◌, ℕ, List, ◌++◌, replicate, IfOk, OnOk};
-ghost use Rattle.osgi_world.specs.Candidates.{IsProblem};
 ghost use Rattle.osgi_world.specs.ChoiceWords.{IsWord};
 ghost use Rattle.osgi_world.specs.Hopeless.{IsHopeless};
 
@@ -13,7 +12,8 @@ fn make_first<W: Walker>(walker: &mut W, most: u64) -> Result<u64, AllocError>
     requires word { IsWord (W.problem walker.old) (W.word walker.old) }
     ensures problem { OnOk result (W.problem walker.new ≡ W.problem walker.old) }
     ensures most { IfOk result (λ made. made ≤ most) }
-    ensures first { IfOk result (λ made. W.word walker.new ≡ W.word walker.old ++ replicate made 0) }
+    ensures first { IfOk result (λ made.
+        W.word walker.new ≡ W.word walker.old ++ replicate made 0) }
     ensures word { OnOk result (IsWord (W.problem walker.old) (W.word walker.new)) }
 {
     for made in 0..most {
@@ -28,7 +28,8 @@ fn make_first<W: Walker>(walker: &mut W, most: u64) -> Result<u64, AllocError>
 /// Takes this many decisions back.
 fn take_back<W: Walker>(walker: &mut W, count: u64)
     ensures problem { W.problem walker.new ≡ W.problem walker.old }
-    ensures word { (w : List ℕ) (kept : ℕ) → W.word walker.old ≡ w ++ replicate (kept + count) 0 → W.word walker.new ≡ w ++ replicate kept 0 }
+    ensures word { (w : List ℕ) (kept : ℕ) → W.word walker.old ≡ w ++ replicate (kept + count) 0
+        → W.word walker.new ≡ w ++ replicate kept 0 }
 {
     for _ in 0..count {
         walker.shorter();
@@ -41,9 +42,11 @@ pub fn leap<W: Walker>(walker: &mut W, most: u64) -> Result<u64, AllocError>
     requires word { IsWord (W.problem walker.old) (W.word walker.old) }
     ensures problem { OnOk result (W.problem walker.new ≡ W.problem walker.old) }
     ensures most { IfOk result (λ made. made ≤ most) }
-    ensures first { IfOk result (λ made. W.word walker.new ≡ W.word walker.old ++ replicate made 0) }
+    ensures first { IfOk result (λ made.
+        W.word walker.new ≡ W.word walker.old ++ replicate made 0) }
     ensures word { OnOk result (IsWord (W.problem walker.old) (W.word walker.new)) }
-    ensures hopeful { IfOk result (λ made. 0 < made → ¬ IsHopeless (W.problem walker.old) (W.word walker.new)) }
+    ensures hopeful { IfOk result (λ made. 0 < made
+        → ¬ IsHopeless (W.problem walker.old) (W.word walker.new)) }
 {
     if most < 2 {
         return Ok(0);

@@ -18,12 +18,14 @@ pub trait Walker {
 
     /// Whether the word is hopeless: what is settled shows that no extension of it is good.
     fn is_hopeless(&self) -> Result<bool, AllocError>
-        ensures hopeless { IfOk result (λ hopeless. Decides hopeless (IsHopeless (problem self.now) (word self.now))) };
+        ensures hopeless { IfOk result (λ hopeless.
+            Decides hopeless (IsHopeless (problem self.now) (word self.now))) };
 
     /// The same, where the word without its last decision, if it has one, is not hopeless.
     fn has_become_hopeless(&self) -> Result<bool, AllocError>
         requires before { IsHopefulBefore (problem self.now) (word self.now) }
-        ensures hopeless { IfOk result (λ hopeless. Decides hopeless (IsHopeless (problem self.now) (word self.now))) };
+        ensures hopeless { IfOk result (λ hopeless.
+            Decides hopeless (IsHopeless (problem self.now) (word self.now))) };
 
     /// Whether no decision is left.
     fn is_complete(&self) -> bool
@@ -31,13 +33,16 @@ pub trait Walker {
 
     /// How many values the next decision has; none where no decision is left.
     fn values(&self) -> u64
-        ensures values { result ≡ width (problem self.now) (made_by (problem self.now) (word self.now)) };
+        ensures values { result
+            ≡ width (problem self.now) (made_by (problem self.now) (word self.now)) };
 
     /// This value of the next decision or a later one, or the number of values. With each value between, this one counted, the word
     /// is hopeless, so a search may pass over them.
     fn next_value(&self, from: u64) -> u64
-        requires from { from ≤ width (problem self.now) (made_by (problem self.now) (word self.now)) }
-        ensures range { (from ≤ result) × (result ≤ width (problem self.now) (made_by (problem self.now) (word self.now))) }
+        requires from { from
+            ≤ width (problem self.now) (made_by (problem self.now) (word self.now)) }
+        ensures range { (from ≤ result)
+            × (result ≤ width (problem self.now) (made_by (problem self.now) (word self.now))) }
         ensures hopeless { AreHopelessBetween (problem self.now) (word self.now) from result };
 
     /// Makes the next decision with this value. If memory runs out, nothing is said of where it stands.
@@ -49,5 +54,6 @@ pub trait Walker {
     /// Takes the last decision back, and gives its value; None where none is made.
     fn shorter(&mut self) -> Option<u64>
         ensures problem { problem self.new ≡ problem self.old }
-        ensures word { MatchOption result ((word self.old ≡ []) × (word self.new ≡ [])) (λ value. word self.old ≡ word self.new ++ value ∷ []) };
+        ensures word { MatchOption result ((word self.old ≡ []) × (word self.new ≡ []))
+            (λ value. word self.old ≡ word self.new ++ value ∷ []) };
 }

@@ -11,14 +11,16 @@ use osgi_lookup::KnownIndex;
 use osgi_resolver_path::Path;
 
 fn is_current_singleton(known: &KnownIndex, revision: RevisionId) -> bool
-    ensures singleton { IsTrue result → IsTrue (is_current known.now revision) × IsTrue (is_singleton known.now revision) }
+    ensures singleton { IsTrue result → IsTrue (is_current known.now revision)
+        × IsTrue (is_singleton known.now revision) }
 {
     known.is_current(revision) && known.is_singleton(revision)
 }
 
 /// Whether they are two, and both are current singletons. If so they are rivals where they have one symbolic name.
 fn are_two_singletons(known: &KnownIndex, one: RevisionId, other: RevisionId) -> bool
-    ensures rivals { IsTrue result → symbolic_name known.now other ≡ symbolic_name known.now one → AreRivals known.now other one }
+    ensures rivals { IsTrue result → symbolic_name known.now other ≡ symbolic_name known.now one
+        → AreRivals known.now other one }
 {
     if other.0 == one.0 {
         return false;

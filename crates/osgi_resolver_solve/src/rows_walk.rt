@@ -64,7 +64,9 @@ impl<'w> RowsWalk<'w> {
 
     /// What is answered where a search ended here.
     pub fn answer(&self, outcome: Outcome) -> Result<Answer, AllocError>
-        ensures answer { IfOk result (λ answer. (budget : ℕ) → IsOutcome self.now.problem budget self.now.word outcome → IsAnswer self.now.problem budget answer) }
+        ensures answer { IfOk result (λ answer. (budget : ℕ)
+            → IsOutcome self.now.problem budget self.now.word outcome
+            → IsAnswer self.now.problem budget answer) }
     {
         let answer = answer_of(self.alloc, &self.path, outcome)?;
         Ok(answer)

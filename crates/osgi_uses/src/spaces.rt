@@ -36,7 +36,11 @@ impl<'w> Model for Spaces<'w> {
 
     ghost coded = { Prim.hlevel (codes, filter.the_row.coded, value.the_row.coded) };
 
-    ghost view = { λ s. record { known = s.world.now.known; wirings = s.world.now.wirings; steps = map step_of (reverse s.trail.items) } };
+    ghost view = { λ s. record {
+      known = s.world.now.known;
+      wirings = s.world.now.wirings;
+      steps = map step_of (reverse s.trail.items);
+    } };
 
     ghost invariant = { λ s. IsTrailOf s.world.now s.rows (reverse s.trail.items) };
 }
@@ -44,7 +48,8 @@ impl<'w> Model for Spaces<'w> {
 impl<'w> Spaces<'w> {
     /// The wirings of the world.
     pub fn new(alloc: Global, world: &'w World) -> Result<Spaces<'w>, AllocError>
-        ensures world { IfOk result (λ made. made ≡ record { known = world.now.known; wirings = world.now.wirings; steps = [] }) }
+        ensures world { IfOk result (λ made.
+            made ≡ record { known = world.now.known; wirings = world.now.wirings; steps = [] }) }
     {
         let rows = DisputedRows::new(alloc, world.known.items(), world.wirings.items())?;
         Ok(Spaces::over(alloc, world, rows))
@@ -54,7 +59,8 @@ impl<'w> Spaces<'w> {
     pub fn over(alloc: Global, world: &'w World, rows: DisputedRows<'w>) -> Spaces<'w>
         requires known { rows.known ≡ world.now.known }
         requires rows { AreRowsIn rows world.now.wirings }
-        ensures world { result ≡ record { known = world.now.known; wirings = world.now.wirings; steps = [] } }
+        ensures world { result
+            ≡ record { known = world.now.known; wirings = world.now.wirings; steps = [] } }
     {
         Spaces {
             world,
@@ -94,7 +100,8 @@ impl<'w> Spaces<'w> {
 
     /// Attaches the fragment to the host. If memory runs out, nothing changes.
     pub fn attach(&mut self, host: RevisionId, fragment: RevisionId) -> Result<(), AllocError>
-        ensures added { OnOk result (self.new ≡ record self.old { steps = attached host fragment ∷ self.old.steps }) }
+        ensures added { OnOk result (self.new
+            ≡ record self.old { steps = attached host fragment ∷ self.old.steps }) }
         ensures unchanged { OnErr result (self.new ≡ self.old) }
     {
         let added = self.rows.attach(host, fragment)?;
@@ -108,7 +115,8 @@ impl<'w> Spaces<'w> {
 
     /// Adds the wire to the revision. If memory runs out, nothing changes.
     pub fn wire(&mut self, revision: RevisionId, wire: Wire) -> Result<(), AllocError>
-        ensures added { OnOk result (self.new ≡ record self.old { steps = wired revision wire ∷ self.old.steps }) }
+        ensures added { OnOk result (self.new
+            ≡ record self.old { steps = wired revision wire ∷ self.old.steps }) }
         ensures unchanged { OnErr result (self.new ≡ self.old) }
     {
         let added = self.rows.add_wire(revision, &wire)?;
@@ -123,7 +131,8 @@ impl<'w> Spaces<'w> {
     /// Takes back what was added last. It takes no memory.
     pub fn undo(&mut self)
         requires step { 0 < length self.old.steps }
-        ensures undone { (s : Step) (steps : List Step) → self.old.steps ≡ s ∷ steps → self.new ≡ record self.old { steps = steps } }
+        ensures undone { (s : Step) (steps : List Step) → self.old.steps ≡ s ∷ steps
+            → self.new ≡ record self.old { steps = steps } }
     {
         let last = self.trail.pop().unwrap();
         self.rows.take_back(last.added);
