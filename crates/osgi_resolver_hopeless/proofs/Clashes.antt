@@ -1,5 +1,5 @@
 -- Constraints that come from settled revisions alone are those that come from no unsettled member.
-use Rattle.std.proofs.Common.{◌≡◌, ℕ, List, sym, subst}
+use Rattle.std.proofs.Common.{ℕ, List, sym, subst}
 use Rattle.osgi_base.specs.declared.ids.RevisionId.{RevisionId}
 use Rattle.osgi_resolver_theory.proofs.Closure.{Decided, map-dec}
 use Rattle.osgi_resolver_theory.proofs.Complete.{in_force-inside}

@@ -17,6 +17,12 @@ use osgi_space_rows::Rows;
 use osgi_space_sources::{Among, Disputed, RevisionSet, one_breaks_uses};
 use std::alloc::{AllocError, Global};
 
+/// Up to so many members are asked for clashes without a look at whom the host concerns,
+const FEW_MEMBERS: usize = 6;
+
+/// if all rows have no more than so many wires for packages.
+const FEW_WIRES: usize = 16;
+
 /// Whether one of these revisions has a violated constraint that comes from other revisions than the unsettled ones alone.
 fn is_one_broken(
     alloc: Global,
@@ -67,6 +73,12 @@ pub fn has_clash(alloc: Global, path: &Path, unsettled: &RevisionSet) -> Result<
     Ok(has_clash_among(alloc, path, unsettled, members.as_slice())?)
 }
 
+/// Whether the members, and all wires for packages in the rows, are so few that to ask all costs no more than to find whom a host
+/// concerns. It tells how the question is answered, and no answer depends on it.
+fn are_few(path: &Path) -> bool {
+    path.members().len() <= FEW_MEMBERS && path.rows().rows().imports.all().len() <= FEW_WIRES
+}
+
 /// Whether a member's implied constraint that comes from settled revisions alone clashes. True only where it is so, and true
 /// wherever such a member leads to the host, and the constraint comes through it. It is looked for only where a package may have
 /// several sources.
@@ -80,6 +92,9 @@ pub fn has_clash_at(alloc: Global, path: &Path, host: RevisionId) -> Result<bool
         return Ok(false);
     }
     let unsettled = unsettled(alloc, path)?;
+    if are_few(path) {
+        return Ok(has_clash(alloc, path, &unsettled)?);
+    }
     let asked = concerned_by(alloc, path, &unsettled, host)?;
     Ok(has_clash_among(alloc, path, &unsettled, asked.as_slice())?)
 }

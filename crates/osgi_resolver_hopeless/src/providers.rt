@@ -3,7 +3,7 @@
 ghost use Rattle.std.specs.Prelude.{◌≢◌, ◌↔◌, Any, IsTrue, List};
 ghost use Rattle.osgi_resolver_hopeless.specs.computed.Providers.{FirstDiffers, HasTwoProviders};
 ghost use Rattle.osgi_resolver_hopeless.specs.computed.Stuck.{OtherProvider};
-ghost use Rattle.osgi_space_rows.specs.Rows.{imports_for};
+ghost use Rattle.osgi_space_rows.specs.Rows.{imports_for, imports_of};
 ghost use Rattle.osgi_space_rows.specs.Worlds.{AreRowsIn};
 ghost use Rattle.osgi_space_rows.specs.declared.rows.Import.{Import};
 ghost use Rattle.osgi_world.specs.declared.wiring.Wiring.{Wiring};
@@ -12,6 +12,9 @@ use crate::packages::exported_number;
 use osgi_base::RevisionId;
 use osgi_resolver_path::Wired;
 use osgi_space_rows::{Import, Rows, WorldRows};
+
+/// Up to so many wires of a revision are looked through before the package's number is looked up.
+const FEW_IMPORTS: usize = 4;
 
 /// Whether the first of the revision's wires for the package goes to another provider.
 fn first_differs(rows: &Rows, revision: u32, package: u32, provider: u32) -> bool
@@ -54,8 +57,17 @@ fn has_another(imports: &[Import], provider: u32) -> bool
     false
 }
 
-/// Whether the wire is one of the revision, which has another provider of the same package. Only its wires for that package are
-/// looked at.
+/// Whether the revision may have a wire to another provider. Where it has more than a few the answer is yes.
+fn may_have_other_provider(rows: &Rows, revision: u32, provider: u32) -> bool
+    ensures another { Any (λ (row : Import). row.provider ≢ provider) (imports_of rows.now revision)
+        → IsTrue result }
+{
+    let imports = rows.imports.of_revision(revision);
+    imports.len() > FEW_IMPORTS || has_another(imports, provider)
+}
+
+/// Whether the wire is one of the revision, which has another provider of the same package. Where it has
+/// few wires these are looked through first; then only those for that package.
 pub fn has_other_provider(rows: &WorldRows, revision: RevisionId, wired: Wired) -> bool
     ensures other { (W : List Wiring) → AreRowsIn rows.now W → IsTrue result
         ↔ OtherProvider rows.now.known W revision wired }
@@ -64,11 +76,12 @@ pub fn has_other_provider(rows: &WorldRows, revision: RevisionId, wired: Wired) 
         return false;
     }
     let capability = wired.wire.capability;
+    let wires = rows.rows();
+    if !may_have_other_provider(wires, revision.0, capability.provider.0) {
+        return false;
+    }
     match exported_number(rows, capability) {
-        Some(number) => has_another(
-            rows.rows().imports.of(revision.0, number),
-            capability.provider.0,
-        ),
+        Some(number) => has_another(wires.imports.of(revision.0, number), capability.provider.0),
         None => false,
     }
 }

@@ -113,8 +113,7 @@ pub fn numbers(alloc: Global, revisions: &[RevisionId]) -> Result<Vec<u32>, Allo
 fn undecided(alloc: Global, path: &Path) -> Result<RevisionSet, AllocError>
     ensures undecided { IfOk result (λ set. At path.now (λ P D. AreUndecided P D set)) }
 {
-    let undecided = path.undecided(alloc)?;
-    let numbers = numbers(alloc, undecided.as_slice())?;
+    let numbers = path.undecided(alloc)?;
     Ok(RevisionSet::of(alloc, numbers)?)
 }
 

@@ -73,25 +73,27 @@ take-less (y ∷ ys) zero x i = elim i [ ]
 take-less (y ∷ ys) (suc n) x (inl e) = inl e
 take-less (y ∷ ys) (suc n) x (inr i) = inr (take-less ys n x i)
 
--- the next one has what is asked
-pub more-kept : {X : Type 0} (T : X → Type 0) (xs list : List X) (n : ℕ) (m : X) → slice_get xs n ≡ Some m → ((x : X) → In x list ↔ In x (take n xs) × T x) → T m → (x : X) → In x (list ++ m ∷ []) ↔ In x (take (n + 1) xs) × T x
-more-kept T xs list n m there so has x = rw (add-one n) (
-  λ i. elim (in-append_cases list (m ∷ []) x i) [
-    | inl a ↦ let b = (so x).0 a in (take-less xs n x b.0, b.1)
-    | inr (inl e) ↦ (subst (λ y. In y (take (suc n) xs)) (sym e) (get-take xs n (suc n) m there (omega arith)), subst T (sym e) has)
+-- the next one, of which the list says y, has what is asked
+pub more-kept : {X Y : Type 0} (of : Y → X) (T : X → Type 0) (xs : List X) (list : List Y) (n : ℕ) (m : X) (y : Y) → of y ≡ m → ((x : Y) → of x ≡ m → x ≡ y) → slice_get xs n ≡ Some m →
+    ((x : Y) → In x list ↔ In (of x) (take n xs) × T (of x)) → T m → (x : Y) → In x (list ++ y ∷ []) ↔ In (of x) (take (n + 1) xs) × T (of x)
+more-kept of T xs list n m y is back there so has x = rw (add-one n) (
+  λ i. elim (in-append_cases list (y ∷ []) x i) [
+    | inl a ↦ let b = (so x).0 a in (take-less xs n (of x) b.0, b.1)
+    | inr (inl e) ↦ let same : of x ≡ m = ap of e ∙ is in (subst (λ z. In z (take (suc n) xs)) (sym same) (get-take xs n (suc n) m there (omega arith)), subst T (sym same) has)
     | inr (inr i) ↦ elim i [ ]
   ],
-  λ h. elim (take-suc-cases xs n m x there h.0) [
-    | inl a ↦ in-append_left list (m ∷ []) x ((so x).1 (a, h.1))
-    | inr e ↦ in-append_right list (m ∷ []) x (inl e)
+  λ h. elim (take-suc-cases xs n m (of x) there h.0) [
+    | inl a ↦ in-append_left list (y ∷ []) x ((so x).1 (a, h.1))
+    | inr e ↦ in-append_right list (y ∷ []) x (inl (back x e))
   ],
 )
 
 -- it has not
-pub more-left : {X : Type 0} (T : X → Type 0) (xs list : List X) (n : ℕ) (m : X) → slice_get xs n ≡ Some m → ((x : X) → In x list ↔ In x (take n xs) × T x) → (T m → ⊥) → (x : X) → In x list ↔ In x (take (n + 1) xs) × T x
-more-left T xs list n m there so none x = rw (add-one n) (
-  λ i. let b = (so x).0 i in (take-less xs n x b.0, b.1),
-  λ h. elim (take-suc-cases xs n m x there h.0) [
+pub more-left : {X Y : Type 0} (of : Y → X) (T : X → Type 0) (xs : List X) (list : List Y) (n : ℕ) (m : X) → slice_get xs n ≡ Some m →
+    ((x : Y) → In x list ↔ In (of x) (take n xs) × T (of x)) → (T m → ⊥) → (x : Y) → In x list ↔ In (of x) (take (n + 1) xs) × T (of x)
+more-left of T xs list n m there so none x = rw (add-one n) (
+  λ i. let b = (so x).0 i in (take-less xs n (of x) b.0, b.1),
+  λ h. elim (take-suc-cases xs n m (of x) there h.0) [
     | inl a ↦ (so x).1 (a, h.1)
     | inr e ↦ absurd (none (subst T e h.1))
   ],

@@ -13,8 +13,8 @@ pub record Standing : Type 0 where
   pub root : RevisionId
   pub word : List ℕ
 
--- P is a problem of resolving the root in the world. Where the world is consistent and in order
--- and the root is unresolved there is one (`has_problem` of osgi_resolver_theory), and two such problems differ only in what no word looks at
+-- P is a problem of resolving the root in the world. Where the world is consistent and in order, and the root is unresolved, there is
+-- one (`has_problem` of osgi_resolver_theory), and two such problems differ only in what no word looks at
 pub record IsProblemOf (s : Standing) (P : Problem) : Type 0 where
   pub world : P.world ≡ s.world
   pub root_is : P.root ≡ s.root

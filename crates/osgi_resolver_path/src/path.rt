@@ -12,6 +12,7 @@ ghost use Rattle.osgi_world.specs.Lists.{In};
 ghost use Rattle.osgi_world.specs.Lookups.{is_effective};
 ghost use Rattle.osgi_world.specs.Partial as partial;
 ghost use Rattle.osgi_world.specs.Wirings.{HasWire};
+ghost use Rattle.osgi_space_rows.specs.Agree.{id};
 ghost use Rattle.osgi_space_rows.specs.Worlds.{AreRowsIn};
 ghost use Rattle.osgi_resolver_path.specs.Last.{IsLast};
 ghost use Rattle.osgi_resolver_decisions.specs.Sure.{AreSure, LacksCandidate};
@@ -213,10 +214,10 @@ impl<'w> Path<'w> {
         self.course.ids.as_slice()
     }
 
-    /// The members that have an attachment, a bundle requirement or an import left to decide.
-    pub fn undecided(&self, alloc: Global) -> Result<Vec<RevisionId>, AllocError>
-        ensures undecided { IfOk result (λ list. At self.now (λ P D. (r : RevisionId)
-            → In r list.items ↔ In r (members P D) × ¬ IsDecided P D r)) }
+    /// The numbers of the members that have an attachment, a bundle requirement or an import left to decide.
+    pub fn undecided(&self, alloc: Global) -> Result<Vec<u32>, AllocError>
+        ensures undecided { IfOk result (λ list. At self.now (λ P D. (n : ℕ)
+            → In n list.items ↔ In (id n) (members P D) × ¬ IsDecided P D (id n))) }
     {
         views::undecided(alloc, &self.lists, &self.course)
     }

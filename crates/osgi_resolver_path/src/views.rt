@@ -4,6 +4,7 @@ ghost use Rattle.std.specs.Prelude.{◌≡◌, ◌↔◌, ℕ, IfOk, Some, lengt
 ghost use Rattle.std.specs.Bool.{Decides};
 ghost use Rattle.std.specs.Option.{option_to_list};
 ghost use Rattle.osgi_base.specs.declared.ids.RevisionId.{RevisionId};
+ghost use Rattle.osgi_space_rows.specs.Agree.{id};
 ghost use Rattle.osgi_world.specs.DueDecisions.{members};
 ghost use Rattle.osgi_world.specs.Hopeless.{IsDecided};
 ghost use Rattle.osgi_world.specs.Lists.{In};
@@ -86,22 +87,19 @@ pub fn is_decided(lists: &Lists, course: &Course, member: RevisionId) -> bool
     }
 }
 
-/// The members that have an attachment, a bundle requirement or an import left to decide. Those before the place of the last are
-/// decided, and are not looked at.
-pub fn undecided(
-    alloc: Global,
-    lists: &Lists,
-    course: &Course,
-) -> Result<Vec<RevisionId>, AllocError>
+/// The numbers of the members that have an attachment, a bundle requirement or an import left to decide. Those before the place of
+/// the last are decided, and are not looked at.
+pub fn undecided(alloc: Global, lists: &Lists, course: &Course) -> Result<Vec<u32>, AllocError>
     ensures undecided { IfOk result (λ list. (P : Problem) → IsProblemIn lists.now.offers P
-        → IsLearnt lists.now course.now → IsAt P course.now → (r : RevisionId) → In r list.items
-        ↔ In r (members P (decided_in course.now)) × ¬ IsDecided P (decided_in course.now) r) }
+        → IsLearnt lists.now course.now → IsAt P course.now → (n : ℕ) → In n list.items
+        ↔ In (id n) (members P (decided_in course.now))
+        × ¬ IsDecided P (decided_in course.now) (id n)) }
 {
-    let mut list = Vec::new(alloc);
+    let mut list = Vec::with_capacity(alloc, course.ids.len().saturating_sub(course.last))?;
     for place in course.last..course.ids.len() {
         let member = course.ids[place];
         if !is_decided_at(lists, course, place, member) {
-            list.push(member)?;
+            list.push(member.0)?;
         }
     }
     Ok(list)

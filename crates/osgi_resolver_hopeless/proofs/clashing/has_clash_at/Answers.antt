@@ -1,4 +1,4 @@
--- Without a disputed package nothing clashes; else those whom the host concerns are asked.
+-- Without a disputed package nothing clashes; else all are asked, where they are few, or those whom the host concerns.
 use Rattle.std.proofs.Common.{ℕ, subst, sym}
 use Rattle.osgi_resolver_hopeless.proofs.Answering.{known-is}
 use Rattle.osgi_resolver_hopeless.proofs.Clashes.{none-disputed}
@@ -22,6 +22,15 @@ returns-then-is_empty c = record {
       let N = name_numbered rows.names in
       let is : AreRowsOf P.world.known W N rows.rows = subst (λ K. AreRowsOf K W N rows.rows) (known-is c.args.path.now P L rows.known c.disputed_rows.ensures.known) (c.disputed_rows.ensures.rows P L) in
       absurd (none-disputed P (made P c.args.path.now) N rows.rows is c.disputed.result.now c.disputed.ensures.disputed (none_in nat_cmp c.disputed.result.now.packages (c.is_empty.ensures.none.0 c.if-is_empty.true)) h.clash);
+}
+
+pub has_clash-requires : goal.has_clash-requires
+has_clash-requires c = record { unsettled = c.in_ok-unsettled.ensures.unsettled }
+
+pub returns-then-are_few : goal.returns-then-are_few
+returns-then-are_few c = record {
+  clash = λ P L there t. (c.in_ok-has_clash.ensures.clash P L).0 t;
+  all = λ P L there h. (c.in_ok-has_clash.ensures.clash P L).1 h.clash;
 }
 
 pub has_clash_among-requires : goal.has_clash_among-requires

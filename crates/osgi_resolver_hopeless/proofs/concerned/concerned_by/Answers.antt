@@ -73,7 +73,7 @@ returns c =
           (subst (λ K. AreRowsOf K (partial P D) N lists.rows) (known-is c.args.path.now P L lists.known c.disputed_rows-rows.ensures.known) (c.disputed_rows-rows.ensures.rows P L)) in
           let leading = c.in_ok-leading.ensures.leading P L in
           let alone : (r : RevisionId) → ¬ BundleWire P.world.known (partial P D) r host =
-          λ r b. not_true _ c.if-is_required.false ((c.is_required.ensures.required P (record { problem = L; member = there })).1 (r, b)) in
+          λ r b. not_true _ c.if-is_required.false ((c.is_required.ensures.required P L there).1 (r, b)) in
           let imports = c.in_ok-imports.imports.items in
           let all : (row : Import) → Contains R.imports row → row.provider ≡ host.0 → IsWiredTo P D host row.revision → Contains imports row = λ row at to w.
           let wired = contains-in items row.revision ((leading row.revision).1 (steps (starts refl) w)) in

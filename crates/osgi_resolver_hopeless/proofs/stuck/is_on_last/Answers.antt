@@ -5,7 +5,6 @@ use Rattle.osgi_resolver_decisions.specs.DecisionOf.{decision_of}
 use Rattle.osgi_resolver_path.proofs.Lasts.{last-split}
 use Rattle.osgi_resolver_theory.proofs.Values.{same-eq, same-refl, some-inj}
 use Rattle.osgi_resolver_hopeless.proofs.Answering.{no}
-use Rattle.osgi_world.specs.Candidates.{candidates}
 use Rattle.osgi_world.specs.Decisions.{Decision, pick, same_decision}
 use Rattle.osgi_resolver_hopeless.proofs.stuck.is_on_last.Goals as goal
 

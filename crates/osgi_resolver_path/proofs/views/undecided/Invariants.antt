@@ -1,6 +1,6 @@
 -- Those of the members so far that are not decided.
-use Rattle.std.proofs.Common.{◌↔◌, take}
-use Rattle.osgi_base.specs.declared.ids.RevisionId.{RevisionId}
+use Rattle.std.proofs.Common.{◌↔◌, ℕ, take}
+use Rattle.osgi_space_rows.specs.Agree.{id}
 use Rattle.osgi_world.specs.Hopeless.{IsDecided}
 use Rattle.osgi_world.specs.Lists.{In}
 use Rattle.osgi_world.specs.declared.problem.Problem.{Problem}
@@ -11,5 +11,5 @@ use Rattle.osgi_resolver_path.proofs.views.undecided.Given as goal
 
 abbrev pub invariant-loop-place : goal.invariant-loop-place
 invariant-loop-place l =
-    (P : Problem) → IsProblemIn l.lists.offers P → IsLearnt l.lists l.course → IsAt P l.course → (r : RevisionId) →
-    In r l.list.items ↔ In r (take l.place l.course.ids.items) × ¬ IsDecided P (decided_in l.course) r
+    (P : Problem) → IsProblemIn l.lists.offers P → IsLearnt l.lists l.course → IsAt P l.course → (n : ℕ) →
+    In n l.list.items ↔ In (id n) (take l.place l.course.ids.items) × ¬ IsDecided P (decided_in l.course) (id n)

@@ -1,7 +1,7 @@
 -- Of the decisions of the course.
-use Rattle.std.proofs.Common.{◌↔◌, Ok, Err, sym, subst}
+use Rattle.std.proofs.Common.{◌↔◌, ℕ, Ok, Err, sym, subst}
 use Rattle.std.specs.Prelude.{IfOk}
-use Rattle.osgi_base.specs.declared.ids.RevisionId.{RevisionId}
+use Rattle.osgi_space_rows.specs.Agree.{id}
 use Rattle.osgi_world.specs.Decisions.{Made}
 use Rattle.osgi_world.specs.DueDecisions.{members}
 use Rattle.osgi_world.specs.Hopeless.{IsDecided}
@@ -19,8 +19,8 @@ returns c = record {
   undecided =
       let course = c.self.inside.course in
       let lists = c.self.inside.lists in
-      elim c.undecided.result as (λ r. IfOk r (λ list. (P : Problem) → IsProblemIn lists.offers P → IsLearnt lists course → IsAt P course → (r : RevisionId) → In r list.items ↔ In r (members P (decided_in course)) × ¬ IsDecided P (decided_in course) r) → IfOk r (λ list. (P : Problem) → IsProblemOf c.args.self.now P → (r : RevisionId) → In r list.items ↔ In r (members P (made P c.args.self.now)) × ¬ IsDecided P (made P c.args.self.now) r)) [
-        | Ok x ↦ λ is P of r. subst (λ (D : Made). In r x.items ↔ In r (members P D) × ¬ IsDecided P D r) (sym (made-at c.self.inside.world.now c.self.inside.root lists c.self.inside.spaces course c.self.invariant c.args.self.now (sym c.self.view_is) P of)) (is P (lists-at c.self.inside.world.now c.self.inside.root lists c.self.inside.spaces course c.self.invariant c.args.self.now (sym c.self.view_is) P of) c.self.invariant.learnt (stands-at c.self.inside.world.now c.self.inside.root lists c.self.inside.spaces course c.self.invariant c.args.self.now (sym c.self.view_is) P of) r)
+      elim c.undecided.result as (λ r. IfOk r (λ list. (P : Problem) → IsProblemIn lists.offers P → IsLearnt lists course → IsAt P course → (n : ℕ) → In n list.items ↔ In (id n) (members P (decided_in course)) × ¬ IsDecided P (decided_in course) (id n)) → IfOk r (λ list. (P : Problem) → IsProblemOf c.args.self.now P → (n : ℕ) → In n list.items ↔ In (id n) (members P (made P c.args.self.now)) × ¬ IsDecided P (made P c.args.self.now) (id n))) [
+        | Ok x ↦ λ is P of n. subst (λ (D : Made). In n x.items ↔ In (id n) (members P D) × ¬ IsDecided P D (id n)) (sym (made-at c.self.inside.world.now c.self.inside.root lists c.self.inside.spaces course c.self.invariant c.args.self.now (sym c.self.view_is) P of)) (is P (lists-at c.self.inside.world.now c.self.inside.root lists c.self.inside.spaces course c.self.invariant c.args.self.now (sym c.self.view_is) P of) c.self.invariant.learnt (stands-at c.self.inside.world.now c.self.inside.root lists c.self.inside.spaces course c.self.invariant c.args.self.now (sym c.self.view_is) P of) n)
         | Err e ↦ λ x. x
       ] c.undecided.ensures.undecided;
 }
