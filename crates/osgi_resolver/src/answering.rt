@@ -14,14 +14,15 @@ use std::alloc::{AllocError, Global};
 
 /// The answer to a problem where the search over its words has ended at the path.
 pub fn answer_of(alloc: Global, path: &Path, outcome: Outcome) -> Result<Answer, AllocError>
-    ensures answer { IfOk result (λ answer. (P : Problem) (budget : ℕ) → IsProblemOf path.now P → IsOutcome P budget path.now.word outcome → IsAnswer P budget answer) }
+    ensures answer { IfOk result (λ answer. (P : Problem) (budget : ℕ) → IsProblemOf path.now P
+        → IsOutcome P budget path.now.word outcome → IsAnswer P budget answer) }
 {
     match outcome {
         Outcome::Found => Ok(Answer::Found {
             word: path.word(alloc)?,
             added: path.added(alloc)?,
         }),
-        Outcome::NoWord => Ok(Answer::NoWord(cause_of(alloc, path.offers(), path.root())?)),
+        Outcome::NoWord => Ok(Answer::NoWord(cause_of(path))),
         Outcome::Spent { visited } => Ok(Answer::Spent { visited }),
     }
 }
