@@ -1,14 +1,18 @@
 //! Operations that the framework does not have yet, which no command of the console says.
 
 use cases_text::text_of;
-use osgi_base::{BundleId, List, Text};
-use osgi_ops::{Op, Scope};
+use osgi_base::{BundleId, List, ServiceId, Text};
+use osgi_ops::{ObjectId, Op, Scope};
 use std::alloc::{AllocError, Global};
 
 /// Operations that have neither a text nor a list.
 #[derive(Clone, Copy)]
 enum Plain {
+    GetOwn,
+    EndMake,
+    UngetOwn,
     EndJob,
+    Await,
     Uninstall,
     DropWirings,
     EndRefresh,
@@ -22,12 +26,17 @@ enum Plain {
 /// Operations that have a text.
 #[derive(Clone, Copy)]
 enum Wordy {
+    Give,
     QueueJob,
     Update,
 }
 
-const PLAIN: [(&str, Plain); 9] = [
+const PLAIN: [(&str, Plain); 13] = [
+    ("GetOwn", Plain::GetOwn),
+    ("EndMake", Plain::EndMake),
+    ("UngetOwn", Plain::UngetOwn),
     ("EndJob", Plain::EndJob),
+    ("Await", Plain::Await),
     ("Uninstall", Plain::Uninstall),
     ("DropWirings", Plain::DropWirings),
     ("EndRefresh", Plain::EndRefresh),
@@ -38,7 +47,11 @@ const PLAIN: [(&str, Plain); 9] = [
     ("SetBundleLevel", Plain::SetBundleLevel),
 ];
 
-const WORDY: [(&str, Wordy); 2] = [("QueueJob", Wordy::QueueJob), ("Update", Wordy::Update)];
+const WORDY: [(&str, Wordy); 3] = [
+    ("Give", Wordy::Give),
+    ("QueueJob", Wordy::QueueJob),
+    ("Update", Wordy::Update),
+];
 
 fn plain_named(name: &str) -> Option<Plain> {
     for (word, plain) in &PLAIN {
@@ -60,7 +73,18 @@ fn wordy_named(name: &str) -> Option<Wordy> {
 
 fn plain_op(plain: Plain, bundle: BundleId) -> Op {
     match plain {
+        Plain::GetOwn => Op::GetOwn {
+            user: bundle,
+            service: ServiceId(1),
+        },
+        Plain::EndMake => Op::EndMake { failed: false },
+        Plain::UngetOwn => Op::UngetOwn {
+            user: bundle,
+            service: ServiceId(1),
+            object: ObjectId(1),
+        },
         Plain::EndJob => Op::EndJob,
+        Plain::Await => Op::Await { bundle },
         Plain::Uninstall => Op::Uninstall { bundle },
         Plain::DropWirings => Op::DropWirings,
         Plain::EndRefresh => Op::EndRefresh,
@@ -74,6 +98,7 @@ fn plain_op(plain: Plain, bundle: BundleId) -> Op {
 
 fn wordy_op(wordy: Wordy, owner: BundleId, text: Text) -> Op {
     match wordy {
+        Wordy::Give => Op::Give { owner, text },
         Wordy::QueueJob => Op::QueueJob { owner, name: text },
         Wordy::Update => Op::Update {
             bundle: owner,

@@ -12,6 +12,7 @@ fn put_section(out: &mut String, section: &Section) -> Result<(), AllocError> {
         Section::Stop => put(out, "stop"),
         Section::On(name) => put_named(out, "on", name),
         Section::Job(name) => put_named(out, "job", name),
+        Section::Make(name) => put_named(out, "make", name),
     }
 }
 

@@ -5,7 +5,7 @@ use cases_text::{put, put_debug, put_quoted, put_text};
 use osgi_base::Text;
 use osgi_filter::print;
 use osgi_model::{Attributes, Filter};
-use osgi_ops::Kind;
+use osgi_ops::{Kind, Scope};
 use osgi_script::Statement;
 use std::alloc::{AllocError, Global};
 
@@ -71,6 +71,29 @@ fn put_register(
     put_properties(alloc, out, properties)
 }
 
+fn put_factory(
+    alloc: Global,
+    out: &mut String,
+    var: &Text,
+    classes: &[Text],
+    scope: Scope,
+    name: &Text,
+    properties: &Attributes,
+) -> Result<(), AllocError> {
+    put_named(out, "factory", var)?;
+    put_classes(out, classes)?;
+    put(
+        out,
+        match scope {
+            Scope::Singleton => " singleton ",
+            Scope::Bundle => " bundle ",
+            Scope::Prototype => " prototype ",
+        },
+    )?;
+    put_text(out, name)?;
+    put_properties(alloc, out, properties)
+}
+
 fn put_modify(
     alloc: Global,
     out: &mut String,
@@ -125,6 +148,15 @@ pub fn put_statement(
         Statement::Find { var, class, filter } => put_find(alloc, out, var, class, filter),
         Statement::Get { var } => put_named(out, "get", var),
         Statement::Unget { var } => put_named(out, "unget", var),
+        Statement::GetOwn { var } => put_named(out, "getown", var),
+        Statement::Factory {
+            var,
+            classes,
+            scope,
+            name,
+            properties,
+        } => put_factory(alloc, out, var, classes.items(), *scope, name, properties),
+        Statement::Give { text } => put_said(out, "give", text),
         Statement::Start { name } => put_named(out, "start", name),
         Statement::Stop { name } => put_named(out, "stop", name),
         Statement::Load { class } => put_named(out, "load", class),

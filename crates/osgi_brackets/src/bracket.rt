@@ -5,7 +5,7 @@ ghost use Rattle.std.specs.Option.{option_map};
 ghost use Rattle.osgi_ops.specs.Brackets.{ends, opens};
 ghost use Rattle.osgi_brackets.specs.Kinds.{cause_of};
 
-use osgi_base::{BundleId, ListenerId};
+use osgi_base::{BundleId, ListenerId, ServiceId};
 use osgi_ops::{Op, Reply};
 
 /// What a bracket is open for.
@@ -19,6 +19,17 @@ pub enum BracketKind {
     Stop(BundleId),
     /// A job.
     Job,
+    /// The making of an object.
+    Make(Made),
+}
+
+/// For which user, of which service, whether the user asked for one of its own, and whose factory makes it.
+#[derive(Clone, Copy)]
+pub struct Made {
+    pub user: BundleId,
+    pub service: ServiceId,
+    pub own: bool,
+    pub owner: BundleId,
 }
 
 /// An open bracket of a caller: the number of the line that opened it, and what it is open for.
@@ -37,6 +48,22 @@ pub fn opens(op: &Op, reply: &Reply) -> Option<BracketKind>
         (Op::TakeJob, Reply::Job { .. }) => Some(BracketKind::Job),
         (Op::BeginStart { bundle, .. }, Reply::Begun { .. }) => Some(BracketKind::Start(*bundle)),
         (Op::BeginStop { .. }, Reply::Begun { bundle, .. }) => Some(BracketKind::Stop(*bundle)),
+        (Op::Get { user, service }, Reply::Make { owner, .. }) => {
+            Some(BracketKind::Make(Made {
+                user: *user,
+                service: *service,
+                own: false,
+                owner: *owner,
+            }))
+        }
+        (Op::GetOwn { user, service }, Reply::Make { owner, .. }) => {
+            Some(BracketKind::Make(Made {
+                user: *user,
+                service: *service,
+                own: true,
+                owner: *owner,
+            }))
+        }
         _ => None,
     }
 }
@@ -50,6 +77,7 @@ pub fn ends(op: &Op, kind: BracketKind) -> bool
         (Op::EndJob, BracketKind::Job) => true,
         (Op::EndStart { bundle, .. }, BracketKind::Start(begun)) => *bundle == begun,
         (Op::EndStop { bundle, .. }, BracketKind::Stop(begun)) => *bundle == begun,
+        (Op::EndMake { .. }, BracketKind::Make(_)) => true,
         _ => false,
     }
 }

@@ -1,12 +1,12 @@
 -- Texts of the items of a list, one after another.
 use Rattle.std.proofs.Common.{◌≡◌, ℕ, ◌+◌, ◌<◌, ◌≤◌, false, refl, append-nil, List, [], ◌∷◌, ◌++◌, length, get_or, drop, map, replicate, ap, sym, ◌∙◌, append_assoc, arith}
-use Rattle.std.specs.Prelude.{◌==◌, ◌||◌, if◌then◌else◌, nat_eq, OnOk, Result, Ok, Err}
+use Rattle.std.specs.Prelude.{◌==◌, ◌||◌, if◌then◌else◌, nat_eq, None, OnOk, Option, Result, Ok, Err, Some}
 use Rattle.std.specs.Fmt.{decimal}
 use Rattle.std.specs.List.{concat, join_with_byte}
 use Rattle.std.proofs.lemmas.List.{at_drop_all, at_drop_more, map-append, replicate-append-replicate}
 use Rattle.std.proofs.lemmas.List.Folds.{concat-append}
 use Rattle.std.proofs.lemmas.Simd.{map-map}
-use Rattle.osgi_session.specs.Rendering.{fragment_row_text, ids_text, line_at, lines_at, service_row_text, service_lines, wire_lines, wire_row_text}
+use Rattle.osgi_session.specs.Rendering.{added_lines, fragment_row_text, ids_text, line_at, lines_at, service_row_text, service_lines, wire_lines, wire_row_text, wired_row_text}
 use Rattle.osgi_ops.specs.declared.rows.WireRow.{WireRow}
 use Rattle.osgi_ops.specs.declared.service.ServiceRow.{ServiceRow}
 
@@ -77,3 +77,9 @@ pub added_both : {E : Type 0} (r : Result (Unit {0}) E) (out first second a b wh
     OnOk r (second ≡ out ++ whole)
 added_both (Ok done) out first second a b whole before is after = after ∙ ap (λ l. l ++ b) before ∙ append_assoc out a b ∙ ap (λ l. out ++ l) (sym is)
 added_both (Err e) out first second a b whole before is after = tt
+
+-- the lines of a load: that of the wire that it added, if it added one, and one more
+pub loaded_lines : (depth : ℕ) (wire : Option WireRow) (line : List ℕ) → lines_at depth (added_lines wire ++ line ∷ []) ≡ lines_at depth (added_lines wire) ++ line_at depth line
+loaded_lines depth None line = append-nil (line_at depth line)
+loaded_lines depth (Some row) line =
+    ap (λ l. line_at depth (wired_row_text row) ++ l) (append-nil (line_at depth line)) ∙ ap (λ l. l ++ line_at depth line) (sym (append-nil (line_at depth (wired_row_text row))))

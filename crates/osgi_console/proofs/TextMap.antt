@@ -96,7 +96,7 @@ texts_put history e old less more taken line texts is_taken added ended without 
 -- ---- one line
 
 line_by : (content : Content) (number : ℕ) (history : List Entry) (line : Option LineText) (ended : Bool) → IsTextOf history number line → ends_without_job (filter (is_of number) history) ≡ ended →
-    line_text_by content line ≡ line_text history (record { number = number; lane = 0; content = content })
+    line_text_by content line ≡ line_text history [] (record { number = number; lane = 0; content = content })
 line_by Empty number history line ended is e = refl
 line_by Join number history line ended is e = refl
 line_by Bad number history line ended is e = refl
@@ -104,5 +104,5 @@ line_by (Run command) number history line true is e = rw (is.text, is.ended, e) 
 line_by (Run command) number history line false is e = rw (is.text, is.ended, e) refl
 
 -- what a line writes by what its entries write is what it writes by the history
-pub line_text_from : (history : List Entry) (texts : Texts) (line : Line) → AreTextsOf history texts → line_text_by line.content (text_at texts line.number) ≡ line_text history line
+pub line_text_from : (history : List Entry) (texts : Texts) (line : Line) → AreTextsOf history texts → line_text_by line.content (text_at texts line.number) ≡ line_text history [] line
 line_text_from history texts line are = line_by line.content line.number history (text_at texts line.number) (ends_without_job (filter (is_of line.number) history)) (are line.number) refl

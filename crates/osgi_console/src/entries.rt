@@ -4,12 +4,13 @@ ghost use Rattle.std.specs.Prelude.{◌≡◌, ◌++◌, OnOk};
 ghost use Rattle.osgi_session.specs.Rendering.{done_lines, entry_lines, lines_at};
 
 use crate::lines::{
-    add_bundle_line, add_bundles_line, add_flag_line, add_found, add_handed, add_id_line, add_job,
-    add_loaded, add_numbers_line, add_quoted_line, add_text_line,
+    add_bundle_line, add_bundles_line, add_flag_line, add_found, add_given_back, add_handed,
+    add_held, add_id_line, add_loaded, add_numbers_line, add_quoted_line, add_section_line,
+    add_text_line,
 };
 use crate::refusals::add_refusal;
 use crate::rows::{add_bundles, add_services};
-use crate::wires::add_wires;
+use crate::wires::{add_loaded_more, add_wires};
 use osgi_ops::{Entry, Op, Reply};
 use std::alloc::{AllocError, Global};
 
@@ -20,6 +21,7 @@ fn add_done(out: &mut Vec<u8>, depth: usize, level: u8, op: &Op) -> Result<(), A
     match op {
         Op::Modify { service, .. } => add_id_line(out, depth, b"modified", service.0),
         Op::Unregister { service, .. } => add_id_line(out, depth, b"unregistered", service.0),
+        Op::UngetOwn { object, .. } => add_given_back(out, depth, *object),
         Op::QueueJob { .. } => add_text_line(out, depth, b"queued"),
         Op::Print { text, .. } => add_text_line(out, depth, text.bytes()),
         Op::Fail { text, .. } => add_quoted_line(out, depth, b"fail", text.bytes()),
@@ -48,6 +50,12 @@ pub fn add_entry(
         (_, Reply::Best { service }) => add_found(out, depth, service.as_slice()),
         (_, Reply::Services { services }) => add_found(out, depth, services.items()),
         (_, Reply::Object { text }) => add_quoted_line(out, depth, b"object", text.bytes()),
+        (_, Reply::Held { object, text }) => add_held(out, depth, *object, text.bytes()),
+        (_, Reply::Make { owner, name, .. }) => {
+            add_section_line(out, depth, b"making", *owner, name.bytes())
+        }
+        (_, Reply::Waiting { bundle }) => add_bundle_line(out, depth, b"waiting", *bundle),
+        (_, Reply::LoadedMore { by, wire, .. }) => add_loaded_more(alloc, out, depth, *by, wire),
         (_, Reply::Listener { listener }) => {
             add_id_line(out, depth, b"listener", u64::from(listener.0))
         }
@@ -59,7 +67,9 @@ pub fn add_entry(
                 ..
             },
         ) => add_handed(out, depth, *listener, *event),
-        (_, Reply::Job { owner, name, .. }) => add_job(out, depth, *owner, name.bytes()),
+        (_, Reply::Job { owner, name, .. }) => {
+            add_section_line(out, depth, b"job", *owner, name.bytes())
+        }
         (_, Reply::Bundle { bundle, .. }) => { add_bundle_line(out, depth, b"bundle", *bundle) }
         (_, Reply::Resolved { added }) => {
             add_bundles_line(out, depth, b"resolved", added.items())

@@ -3,12 +3,12 @@
 ghost use Rattle.std.specs.Prelude.{◌≡◌, ◌++◌, codes, OnOk};
 ghost use Rattle.std.specs.Fmt.{decimal};
 ghost use Rattle.osgi_session.specs.RefusalTexts.{spaced};
-ghost use Rattle.osgi_session.specs.Rendering.{bundles_text, event_text, line_at, loaded_text, quoted, services_text, truth};
+ghost use Rattle.osgi_session.specs.Rendering.{bundles_text, event_text, held_text, line_at, loaded_text, quoted, services_text, truth};
 
 use crate::ids::{add_bundle_ids, add_service_ids};
 use crate::writing::{add_indent, add_number, add_quoted, add_spaced, add_spaced_number};
 use osgi_base::{BundleId, ListenerId, RevisionId, ServiceId};
-use osgi_ops::Event;
+use osgi_ops::{Event, ObjectId};
 use std::alloc::AllocError;
 
 /// Adds a line that is this text.
@@ -129,19 +129,57 @@ pub fn add_flag_line(
     Ok(())
 }
 
-/// Adds the line of a job: its bundle, and the name of its section.
-pub fn add_job(
+/// Adds a line of a word, a bundle, and the name of a section of its script.
+pub fn add_section_line(
     out: &mut Vec<u8>,
     depth: usize,
+    word: &[u8],
     owner: BundleId,
     name: &[u8],
 ) -> Result<(), AllocError>
-    ensures added { OnOk result (out.new.items ≡ out.old.items ++ line_at depth (codes "job" ++ (spaced (decimal owner.0) ++ spaced name.now))) }
+    ensures added { OnOk result (out.new.items ≡ out.old.items ++ line_at depth (word.now ++ (spaced (decimal owner.0) ++ spaced name.now))) }
 {
     add_indent(out, depth)?;
-    out.extend_from_slice(b"job")?;
+    out.extend_from_slice(word)?;
     add_spaced_number(out, u64::from(owner.0))?;
     add_spaced(out, name)?;
+    out.push(b'\n')?;
+    Ok(())
+}
+
+/// Adds the number of an object that a factory made, after a space.
+fn add_object_id(out: &mut Vec<u8>, object: ObjectId) -> Result<(), AllocError>
+    ensures added { OnOk result (out.new.items ≡ out.old.items ++ spaced (codes "o" ++ decimal object.0)) }
+{
+    out.extend_from_slice(b" o")?;
+    add_number(out, object.0)
+}
+
+/// Adds the line of an object that a factory made.
+pub fn add_held(
+    out: &mut Vec<u8>,
+    depth: usize,
+    object: ObjectId,
+    text: &[u8],
+) -> Result<(), AllocError>
+    ensures added { OnOk result (out.new.items ≡ out.old.items ++ line_at depth (held_text object text.now)) }
+{
+    add_indent(out, depth)?;
+    out.extend_from_slice(b"object")?;
+    add_object_id(out, object)?;
+    out.push(b' ')?;
+    add_quoted(out, text)?;
+    out.push(b'\n')?;
+    Ok(())
+}
+
+/// Adds the line of an object that was given back.
+pub fn add_given_back(out: &mut Vec<u8>, depth: usize, object: ObjectId) -> Result<(), AllocError>
+    ensures added { OnOk result (out.new.items ≡ out.old.items ++ line_at depth (codes "ungetown" ++ spaced (codes "o" ++ decimal object.0))) }
+{
+    add_indent(out, depth)?;
+    out.extend_from_slice(b"ungetown")?;
+    add_object_id(out, object)?;
     out.push(b'\n')?;
     Ok(())
 }

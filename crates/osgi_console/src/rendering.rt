@@ -124,14 +124,14 @@ fn add_line(
     }
 }
 
-/// The text of a session: what its lines write, in input order.
+/// The text of a session in which no line peeks: what its lines write, in input order.
 ///
 /// An entry writes its lines after two spaces for each bracket of its caller that it stands in. A line with a command ends
 /// with `full` exactly where its entries do not end with one that found no job to take.
 ///
 /// The cost is near linear in the lines and entries together.
 pub fn render(alloc: Global, lines: &[Line], entries: &[Entry]) -> Result<Text, AllocError>
-    ensures text { IfOk result (λ text. text ≡ render lines.now entries.now) }
+    ensures text { IfOk result (λ text. text ≡ render lines.now entries.now []) }
 {
     let texts = texts(alloc, entries)?;
     let mut out = Vec::new(alloc);

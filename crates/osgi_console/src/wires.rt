@@ -1,9 +1,12 @@
 //! The lines of a list of wires.
 
-ghost use Rattle.std.specs.Prelude.{◌≡◌, ◌++◌, map, OnOk};
-ghost use Rattle.osgi_session.specs.Rendering.{fragment_row_text, line_at, lines_at, revision_text, wire_lines, wire_row_text};
+ghost use Rattle.std.specs.Prelude.{◌≡◌, ◌++◌, ◌∷◌, [], codes, map, OnOk};
+ghost use Rattle.osgi_session.specs.RefusalTexts.{spaced};
+ghost use Rattle.osgi_session.specs.Rendering.{added_lines, fragment_row_text, line_at, lines_at, loaded_text, revision_text, wire_lines, wire_row_text};
 
+use crate::lines::add_loaded;
 use crate::writing::{add_indent, add_number, add_spaced, add_spaced_number};
+use osgi_base::RevisionId;
 use osgi_ops::WireRow;
 use std::alloc::{AllocError, Global};
 
@@ -17,6 +20,25 @@ fn add_revision(alloc: Global, out: &mut Vec<u8>, row: &WireRow) -> Result<(), A
     add_number(out, u64::from(row.revision.0))
 }
 
+/// Adds a line of a word, and a wire as it is shown.
+fn add_wire_line(
+    alloc: Global,
+    out: &mut Vec<u8>,
+    depth: usize,
+    word: &[u8],
+    row: &WireRow,
+) -> Result<(), AllocError>
+    ensures added { OnOk result (out.new.items ≡ out.old.items ++ line_at depth (word.now ++ (spaced row.now.namespace ++ (spaced row.now.name ++ revision_text row.now)))) }
+{
+    add_indent(out, depth)?;
+    out.extend_from_slice(word)?;
+    add_spaced(out, row.namespace.bytes())?;
+    add_spaced(out, row.name.bytes())?;
+    add_revision(alloc, out, row)?;
+    out.push(b'\n')?;
+    Ok(())
+}
+
 /// Adds the line of a wire.
 fn add_wire_row(
     alloc: Global,
@@ -26,13 +48,36 @@ fn add_wire_row(
 ) -> Result<(), AllocError>
     ensures added { OnOk result (out.new.items ≡ out.old.items ++ line_at depth (wire_row_text row.now)) }
 {
-    add_indent(out, depth)?;
-    out.extend_from_slice(b"wire")?;
-    add_spaced(out, row.namespace.bytes())?;
-    add_spaced(out, row.name.bytes())?;
-    add_revision(alloc, out, row)?;
-    out.push(b'\n')?;
-    Ok(())
+    add_wire_line(alloc, out, depth, b"wire", row)
+}
+
+/// Adds the line of the wire that a load added, if it added one.
+fn add_added(
+    alloc: Global,
+    out: &mut Vec<u8>,
+    depth: usize,
+    wire: &Option<WireRow>,
+) -> Result<(), AllocError>
+    ensures added { OnOk result (out.new.items ≡ out.old.items ++ lines_at depth (added_lines wire.now)) }
+{
+    match wire {
+        Some(row) => add_wire_line(alloc, out, depth, b"wired", row),
+        None => Ok(()),
+    }
+}
+
+/// Adds the line of the wire that a load added, if it added one, and the line that says which revision the class was loaded from.
+pub fn add_loaded_more(
+    alloc: Global,
+    out: &mut Vec<u8>,
+    depth: usize,
+    by: Option<RevisionId>,
+    wire: &Option<WireRow>,
+) -> Result<(), AllocError>
+    ensures added { OnOk result (out.new.items ≡ out.old.items ++ lines_at depth (added_lines wire.now ++ (codes "loaded" ++ spaced (loaded_text by)) ∷ [])) }
+{
+    add_added(alloc, out, depth, wire)?;
+    add_loaded(out, depth, by)
 }
 
 /// Adds the line of a fragment.

@@ -40,6 +40,7 @@ ended_hand (op.EndStop bundle failed) (cause.handing held) e = absurd (cc e)
 ended_hand (op.EndStop bundle failed) (cause.starting b) e = absurd (cc e)
 ended_hand (op.EndStop bundle failed) (cause.stopping b) e = refl
 ended_hand (op.EndStop bundle failed) cause.job e = absurd (cc e)
+ended_hand (op.EndMake failed) (cause.making m) e = refl
 ended_hand o c e = absurd (cc e)
 
 one_more : (b : Bracket) (outer : List Bracket) (t : Bool) → is_hand b.cause ≡ t → hands_in (b ∷ outer) ≡ number_if t + hands_in outer

@@ -13,14 +13,14 @@ use Rattle.osgi_core.specs.Sound.{IsSoundlyTold, IsTrulyUnresolvable}
 use Rattle.osgi_legal.proofs.Legal.{handed-is-prefix, sights-last, world-last}
 use Rattle.osgi_legal.proofs.Owned.{entries-last}
 use Rattle.osgi_legal.proofs.ToldOnce.{told-once}
-use Rattle.osgi_ops.specs.Legal.{IsAllowed, IsAllowedNow, IsAskedAt, IsStep, IsTold}
+use Rattle.osgi_legal.specs.Legal.{IsAllowed, IsAllowedNow, IsAskedAt, IsStep, IsTold}
 use Rattle.osgi_ops.specs.Levels.{Refresh, refresh}
 use Rattle.osgi_listeners.specs.Rows.{no_listeners}
 use Rattle.osgi_listeners.specs.Stands as hearing
 use Rattle.osgi_listeners.specs.Stands.{AreSmall}
 use Rattle.osgi_listeners.specs.laws.Standing.{stands-at-first}
 use Rattle.osgi_ops.specs.Moments.{first_world, Moment, moment, Seen, seen_after, Sight, sights_in, Told, world_after}
-use Rattle.osgi_ops.specs.Operations.{IsReply}
+use Rattle.osgi_legal.specs.Operations.{IsReply}
 use Rattle.osgi_ops.specs.Resolved.{is_resolved}
 use Rattle.osgi_ops.specs.Resolving.{AnswersResolve}
 use Rattle.osgi_ops.specs.Settings.{bounds_of, Setting, setting_of}

@@ -6,7 +6,7 @@ use Rattle.osgi_base.specs.declared.ids.Tag.{Tag}
 use Rattle.osgi_core.specs.Machine.{AreSightsOf, Machine, moment_of}
 use Rattle.osgi_legal.proofs.Legal.{world-last}
 use Rattle.osgi_legal.proofs.Owned.{entries-last}
-use Rattle.osgi_ops.specs.Legal.{AreAllowed, IsAllowed, IsAllowedNow, Legal}
+use Rattle.osgi_legal.specs.Legal.{AreAllowed, IsAllowed, IsAllowedNow, Legal}
 use Rattle.osgi_ops.specs.Listening.{due, seen}
 use Rattle.osgi_ops.specs.Moments.{entries_in, first_world, moment, Seen, Sight, sights_in, Told, world_after}
 use Rattle.osgi_ops.specs.Settings.{Setting}

@@ -8,7 +8,7 @@ use Rattle.osgi_listeners.specs.laws.Handing.{waits-of-earlier}
 use Rattle.osgi_listeners.specs.laws.Premises.{past-at}
 use Rattle.osgi_ops.specs.Bundles.{brings_revision, installed, installed_after, installed_by, revisions}
 use Rattle.osgi_ops.specs.Along.{carry}
-use Rattle.osgi_ops.specs.Legal.{IsTold}
+use Rattle.osgi_legal.specs.Legal.{IsTold}
 use Rattle.osgi_ops.specs.Listening.{adds, clears, heard_by, Hearing, hearing, HearingChange, lets_go, with_heard}
 use Rattle.osgi_ops.specs.Moments.{Moment}
 use Rattle.osgi_ops.specs.Resolved.{current_revision}
@@ -20,6 +20,7 @@ use Rattle.osgi_ops.specs.declared.reply.Reply.{Reply}
 use Rattle.osgi_ops.specs.declared.reply.Reply.TheVariants as answer
 use Rattle.osgi_ops.specs.laws.Services.{length-registered, uses-le-length}
 use Rattle.osgi_world.specs.declared.world.World.{World}
+use Rattle.osgi_legal.proofs.Stage.{no-made-uses}
 use Rattle.osgi_reply_services.proofs.Serving.{uses_now}
 use Rattle.osgi_tables.specs.Replied.{HasRoom, StandsFor}
 use Rattle.osgi_tables.specs.declared.tables.Tables.{Tables}
@@ -64,7 +65,7 @@ pub has_room : (now : Moment) (tables : Tables) → IsTold now → StandsFor now
 has_room now tables told stands short least = record {
   services = record {
     ids = omega (arith, short, stands.services.issued, length-registered now.before);
-    uses = λ user service. omega (arith, short, uses_now now.before tables.registry user service stands.services, uses-le-length user service now.before);
+    uses = λ user service. omega (arith, short, uses_now now.before tables.registry user service (no-made-uses now told) stands.services, uses-le-length user service now.before);
   };
   bundles = omega (arith, short, stands.bundles.issued, length-installed now.before);
   revisions = omega (arith, short, stands.issued, revisions-le-length now.before);

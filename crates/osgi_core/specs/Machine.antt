@@ -3,7 +3,7 @@ use Rattle.std.specs.Prelude.{◌≡◌, true, List}
 use Rattle.osgi_base.specs.declared.ids.ListenerId.{ListenerId}
 use Rattle.osgi_base.specs.declared.ids.Tag.{Tag}
 use Rattle.osgi_ops.specs.Brackets.{is_own_end}
-use Rattle.osgi_ops.specs.Legal.{IsReplayed}
+use Rattle.osgi_legal.specs.Legal.{IsReplayed}
 use Rattle.osgi_ops.specs.Moments.{Moment, Seen, sights_in}
 use Rattle.osgi_ops.specs.Settings.{Setting}
 use Rattle.osgi_ops.specs.declared.entry.Entry.{Entry}

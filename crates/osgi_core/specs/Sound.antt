@@ -4,7 +4,7 @@ use mathlib.Core.List.{IsPrefix}
 use Rattle.osgi_base.specs.declared.ids.BundleId.{BundleId}
 use Rattle.osgi_base.specs.declared.ids.ListenerId.{ListenerId}
 use Rattle.osgi_ops.specs.Along.{AllAlong}
-use Rattle.osgi_ops.specs.Legal.{IsReplayed}
+use Rattle.osgi_legal.specs.Legal.{IsReplayed}
 use Rattle.osgi_ops.specs.Listening.{due, handed}
 use Rattle.osgi_ops.specs.Moments.{Told, world_after}
 use Rattle.osgi_ops.specs.Settings.{Setting}

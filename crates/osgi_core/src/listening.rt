@@ -2,7 +2,7 @@
 
 ghost use Rattle.std.specs.Prelude.{◌≡◌, List, ◌++◌, IfOk, map};
 ghost use Rattle.osgi_listeners.specs.Sights.{sights_by, sights_of};
-ghost use Rattle.osgi_ops.specs.Legal.{AreAllowed, Legal};
+ghost use Rattle.osgi_legal.specs.Legal.{AreAllowed, Legal};
 ghost use Rattle.osgi_ops.specs.Listening.{due};
 ghost use Rattle.osgi_ops.specs.Moments.{entries_in, Sight, Told};
 ghost use Rattle.osgi_ops.specs.Settings.{setting_of};

@@ -1,7 +1,7 @@
 //! How a history is told. The function here is a fact of the definitions; it does nothing.
 
 ghost use Rattle.std.specs.Prelude.{◌≡◌, List};
-ghost use Rattle.osgi_ops.specs.Legal.{IsReplayed};
+ghost use Rattle.osgi_legal.specs.Legal.{IsReplayed};
 ghost use Rattle.osgi_ops.specs.Settings.{Setting};
 ghost use Rattle.osgi_ops.specs.declared.entry.Entry.{Entry};
 ghost use Rattle.osgi_world.specs.declared.world.World.{World};

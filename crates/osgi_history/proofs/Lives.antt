@@ -12,7 +12,7 @@ use Rattle.osgi_legal.proofs.States.{state-agrees}
 use Rattle.osgi_legal.specs.States.{state_at}
 use Rattle.osgi_ops.specs.Along.{latest}
 use Rattle.osgi_ops.specs.Bundles.{idle, Installed, installed, installed_by, is_live, is_uninstall, live, number_of, Phase, phase, put_into, state}
-use Rattle.osgi_ops.specs.Legal.{IsReplayed}
+use Rattle.osgi_legal.specs.Legal.{IsReplayed}
 use Rattle.osgi_ops.specs.Settings.{Setting}
 use Rattle.osgi_ops.specs.declared.entry.Entry.{Entry}
 use Rattle.osgi_ops.specs.declared.op.Op.{Op}

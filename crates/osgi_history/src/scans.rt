@@ -1,11 +1,11 @@
 //! The live services and their uses, found by going over all entries. Simple and slow: tests compare the registry with it.
 
-ghost use Rattle.std.specs.Prelude.{◌≡◌, ◌<◌, count_by, filter, map, IfOk};
+ghost use Rattle.std.specs.Prelude.{◌≡◌, ◌<◌, [], count_by, filter, map, IfOk};
 ghost use Rattle.std.specs.List.{list_any};
 ghost use Rattle.std.specs.Option.{option_map_or, option_to_list};
 ghost use Rattle.osgi_ops.specs.Cleaning.{cleaned_by, cleans};
-ghost use Rattle.osgi_ops.specs.Services.{is_get, is_live, is_unget, live, registered_by, since_cleaning, takes_out, uses};
-ghost use Rattle.osgi_history.specs.computed.Scans.{has_failed, held, is_registration};
+ghost use Rattle.osgi_ops.specs.Services.{is_get, is_live, is_unget, live, made_uses, registered_by, since_cleaning, takes_out, uses};
+ghost use Rattle.osgi_history.specs.computed.Scans.{has_failed, held, is_registration, uses_shared};
 
 use osgi_base::{BundleId, List, ServiceId};
 use osgi_ops::{Entry, Op, Refusal, Reply};
@@ -97,7 +97,7 @@ pub fn live(alloc: Global, entries: &[Entry]) -> Result<List<ServiceId>, AllocEr
     Ok(ids)
 }
 
-/// Whether the entry is a Get of the service by the user that answered its object.
+/// Whether the entry is a Get of the service by the user, or a GetOwn, that answered an object which all share or which the user has.
 fn is_get(entry: &Entry, user: BundleId, service: ServiceId) -> bool
     ensures got { result ≡ is_get user service entry.now.op entry.now.reply }
 {
@@ -106,8 +106,12 @@ fn is_get(entry: &Entry, user: BundleId, service: ServiceId) -> bool
             Op::Get {
                 user: by,
                 service: got,
+            }
+            | Op::GetOwn {
+                user: by,
+                service: got,
             },
-            Reply::Object { .. },
+            Reply::Object { .. } | Reply::Held { .. },
         ) => *by == user && *got == service,
         _ => false,
     }
@@ -142,7 +146,7 @@ fn since_cleaning(entries: &[Entry], bundle: BundleId) -> &[Entry]
     &entries[start..]
 }
 
-/// How many of the entries are a Get of the service by the user that answered its object.
+/// How many of the entries are such a Get.
 fn gets(entries: &[Entry], user: BundleId, service: ServiceId) -> usize
     ensures count { result ≡ count_by (λ e. is_get user service e.op e.reply) entries.now }
 {
@@ -164,7 +168,7 @@ fn ungets(entries: &[Entry], user: BundleId, service: ServiceId) -> usize
 
 /// The entries since the Register of the service, where it is live.
 fn since_registered(entries: &[Entry], service: ServiceId) -> Option<&[Entry]>
-    ensures since { (user : BundleId) → uses user service entries.now ≡ option_map_or (λ since. held user service since.now) result 0 }
+    ensures since { (user : BundleId) → uses_shared user service entries.now ≡ option_map_or (λ since. held user service since.now) result 0 }
 {
     let mut earlier = 0;
     for (place, entry) in entries.iter().enumerate() {
@@ -177,9 +181,9 @@ fn since_registered(entries: &[Entry], service: ServiceId) -> Option<&[Entry]>
     None
 }
 
-/// How often the user holds the service after these entries; 0 where it is not live.
-pub fn uses(entries: &[Entry], user: BundleId, service: ServiceId) -> u64
-    ensures uses { result ≡ uses user service entries.now }
+/// How often the user holds the service after these entries, objects that were made for it not counted; 0 where it is not live.
+fn uses_shared(entries: &[Entry], user: BundleId, service: ServiceId) -> u64
+    ensures uses { result ≡ uses_shared user service entries.now }
 {
     let Some(since) = since_registered(entries, service) else {
         return 0;
@@ -187,4 +191,11 @@ pub fn uses(entries: &[Entry], user: BundleId, service: ServiceId) -> u64
     let since = since_cleaning(since, user);
     let held = gets(since, user, service).saturating_sub(ungets(since, user, service));
     held as u64
+}
+
+/// How often the user holds the service after these entries, where none of its uses began with a make; 0 where it is not live.
+pub fn uses(entries: &[Entry], user: BundleId, service: ServiceId) -> u64
+    ensures uses { made_uses entries.now ≡ [] → result ≡ uses user service entries.now }
+{
+    uses_shared(entries, user, service)
 }

@@ -7,9 +7,9 @@ use Rattle.osgi_legal.specs.Askers.{MayAsk}
 use Rattle.osgi_ops.specs.Bundles.{is_live, is_up}
 use Rattle.osgi_ops.specs.Conditions.{asker_conditions, asker_of, state_of}
 use Rattle.osgi_ops.specs.Moments.{Moment}
-use Rattle.osgi_ops.specs.Operations.{Answers, IsReply, own_conditions}
-use Rattle.osgi_ops.specs.Stages.{is_here}
-use Rattle.osgi_ops.specs.laws.Stages.{row-here}
+use Rattle.osgi_legal.specs.Operations.{Answers, IsReply, own_conditions}
+use Rattle.osgi_legal.specs.Stages.{is_here}
+use Rattle.osgi_legal.specs.laws.Stages.{row-here}
 use Rattle.osgi_ops.specs.declared.op.Op.{Op}
 use Rattle.osgi_ops.specs.declared.refusal.Refusal.{Refusal}
 use Rattle.osgi_ops.specs.declared.refusal.Refusal.TheVariants as no

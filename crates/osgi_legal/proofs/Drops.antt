@@ -7,7 +7,7 @@ use Rattle.osgi_base.specs.declared.ids.RevisionId.{RevisionId}
 use Rattle.osgi_resolver_theory.proofs.Drop.{kept-consistent, kept-world}
 use Rattle.osgi_ops.specs.Closures.{DependsOn, LeansOn, wired}
 use Rattle.osgi_ops.specs.Levels.{Refresh, refresh}
-use Rattle.osgi_ops.specs.Legal.{IsTold}
+use Rattle.osgi_legal.specs.Legal.{IsTold}
 use Rattle.osgi_ops.specs.Moments.{Moment}
 use Rattle.osgi_ops.specs.Worlds.{dropped, is_member}
 use Rattle.osgi_world.specs.Consistency.{Consistent}

@@ -1,6 +1,6 @@
 -- What an entry of a legal history says while these operations have not come: each is of an operation that has come, or is refused as an
--- invalid operation. So none updates or uninstalls a bundle, sets a level, begins a walk or a refresh, or queues a job; and since there is
--- no job, none is cleared or taken.
+-- invalid operation. So none updates or uninstalls a bundle, sets a level, begins a walk or a refresh, queues a job, or has a bundle wait;
+-- and since there is no job, none is cleared or taken.
 use Rattle.std.proofs.Common.{◌≡◌, ◌+◌, ◌⊎◌, inl, inr, ℕ, length, Bool, true, false, List, [], ◌∷◌, refl, sym, ap, ◌∙◌, subst}
 use Rattle.std.specs.Prelude.{All, Option, None, Some}
 use Rattle.std.specs.List.{cons_option, filter_map, last_or}
@@ -13,20 +13,23 @@ use Rattle.osgi_ops.specs.Bundles.{Installed, installed_after, installed_by, is_
 use Rattle.osgi_ops.specs.Cleaning.{cleaned_by}
 use Rattle.osgi_ops.specs.Jobs as queue
 use Rattle.osgi_ops.specs.Jobs.{jobs, Queued, queued_by, with_jobs}
-use Rattle.osgi_ops.specs.Legal.{AreAllowed, IsAllowed}
+use Rattle.osgi_legal.specs.Legal.{AreAllowed, IsAllowed}
 use Rattle.osgi_ops.specs.Levels.{leveled, moved_to, Refresh, refresh_by, Walk, walk_by}
 use Rattle.osgi_ops.specs.Moments.{entries_in, Moment, moment, Told}
-use Rattle.osgi_ops.specs.Operations.{IsReply}
+use Rattle.osgi_legal.specs.Operations.{IsReply}
 use Rattle.osgi_ops.specs.Settings.{Setting}
-use Rattle.osgi_ops.specs.Stages.{is_here}
+use Rattle.osgi_legal.specs.Stages.{is_here}
 use Rattle.osgi_ops.specs.declared.entry.Entry.{Entry}
 use Rattle.osgi_ops.specs.declared.op.Op.{Op}
 use Rattle.osgi_ops.specs.declared.op.Op.TheVariants as op
 use Rattle.osgi_ops.specs.declared.refusal.Refusal.TheVariants.{InvalidOperation}
 use Rattle.osgi_ops.specs.declared.reply.Reply.{Reply}
 use Rattle.osgi_ops.specs.declared.reply.Reply.TheVariants as answer
+use Rattle.osgi_ops.specs.declared.target.Target.{Target}
 use Rattle.osgi_ops.specs.laws.Along.{holds}
-use Rattle.osgi_ops.specs.laws.Stages.{late-refused}
+use Rattle.osgi_ops.specs.laws.Waiting.{none-waiting, NoneWaits}
+use Rattle.osgi_ops.specs.Waiting.{waiting}
+use Rattle.osgi_legal.specs.laws.Stages.{late-refused}
 use Rattle.osgi_legal.proofs.Owned.{entries-last}
 use Rattle.osgi_legal.proofs.Quiet.{refused-quiet}
 
@@ -72,6 +75,7 @@ pub record IsCalm (o : Op) (y : Reply) : Type 0 where
   pub jobs : with_jobs (queued_by o y) [] ≡ []
   pub gone : (b : BundleId) → is_uninstall b o y ≡ false
   pub updated : (b : BundleId) → updated_to b o y ≡ None
+  pub waits : NoneWaits o y
 
 -- a clean up finds no job
 cleared-jobs : (cleaned : Option BundleId) → with_jobs (option_map queue.clears cleaned) [] ≡ []
@@ -82,6 +86,25 @@ taken-jobs : (y : Reply) → with_jobs (queued_by op.TakeJob y) [] ≡ []
 taken-jobs (answer.Job owner row name) = refl
 taken-jobs y = refl
 
+-- a begin has nobody wait
+start-waits : (asked : BundleId) (transient : Bool) (y : Reply) → NoneWaits (op.BeginStart asked transient) y
+start-waits asked transient (answer.Begun bundle row) b is = cc is
+start-waits asked transient y b is = cc is
+
+stop-waits : (target : Target) (transient : Bool) (y : Reply) → NoneWaits (op.BeginStop target transient) y
+stop-waits target transient (answer.Begun bundle row) b is = cc is
+stop-waits target transient (answer.Idle bundle) b is = cc is
+stop-waits target transient y b is = cc is
+
+refused-waits : (o : Op) → NoneWaits o (answer.Refused InvalidOperation)
+refused-waits (op.Await asked) b is = cc is
+refused-waits (op.BeginStart asked transient) b is = cc is
+refused-waits (op.BeginStop target transient) b is = cc is
+refused-waits (op.Update u location) b is = cc is
+refused-waits (op.Uninstall u) b is = cc is
+refused-waits op.DropWirings b is = cc is
+refused-waits o b is = cc is
+
 pub here-calm : (o : Op) (y : Reply) → is_here o ≡ true → IsCalm o y
 here-calm o y here = record {
   level = λ b. level o b here;
@@ -91,6 +114,7 @@ here-calm o y here = record {
   jobs = queued o here;
   gone = λ b. gone o b here;
   updated = λ b. updated o b here;
+  waits = waits o here;
 }
   where
     level : (o : Op) (b : BundleId) → is_here o ≡ true → leveled b o y ≡ None
@@ -127,6 +151,15 @@ here-calm o y here = record {
     updated (op.Update bundle location) b h = absurd (cc h)
     updated o b h = refl
 
+    waits : (o : Op) → is_here o ≡ true → NoneWaits o y
+    waits (op.Await asked) h b is = absurd (cc h)
+    waits (op.BeginStart asked transient) h b is = start-waits asked transient y b is
+    waits (op.BeginStop target transient) h b is = stop-waits target transient y b is
+    waits (op.Update u location) h b is = absurd (cc h)
+    waits (op.Uninstall u) h b is = absurd (cc h)
+    waits op.DropWirings h b is = absurd (cc h)
+    waits o h b is = cc is
+
 -- what is refused as an invalid operation says nothing of them either
 pub invalid-calm : (o : Op) → IsCalm o (answer.Refused InvalidOperation)
 invalid-calm o =
@@ -139,6 +172,7 @@ invalid-calm o =
       jobs = ap (λ c. with_jobs c []) q.jobs;
       gone = q.bundles.gone;
       updated = q.bundles.updated;
+      waits = λ b is. refused-waits o b is;
     }
 
 -- ---- entries
@@ -179,3 +213,8 @@ all-early setting told legal =
 -- so no job is queued in one
 pub none-queued : (setting : Setting) (told : List Told) → AreAllowed setting told → jobs (entries_in told) ≡ []
 none-queued setting told legal = early-unqueued (entries_in told) (all-early setting told legal)
+
+-- and nobody waits
+pub nobody-waits : (setting : Setting) (told : List Told) → AreAllowed setting told → waiting (entries_in told) ≡ []
+nobody-waits setting told legal =
+    none-waiting (entries_in told) (All-weaker IsEarly (λ e. NoneWaits e.op e.reply) (λ e is. (early-calm e is).waits) (entries_in told) (all-early setting told legal))

@@ -10,7 +10,7 @@ use Rattle.osgi_ops.specs.Brackets.{bracket, Bracket, brackets, Cause, closes, e
 use Rattle.osgi_ops.specs.Brackets as cause
 use Rattle.osgi_ops.specs.Bundles as bundles
 use Rattle.osgi_ops.specs.Bundles.{active, idle, is_live, is_up, last_begin, phase, Phase, running, system}
-use Rattle.osgi_ops.specs.Legal.{entry_of, IsTold}
+use Rattle.osgi_legal.specs.Legal.{entry_of, IsTold}
 use Rattle.osgi_ops.specs.Listening.{is_in_turn, is_turn_of}
 use Rattle.osgi_ops.specs.Moments.{Moment}
 use Rattle.osgi_ops.specs.Resolved.{is_resolved}
@@ -59,12 +59,14 @@ start-for b failed (cause.starting n) e = eq-eqb n.0 b.0 (sym (eqb-true b.0 n.0 
 start-for b failed (cause.stopping n) e = absurd (cc e)
 start-for b failed (cause.handing l) e = absurd (cc e)
 start-for b failed cause.job e = absurd (cc e)
+start-for b failed (cause.making m) e = absurd (cc e)
 
 stop-for : (b : BundleId) (failed : Bool) (c : Cause) → ends (op.EndStop b failed) c ≡ true → is_for b c ≡ true
 stop-for b failed (cause.starting n) e = absurd (cc e)
 stop-for b failed (cause.stopping n) e = eq-eqb n.0 b.0 (sym (eqb-true b.0 n.0 e))
 stop-for b failed (cause.handing l) e = absurd (cc e)
 stop-for b failed cause.job e = absurd (cc e)
+stop-for b failed (cause.making m) e = absurd (cc e)
 
 -- an EndStart that is the end of its caller's innermost bracket finds the bundle starting, by this very tag
 pub own-start : (now : Moment) → IsTold now → (b : BundleId) (failed : Bool) → closes now.tag (op.EndStart b failed) (brackets now.before) ≡ true →
@@ -140,6 +142,7 @@ hand-for listener (cause.handing held) e = eq-eqb held.0 listener.0 (sym (eqb-tr
 hand-for listener (cause.starting b) e = absurd (cc e)
 hand-for listener (cause.stopping b) e = absurd (cc e)
 hand-for listener cause.job e = absurd (cc e)
+hand-for listener (cause.making m) e = absurd (cc e)
 
 -- an EndHand that is the end of its caller's innermost bracket finds the one that this very tag's hand to the listener opened
 pub innermost-hand : (now : Moment) (listener : ListenerId) → closes now.tag (op.EndHand listener) (brackets now.before) ≡ true →

@@ -10,7 +10,7 @@ use Rattle.osgi_ops.specs.Brackets.{Bracket, brackets}
 use Rattle.osgi_ops.specs.Bundles.{Bundle, bundles, is_live, is_up, revisions, system}
 use Rattle.osgi_ops.specs.Conditions.{state_change, state_of}
 use Rattle.osgi_ops.specs.Jobs.{jobs, Queued}
-use Rattle.osgi_ops.specs.Legal.{IsTold}
+use Rattle.osgi_legal.specs.Legal.{IsTold}
 use Rattle.osgi_ops.specs.Levels.{Refresh, refresh}
 use Rattle.osgi_ops.specs.Listening.{Added, event_at, handed, handed_in, handings, is_in_turn, listeners, spots_of}
 use Rattle.osgi_ops.specs.Moments.{Moment, sights_in}

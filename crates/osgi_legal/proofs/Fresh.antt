@@ -4,9 +4,9 @@ use Rattle.std.specs.Prelude.{map, None}
 use Rattle.std.proofs.lemmas.List.{length-map}
 use Rattle.osgi_base.specs.declared.ids.BundleId.{BundleId}
 use Rattle.osgi_ops.specs.Bundles.{idle, Installed, installed, installed_by, is_live, last_begin, phase}
-use Rattle.osgi_ops.specs.Legal.{AreAllowed, IsAllowed, IsTold}
+use Rattle.osgi_legal.specs.Legal.{AreAllowed, IsAllowed, IsTold}
 use Rattle.osgi_ops.specs.Moments.{entries_in, Moment, moment, Told}
-use Rattle.osgi_ops.specs.Operations.{IsReply}
+use Rattle.osgi_legal.specs.Operations.{IsReply}
 use Rattle.osgi_ops.specs.Settings.{Setting}
 use Rattle.osgi_ops.specs.declared.entry.Entry.{Entry}
 use Rattle.osgi_ops.specs.declared.op.Op.TheVariants as op

@@ -5,19 +5,21 @@ use Rattle.std.proofs.lemmas.Bool.{cases_lt}
 use Rattle.std.proofs.lemmas.List.Elements.{All-head, All-nil, All-push, All-tail, filter-append}
 use Rattle.std.proofs.lemmas.List.Sums.{length-filter}
 use Rattle.osgi_base.specs.declared.ids.BundleId.{BundleId}
+use Rattle.osgi_base.specs.declared.ids.RevisionId.{RevisionId}
 use Rattle.osgi_ops.specs.Bundles.{Bundle, bundle_from, is_active, row_of}
 use Rattle.osgi_ops.specs.Conditions.{is_above, state_of}
 use Rattle.osgi_ops.specs.Jobs.{jobs, Queued}
-use Rattle.osgi_ops.specs.Legal.{AreAllowed, IsAllowed}
+use Rattle.osgi_legal.specs.Legal.{AreAllowed, IsAllowed}
 use Rattle.osgi_ops.specs.Listening.{handings, is_handed}
+use Rattle.osgi_ops.specs.Makes.{given_text, made_count}
 use Rattle.osgi_ops.specs.Moments.{entries_in, Moment, moment, Told}
-use Rattle.osgi_ops.specs.Operations.{Answers, conditions, IsReply}
+use Rattle.osgi_legal.specs.Operations.{Answers, conditions, IsReply}
 use Rattle.osgi_ops.specs.Replies.{is_accepted}
 use Rattle.osgi_ops.specs.Resolved.{is_resolved}
 use Rattle.osgi_ops.specs.Resolving.{AnswersResolve}
 use Rattle.osgi_ops.specs.Services.{live_at, Registered}
 use Rattle.osgi_ops.specs.Settings.{Setting}
-use Rattle.osgi_ops.specs.Stages.{is_here}
+use Rattle.osgi_legal.specs.Stages.{is_here}
 use Rattle.osgi_ops.specs.declared.entry.Entry.{Entry}
 use Rattle.osgi_ops.specs.declared.op.Op.{Op}
 use Rattle.osgi_ops.specs.declared.op.Op.TheVariants as op
@@ -26,11 +28,13 @@ use Rattle.osgi_ops.specs.declared.refusal.Refusal.TheVariants.{HandingsSpent, I
 use Rattle.osgi_ops.specs.declared.reply.Reply.{Reply}
 use Rattle.osgi_ops.specs.declared.reply.Reply.TheVariants as answer
 use Rattle.osgi_ops.specs.laws.Along.{holds}
-use Rattle.osgi_ops.specs.rows.Bundles.{installs}
+use Rattle.osgi_ops.specs.rows.Bundles.{installs, loaded_with, woken}
 use Rattle.osgi_ops.specs.rows.Events.{IsHanding, IsNothing}
 use Rattle.osgi_ops.specs.rows.Jobs.{taken}
+use Rattle.osgi_ops.specs.rows.Services.{Got, got, got_reply, had, shared, to_make}
 use Rattle.osgi_legal.proofs.Accepted.{accepted, NoneHolds}
 use Rattle.osgi_legal.proofs.Early.{due-early}
+use Rattle.osgi_legal.proofs.Loads.{load-shown}
 use Rattle.osgi_legal.proofs.Owned.{entries-last}
 use Rattle.osgi_legal.proofs.Windows.{refused-is}
 
@@ -39,9 +43,18 @@ abbrev pub is_handing : Reply → Bool
 is_handing (answer.Handed listener kind owner row name event) = true
 is_handing _ = false
 
-got : (at : Option Registered) (y : Reply) → IsSomeAnd at (λ r. y ≡ answer.Object r.object) → is_handing y ≡ false
-got None y a = absurd a
-got (Some r) y a = ap is_handing a
+got-so : (now : Moment) (r : Registered) (g : Got) → is_handing (got_reply now r g) ≡ false
+got-so now r shared = refl
+got-so now r (had o) = refl
+got-so now r to_make = refl
+
+got-one : (now : Moment) (own : Bool) (user : BundleId) (at : Option Registered) (y : Reply) → IsSomeAnd at (λ r. y ≡ got_reply now r (got now own user r)) → is_handing y ≡ false
+got-one now own user None y a = absurd a
+got-one now own user (Some r) y a = ap is_handing a ∙ got-so now r (got now own user r)
+
+made-one : (text : Option (List ℕ)) (n : ℕ) (y : Reply) → IsSomeAnd text (λ t. y ≡ answer.Held (record { 0 = n }) t) → is_handing y ≡ false
+made-one None n y a = absurd a
+made-one (Some t) n y a = ap is_handing a
 
 installed-so : (known : Option Bundle) (earlier : ℕ) → is_handing (installs known earlier) ≡ false
 installed-so None earlier = refl
@@ -64,6 +77,10 @@ stop-so : (active : Bool) (b : BundleId) (row : ℕ) → is_handing (cond active
 stop-so true b row = refl
 stop-so false b row = refl
 
+loaded-so : (by : Option RevisionId) (wake : Option BundleId) → is_handing (loaded_with by None wake) ≡ false
+loaded-so by None = refl
+loaded-so by (Some b) = refl
+
 hand-same : (y : Reply) → is_handing y ≡ is_handed op.Hand y
 hand-same (answer.Handed listener kind owner row name event) = refl
 hand-same y = refl
@@ -75,12 +92,13 @@ answers-same now (op.Modify owner service properties) y h a = ap is_handing a
 answers-same now (op.Unregister owner service) y h a = ap is_handing a
 answers-same now (op.Find asker class filter) y h a = ap is_handing a.1
 answers-same now (op.FindAll asker class filter) y h a = ap is_handing a.1
-answers-same now (op.Get user service) y h a = got (live_at service now.before) y a
+answers-same now (op.Get user service) y h a = got-one now false user (live_at service now.before) y a
+answers-same now (op.EndMake failed) y h a = made-one (given_text now.tag.caller now.before) (made_count now.before + 1) y a
 answers-same now (op.Unget user service) y h a = ap is_handing a
 answers-same now (op.Install location) y h a = ap is_handing a ∙ installed-so (bundle_from now.setting.depot now.before location) _
 answers-same now (op.Resolve bundle) y h a = resolved-so (is_resolved now.world bundle) now bundle y a
 answers-same now op.TakeJob y h a = ap is_handing a ∙ taken-so now (jobs now.before)
-answers-same now (op.Load bundle class) y h a = ap is_handing a.1
+answers-same now (op.Load bundle class) y h a = ap is_handing (load-shown now bundle class y a) ∙ loaded-so a.1 (woken now class a.1)
 answers-same now op.ListBundles y h a = ap is_handing a
 answers-same now op.ListServices y h a = ap is_handing a
 answers-same now (op.ListWires bundle) y h a = ap is_handing a.2

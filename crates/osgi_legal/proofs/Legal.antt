@@ -10,15 +10,15 @@ use mathlib.Core.List.{IsPrefix}
 use Rattle.osgi_base.specs.declared.ids.ListenerId.{ListenerId}
 use Rattle.osgi_base.specs.declared.ids.Tag.{Tag}
 use Rattle.osgi_ops.specs.Along.{along}
-use Rattle.osgi_ops.specs.Legal.{AreAllowed, entry_of, IsAllowed, IsAllowedNow, IsReplayed, IsStep, IsTold, Legal}
+use Rattle.osgi_legal.specs.Legal.{AreAllowed, entry_of, IsAllowed, IsAllowedNow, IsReplayed, IsStep, IsTold, Legal}
 use Rattle.osgi_ops.specs.Worlds.{Leaves}
 use Rattle.osgi_ops.specs.Listening.{due, event_at, handed, handed_by, handed_in, hands, IsNext, is_seen_by, is_sight_of, seen, Spot, spot_of, spots, spots_of, spotted}
 use Rattle.osgi_ops.specs.Conditions.{IsDeep}
-use Rattle.osgi_ops.specs.Operations.{IsReply}
+use Rattle.osgi_legal.specs.Operations.{IsReply}
 use Rattle.osgi_ops.specs.rows.Events.{IsHanding, IsNothing}
 use Rattle.osgi_ops.specs.Callers.{by, is_by}
 use Rattle.osgi_ops.specs.Settings.{Setting}
-use Rattle.osgi_ops.specs.laws.Stages.{row-or}
+use Rattle.osgi_legal.specs.laws.Stages.{row-or}
 use Rattle.osgi_ops.specs.Moments.{entries_in, first_world, later, Moment, moment, Seen, seen_after, seen_at, Sight, sights_in, Told, world_after}
 use Rattle.osgi_ops.specs.declared.entry.Entry.{Entry}
 use Rattle.osgi_ops.specs.declared.event.Event.{Event}

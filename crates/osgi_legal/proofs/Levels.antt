@@ -4,7 +4,7 @@ use Rattle.std.specs.Prelude.{◌==◌, ◌+◌, Option, None, Some, cond, unwra
 use Rattle.std.proofs.lemmas.Bool.{eq-eqb, eqb-true}
 use Rattle.osgi_ops.specs.Levels.{active_level, moved_to, Walk}
 use Rattle.osgi_ops.specs.Conditions.{IsOneStep, IsOwnWalk}
-use Rattle.osgi_ops.specs.Operations.{IsReply}
+use Rattle.osgi_legal.specs.Operations.{IsReply}
 use Rattle.osgi_ops.specs.Replies.{is_accepted}
 use Rattle.osgi_ops.specs.Moments.{Moment}
 use Rattle.osgi_ops.specs.declared.entry.Entry.{Entry}

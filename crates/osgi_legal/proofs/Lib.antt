@@ -15,6 +15,7 @@ pub mod Innermost
 pub mod Legal
 pub mod Levels
 pub mod Listening
+pub mod Loads
 pub mod Names
 pub mod Opened
 pub mod Owned
@@ -24,6 +25,7 @@ pub mod Quiet
 pub mod Rows
 pub mod Running
 pub mod Sights
+pub mod Singletons
 pub mod Stage
 pub mod StateReadings
 pub mod States

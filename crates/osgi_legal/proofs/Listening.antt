@@ -7,11 +7,11 @@ use Rattle.osgi_base.specs.declared.ids.BundleId.{BundleId}
 use Rattle.osgi_base.specs.declared.ids.ListenerId.{ListenerId}
 use Rattle.osgi_base.specs.declared.ids.Tag.{Tag}
 use Rattle.osgi_ops.specs.Along.{carry, AllAlong}
-use Rattle.osgi_ops.specs.Brackets.{Bracket, brackets, Cause, closes, ends, handing, is_end, job, starting, stopping, opens, own_closes, turned, with_entry, without_innermost}
-use Rattle.osgi_ops.specs.Legal.{IsAllowed}
+use Rattle.osgi_ops.specs.Brackets.{Bracket, brackets, Cause, closes, ends, handing, is_end, job, making, starting, stopping, opens, own_closes, turned, with_entry, without_innermost}
+use Rattle.osgi_legal.specs.Legal.{IsAllowed}
 use Rattle.osgi_ops.specs.Listening.{Added, adds, clears, heard_by, Hearing, hearing, HearingChange, is_in_turn, is_listener, is_turn_of, lets_go, listener_at, takes_off, with_heard}
-use Rattle.osgi_ops.specs.Operations.{IsReply}
-use Rattle.osgi_ops.specs.laws.Stages.{row-of}
+use Rattle.osgi_legal.specs.Operations.{IsReply}
+use Rattle.osgi_legal.specs.laws.Stages.{row-of}
 use Rattle.osgi_ops.specs.Replies.{is_effective, verdict}
 use Rattle.osgi_ops.specs.Settings.{Setting}
 use Rattle.osgi_ops.specs.Moments.{entries_in, Moment, Told}
@@ -20,7 +20,7 @@ use Rattle.osgi_ops.specs.declared.entry.Entry.{Entry}
 use Rattle.osgi_model.specs.declared.filter.Filter.{Filter}
 use Rattle.osgi_ops.specs.declared.kind.Kind.{Kind}
 use Rattle.osgi_ops.specs.declared.op.Op.{Op}
-use Rattle.osgi_ops.specs.declared.op.Op.TheVariants.{EndHand, EndJob, EndStart, EndStop}
+use Rattle.osgi_ops.specs.declared.op.Op.TheVariants.{EndHand, EndJob, EndMake, EndStart, EndStop}
 use Rattle.osgi_ops.specs.declared.refusal.Refusal.{Refusal}
 use Rattle.osgi_ops.specs.declared.refusal.Refusal.TheVariants.{InvalidOperation}
 use Rattle.osgi_ops.specs.declared.reply.Reply.{Reply}
@@ -182,6 +182,12 @@ ends-no-turn listener (EndStop n bad) (handing h) e f = absurd (cc e)
 ends-no-turn listener (EndStop n bad) job e f = refl
 ends-no-turn listener (EndStop n bad) (starting b) e f = refl
 ends-no-turn listener (EndStop n bad) (stopping b) e f = refl
+ends-no-turn listener (EndHand held) (making t) e f = refl
+ends-no-turn listener EndJob (making t) e f = refl
+ends-no-turn listener (EndStart n bad) (making t) e f = refl
+ends-no-turn listener (EndStop n bad) (making t) e f = refl
+ends-no-turn listener (EndMake bad) (handing h) e f = absurd (cc e)
+ends-no-turn listener (EndMake bad) cause e f = refl
 ends-no-turn listener op cause e f = absurd (cc e)
 
 -- where an operation is the end of the innermost bracket of its caller there is one
@@ -209,6 +215,7 @@ effective-closes m (EndHand listener) reply r e f = refused-row reply _ (row-of 
 effective-closes m EndJob reply r e f = refused-row reply _ (row-of m EndJob reply r f) f
 effective-closes m (EndStart bundle bad) reply r e f = refused-row reply _ (row-of m (EndStart bundle bad) reply r f) f
 effective-closes m (EndStop bundle bad) reply r e f = refused-row reply _ (row-of m (EndStop bundle bad) reply r f) f
+effective-closes m (EndMake bad) reply r e f = refused-row reply _ (row-of m (EndMake bad) reply r f) f
 effective-closes m op reply r e f = absurd (cc e)
 
 -- the innermost bracket of a caller goes, and another stays

@@ -9,9 +9,9 @@ use Rattle.osgi_base.specs.declared.ids.BundleId.{BundleId}
 use Rattle.osgi_ops.specs.Along.{latest}
 use Rattle.osgi_ops.specs.Bundles.{Bundle, bundles, bundle_from, Installed, installed, installed_by, live, row_from, source, the_system_bundle, updated_to}
 use Rattle.osgi_ops.specs.Depots.{stored_revision, row_number}
-use Rattle.osgi_ops.specs.Legal.{AreAllowed, IsAllowed}
+use Rattle.osgi_legal.specs.Legal.{AreAllowed, IsAllowed}
 use Rattle.osgi_ops.specs.Moments.{entries_in, Moment, moment, Told}
-use Rattle.osgi_ops.specs.Operations.{IsReply}
+use Rattle.osgi_legal.specs.Operations.{IsReply}
 use Rattle.osgi_ops.specs.Replies.{is_accepted}
 use Rattle.osgi_ops.specs.Settings.{Setting}
 use Rattle.osgi_ops.specs.rows.Bundles.{install_refusals, installs}

@@ -6,15 +6,15 @@ use Rattle.std.proofs.lemmas.List.{map-append}
 use Rattle.osgi_base.specs.declared.ids.Tag.{Tag}
 use Rattle.osgi_ops.specs.Brackets.{Bracket, bracket, brackets, Cause, closes, ends, is_end, is_ended, opens, own_closes, own_turned, turned, with_entry, without_first, without_innermost}
 use Rattle.osgi_ops.specs.Conditions.{IsDeep}
-use Rattle.osgi_ops.specs.Operations.{Answers, IsReply, IsRow}
-use Rattle.osgi_ops.specs.laws.Stages.{ends-here, here-row}
+use Rattle.osgi_legal.specs.Operations.{Answers, IsReply, IsRow}
+use Rattle.osgi_legal.specs.laws.Stages.{ends-here, here-row}
 use Rattle.osgi_ops.specs.rows.Events.{IsHanding, IsNothing}
 use Rattle.osgi_ops.specs.Replies.{is_effective, verdict}
 use Rattle.osgi_ops.specs.Moments.{entries_in, Moment, Told}
 use Rattle.osgi_base.specs.Verdict.{Gives, Verdict, refuses, answers}
 use Rattle.osgi_ops.specs.declared.entry.Entry.{Entry}
 use Rattle.osgi_ops.specs.declared.op.Op.{Op}
-use Rattle.osgi_ops.specs.declared.op.Op.TheVariants.{Hand, EndHand, EndJob, EndStart, EndStop}
+use Rattle.osgi_ops.specs.declared.op.Op.TheVariants.{Hand, EndHand, EndJob, EndMake, EndStart, EndStop}
 use Rattle.osgi_ops.specs.declared.refusal.Refusal.{Refusal}
 use Rattle.osgi_ops.specs.declared.refusal.Refusal.TheVariants.{ActivatorError, HandingsSpent, InvalidOperation, TooDeep}
 use Rattle.osgi_ops.specs.declared.reply.Reply.{Reply}
@@ -110,6 +110,7 @@ no-end (EndHand listener) cause e = absurd (cc e)
 no-end EndJob cause e = absurd (cc e)
 no-end (EndStart bundle bad) cause e = absurd (cc e)
 no-end (EndStop bundle bad) cause e = absurd (cc e)
+no-end (EndMake bad) cause e = absurd (cc e)
 no-end op cause e = refl
 
 pub closes-not : (tag : Tag) (op : Op) (opened : List Bracket) → is_end op ≡ false → closes tag op opened ≡ false
@@ -130,12 +131,18 @@ closes-own tag op (b ∷ outer) = go (b.tag.caller == tag.caller) (closes-own ta
     go true ih = refl
     go false ih = ih
 
-pub ended-by : (m : Moment) (op : Op) (reply : Reply) → IsReply m op reply → closes m.tag op (brackets m.before) ≡ true → is_effective reply ≡ true
-ended-by m (EndHand listener) reply r f = one-row reply _ f (here-row m (EndHand listener) reply (ends-here (EndHand listener) refl) r)
-ended-by m EndJob reply r f = one-row reply _ f (here-row m EndJob reply (ends-here EndJob refl) r)
-ended-by m (EndStart bundle bad) reply r f = two-rows reply _ (bad ≡ true) f (here-row m (EndStart bundle bad) reply (ends-here (EndStart bundle bad) refl) r)
-ended-by m (EndStop bundle bad) reply r f = two-rows reply _ (bad ≡ true) f (here-row m (EndStop bundle bad) reply (ends-here (EndStop bundle bad) refl) r)
-ended-by m op reply r f = absurd (let c : true ≡ false = sym f ∙ closes-not m.tag op (brackets m.before) refl in cc c)
+-- the end of a make alone ends its bracket where it is refused, too
+abbrev pub is_make_end : Op → Bool
+is_make_end (EndMake bad) = true
+is_make_end op = false
+
+pub ended-by : (m : Moment) (op : Op) (reply : Reply) → IsReply m op reply → is_make_end op ≡ false → closes m.tag op (brackets m.before) ≡ true → is_effective reply ≡ true
+ended-by m (EndHand listener) reply r n f = one-row reply _ f (here-row m (EndHand listener) reply (ends-here (EndHand listener) refl) r)
+ended-by m EndJob reply r n f = one-row reply _ f (here-row m EndJob reply (ends-here EndJob refl) r)
+ended-by m (EndStart bundle bad) reply r n f = two-rows reply _ (bad ≡ true) f (here-row m (EndStart bundle bad) reply (ends-here (EndStart bundle bad) refl) r)
+ended-by m (EndStop bundle bad) reply r n f = two-rows reply _ (bad ≡ true) f (here-row m (EndStop bundle bad) reply (ends-here (EndStop bundle bad) refl) r)
+ended-by m (EndMake bad) reply r n f = absurd (cc n)
+ended-by m op reply r n f = absurd (let c : true ≡ false = sym f ∙ closes-not m.tag op (brackets m.before) refl in cc c)
 
 -- the row of Hand
 pub hand-row : (m : Moment) (reply : Reply) → IsRow m Hand reply → (IsDeep m × (reply ≡ Refused TooDeep)) ⊎ (reply ≡ Refused HandingsSpent) ⊎ IsHanding m reply ⊎ IsNothing m reply
@@ -152,6 +159,7 @@ ends-open-none (EndHand listener) reply e = refl
 ends-open-none EndJob reply e = refl
 ends-open-none (EndStart bundle bad) reply e = refl
 ends-open-none (EndStop bundle bad) reply e = refl
+ends-open-none (EndMake bad) reply e = refl
 ends-open-none op reply e = absurd (cc e)
 
 pub some-of : {X : Type 0} (o : Option X) → is_some o ≡ true → (x : X) × (o ≡ Some x)

@@ -12,7 +12,7 @@ use Rattle.osgi_ops.specs.Cleaning.{cleaned_by, cleans}
 use Rattle.osgi_ops.specs.Conditions.{asker_of}
 use Rattle.osgi_ops.specs.Jobs as jobs
 use Rattle.osgi_ops.specs.Jobs.{JobChange, Queued, queued_by, queues, takes, with_jobs, without_oldest}
-use Rattle.osgi_ops.specs.Legal.{AreAllowed, IsAllowed}
+use Rattle.osgi_legal.specs.Legal.{AreAllowed, IsAllowed}
 use Rattle.osgi_ops.specs.Listening.{Added, adds, clears, heard_by, Hearing, hearing, HearingChange, lets_go, listeners, takes_off, with_heard}
 use Rattle.osgi_ops.specs.Moments.{entries_in, Moment, moment, Told, world_after}
 use Rattle.osgi_ops.specs.Replies.{is_accepted}

@@ -4,14 +4,14 @@ use Rattle.std.specs.Prelude.{◌==◌, ◌&&◌, cond, filter, IsSomeAnd, Optio
 use Rattle.std.proofs.lemmas.Bool.{eqb-true, eq-eqb, false_from_ne_true, true_from_ne_false}
 use Rattle.osgi_base.specs.declared.ids.BundleId.{BundleId}
 use Rattle.osgi_base.specs.declared.ids.Tag.{Tag}
-use Rattle.osgi_ops.specs.Brackets.{Bracket, bracket, brackets, Cause, closes, ends, handing, is_end, job, opens, starting, stopping, turned}
+use Rattle.osgi_ops.specs.Brackets.{Bracket, bracket, brackets, Cause, closes, ends, handing, is_end, job, making, opens, starting, stopping, turned}
 use Rattle.osgi_ops.specs.Bundles as bundles
 use Rattle.osgi_ops.specs.Bundles.{active, begun_by, idle, is_active, is_changing, is_live, last_begin, phase, Phase, put_into, running, state, State}
-use Rattle.osgi_ops.specs.Legal.{AreAllowed, IsAllowed}
+use Rattle.osgi_legal.specs.Legal.{AreAllowed, IsAllowed}
 use Rattle.osgi_ops.specs.Bundles.{row_of}
 use Rattle.osgi_ops.specs.Conditions.{is_above, state_change, state_of}
-use Rattle.osgi_ops.specs.Operations.{IsReply, IsRow}
-use Rattle.osgi_ops.specs.laws.Stages.{row-of}
+use Rattle.osgi_legal.specs.Operations.{IsReply, IsRow}
+use Rattle.osgi_legal.specs.laws.Stages.{row-of}
 use Rattle.osgi_ops.specs.Bundles.{system}
 use Rattle.osgi_ops.specs.Replies.{is_accepted, is_effective}
 use Rattle.osgi_ops.specs.Settings.{Setting}
@@ -82,6 +82,11 @@ for-ended b (op.EndStop n bad) (handing h) e = absurd (cc e)
 for-ended b (op.EndStop n bad) job e = absurd (cc e)
 for-ended b (op.EndStop n bad) (starting m) e = absurd (cc e)
 for-ended b (op.EndStop n bad) (stopping m) e = ap (λ k. k == b.0) (sym (eqb-true n.0 m.0 e))
+for-ended b (op.EndHand l) (making t) e = absurd (cc e)
+for-ended b op.EndJob (making t) e = absurd (cc e)
+for-ended b (op.EndStart n bad) (making t) e = absurd (cc e)
+for-ended b (op.EndStop n bad) (making t) e = absurd (cc e)
+for-ended b (op.EndMake bad) (making t) e = refl
 for-ended b o cause e = absurd (cc e)
 
 pub data Turn (b : BundleId) (o : Op) (reply : Reply) : Type 0 where
@@ -140,6 +145,11 @@ turn-of b op.Hand (answer.Handed listener kind owner row name event) = leaves re
 turn-of b op.TakeJob (answer.Job owner row name) = leaves refl (λ cause q. quiet-cause b job cause q refl) (λ q f. absurd (cc q))
 turn-of b (op.EndHand listener) reply = leaves refl (λ cause q. never b cause q) (λ q f. refl)
 turn-of b op.EndJob reply = leaves refl (λ cause q. never b cause q) (λ q f. refl)
+turn-of b (op.Get user service) (answer.Make owner row name) =
+    leaves refl (λ cause q. quiet-cause b (making (record { user = user; service = service; own = false; owner = owner })) cause q refl) (λ q f. absurd (cc q))
+turn-of b (op.GetOwn user service) (answer.Make owner row name) =
+    leaves refl (λ cause q. quiet-cause b (making (record { user = user; service = service; own = true; owner = owner })) cause q refl) (λ q f. absurd (cc q))
+turn-of b (op.EndMake bad) reply = leaves refl (λ cause q. never b cause q) (λ q f. refl)
 turn-of b o reply = leaves refl (λ cause q. never b cause q) (λ q f. absurd (cc q))
 
 -- ---- what a legal begin finds
@@ -275,6 +285,10 @@ fit-step setting b front x a fit = go (turn-of b x.entry.op x.entry.reply)
     is : brackets (h ++ x.entry ∷ []) ≡ turned x.entry.tag (opens x.entry.op x.entry.reply) (closes x.entry.tag x.entry.op (brackets h)) (brackets h)
     is = brackets-last h x.entry
 
+    ends-other : (o : Op) (y : Reply) → IsReply m o y → closes x.entry.tag o (brackets h) ≡ true → (is_effective y ≡ true → ends_for b o ≡ false) → ends_for b o ≡ false
+    ends-other (op.EndMake bad) y r c g = refl
+    ends-other o y r c g = g (ended-by m o y r refl c)
+
     go : Turn b x.entry.op x.entry.reply → IsFit b (h ++ x.entry ∷ [])
     go (starts o p transient row begun so sr) =
         let free : brackets_for b (brackets h) ≡ [] =
@@ -302,7 +316,7 @@ fit-step setting b front x a fit = go (turn-of b x.entry.op x.entry.reply)
         (ap (brackets_for b) is ∙ left-alone (is_bracket_for b) x.entry.tag (opens x.entry.op x.entry.reply) (closes x.entry.tag x.entry.op (brackets h)) (brackets h) f (λ c.
         (let i = innermost-for b x.entry.tag x.entry.op (brackets h) c in
         let e : is_end x.entry.op ≡ true = true_from_ne_false _ (λ n. (let bad : true ≡ false = sym c ∙ closes-not x.entry.tag x.entry.op (brackets h) n in cc bad)) in
-        (i.0, i.1, i.2, i.3 ∙ g e (ended-by m x.entry.op x.entry.reply a.replied c)))))
+        (i.0, i.1, i.2, i.3 ∙ ends-other x.entry.op x.entry.reply a.replied c (g e)))))
         fit
 
 -- of every legal history: so a bundle is starting or stopping for one caller at a time

@@ -1,6 +1,6 @@
 -- An entry that says nothing of a part leaves it as it was: one law for each part; and which operations say nothing.
 use Rattle.std.proofs.Common.{◌≡◌, ◌+◌, ◌-◌, ℕ, List, [], ◌∷◌, ◌++◌, length, map, append-nil, Bool, true, false, refl, sym, ap, ◌∙◌, arith}
-use Rattle.std.specs.Prelude.{◌==◌, ◌&&◌, ◌||◌, not, cond, Option, None, Some, filter, find, unwrap_or}
+use Rattle.std.specs.Prelude.{◌==◌, count_by, ◌&&◌, ◌||◌, not, cond, Option, None, Some, filter, find, unwrap_or}
 use Rattle.std.specs.List.{cons_option, filter_map, list_any}
 use Rattle.std.specs.Option.{option_map, option_map_or}
 use Rattle.std.proofs.lemmas.Bool.{false_from_ne_true}
@@ -12,7 +12,7 @@ use Rattle.osgi_base.specs.declared.ids.ServiceId.{ServiceId}
 use Rattle.osgi_base.specs.declared.ids.Tag.{Tag}
 use Rattle.osgi_legal.specs.Quiet.{IsQuiet, QuietBundles, QuietJobs, QuietLevels, QuietListeners, QuietPhases, QuietRefresh, QuietServices, ReadAlike, SameBundles, SameLevels, SameListeners, SamePhases, SameServices}
 use Rattle.osgi_model.specs.declared.value.Attribute.{Attribute}
-use Rattle.osgi_ops.specs.Brackets.{brackets, closes, is_end, opens, turned}
+use Rattle.osgi_ops.specs.Brackets.{Bracket, brackets, closes, is_end, opens, turned}
 use Rattle.osgi_ops.specs.Bundles as bundles
 use Rattle.osgi_ops.specs.Bundles.{begun_by, brings_revision, Installed, installed, installed_by, is_uninstall, last_begin, live_at, phase, put_into, revisions, row_from, source, updated_to}
 use Rattle.osgi_ops.specs.Cleaning.{cleaned_by, cleans}
@@ -20,13 +20,13 @@ use Rattle.osgi_ops.specs.Depots.{row_number}
 use Rattle.osgi_ops.specs.Jobs as queue
 use Rattle.osgi_ops.specs.Jobs.{jobs, Queued, queued_by, with_jobs}
 use Rattle.osgi_ops.specs.Levels.{leveled, moved_to, refresh, refresh_by, Walk, walk, walk_by, wishes}
-use Rattle.osgi_ops.specs.Legal.{entry_of}
+use Rattle.osgi_legal.specs.Legal.{entry_of}
 use Rattle.osgi_ops.specs.Listening.{clears, handed_by, handed_in, happenings, leaving, of_bundle, heard_by, Hearing, hearing, is_handed, with_heard}
 use Rattle.osgi_ops.specs.Moments.{Moment}
-use Rattle.osgi_ops.specs.Operations.{IsReply}
+use Rattle.osgi_legal.specs.Operations.{IsReply}
 use Rattle.osgi_ops.specs.Properties.{with_framework}
 use Rattle.osgi_ops.specs.Replies.{is_effective}
-use Rattle.osgi_ops.specs.Services.{gets, given_by, given_last, is_get, is_service, is_unget, live, Registered, registered, registered_by, service_now, takes_out, ungets, uses_held}
+use Rattle.osgi_ops.specs.Services.{gets, given_by, given_last, is_get, is_service, is_unget, is_use_of, live, made_of, made_uses, Registered, registered, registered_by, service_now, takes_out, ungets, use_by, uses_with, without_user}
 use Rattle.osgi_ops.specs.declared.depot.DepotRow.{DepotRow}
 use Rattle.osgi_ops.specs.declared.entry.Entry.{Entry}
 use Rattle.osgi_ops.specs.declared.op.Op.{Op}
@@ -77,6 +77,12 @@ live-quiet h e q =
     ∙ ap (λ l. map (kept.later e) (kept.left_by e (live h)) ++ l) (q.registered (length (registered h)) []) ∙ append-nil (map (kept.later e) (kept.left_by e (live h)))
     ∙ ap (map (kept.later e)) (filter-all (λ (r : Registered). not (takes_out r.service r.owner e.op e.reply)) (live h) (λ r. ap not (q.taken r.service r.owner)))
 
+-- what says nothing of services made nothing, and cleans nobody
+made-same : (h : List Entry) (e : Entry) → QuietServices e.op e.reply → made_uses (h ++ e ∷ []) ≡ made_uses h
+made-same h e q =
+    kept.made_uses-push h e
+    ∙ (λ i. without_user (q.cleaned i) (made_uses h) ++ use_by h (q.made e.tag (brackets h) i)) ∙ append-nil (made_uses h)
+
 pub services-quiet : (h : List Entry) (e : Entry) → QuietServices e.op e.reply → SameServices (h ++ e ∷ []) h
 services-quiet h e q = record {
   services = ap (map service_now) (live-quiet h e q) ∙ map-map service_now (kept.later e) (live h) (λ r. kept.service-push r e ∙ ap (λ (a : Option (List Attribute)). record (service_now r) {
@@ -85,8 +91,10 @@ services-quiet h e q = record {
   registered = ap (λ (l : List Registered). length l) (kept.registered-push h e ∙ ap (λ l. map (kept.later e) (registered h) ++ l) (q.registered (length (registered h)) []) ∙ append-nil (map (kept.later e) (registered h)))
       ∙ length-map (registered h) (kept.later e);
   uses = λ u s.
-      ap (λ l. option_map_or (uses_held u) (find (is_service s) l) 0) (live-quiet h e q)
-      ∙ find-read (is_service s) (kept.later e) (uses_held u) 0 (live h) (λ r. refl) (λ r. (λ i. got u r i - gave u r i));
+      ap (λ l. option_map_or (uses_with (count_by (is_use_of u s) (made_uses (h ++ e ∷ []))) u) (find (is_service s) l) 0) (live-quiet h e q)
+      ∙ ap (λ n. option_map_or (uses_with n u) (find (is_service s) (map (kept.later e) (live h))) 0) (ap (λ l. count_by (is_use_of u s) l) (made-same h e q))
+      ∙ find-read (is_service s) (kept.later e) (uses_with (count_by (is_use_of u s) (made_uses h)) u) 0 (live h) (λ r. refl)
+      (λ r. (λ i. (got u r i + count_by (is_use_of u s) (made_uses h)) - gave u r i));
 }
   where
     counted : (c : Bool) (n : ℕ) (t : Bool) → c ≡ false → t ≡ false → cond c 0 (n + kept.one_where t) ≡ n
@@ -200,7 +208,7 @@ is_asking o = false
 pub asking-quiet : (o : Op) (y : Reply) → is_asking o ≡ true → IsQuiet o y
 asking-quiet (op.Find asker class filter) y e = record {
   opened = refl;
-  services = record { registered = λ n since. refl; taken = λ s owner. refl; given = λ s. refl; got = λ u s. refl; let_go = λ u s. refl; cleaned = refl };
+  services = record { registered = λ n since. refl; taken = λ s owner. refl; given = λ s. refl; got = λ u s. refl; let_go = λ u s. refl; cleaned = refl; made = λ tag opened. refl };
   bundles = record { installed = λ n since. refl; gone = λ b. refl; updated = λ b. refl; brings = refl };
   phases = λ b. refl;
   levels = record { wish = λ b. refl; level = λ b. refl; moved = refl; walk = λ before e. refl };
@@ -210,7 +218,7 @@ asking-quiet (op.Find asker class filter) y e = record {
 }
 asking-quiet (op.FindAll asker class filter) y e = record {
   opened = refl;
-  services = record { registered = λ n since. refl; taken = λ s owner. refl; given = λ s. refl; got = λ u s. refl; let_go = λ u s. refl; cleaned = refl };
+  services = record { registered = λ n since. refl; taken = λ s owner. refl; given = λ s. refl; got = λ u s. refl; let_go = λ u s. refl; cleaned = refl; made = λ tag opened. refl };
   bundles = record { installed = λ n since. refl; gone = λ b. refl; updated = λ b. refl; brings = refl };
   phases = λ b. refl;
   levels = record { wish = λ b. refl; level = λ b. refl; moved = refl; walk = λ before e. refl };
@@ -220,7 +228,7 @@ asking-quiet (op.FindAll asker class filter) y e = record {
 }
 asking-quiet (op.ListLevel level) y e = record {
   opened = refl;
-  services = record { registered = λ n since. refl; taken = λ s owner. refl; given = λ s. refl; got = λ u s. refl; let_go = λ u s. refl; cleaned = refl };
+  services = record { registered = λ n since. refl; taken = λ s owner. refl; given = λ s. refl; got = λ u s. refl; let_go = λ u s. refl; cleaned = refl; made = λ tag opened. refl };
   bundles = record { installed = λ n since. refl; gone = λ b. refl; updated = λ b. refl; brings = refl };
   phases = λ b. refl;
   levels = record { wish = λ b. refl; level = λ b. refl; moved = refl; walk = λ before e. refl };
@@ -230,7 +238,7 @@ asking-quiet (op.ListLevel level) y e = record {
 }
 asking-quiet (op.Load bundle class) y e = record {
   opened = refl;
-  services = record { registered = λ n since. refl; taken = λ s owner. refl; given = λ s. refl; got = λ u s. refl; let_go = λ u s. refl; cleaned = refl };
+  services = record { registered = λ n since. refl; taken = λ s owner. refl; given = λ s. refl; got = λ u s. refl; let_go = λ u s. refl; cleaned = refl; made = λ tag opened. refl };
   bundles = record { installed = λ n since. refl; gone = λ b. refl; updated = λ b. refl; brings = refl };
   phases = λ b. refl;
   levels = record { wish = λ b. refl; level = λ b. refl; moved = refl; walk = λ before e. refl };
@@ -240,7 +248,7 @@ asking-quiet (op.Load bundle class) y e = record {
 }
 asking-quiet (op.Print owner text) y e = record {
   opened = refl;
-  services = record { registered = λ n since. refl; taken = λ s owner. refl; given = λ s. refl; got = λ u s. refl; let_go = λ u s. refl; cleaned = refl };
+  services = record { registered = λ n since. refl; taken = λ s owner. refl; given = λ s. refl; got = λ u s. refl; let_go = λ u s. refl; cleaned = refl; made = λ tag opened. refl };
   bundles = record { installed = λ n since. refl; gone = λ b. refl; updated = λ b. refl; brings = refl };
   phases = λ b. refl;
   levels = record { wish = λ b. refl; level = λ b. refl; moved = refl; walk = λ before e. refl };
@@ -250,7 +258,7 @@ asking-quiet (op.Print owner text) y e = record {
 }
 asking-quiet (op.Fail owner text) y e = record {
   opened = refl;
-  services = record { registered = λ n since. refl; taken = λ s owner. refl; given = λ s. refl; got = λ u s. refl; let_go = λ u s. refl; cleaned = refl };
+  services = record { registered = λ n since. refl; taken = λ s owner. refl; given = λ s. refl; got = λ u s. refl; let_go = λ u s. refl; cleaned = refl; made = λ tag opened. refl };
   bundles = record { installed = λ n since. refl; gone = λ b. refl; updated = λ b. refl; brings = refl };
   phases = λ b. refl;
   levels = record { wish = λ b. refl; level = λ b. refl; moved = refl; walk = λ before e. refl };
@@ -260,7 +268,7 @@ asking-quiet (op.Fail owner text) y e = record {
 }
 asking-quiet op.ListBundles y e = record {
   opened = refl;
-  services = record { registered = λ n since. refl; taken = λ s owner. refl; given = λ s. refl; got = λ u s. refl; let_go = λ u s. refl; cleaned = refl };
+  services = record { registered = λ n since. refl; taken = λ s owner. refl; given = λ s. refl; got = λ u s. refl; let_go = λ u s. refl; cleaned = refl; made = λ tag opened. refl };
   bundles = record { installed = λ n since. refl; gone = λ b. refl; updated = λ b. refl; brings = refl };
   phases = λ b. refl;
   levels = record { wish = λ b. refl; level = λ b. refl; moved = refl; walk = λ before e. refl };
@@ -270,7 +278,7 @@ asking-quiet op.ListBundles y e = record {
 }
 asking-quiet op.ListServices y e = record {
   opened = refl;
-  services = record { registered = λ n since. refl; taken = λ s owner. refl; given = λ s. refl; got = λ u s. refl; let_go = λ u s. refl; cleaned = refl };
+  services = record { registered = λ n since. refl; taken = λ s owner. refl; given = λ s. refl; got = λ u s. refl; let_go = λ u s. refl; cleaned = refl; made = λ tag opened. refl };
   bundles = record { installed = λ n since. refl; gone = λ b. refl; updated = λ b. refl; brings = refl };
   phases = λ b. refl;
   levels = record { wish = λ b. refl; level = λ b. refl; moved = refl; walk = λ before e. refl };
@@ -280,7 +288,7 @@ asking-quiet op.ListServices y e = record {
 }
 asking-quiet (op.ListWires bundle) y e = record {
   opened = refl;
-  services = record { registered = λ n since. refl; taken = λ s owner. refl; given = λ s. refl; got = λ u s. refl; let_go = λ u s. refl; cleaned = refl };
+  services = record { registered = λ n since. refl; taken = λ s owner. refl; given = λ s. refl; got = λ u s. refl; let_go = λ u s. refl; cleaned = refl; made = λ tag opened. refl };
   bundles = record { installed = λ n since. refl; gone = λ b. refl; updated = λ b. refl; brings = refl };
   phases = λ b. refl;
   levels = record { wish = λ b. refl; level = λ b. refl; moved = refl; walk = λ before e. refl };
@@ -305,6 +313,8 @@ opens-refused op.Hand f = refl
 opens-refused op.TakeJob f = refl
 opens-refused (op.BeginStart b transient) f = refl
 opens-refused (op.BeginStop target transient) f = refl
+opens-refused (op.Get user service) f = refl
+opens-refused (op.GetOwn user service) f = refl
 opens-refused o f = refl
 
 services-refused : (o : Op) (f : Refusal) → is_effective (answer.Refused f) ≡ false → QuietServices o (answer.Refused f)
@@ -315,8 +325,13 @@ services-refused o f e = record {
   got = λ u s. got o u s;
   let_go = λ u s. gave o u s;
   cleaned = cleaned-refused o f e;
+  made = λ tag opened. makes o tag opened;
 }
   where
+    makes : (o : Op) (tag : Tag) (opened : List Bracket) → made_of tag opened o (answer.Refused f) ≡ None
+    makes (op.EndMake failed) tag opened = refl
+    makes o tag opened = refl
+
     made : (o : Op) (n : ℕ) (since : List Entry) → registered_by n o (answer.Refused f) since ≡ []
     made (op.Register owner classes object scope properties) n since = refl
     made o n since = refl
@@ -331,6 +346,7 @@ services-refused o f e = record {
 
     got : (o : Op) (u : BundleId) (s : ServiceId) → is_get u s o (answer.Refused f) ≡ false
     got (op.Get by service) u s = refl
+    got (op.GetOwn by service) u s = refl
     got o u s = refl
 
     gave : (o : Op) (u : BundleId) (s : ServiceId) → is_unget u s o (answer.Refused f) ≡ false
@@ -424,6 +440,7 @@ listeners-refused o f e = record { heard = heard o; handed = λ l. handed o l; c
     happens (op.EndStart b failed) past v w x =
         ap (λ k. cond k (of_bundle 256 v w b ∷ leaving (Some b) past ++ of_bundle 4 v w b ∷ []) []) e
     happens (op.BeginStop target transient) past v w x = refl
+    happens (op.Await asked) past v w x = refl
     happens (op.EndStop b failed) past v w x = ap (λ k. cond k (leaving (Some b) past ++ of_bundle 4 v w b ∷ []) []) e
     happens (op.Update b location) past v w x = refl
     happens (op.Uninstall b) past v w x = refl
@@ -444,21 +461,23 @@ refused-quiet o f e = record {
   jobs = jobs-refused o f e;
 }
 
--- and what is refused so is no end of its caller's innermost bracket
-pub refused_end_quiet : (m : Moment) (o : Op) (f : Refusal) → IsReply m o (answer.Refused f) → is_effective (answer.Refused f) ≡ false → closes m.tag o (brackets m.before) ≡ false
-refused_end_quiet m o f r e = false_from_ne_true _ (λ c. (let bad : true ≡ false = sym (ended-by m o (answer.Refused f) r c) ∙ e in cc bad))
+-- and what is refused so is no end of its caller's innermost bracket, where the end of a make is none
+pub refused_end_quiet : (m : Moment) (o : Op) (f : Refusal) → IsReply m o (answer.Refused f) → ((bad : Bool) → closes m.tag (op.EndMake bad) (brackets m.before) ≡ false) → is_effective (answer.Refused f) ≡ false → closes m.tag o (brackets m.before) ≡ false
+refused_end_quiet m (op.EndMake bad) f r makes e = makes bad
+refused_end_quiet m o f r makes e = false_from_ne_true _ (λ c. (let bad : true ≡ false = sym (ended-by m o (answer.Refused f) r refl c) ∙ e in cc bad))
 
 asking-ends-nothing : (o : Op) → is_asking o ≡ true → is_end o ≡ false
 asking-ends-nothing (op.EndHand listener) e = absurd (cc e)
 asking-ends-nothing op.EndJob e = absurd (cc e)
 asking-ends-nothing (op.EndStart b failed) e = absurd (cc e)
 asking-ends-nothing (op.EndStop b failed) e = absurd (cc e)
+asking-ends-nothing (op.EndMake failed) e = absurd (cc e)
 asking-ends-nothing o e = refl
 
 -- so after a question, and after every refusal but 11, tables stand for what they stood for
 pub asking-alike : (m : Moment) (o : Op) (y : Reply) → is_asking o ≡ true → ReadAlike m.setting.depot (m.before ++ entry_of m o y ∷ []) m.before
 asking-alike m o y e = reads-alike m.setting.depot m.before (entry_of m o y) (asking-quiet o y e) (closes-not m.tag o (brackets m.before) (asking-ends-nothing o e))
 
-pub refused-alike : (m : Moment) (o : Op) (f : Refusal) → IsReply m o (answer.Refused f) → is_effective (answer.Refused f) ≡ false →
+pub refused-alike : (m : Moment) (o : Op) (f : Refusal) → IsReply m o (answer.Refused f) → ((bad : Bool) → closes m.tag (op.EndMake bad) (brackets m.before) ≡ false) → is_effective (answer.Refused f) ≡ false →
     ReadAlike m.setting.depot (m.before ++ entry_of m o (answer.Refused f) ∷ []) m.before
-refused-alike m o f r e = reads-alike m.setting.depot m.before (entry_of m o (answer.Refused f)) (refused-quiet o f e) (refused_end_quiet m o f r e)
+refused-alike m o f r makes e = reads-alike m.setting.depot m.before (entry_of m o (answer.Refused f)) (refused-quiet o f e) (refused_end_quiet m o f r makes e)

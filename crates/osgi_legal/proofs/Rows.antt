@@ -8,10 +8,10 @@ use Rattle.osgi_base.specs.declared.ids.BundleId.{BundleId}
 use Rattle.osgi_legal.specs.Quiet.{QuietBundles}
 use Rattle.osgi_ops.specs.Bundles.{Bundle, bundle_from, bundles, Installed, installed, installed_by, is_uninstall, live, revisions, row_from, source, system, the_system_bundle, updated_to}
 use Rattle.osgi_ops.specs.Depots.{stored_revision}
-use Rattle.osgi_ops.specs.Legal.{AreAllowed, entry_of, IsAllowed, IsTold}
+use Rattle.osgi_legal.specs.Legal.{AreAllowed, entry_of, IsAllowed, IsTold}
 use Rattle.osgi_ops.specs.Levels.{refresh}
 use Rattle.osgi_ops.specs.Moments.{entries_in, first_world, Moment, moment, Told, world_after}
-use Rattle.osgi_ops.specs.Operations.{IsReply}
+use Rattle.osgi_legal.specs.Operations.{IsReply}
 use Rattle.osgi_ops.specs.Replies.{is_accepted}
 use Rattle.osgi_ops.specs.Resolved.{current_revision, is_current_of, is_fragment_bundle, is_resolved}
 use Rattle.osgi_ops.specs.Resolving.{AnswersResolve, newly_resolved, Resolves}
@@ -43,6 +43,7 @@ use Rattle.osgi_legal.proofs.Running.{current-pended}
 use Rattle.osgi_legal.proofs.States.{Agrees, always-agrees, find-new, find-none, find-other, none-current}
 use Rattle.osgi_legal.proofs.Tidy.{extends-of}
 use Rattle.osgi_legal.proofs.Windows.{leaves-refused, refused-is}
+use Rattle.osgi_legal.proofs.Loads.{load-stays}
 
 -- the bundle has a current revision, which is this one
 pub record IsCurrent (world : World) (b : BundleId) (v : Revision) : Type 0 where
@@ -232,6 +233,8 @@ current-accepted m op.DropWirings y after r acc l g a =
     let is : after ≡ dropped p.0.members m.world = subst (λ o. IsSomeAnd o (λ r. after ≡ dropped r.members m.world)) p.2.0 some in
     still-current m op.DropWirings y after (record { installed = λ n since. refl; gone = λ b. refl; updated = λ b. refl; brings = refl })
     (λ x. ap (λ w. current_revision w x) is ∙ find-kept (is_current_of x) (λ (k : Known). not (is_member p.0.members k.bundle.0) || k.current) m.world.known (λ k c. or_right _ _ (and_parts k.current _ c).0)) a
+current-accepted m (op.Load b class) y after r acc l g a =
+    still-current m (op.Load b class) y after (record { installed = λ n since. refl; gone = λ b. refl; updated = λ b. refl; brings = refl }) (λ x. ap (λ w. current_revision w x) (load-stays m b class y after r l)) a
 current-accepted m o y after r acc l g a =
     still-current m o y after (record { installed = λ n since. refl; gone = λ b. refl; updated = λ b. refl; brings = refl }) (λ x. ap (λ w. current_revision w x) l) a
 

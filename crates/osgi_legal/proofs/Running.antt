@@ -11,10 +11,10 @@ use Rattle.osgi_ops.specs.Brackets.{Bracket, brackets, is_end}
 use Rattle.osgi_ops.specs.Bundles as bundles
 use Rattle.osgi_ops.specs.Bundles.{active, Bundle, bundle_from, idle, installed, is_active, is_live, is_uninstall, is_up, phase, Phase, running, State, state, system}
 use Rattle.osgi_ops.specs.Conditions.{state_change, state_of}
-use Rattle.osgi_ops.specs.Legal.{AreAllowed, IsAllowed}
+use Rattle.osgi_legal.specs.Legal.{AreAllowed, IsAllowed}
 use Rattle.osgi_ops.specs.Levels.{Refresh, refresh}
 use Rattle.osgi_ops.specs.Moments.{entries_in, first_world, Moment, moment, Told, world_after}
-use Rattle.osgi_ops.specs.Operations.{IsReply}
+use Rattle.osgi_legal.specs.Operations.{IsReply}
 use Rattle.osgi_ops.specs.Replies.{is_accepted, is_effective}
 use Rattle.osgi_ops.specs.Resolved.{current_revision, is_current_of, is_fragment_bundle, is_in_use, is_resolved}
 use Rattle.osgi_ops.specs.Resolving.{AnswersResolve, newly_resolved, Resolves}
@@ -51,6 +51,7 @@ use Rattle.osgi_legal.proofs.Phases.{brackets_for, ends_for, ends_it, Fits, inne
 use Rattle.osgi_legal.proofs.Tidy.{first-tidy, IsTidy, known-bundle, member-contains, extends-of}
 use Rattle.osgi_legal.proofs.Up.{idle-is, is_idle, is_up_at, not-uninstalled, up-is, up-refused}
 use Rattle.osgi_legal.proofs.Windows.{always-kept, IsKept, kept-step, leaves-refused, refused-is, window-outside}
+use Rattle.osgi_legal.proofs.Loads.{load-stays}
 
 -- ---- what has begun and not come to rest is live
 
@@ -357,6 +358,7 @@ running-stays setting front tag o y after legal reply left b apart up run = go (
         let p = (accepted m op.DropWirings y r acc).1 in
         let some : IsSomeAnd (refresh m.before) (λ r. after ≡ dropped r.members m.world) = subst (λ z. Leaves m op.DropWirings z after) p.3 l in
         dropping p.0 p.2.0 p.2.1 p.2.2 acc r (subst (λ o. IsSomeAnd o (λ r. after ≡ dropped r.members m.world)) p.2.0 some)
+    accepting (op.Load bundle class) acc r l = same (load-stays m bundle class y after r l)
     accepting p acc r l = same l
 
     go : (c : Bool) → is_accepted y ≡ c → IsRunning after b

@@ -1,23 +1,31 @@
 -- What holds while these operations have not come: no walk over levels and no refresh is open, no job is queued, each bundle stays and
--- keeps its revision and its level, and no open bracket is for a job. Each fact holds at each moment of a legal history.
+-- keeps its revision and its level, no open bracket is for a job or a make, nothing was made, nobody waits, each service has one object for
+-- all, and no load adds a wire. Each fact holds at each moment of a legal history.
 use Rattle.std.proofs.Common.{◌≡◌, inl, Bool, true, false, List, [], ◌∷◌, refl, sym, ap, ◌∙◌, subst}
-use Rattle.std.specs.Prelude.{◌==◌, not, cond, nat_lt, ℕ, All, filter, IsSomeAnd, MatchBool, Option, None, Some, unwrap_or}
-use Rattle.std.specs.Option.{option_map_or}
+use Rattle.std.specs.Prelude.{◌==◌, ◌&&◌, find, not, cond, nat_lt, ℕ, All, filter, IsSomeAnd, MatchBool, Option, None, Some, unwrap_or}
+use Rattle.std.specs.Option.{option_map, option_map_or}
 use Rattle.std.proofs.lemmas.Bool.{and_right}
 use Rattle.std.proofs.lemmas.List.Elements.{All-head, All-tail, All-weaker}
 use Rattle.std.proofs.lemmas.List.Folds.{list_any_none}
 use Rattle.osgi_base.specs.declared.ids.BundleId.{BundleId}
+use Rattle.osgi_base.specs.declared.ids.RevisionId.{RevisionId}
+use Rattle.osgi_base.specs.declared.ids.ServiceId.{ServiceId}
+use Rattle.osgi_ops.specs.Assignable.{package_of}
 use Rattle.osgi_legal.specs.Askers.{MayAsk}
-use Rattle.osgi_ops.specs.Brackets.{brackets}
+use Rattle.osgi_ops.specs.Brackets.{brackets, closes}
 use Rattle.osgi_ops.specs.Bundles as bundles
 use Rattle.osgi_ops.specs.Bundles.{Active, Installed, installed, is_there, is_active, is_uninstall, source, system, updated_to}
 use Rattle.osgi_ops.specs.Conditions.{is_above, is_kept, lesser, refreshing_where, state_of}
+use Rattle.osgi_ops.specs.Dynamic.{IsAdded}
 use Rattle.osgi_ops.specs.Jobs.{jobs}
-use Rattle.osgi_ops.specs.Legal.{IsTold}
+use Rattle.osgi_legal.specs.Legal.{IsTold}
 use Rattle.osgi_ops.specs.Levels.{active_level, level_of, leveled, moved_to, Refresh, refresh, refresh_by, Walk, walk, walk_by}
 use Rattle.osgi_ops.specs.Moments.{Moment}
-use Rattle.osgi_ops.specs.Operations.{IsReply, IsRow}
-use Rattle.osgi_ops.specs.Stages.{is_here}
+use Rattle.osgi_ops.specs.Objects.{objects}
+use Rattle.osgi_ops.specs.Services.{live_at, made_uses, Registered}
+use Rattle.osgi_ops.specs.Waiting.{is_waiting, waiting}
+use Rattle.osgi_legal.specs.Operations.{IsReply, IsRow}
+use Rattle.osgi_legal.specs.Stages.{dynamics_here, is_here}
 use Rattle.osgi_ops.specs.declared.entry.Entry.{Entry}
 use Rattle.osgi_ops.specs.declared.op.Op.{Op}
 use Rattle.osgi_ops.specs.declared.op.Op.TheVariants as op
@@ -25,10 +33,21 @@ use Rattle.osgi_ops.specs.declared.refusal.Refusal.{Refusal}
 use Rattle.osgi_ops.specs.declared.refusal.Refusal.TheVariants as no
 use Rattle.osgi_ops.specs.declared.refusal.Refusal.TheVariants.{InvalidOperation}
 use Rattle.osgi_ops.specs.declared.reply.Reply.TheVariants as answer
-use Rattle.osgi_ops.specs.laws.Stages.{row-here}
+use Rattle.osgi_ops.specs.declared.scope.Scope.TheVariants.{Singleton}
+use Rattle.osgi_ops.specs.laws.Dynamic.{none-added}
+use Rattle.osgi_ops.specs.laws.Makes.{objects-none}
+use Rattle.osgi_ops.specs.laws.Services.{made_uses-none, MakesNone}
+use Rattle.osgi_ops.specs.laws.Waiting.{none-waiting, NoneWaits, not-waiting}
+use Rattle.osgi_ops.specs.rows.Bundles.{names_package, wakes, woken}
+use Rattle.osgi_world.specs.declared.revision.Policy.{Policy}
+use Rattle.osgi_world.specs.declared.wiring.Wire.{Wire}
+use Rattle.osgi_world.specs.declared.world.Known.{Known}
+use Rattle.osgi_world.specs.declared.world.World.{World}
+use Rattle.osgi_legal.specs.laws.Stages.{row-here}
 use Rattle.osgi_legal.proofs.Early.{all-early, carry-still, early-calm, IsCalm, IsEarly, latest-none, none-queued, since-all}
 use Rattle.osgi_legal.proofs.Legal.{at-told}
-use Rattle.osgi_legal.proofs.Opened.{AreNotOfJobs, job-ends-none, opened-so}
+use Rattle.osgi_legal.proofs.Singletons.{all-single, AreSingle, live-single}
+use Rattle.osgi_legal.proofs.Opened.{AreNotLate, job-ends-none, make-ends-none, makes-none, opened-so}
 
 -- ---- entries
 
@@ -45,9 +64,9 @@ each P says now t = All-weaker (λ (e : Entry). IsCalm e.op e.reply) P says now.
 
 -- ---- brackets
 
--- No open bracket is for a job.
-pub opened-at : (now : Moment) → IsTold now → AreNotOfJobs (brackets now.before)
-opened-at now t = at-told (λ m. AreNotOfJobs (brackets m.before)) (λ setting told tag legal. opened-so setting told legal) now t
+-- No open bracket is for a job or for a make.
+pub opened-at : (now : Moment) → IsTold now → AreNotLate (brackets now.before)
+opened-at now t = at-told (λ m. AreNotLate (brackets m.before)) (λ setting told tag legal. opened-so setting told legal) now t
 
 -- ---- what is refused
 
@@ -154,3 +173,65 @@ system-active now = refl
 -- The system bundle may ask, at every moment.
 pub system-passes : (now : Moment) → MayAsk now (Some system)
 system-passes now = (refl, refl)
+
+-- ---- factories
+
+-- Each service that was registered has one object for all, and so each that is live.
+pub single-at : (now : Moment) → IsTold now → AreSingle now.before
+single-at now t = at-told (λ m. AreSingle m.before) (λ setting told tag legal. all-single setting told legal) now t
+
+pub live-single-at : (now : Moment) → IsTold now → (service : ServiceId) (r : Registered) → live_at service now.before ≡ Some r → r.scope ≡ Singleton
+live-single-at now t service r is = live-single now.before service r (single-at now t) is
+
+-- No entry made an object.
+pub makes-none-at : (now : Moment) → IsTold now → All (λ (e : Entry). MakesNone e.op e.reply) now.before
+makes-none-at now t = at-told (λ m. All (λ (e : Entry). MakesNone e.op e.reply) m.before) (λ setting told tag legal. makes-none setting told legal) now t
+
+-- So no use of a service began with a make, and nobody holds an object that was made for it.
+pub no-made-uses : (now : Moment) → IsTold now → made_uses now.before ≡ []
+no-made-uses now t = made_uses-none now.before (makes-none-at now t)
+
+pub no-objects : (now : Moment) → IsTold now → objects now.before ≡ []
+no-objects now t = objects-none now.before (makes-none-at now t)
+
+-- The end of a make ends no bracket, and is refused as an invalid operation.
+pub no-make-ends : (now : Moment) → IsTold now → (failed : Bool) → closes now.tag (op.EndMake failed) (brackets now.before) ≡ false
+no-make-ends now t failed = make-ends-none now.tag failed (brackets now.before) (opened-at now t)
+
+pub make-end-due : (now : Moment) → IsTold now → (failed : Bool) → IsReply now (op.EndMake failed) (answer.Refused InvalidOperation)
+make-end-due now t failed = row-here now (op.EndMake failed) (answer.Refused InvalidOperation) refl (inl (InvalidOperation, (refl, no-make-ends now t failed), refl))
+
+-- ---- bundles that wait
+
+-- Nobody waits.
+pub none-waits : (now : Moment) → IsTold now → waiting now.before ≡ []
+none-waits now t = none-waiting now.before (each (λ (e : Entry). NoneWaits e.op e.reply) (λ e c. c.waits) now t)
+
+pub never-waits : (now : Moment) → IsTold now → (b : BundleId) → is_waiting b now.before ≡ false
+never-waits now t b = not-waiting b now.before (none-waits now t)
+
+-- So no load is to start one.
+find-nothing : {X : Type 0} (p : X → Bool) (xs : List X) → ((x : X) → p x ≡ false) → find p xs ≡ None
+find-nothing p [] none = refl
+find-nothing p (x ∷ xs) none = ap (λ k. cond k (Some x) (find p xs)) (none x) ∙ find-nothing p xs none
+
+wakes-none : (now : Moment) → IsTold now → (by : RevisionId) (pack : List ℕ) (k : Known) → wakes now by pack k ≡ false
+wakes-none now t by pack k = ap (λ w. k.current && (k.id.0 == by.0) && w && named) (never-waits now t k.bundle) ∙ go k.current (k.id.0 == by.0)
+  where
+    named : Bool
+    named = option_map_or (λ (p : Policy). names_package p pack) k.revision.lazy false
+
+    go : (a b : Bool) → (a && b && false && named) ≡ false
+    go true true = refl
+    go true false = refl
+    go false b = refl
+
+pub none-woken : (now : Moment) → IsTold now → (class : List ℕ) (by : Option RevisionId) → woken now class by ≡ None
+none-woken now t class None = refl
+none-woken now t class (Some by) = ap (option_map (λ (k : Known). k.bundle)) (find-nothing (wakes now by (package_of class)) now.world.known (wakes-none now t by (package_of class)))
+
+-- ---- loads
+
+-- No load adds a wire.
+pub none-added-here : (world : World) (bundle : BundleId) (class : List ℕ) (wire : Option Wire) → IsAdded dynamics_here world bundle class wire → wire ≡ None
+none-added-here world bundle class wire is = none-added world bundle class wire is

@@ -6,7 +6,7 @@ use Rattle.osgi_base.specs.declared.ids.Tag.{Tag}
 use Rattle.osgi_ops.specs.Bundles as bundles
 use Rattle.osgi_ops.specs.Bundles.{Active, active, idle, is_active, is_changing, is_live, is_up, last_begin, phase, Phase, Resolved, running, Starting, starting, State, Stopping, stopping, Uninstalled, Unresolved}
 use Rattle.osgi_ops.specs.Conditions.{state_change, state_of}
-use Rattle.osgi_ops.specs.Legal.{IsTold}
+use Rattle.osgi_legal.specs.Legal.{IsTold}
 use Rattle.osgi_ops.specs.Moments.{entries_in, Moment}
 use Rattle.osgi_ops.specs.Resolved.{is_resolved}
 use Rattle.osgi_ops.specs.declared.refusal.Refusal.{Refusal}

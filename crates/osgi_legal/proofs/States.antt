@@ -15,10 +15,10 @@ use Rattle.osgi_ops.specs.Bundles.{Bundle, bundle_from, bundles, Installed, inst
 use Rattle.osgi_ops.specs.Closures.{attached, DependsOn, hosting}
 use Rattle.osgi_ops.specs.Conditions.{depot_refusal}
 use Rattle.osgi_ops.specs.Depots.{stored_revision, revision_in, row_number}
-use Rattle.osgi_ops.specs.Legal.{AreAllowed, entry_of, IsAllowed}
+use Rattle.osgi_legal.specs.Legal.{AreAllowed, entry_of, IsAllowed}
 use Rattle.osgi_ops.specs.Levels.{Refresh, refresh}
 use Rattle.osgi_ops.specs.Moments.{entries_in, first_world, Moment, moment, Told, world_after}
-use Rattle.osgi_ops.specs.Operations.{IsReply}
+use Rattle.osgi_legal.specs.Operations.{IsReply}
 use Rattle.osgi_ops.specs.Replies.{is_accepted}
 use Rattle.osgi_ops.specs.Resolved.{current_revision, is_current_of, is_in_use, is_resolved}
 use Rattle.osgi_ops.specs.Resolving.{AnswersResolve, newly_resolved, Resolves}
@@ -56,6 +56,7 @@ use Rattle.osgi_legal.proofs.Quiet.{bundles-quiet, bundles-refused, count-same, 
 use Rattle.osgi_legal.proofs.Running.{current-pended}
 use Rattle.osgi_legal.proofs.Tidy.{any-in, contains-member, extends-of, in-any, IsClosed, IsTidy, known-bundle, member-contains, passed-bundle, pended-tidy}
 use Rattle.osgi_legal.proofs.Windows.{always-kept, IsKept, IsWindow, leaves-refused, refused-is, window-closed, window-outside}
+use Rattle.osgi_legal.proofs.Loads.{load-stays}
 
 -- ---- rows and live bundles
 
@@ -633,6 +634,8 @@ agrees-accepted m op.DropWirings y after r acc l k a =
     subst (λ z. Agrees m.setting.depot (m.before ++ entry_of m op.DropWirings z ∷ []) after) (sym p.3)
     (by-fall m p.0 p.1 after k.tidy (k.window p.0 p.2.0 p.2.2) (subst (λ o. IsSomeAnd o (λ r. after ≡ dropped r.members m.world)) p.2.0 some)
     (λ b i. All-contains (λ b. Contains p.0.members b × (is_resolved m.world b ≡ true)) p.1 b p.4.only i) (λ b c q. p.4.every b (c, q)) a)
+agrees-accepted m (op.Load b class) y after r acc l k a =
+    still-agrees m (op.Load b class) y after (load-stays m b class y after r l) (record { installed = λ n since. refl; gone = λ b. refl; updated = λ b. refl; brings = refl }) (λ b. refl) a
 agrees-accepted m o y after r acc l k a = still-agrees m o y after l (record { installed = λ n since. refl; gone = λ b. refl; updated = λ b. refl; brings = refl }) (λ b. refl) a
 
 resolves-refused : (b : BundleId) (o : Op) (f : Refusal) → resolves_by b o (answer.Refused f) ≡ None

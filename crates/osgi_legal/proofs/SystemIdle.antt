@@ -1,9 +1,9 @@
 -- The system bundle is never started and never stopped.
 use Rattle.std.proofs.Common.{◌≡◌, true, false, List, [], ◌∷◌, ◌++◌, refl, sym, ap, ◌∙◌, subst}
 use Rattle.osgi_ops.specs.Bundles.{phase, system}
-use Rattle.osgi_ops.specs.Legal.{AreAllowed, IsAllowed, IsTold}
+use Rattle.osgi_legal.specs.Legal.{AreAllowed, IsAllowed, IsTold}
 use Rattle.osgi_ops.specs.Moments.{entries_in, Moment, moment, Told}
-use Rattle.osgi_ops.specs.Operations.{IsReply}
+use Rattle.osgi_legal.specs.Operations.{IsReply}
 use Rattle.osgi_ops.specs.Settings.{Setting}
 use Rattle.osgi_ops.specs.declared.entry.Entry.{Entry}
 use Rattle.osgi_ops.specs.declared.op.Op.TheVariants as op

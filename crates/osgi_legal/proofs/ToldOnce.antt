@@ -4,7 +4,8 @@ use Rattle.std.specs.Prelude.{Bool, true, false, Option, None, Some, IsSomeAnd}
 use Rattle.osgi_base.specs.declared.ids.BundleId.{BundleId}
 use Rattle.osgi_resolver_theory.proofs.Once.{wirings-once}
 use Rattle.osgi_ops.specs.Along.{AllAlong}
-use Rattle.osgi_ops.specs.Legal.{entry_of, IsAllowed, IsReplayed, IsTold}
+use Rattle.osgi_legal.specs.Legal.{entry_of, IsAllowed, IsReplayed, IsTold}
+use Rattle.osgi_legal.specs.Operations.{IsReply}
 use Rattle.osgi_ops.specs.Levels.{Refresh, refresh}
 use Rattle.osgi_ops.specs.Listening.{AreSights}
 use Rattle.osgi_ops.specs.Moments.{entries_in, Moment, moment, sights_in, Told, world_after}
@@ -19,6 +20,7 @@ use Rattle.osgi_ops.specs.declared.reply.Reply.{Reply}
 use Rattle.osgi_ops.specs.declared.reply.Reply.TheVariants as answer
 use Rattle.osgi_world.specs.declared.world.World.{World}
 use Rattle.osgi_legal.proofs.Sights.{sights-once}
+use Rattle.osgi_legal.proofs.Loads.{load-stays}
 
 -- ---- what one entry leaves
 
@@ -41,13 +43,14 @@ dropped_once : (o : Option Refresh) (world w v : World) → IsSomeAnd o (λ r. w
 dropped_once None world w v one other = absurd one
 dropped_once (Some r) world w v one other = one ∙ sym other
 
-pub leaves-once : (now : Moment) (o : Op) (reply : Reply) (w v : World) → Leaves now o reply w → Leaves now o reply v → w ≡ v
-leaves-once now (op.Install location) (answer.Bundle bundle false) w v one other = brings_once now bundle location now.world w v one other
-leaves-once now (op.Resolve bundle) (answer.Resolved added) w v one other = resolves_once (is_resolved now.world bundle) now bundle added w v one other
-leaves-once now (op.Update bundle location) answer.Done w v one other = brings_once now bundle location _ w v one other
-leaves-once now (op.Uninstall bundle) answer.Done w v one other = one ∙ sym other
-leaves-once now op.DropWirings (answer.Ids ids) w v one other = dropped_once (refresh now.before) now.world w v one other
-leaves-once now _ _ w v one other = one ∙ sym other
+pub leaves-once : (now : Moment) (o : Op) (reply : Reply) (w v : World) → IsReply now o reply → Leaves now o reply w → Leaves now o reply v → w ≡ v
+leaves-once now (op.Install location) (answer.Bundle bundle false) w v r one other = brings_once now bundle location now.world w v one other
+leaves-once now (op.Resolve bundle) (answer.Resolved added) w v r one other = resolves_once (is_resolved now.world bundle) now bundle added w v one other
+leaves-once now (op.Update bundle location) answer.Done w v r one other = brings_once now bundle location _ w v one other
+leaves-once now (op.Uninstall bundle) answer.Done w v r one other = one ∙ sym other
+leaves-once now op.DropWirings (answer.Ids ids) w v r one other = dropped_once (refresh now.before) now.world w v one other
+leaves-once now (op.Load bundle class) reply w v r one other = load-stays now bundle class reply w r one ∙ sym (load-stays now bundle class reply v r other)
+leaves-once now _ _ w v r one other = one ∙ sym other
 
 -- ---- a whole history
 
@@ -56,7 +59,7 @@ allowed_once setting before s t same one other =
     let here : IsAllowed setting before (record { entry = s.entry; world = t.world; sights = t.sights }) =
     subst (λ e. IsAllowed setting before (record { entry = e; world = t.world; sights = t.sights })) (sym same) other in
     let now : Moment = moment setting before s.entry.tag in
-    let world : s.world ≡ t.world = leaves-once now s.entry.op s.entry.reply s.world t.world one.left here.left in
+    let world : s.world ≡ t.world = leaves-once now s.entry.op s.entry.reply s.world t.world one.replied one.left here.left in
     let seen : s.sights ≡ t.sights =
     sights-once now.before now.world t.world (entry_of now s.entry.op s.entry.reply) s.sights t.sights
     (subst (λ w. AreSights now.before now.world w (entry_of now s.entry.op s.entry.reply) s.sights) world one.seen) here.seen in

@@ -5,11 +5,11 @@ use Rattle.std.specs.List.{list_any}
 use Rattle.std.proofs.lemmas.Bool.{eq-eqb, eqb-true}
 use Rattle.osgi_base.specs.declared.ids.ListenerId.{ListenerId}
 use Rattle.osgi_base.specs.declared.ids.Tag.{Tag}
-use Rattle.osgi_ops.specs.Brackets.{Bracket, bracket, brackets, Cause, closes, handing, job, opens, starting, stopping, turned}
-use Rattle.osgi_ops.specs.Legal.{AreAllowed, IsAllowed}
+use Rattle.osgi_ops.specs.Brackets.{Bracket, bracket, brackets, Cause, closes, handing, job, making, opens, starting, stopping, turned}
+use Rattle.osgi_legal.specs.Legal.{AreAllowed, IsAllowed}
 use Rattle.osgi_ops.specs.Listening.{is_in_turn, is_turn_of}
 use Rattle.osgi_ops.specs.Moments.{entries_in, Moment, moment, Told}
-use Rattle.osgi_ops.specs.Operations.{IsReply}
+use Rattle.osgi_legal.specs.Operations.{IsReply}
 use Rattle.osgi_ops.specs.Settings.{Setting}
 use Rattle.osgi_ops.specs.declared.entry.Entry.{Entry}
 use Rattle.osgi_ops.specs.declared.op.Op.{Op}
@@ -43,6 +43,7 @@ turn-cause listener (handing held) e = ap handing (same-listener held listener e
 turn-cause listener (starting b) e = absurd (cc e)
 turn-cause listener (stopping b) e = absurd (cc e)
 turn-cause listener job e = absurd (cc e)
+turn-cause listener (making m) e = absurd (cc e)
 
 pub own-turn : (listener : ListenerId) → is_turn_of listener (handing listener) ≡ true
 own-turn listener = eq-eqb listener.0 listener.0 refl
@@ -85,6 +86,8 @@ turn-free m op.Hand y listener r is = hand-free m y listener r is
 turn-free m op.TakeJob (answer.Job owner row name) listener r is = absurd (cc is)
 turn-free m (op.BeginStart b transient) (answer.Begun begun row) listener r is = absurd (cc is)
 turn-free m (op.BeginStop target transient) (answer.Begun begun row) listener r is = absurd (cc is)
+turn-free m (op.Get user service) (answer.Make owner row name) listener r is = absurd (cc is)
+turn-free m (op.GetOwn user service) (answer.Make owner row name) listener r is = absurd (cc is)
 turn-free m o y listener r is = absurd (cc is)
 
 few-turns : (setting : Setting) (told : List Told) → AreAllowed setting told → (listener : ListenerId) → AreFew (turns_of listener (brackets (entries_in told)))

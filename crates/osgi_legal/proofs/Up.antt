@@ -10,9 +10,9 @@ use Rattle.osgi_ops.specs.Bundles as bundles
 use Rattle.osgi_ops.specs.Bundles.{active, begun_by, idle, is_live, is_uninstall, is_up, last_begin, phase, Phase, put_into, running, State, state, system}
 use Rattle.osgi_ops.specs.Cleaning.{cleans}
 use Rattle.osgi_ops.specs.Conditions.{state_change, state_of}
-use Rattle.osgi_ops.specs.Legal.{AreAllowed, IsAllowed}
+use Rattle.osgi_legal.specs.Legal.{AreAllowed, IsAllowed}
 use Rattle.osgi_ops.specs.Moments.{entries_in, Moment, moment, Told, world_after}
-use Rattle.osgi_ops.specs.Operations.{IsReply}
+use Rattle.osgi_legal.specs.Operations.{IsReply}
 use Rattle.osgi_ops.specs.Replies.{is_accepted, is_effective}
 use Rattle.osgi_ops.specs.Resolved.{is_resolved}
 use Rattle.osgi_ops.specs.Settings.{Setting}

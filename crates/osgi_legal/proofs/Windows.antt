@@ -8,10 +8,10 @@ use Rattle.osgi_base.specs.declared.ids.BundleId.{BundleId}
 use Rattle.osgi_base.specs.declared.ids.RevisionId.{RevisionId}
 use Rattle.osgi_ops.specs.Bundles.{brings_revision, Bundle, bundle_from, installed, revisions, system}
 use Rattle.osgi_ops.specs.Closures.{asked, attached, depends, DependsOn, hosting, IsAsked, IsClosure, IsMember, LeansOn, wired}
-use Rattle.osgi_ops.specs.Legal.{AreAllowed, entry_of, IsAllowed}
+use Rattle.osgi_legal.specs.Legal.{AreAllowed, entry_of, IsAllowed}
 use Rattle.osgi_ops.specs.Levels.{Refresh, refresh, refresh_by}
 use Rattle.osgi_ops.specs.Moments.{entries_in, Moment, moment, Told, world_after}
-use Rattle.osgi_ops.specs.Operations.{IsReply}
+use Rattle.osgi_legal.specs.Operations.{IsReply}
 use Rattle.osgi_ops.specs.Replies.{is_accepted}
 use Rattle.osgi_ops.specs.Resolved.{is_in_use, is_resolved, waits_for_removal}
 use Rattle.osgi_ops.specs.Resolving.{AnswersResolve, newly_resolved, Resolves}
@@ -38,6 +38,7 @@ use Rattle.osgi_legal.proofs.Accepted.{accepted, NoneHolds}
 use Rattle.osgi_legal.proofs.Legal.{world-last}
 use Rattle.osgi_legal.proofs.Owned.{entries-last}
 use Rattle.osgi_legal.proofs.Tidy.{any-in, brought-tidy, dropped-tidy, first-tidy, IsClosed, IsTidy, pended-tidy, resolved-tidy}
+use Rattle.osgi_legal.proofs.Loads.{load-stays}
 
 -- ---- the closure, with one more revision known
 
@@ -179,6 +180,7 @@ leaves-refused m (op.Resolve bundle) f after l = l
 leaves-refused m (op.Update bundle location) f after l = l
 leaves-refused m (op.Uninstall bundle) f after l = l
 leaves-refused m op.DropWirings f after l = l
+leaves-refused m (op.Load bundle class) f after l = l
 leaves-refused m o f after l = l
 
 brings-refused : (o : Op) (f : Refusal) → brings_revision o (answer.Refused f) ≡ false
@@ -317,6 +319,7 @@ by-accepted m (op.Uninstall u) y after r acc l k = by-uninstall m u y after r ac
 by-accepted m (op.BeginRefresh named) y after r acc l k = by-begin m named y after r acc l k
 by-accepted m op.DropWirings y after r acc l k = by-drop m y after r acc l k
 by-accepted m op.EndRefresh y after r acc l k = by-end m y after acc l k
+by-accepted m (op.Load b class) y after r acc l k = still m (op.Load b class) y after (load-stays m b class y after r l) refl refl k
 by-accepted m o y after r acc l k = still m o y after l refl refl k
 
 pub refused-is : (y : Reply) → is_accepted y ≡ false → (f : Refusal) × (y ≡ answer.Refused f)

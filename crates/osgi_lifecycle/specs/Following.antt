@@ -1,5 +1,5 @@
 -- What comes after each step of a plan, as the code keeps it.
-use Rattle.std.specs.Prelude.{ℕ, ◌-◌, ◌||◌, Bool, List, drop, reverse}
+use Rattle.std.specs.Prelude.{ℕ, ◌-◌, ◌||◌, Bool, false, List, drop, reverse}
 use Rattle.osgi_base.specs.declared.ids.BundleId.{BundleId}
 use Rattle.osgi_ops.specs.Replies.{is_refusal}
 use Rattle.osgi_ops.specs.declared.op.Op.TheVariants as op
@@ -63,6 +63,7 @@ stopping_level level to kept = plans.halt_all (ahead kept) (ask (op.MoveLevel le
 
 abbrev pub after_start : AfterStart → Kept → Bool → Plan
 after_start (on_start.End before) kept bad = stop (end_of (before || bad))
+after_start on_start.Loaded kept bad = stop plans.done
 after_start on_start.Refresh kept bad = starting_members kept
 after_start (on_start.Climb level to) kept bad = starting_level level to kept
 
@@ -80,13 +81,18 @@ after_reply at.Only kept reply = plans.after_one reply
 after_reply at.Register kept reply = plans.after_register reply
 after_reply at.Find kept reply = plans.after_find reply
 after_reply at.Fail kept reply = after_fail reply
+after_reply at.Get kept reply = plans.after_get reply
+after_reply at.WishLazy kept reply = plans.after_wish_lazy (after_start (on_start.End false) kept) reply
+after_reply (at.ResolveLazy bundle) kept reply = plans.after_resolve_lazy bundle (after_start (on_start.End false) kept) reply
+after_reply (at.Await bundle) kept reply = plans.after_await bundle (after_start (on_start.End false) kept) reply
 after_reply (at.WishStart transient after) kept reply = plans.after_wish transient (after_start after kept) reply
 after_reply (at.Resolve bundle transient after) kept reply = plans.after_resolve bundle transient (after_start after kept) reply
 after_reply (at.BeginStart bundle after) kept reply = plans.after_begin_start bundle (after_start after kept) reply
 after_reply (at.EndStart after) kept reply = plans.after_end_start (after_start after kept) reply
 after_reply (at.BeginStop after) kept reply = plans.after_begin_stop (after_stop after kept) reply
 after_reply (at.EndStop after) kept reply = plans.after_end_stop (after_stop after kept) reply
-after_reply (at.LoadResolve bundle) kept reply = plans.unless_refused reply (plans.one (op.Load bundle kept.text))
+after_reply (at.LoadResolve bundle) kept reply = plans.unless_refused reply (ask (op.Load bundle kept.text) plans.after_load)
+after_reply at.Load kept reply = plans.after_load reply
 after_reply (at.Update bundle again) kept reply = plans.restart bundle again (is_refusal reply)
 after_reply at.BeginRefresh kept reply = plans.after_begin_refresh reply
 after_reply at.DropWirings kept reply = after_drop kept.bundles.items reply
@@ -99,11 +105,13 @@ after_reply (at.SetLevel bundle level) kept reply = plans.after_set bundle level
 after_reply (at.SetLevelAgain bundle) kept reply = plans.after_last_set bundle reply
 after_reply (at.StartSection bundle after) kept reply = stop plans.refused
 after_reply (at.StopSection bundle after) kept reply = stop plans.refused
+after_reply at.MakeSection kept reply = stop plans.refused
 
 -- what comes after the section whose end the plan waits for
 abbrev pub after_section : At → Kept → Bool → Plan
 after_section (at.StartSection bundle after) kept fails = ask (op.EndStart bundle fails) (plans.after_end_start (after_start after kept))
 after_section (at.StopSection bundle after) kept fails = ask (op.EndStop bundle fails) (plans.after_end_stop (after_stop after kept))
+after_section at.MakeSection kept fails = plans.one (op.EndMake fails)
 after_section _ kept fails = stop plans.refused
 
 -- what is left to do

@@ -7,6 +7,8 @@ use osgi_base::BundleId;
 pub enum AfterStart {
     /// The plan ends. Whether something before the start was refused.
     End { refused: bool },
+    /// The plan ends as done, whether the start was refused or not.
+    Loaded,
     /// The next bundle of a refresh is started.
     Refresh,
     /// The next bundle of this level is started, on the way up.
@@ -49,6 +51,10 @@ pub enum At {
     Register,
     Find,
     Fail,
+    /// The object of a service.
+    Get,
+    /// The section that makes the object.
+    MakeSection,
     WishStart {
         transient: bool,
         after: AfterStart,
@@ -57,6 +63,16 @@ pub enum At {
         bundle: BundleId,
         transient: bool,
         after: AfterStart,
+    },
+    /// The wish to start a bundle, which may wait.
+    WishLazy,
+    /// The resolve before it is known whether the bundle waits.
+    ResolveLazy {
+        bundle: BundleId,
+    },
+    /// Whether the bundle waits.
+    Await {
+        bundle: BundleId,
     },
     BeginStart {
         bundle: BundleId,
@@ -83,6 +99,8 @@ pub enum At {
     LoadResolve {
         bundle: BundleId,
     },
+    /// The load of the class, after which a bundle that waited for it is started.
+    Load,
     /// The update, after which the bundle is started again or not.
     Update {
         bundle: BundleId,

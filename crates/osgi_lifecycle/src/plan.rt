@@ -1,7 +1,7 @@
 //! Plans, asked step by step.
 
 ghost use Rattle.std.specs.Prelude.{◌≡◌, IfOk};
-ghost use Rattle.osgi_session.specs.Plans.{plan};
+ghost use Rattle.osgi_session.specs.Plans.{done, plan, stop};
 ghost use Rattle.osgi_session.specs.Steps.{drained_first, first_step, fresh, resume};
 ghost use Rattle.osgi_lifecycle.specs.Draining.{drained_by};
 ghost use Rattle.osgi_lifecycle.specs.Following.{after_reply, left_of};
@@ -12,6 +12,7 @@ use crate::head::{End, Head};
 use crate::kept::Kept;
 use crate::last::Last;
 use crate::next::Next;
+use crate::opening::is_peek;
 use crate::rest::Rest;
 use crate::stirring::Stirring;
 use osgi_base::{BundleId, Text};
@@ -64,6 +65,9 @@ impl Plan {
     pub fn of(alloc: Global, command: Command, owner: BundleId) -> Result<Plan, AllocError>
         ensures fresh { IfOk result (λ made. pending_of made ≡ fresh (plan owner command)) }
     {
+        if is_peek(&command) {
+            return Ok(Plan::at_end(alloc));
+        }
         let at = At::first(&command, owner);
         let (op, later) = command.into_op(owner);
         let text = match later {
@@ -81,6 +85,23 @@ impl Plan {
             ready: Head::Ask { op },
             rest: Rest { at, kept },
         })
+    }
+
+    /// A plan that asks for nothing.
+    fn at_end(alloc: Global) -> Plan
+        ensures fresh { pending_of result ≡ fresh (stop done) }
+    {
+        let kept = Kept {
+            text: Text::empty(),
+            bundles: Vec::new(alloc),
+            place: 0,
+        };
+        Plan {
+            stage: Stage::Fresh,
+            stirring: Stirring::Never,
+            ready: Head::Stop { end: End::Done },
+            rest: Rest { at: At::Only, kept },
+        }
     }
 
     /// The next step, after the one before came out so: `Begin` stands for none, `Reply` answers an operation, `Drained` the

@@ -26,6 +26,10 @@ impl Rest {
             At::Fail => Head::Stop {
                 end: End::after_fail(&reply),
             },
+            At::Get => self.after_get(reply),
+            At::WishLazy => self.after_wish_lazy(&reply),
+            At::ResolveLazy { bundle } => self.after_resolve_lazy(bundle, &reply),
+            At::Await { bundle } => self.after_await(bundle, &reply),
             At::WishStart { transient, after } => self.after_wish(transient, after, &reply),
             At::Resolve {
                 bundle,
@@ -37,6 +41,7 @@ impl Rest {
             At::BeginStop { after } => self.after_begin_stop(after, &reply),
             At::EndStop { after } => self.after_stop(after, Stop::of(&reply)),
             At::LoadResolve { bundle } => self.load(bundle, &reply),
+            At::Load => self.after_load(&reply),
             At::Update { bundle, restart } => {
                 self.after_update(bundle, restart, reply.is_refusal())
             }
@@ -48,7 +53,9 @@ impl Rest {
             At::MoveDown { level, to } => self.after_move_down(level, to, &reply),
             At::SetLevel { bundle, level } => self.after_set_level(bundle, level, &reply),
             At::SetLevelAgain { bundle } => self.after_last_set(bundle, &reply),
-            At::StartSection { .. } | At::StopSection { .. } => Head::Stop { end: End::Refused },
+            At::StartSection { .. } | At::StopSection { .. } | At::MakeSection => {
+                Head::Stop { end: End::Refused }
+            }
         }
     }
 
@@ -67,6 +74,12 @@ impl Rest {
                 self.at = At::EndStop { after };
                 Head::Ask {
                     op: Op::EndStop { bundle, failed },
+                }
+            }
+            At::MakeSection => {
+                self.at = At::Only;
+                Head::Ask {
+                    op: Op::EndMake { failed },
                 }
             }
             _ => Head::Stop { end: End::Refused },

@@ -1,6 +1,6 @@
 //! Starts, and what comes after them.
 
-ghost use Rattle.std.specs.Prelude.{◌≡◌};
+ghost use Rattle.std.specs.Prelude.{◌≡◌, false};
 ghost use Rattle.osgi_session.specs.Plans as plans;
 ghost use Rattle.osgi_lifecycle.specs.Following.{after_start, left_of};
 
@@ -56,6 +56,50 @@ impl Rest {
         }
     }
 
+    /// What comes after the wish to start a bundle that may wait.
+    pub fn after_wish_lazy(&mut self, reply: &Reply) -> Head
+        ensures left { left_of result self.new ≡ plans.after_wish_lazy (after_start (AfterStart.End false) self.old.kept) reply.now }
+    {
+        let &Reply::Go { bundle } = reply else {
+            return self.after_start(AfterStart::End { refused: false }, reply.is_refusal());
+        };
+        self.at = At::ResolveLazy { bundle };
+        Head::Ask {
+            op: Op::Resolve { bundle },
+        }
+    }
+
+    pub fn after_resolve_lazy(&mut self, bundle: BundleId, reply: &Reply) -> Head
+        ensures left { left_of result self.new ≡ plans.after_resolve_lazy bundle (after_start (AfterStart.End false) self.old.kept) reply.now }
+    {
+        if let Reply::Refused { .. } = reply {
+            return self.after_start(AfterStart::End { refused: false }, true);
+        }
+        self.at = At::Await { bundle };
+        Head::Ask {
+            op: Op::Await { bundle },
+        }
+    }
+
+    /// Where the bundle does not wait, it is started.
+    pub fn after_await(&mut self, bundle: BundleId, reply: &Reply) -> Head
+        ensures left { left_of result self.new ≡ plans.after_await bundle (after_start (AfterStart.End false) self.old.kept) reply.now }
+    {
+        let after = AfterStart::End { refused: false };
+        match reply {
+            Reply::Eager { .. } => {
+                self.at = At::BeginStart { bundle, after };
+                Head::Ask {
+                    op: Op::BeginStart {
+                        bundle,
+                        transient: false,
+                    },
+                }
+            }
+            _ => self.after_start(after, reply.is_refusal()),
+        }
+    }
+
     pub fn after_begin_start(&mut self, bundle: BundleId, after: AfterStart, reply: &Reply) -> Head
         ensures left { left_of result self.new ≡ plans.after_begin_start bundle (after_start after self.old.kept) reply.now }
     {
@@ -80,6 +124,7 @@ impl Rest {
             AfterStart::End { refused: before } => Head::Stop {
                 end: End::of(before || refused),
             },
+            AfterStart::Loaded => Head::Stop { end: End::Done },
             AfterStart::Refresh => self.start_member(),
             AfterStart::Climb { level, to } => self.start_at_level(level, to),
         }

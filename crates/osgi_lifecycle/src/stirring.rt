@@ -1,7 +1,7 @@
 //! After which operations events are handed.
 
 ghost use Rattle.std.specs.Prelude.{◌≡◌};
-ghost use Rattle.osgi_lifecycle.specs.Draining.{drained_by, has_begun};
+ghost use Rattle.osgi_lifecycle.specs.Draining.{drained_by, has_begun, has_waited};
 ghost use Rattle.osgi_ops.specs.Replies.{is_effective};
 ghost use Rattle.osgi_session.specs.Plans.{stirs};
 
@@ -15,8 +15,11 @@ pub enum Stirring {
     Accepted,
     /// Where a start or a stop began.
     Begun,
+    /// Where a bundle began to wait.
+    Waiting,
     /// Where it was accepted, or refused because a section failed.
     Effective,
+    Always,
 }
 
 /// Whether a start or a stop began.
@@ -24,6 +27,13 @@ fn has_begun(reply: &Reply) -> bool
     ensures begun { result ≡ has_begun reply.now }
 {
     matches!(reply, Reply::Begun { .. })
+}
+
+/// Whether a bundle began to wait.
+fn has_waited(reply: &Reply) -> bool
+    ensures waited { result ≡ has_waited reply.now }
+{
+    matches!(reply, Reply::Waiting { .. })
 }
 
 /// Whether the operation did its work: it was accepted, or refused because a section failed.
@@ -53,6 +63,8 @@ impl Stirring {
             | Op::EndLevel => Stirring::Accepted,
             Op::BeginStart { .. } | Op::BeginStop { .. } => Stirring::Begun,
             Op::EndStart { .. } | Op::EndStop { .. } => Stirring::Effective,
+            Op::Await { .. } => Stirring::Waiting,
+            Op::EndMake { .. } => Stirring::Always,
             _ => Stirring::Never,
         }
     }
@@ -65,7 +77,9 @@ impl Stirring {
             Stirring::Never => false,
             Stirring::Accepted => !reply.is_refusal(),
             Stirring::Begun => has_begun(reply),
+            Stirring::Waiting => has_waited(reply),
             Stirring::Effective => is_effective(reply),
+            Stirring::Always => true,
         }
     }
 }

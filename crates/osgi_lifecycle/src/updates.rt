@@ -1,4 +1,4 @@
-//! Updates, uninstalls, loads, and the levels of bundles: what comes after their operations.
+//! Updates, uninstalls, loads, objects, and the levels of bundles: what comes after their operations.
 
 ghost use Rattle.std.specs.Prelude.{◌≡◌};
 ghost use Rattle.osgi_session.specs.Plans as plans;
@@ -8,7 +8,7 @@ use crate::at::{AfterStart, AfterStop, At, Stop};
 use crate::head::{End, Head};
 use crate::rest::Rest;
 use osgi_base::BundleId;
-use osgi_ops::{Op, Reply, Target};
+use osgi_ops::{Op, Reply, Section, Target};
 
 impl Rest {
     /// The update, where the stop before it was not refused.
@@ -56,15 +56,49 @@ impl Rest {
 
     /// The load, where the bundle could be resolved.
     pub fn load(&mut self, bundle: BundleId, reply: &Reply) -> Head
-        ensures left { left_of result self.new ≡ plans.unless_refused reply.now (plans.one (Op.Load bundle self.old.kept.text)) }
+        ensures left { left_of result self.new ≡ plans.unless_refused reply.now (plans.ask (Op.Load bundle self.old.kept.text) plans.after_load) }
     {
         if reply.is_refusal() {
             return Head::Stop { end: End::Refused };
         }
         let class = self.kept.take_text();
-        self.at = At::Only;
+        self.at = At::Load;
         Head::Ask {
             op: Op::Load { bundle, class },
+        }
+    }
+
+    /// A bundle that waited for the class is started.
+    pub fn after_load(&mut self, reply: &Reply) -> Head
+        ensures left { left_of result self.new ≡ plans.after_load reply.now }
+    {
+        match reply {
+            &Reply::LoadedMore {
+                by: _,
+                wire: _,
+                wake: Some(bundle),
+            } => self.start(Target::Id(bundle), true, AfterStart::Loaded),
+            _ => Head::Stop {
+                end: End::after_one(reply),
+            },
+        }
+    }
+
+    /// An object that is to be made is made by a section.
+    pub fn after_get(&mut self, reply: Reply) -> Head
+        ensures left { left_of result self.new ≡ plans.after_get reply }
+    {
+        let end = End::after_one(&reply);
+        match reply.into_make() {
+            Some((owner, row, name)) => {
+                self.at = At::MakeSection;
+                Head::Run {
+                    row,
+                    owner,
+                    section: Section::Make(name),
+                }
+            }
+            None => Head::Stop { end },
         }
     }
 

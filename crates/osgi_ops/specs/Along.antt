@@ -20,3 +20,8 @@ carry step state (item ∷ rest) = carry step (step state item) rest
 -- what the last item that sets it sets
 abbrev pub latest : {A B : Type 0} → (A → Option B) → List A → Option B
 latest sets list = last_or None (filter_map sets list)
+
+-- a state that is changed by each item, each with the items before it
+abbrev pub carried : {S A : Type 0} → (List A → S → A → S) → List A → S → List A → S
+carried step before state [] = state
+carried step before state (item ∷ rest) = carried step (before ++ item ∷ []) (step before state item) rest

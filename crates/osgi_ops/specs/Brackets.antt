@@ -1,14 +1,22 @@
--- The brackets of a history: the hands, starts, stops and jobs that are open.
-use Rattle.std.specs.Prelude.{◌≡◌, ℕ, ◌==◌, ◌&&◌, Bool, true, false, if◌then◌else◌, List, [], ◌∷◌, Option, None, Some, filter}
+-- The brackets of a history: the hands, starts, stops, jobs and makes that are open.
+use Rattle.std.specs.Prelude.{◌≡◌, ℕ, ◌==◌, ◌&&◌, Bool, true, false, if◌then◌else◌, List, [], ◌∷◌, Option, None, Some, filter, find, option_and_then}
 use Rattle.osgi_base.specs.declared.ids.BundleId.{BundleId}
 use Rattle.osgi_base.specs.declared.ids.ListenerId.{ListenerId}
+use Rattle.osgi_base.specs.declared.ids.ServiceId.{ServiceId}
 use Rattle.osgi_base.specs.declared.ids.Tag.{Tag}
 use Rattle.osgi_ops.specs.Along.{carry}
 use Rattle.osgi_ops.specs.declared.op.Op.{Op}
-use Rattle.osgi_ops.specs.declared.op.Op.TheVariants.{Hand, EndHand, TakeJob, EndJob, BeginStart, EndStart, BeginStop, EndStop}
+use Rattle.osgi_ops.specs.declared.op.Op.TheVariants.{Hand, EndHand, TakeJob, EndJob, BeginStart, EndStart, BeginStop, EndStop, Get, GetOwn, EndMake}
 use Rattle.osgi_ops.specs.declared.reply.Reply.{Reply}
-use Rattle.osgi_ops.specs.declared.reply.Reply.TheVariants.{Handed, Job, Begun}
+use Rattle.osgi_ops.specs.declared.reply.Reply.TheVariants.{Handed, Job, Begun, Make}
 use Rattle.osgi_ops.specs.declared.entry.Entry.{Entry}
+
+-- an object that is being made: for which user, of which service, whether the user asked for one of its own, and whose factory makes it
+pub record Making : Type 0 where
+  pub user : BundleId
+  pub service : ServiceId
+  pub own : Bool
+  pub owner : BundleId
 
 -- what a bracket is open for
 pub data Cause : Type 0 where
@@ -16,6 +24,7 @@ pub data Cause : Type 0 where
   starting : BundleId → Cause
   stopping : BundleId → Cause
   job : Cause
+  making : Making → Cause
 
 -- an open bracket, with the tag of the entry that opened it
 pub record Bracket : Type 0 where
@@ -31,6 +40,8 @@ opens Hand (Handed listener kind owner row name event) = Some (handing listener)
 opens TakeJob (Job owner row name) = Some job
 opens (BeginStart bundle transient) (Begun begun row) = Some (starting bundle)
 opens (BeginStop target transient) (Begun begun row) = Some (stopping begun)
+opens (Get user service) (Make owner row name) = Some (making (record { user = user; service = service; own = false; owner = owner }))
+opens (GetOwn user service) (Make owner row name) = Some (making (record { user = user; service = service; own = true; owner = owner }))
 opens _ _ = None
 
 -- the operation is an end
@@ -39,6 +50,7 @@ is_end (EndHand listener) = true
 is_end EndJob = true
 is_end (EndStart bundle failed) = true
 is_end (EndStop bundle failed) = true
+is_end (EndMake failed) = true
 is_end _ = false
 
 -- the operation is the end of what a bracket is open for
@@ -47,6 +59,7 @@ ends (EndHand listener) (handing held) = listener.0 == held.0
 ends EndJob job = true
 ends (EndStart bundle failed) (starting begun) = bundle.0 == begun.0
 ends (EndStop bundle failed) (stopping begun) = bundle.0 == begun.0
+ends (EndMake failed) (making m) = true
 ends _ _ = false
 
 -- the bracket is of the tag's own command, and the operation is its end
@@ -101,3 +114,17 @@ own_turned tag None false own = own
 -- the operation is the end of the innermost bracket of the tag's caller, which the tag's own command opened
 abbrev pub is_own_end : Tag → Op → List Entry → Bool
 is_own_end tag op history = closes tag op (brackets history)
+
+-- ---- makes
+
+-- what a bracket makes, where it makes an object
+abbrev pub making_in : Bracket → Option Making
+making_in b = elim b.cause [ making m ↦ Some m | _ ↦ None ]
+
+-- the innermost bracket of a caller
+abbrev pub innermost : ℕ → List Bracket → Option Bracket
+innermost caller opened = find (λ b. b.tag.caller == caller) opened
+
+-- what the innermost bracket of a caller makes
+abbrev pub made_by : ℕ → List Bracket → Option Making
+made_by caller opened = option_and_then making_in (innermost caller opened)

@@ -19,6 +19,7 @@ use Rattle.osgi_ops.specs.Properties.{property}
 use Rattle.osgi_ops.specs.Replies.{is_accepted, is_effective}
 use Rattle.osgi_ops.specs.Resolved.{current_revision, is_resolved}
 use Rattle.osgi_ops.specs.Services.{live, live_at, service_now}
+use Rattle.osgi_ops.specs.Waiting.{is_waiting}
 use Rattle.osgi_ops.specs.Moments.{Told, Seen, Sight, entries_in}
 use Rattle.osgi_ops.specs.declared.entry.Entry.{Entry}
 use Rattle.osgi_ops.specs.declared.event.Event.{Event}
@@ -135,6 +136,9 @@ happenings past before after e (op.EndStart b fails) answer.Done = of_bundle 2 b
 happenings past before after e (op.EndStart b fails) reply =
     if is_effective reply then of_bundle 256 before after b ∷ leaving (Some b) past ++ of_bundle 4 before after b ∷ [] else []
 happenings past before after e (op.BeginStop target transient) (answer.Begun b row) = of_bundle 256 before after b ∷ []
+happenings past before after e (op.BeginStop target transient) (answer.Idle b) =
+    if is_waiting b past then of_bundle 256 before after b ∷ of_bundle 4 before after b ∷ [] else []
+happenings past before after e (op.Await asked) (answer.Waiting b) = of_bundle 512 before after b ∷ []
 happenings past before after e (op.EndStop b fails) reply = if is_effective reply then leaving (Some b) past ++ of_bundle 4 before after b ∷ [] else []
 happenings past before after e (op.Update b location) reply = if is_accepted reply then unresolving before after b ++ of_bundle 8 before after b ∷ [] else []
 happenings past before after e (op.Uninstall b) reply = if is_accepted reply then unresolving before after b ++ of_bundle 16 before after b ∷ [] else []

@@ -5,16 +5,19 @@ use Rattle.std.specs.Option.{option_map_or}
 use Rattle.osgi_base.specs.declared.ids.BundleId.{BundleId}
 use Rattle.osgi_base.specs.declared.ids.ServiceId.{ServiceId}
 use Rattle.osgi_model.specs.declared.value.Attribute.{Attribute}
-use Rattle.osgi_ops.specs.Along.{carry, latest}
-use Rattle.osgi_ops.specs.Cleaning.{cleans}
+use Rattle.osgi_base.specs.declared.ids.Tag.{Tag}
+use Rattle.osgi_ops.specs.Along.{carried, carry, latest}
+use Rattle.osgi_ops.specs.Brackets.{Bracket, brackets, closes, made_by, Making}
+use Rattle.osgi_ops.specs.Cleaning.{cleaned_by, cleans}
 use Rattle.osgi_ops.specs.Properties.{with_framework}
 use Rattle.osgi_ops.specs.Replies.{is_accepted}
 use Rattle.osgi_ops.specs.declared.op.Op.{Op}
-use Rattle.osgi_ops.specs.declared.op.Op.TheVariants.{Register, Modify, Unregister, Get, Unget}
+use Rattle.osgi_ops.specs.declared.op.Op.TheVariants.{Register, Modify, Unregister, Get, GetOwn, EndMake, Unget}
 use Rattle.osgi_ops.specs.declared.reply.Reply.{Reply}
-use Rattle.osgi_ops.specs.declared.reply.Reply.TheVariants.{Object, Flag}
+use Rattle.osgi_ops.specs.declared.reply.Reply.TheVariants.{Held, Object, Flag}
 use Rattle.osgi_ops.specs.declared.entry.Entry.{Entry}
 use Rattle.osgi_ops.specs.declared.scope.Scope.{Scope}
+use Rattle.osgi_ops.specs.declared.scope.Scope.TheVariants.{Singleton, Prototype}
 use Rattle.osgi_ops.specs.declared.service.Service as declared
 
 -- a service as its Register tells it, with the properties that were given, and the entries since
@@ -92,9 +95,12 @@ services history = map service_now (live history)
 
 -- ---- uses
 
--- the operation is a Get of the service by the user that answered its object
+-- the operation is a Get of the service by the user, or a GetOwn, that answered an object which all share or which the user has
 abbrev pub is_get : BundleId → ServiceId → Op → Reply → Bool
 is_get user service (Get by got) (Object text) = (by.0 == user.0) && (got.0 == service.0)
+is_get user service (Get by got) (Held object text) = (by.0 == user.0) && (got.0 == service.0)
+is_get user service (GetOwn by got) (Object text) = (by.0 == user.0) && (got.0 == service.0)
+is_get user service (GetOwn by got) (Held object text) = (by.0 == user.0) && (got.0 == service.0)
 is_get user service _ _ = false
 
 -- it is an Unget of the service by the user that answered true
@@ -114,10 +120,61 @@ gets user r = count_by (λ e. is_get user r.service e.op e.reply) (since_cleanin
 abbrev pub ungets : BundleId → Registered → ℕ
 ungets user r = count_by (λ e. is_unget user r.service e.op e.reply) (since_cleaning user r.since)
 
--- how often the user holds it
+-- how often the user holds it, objects that were made for it not counted
 abbrev pub uses_held : BundleId → Registered → ℕ
 uses_held user r = gets user r - ungets user r
 
+-- ---- uses by the objects that were made
+
+-- an object of this scope is its user's own, where the user asked for such
+abbrev pub is_own : Bool → Scope → Bool
+is_own asked Prototype = asked
+is_own asked _ = false
+
+-- the scope of a service that was registered, live or not; what never was counts as one with one object for all
+abbrev pub scope_of : ServiceId → List Entry → Scope
+scope_of service history = option_map_or (λ r. r.scope) (find (is_service service) (registered history)) Singleton
+
+-- what is made is the user's own
+abbrev pub makes_own : List Entry → Making → Bool
+makes_own history m = is_own m.own (scope_of m.service history)
+
+-- what an operation made, by the open brackets, being the end of a make that answered an object
+abbrev pub made_of : Tag → List Bracket → Op → Reply → Option Making
+made_of tag opened (EndMake failed) (Held object text) = if closes tag (EndMake failed) opened then made_by tag.caller opened else None
+made_of tag opened _ _ = None
+
+-- what an entry made after these
+abbrev pub made : List Entry → Entry → Option Making
+made before e = made_of e.tag (brackets before) e.op e.reply
+
+-- a use of a service by a bundle
+pub record Use : Type 0 where
+  pub user : BundleId
+  pub service : ServiceId
+
+abbrev pub use_by : List Entry → Option Making → List Use
+use_by before None = []
+use_by before (Some m) = if makes_own before m then [] else record { user = m.user; service = m.service } ∷ []
+
+abbrev pub without_user : Option BundleId → List Use → List Use
+without_user None all = all
+without_user (Some user) all = filter (λ (u : Use). not (user.0 == u.user.0)) all
+
+abbrev pub with_use : List Entry → List Use → Entry → List Use
+with_use before all e = without_user (cleaned_by e.op e.reply) all ++ use_by before (made before e)
+
+-- the uses that began with the making of an object, since their user's last cleaning
+abbrev pub made_uses : List Entry → List Use
+made_uses history = carried with_use [] [] history
+
+abbrev pub is_use_of : BundleId → ServiceId → Use → Bool
+is_use_of user service u = (u.user.0 == user.0) && (u.service.0 == service.0)
+
+-- how often the user holds the service, where so many of its uses began with a make
+abbrev pub uses_with : ℕ → BundleId → Registered → ℕ
+uses_with from_makes user r = (gets user r + from_makes) - ungets user r
+
 -- how often the user holds the service; 0 where it is not live
 abbrev pub uses : BundleId → ServiceId → List Entry → ℕ
-uses user service history = option_map_or (uses_held user) (live_at service history) 0
+uses user service history = option_map_or (uses_with (count_by (is_use_of user service) (made_uses history)) user) (live_at service history) 0

@@ -1,10 +1,11 @@
 -- How operations change the world: the revisions that are known, and their wirings.
-use Rattle.std.specs.Prelude.{◌≡◌, ◌==◌, ◌+◌, ◌&&◌, ◌||◌, not, Bool, if◌then◌else◌, ℕ, List, [], ◌∷◌, ◌++◌, true, false, Some, filter, map, IsSomeAnd}
+use Rattle.std.specs.Prelude.{◌≡◌, ◌==◌, ◌+◌, ◌&&◌, ◌||◌, not, Bool, if◌then◌else◌, ℕ, List, [], ◌∷◌, ◌++◌, true, false, Option, Some, filter, map, IsSomeAnd}
 use Rattle.std.specs.List.{list_any}
 use Rattle.osgi_base.specs.declared.ids.BundleId.{BundleId}
 use Rattle.osgi_base.specs.declared.ids.RevisionId.{RevisionId}
 use Rattle.osgi_ops.specs.Bundles.{revisions}
 use Rattle.osgi_ops.specs.Depots.{stored_revision}
+use Rattle.osgi_ops.specs.Dynamic.{IsAddedAs, with_added}
 use Rattle.osgi_ops.specs.Levels.{refresh}
 use Rattle.osgi_ops.specs.Moments.{Moment}
 use Rattle.osgi_ops.specs.Resolved.{is_current_of, is_in_use, is_resolved}
@@ -15,6 +16,7 @@ use Rattle.osgi_ops.specs.declared.reply.Reply.{Reply}
 use Rattle.osgi_ops.specs.declared.reply.Reply.TheVariants as answer
 use Rattle.osgi_world.specs.Lookups.{bundle_of}
 use Rattle.osgi_world.specs.declared.revision.Revision.{Revision}
+use Rattle.osgi_world.specs.declared.wiring.Wire.{Wire}
 use Rattle.osgi_world.specs.declared.wiring.Wiring.{Wiring}
 use Rattle.osgi_world.specs.declared.world.Known.{Known}
 use Rattle.osgi_world.specs.declared.world.World.{World}
@@ -57,11 +59,13 @@ pub record Brings (now : Moment) (bundle : BundleId) (location : List ℕ) (befo
 
 -- the world that an operation with this reply leaves. An accepted Install of a bundle that was not known brings its revision; an accepted
 -- Resolve brings wirings, where the bundle was not resolved; an accepted Update or Uninstall makes the bundle's revision no longer
--- current, and an Update brings another; DropWirings takes the wirings of a refresh. Nothing else changes the world
+-- current, and an Update brings another; DropWirings takes the wirings of a refresh; a Load may add a wire. Nothing else changes the world
 abbrev pub Leaves : Moment → Op → Reply → World → Type 0
 Leaves now (op.Install location) (answer.Bundle bundle false) after = Brings now bundle location now.world after
 Leaves now (op.Resolve bundle) (answer.Resolved added) after = Resolves (is_resolved now.world bundle) now bundle added after
 Leaves now (op.Update bundle location) answer.Done after = Brings now bundle location (pended bundle now.world) after
 Leaves now (op.Uninstall bundle) answer.Done after = after ≡ pended bundle now.world
 Leaves now op.DropWirings (answer.Ids ids) after = IsSomeAnd (refresh now.before) (λ r. after ≡ dropped r.members now.world)
+Leaves now (op.Load bundle class) (answer.LoadedMore by row wake) after =
+    (wire : Option Wire) × IsAddedAs now.world bundle class row wire × (after ≡ with_added now.world bundle wire)
 Leaves now _ _ after = after ≡ now.world

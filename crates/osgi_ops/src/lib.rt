@@ -7,7 +7,9 @@ mod entry;
 mod event;
 mod kind;
 mod limits;
+mod object_id;
 mod op;
+mod peek;
 mod refusal;
 mod reply;
 mod rows;
@@ -26,7 +28,9 @@ pub use limits::{
     Limits, MAX_BRACKETS, MAX_BUDGET, MAX_BUNDLES, MAX_ENTRIES, MAX_HANDINGS, MAX_LISTENERS,
     MAX_LOCATIONS, MAX_SERVICES,
 };
+pub use object_id::ObjectId;
 pub use op::Op;
+pub use peek::Peek;
 pub use refusal::{Many, Refusal, Unmet};
 pub use reply::Reply;
 pub use rows::{BundleRow, WireRow};

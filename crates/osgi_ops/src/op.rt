@@ -3,6 +3,7 @@
 ghost use Rattle.std.specs.Prelude.{◌≡◌, IfOk};
 
 use crate::kind::Kind;
+use crate::object_id::ObjectId;
 use crate::scope::Scope;
 use crate::target::Target;
 use osgi_base::{BundleId, Copied, List, ListenerId, ServiceId, Text, copy_three, copy_two};
@@ -51,6 +52,26 @@ pub enum Op {
     Unget {
         user: BundleId,
         service: ServiceId,
+    },
+    /// Asks for an object of a service that is the user's own, where the service's scope gives such; else as `Get`.
+    GetOwn {
+        user: BundleId,
+        service: ServiceId,
+    },
+    /// Ends the making of an object, whose section failed or did not.
+    EndMake {
+        failed: bool,
+    },
+    /// Gives the text of the object that is being made.
+    Give {
+        owner: BundleId,
+        text: Text,
+    },
+    /// Gives an object of the user's own back.
+    UngetOwn {
+        user: BundleId,
+        service: ServiceId,
+        object: ObjectId,
     },
     /// Adds a listener, by the name of its section in the script of its bundle.
     AddListener {
@@ -107,6 +128,10 @@ pub enum Op {
     BeginStart {
         bundle: BundleId,
         transient: bool,
+    },
+    /// Asks whether a bundle is to be started now, or waits until a class of it is loaded.
+    Await {
+        bundle: BundleId,
     },
     /// Ends the start of a bundle, whose section failed or did not.
     EndStart {
@@ -213,6 +238,17 @@ impl Drop for Op {
                 user: _,
                 service: _,
             } => {}
+            Op::GetOwn {
+                user: _,
+                service: _,
+            } => {}
+            Op::EndMake { failed: _ } => {}
+            Op::Give { owner: _, text: _ } => {}
+            Op::UngetOwn {
+                user: _,
+                service: _,
+                object: _,
+            } => {}
             Op::AddListener {
                 owner: _,
                 name: _,
@@ -237,6 +273,7 @@ impl Drop for Op {
                 bundle: _,
                 transient: _,
             } => {}
+            Op::Await { bundle: _ } => {}
             Op::EndStart {
                 bundle: _,
                 failed: _,
@@ -391,6 +428,21 @@ impl Op {
             } => find_all(alloc, *asker, class, filter),
             &Op::Get { user, service } => Ok(Op::Get { user, service }),
             &Op::Unget { user, service } => Ok(Op::Unget { user, service }),
+            &Op::GetOwn { user, service } => Ok(Op::GetOwn { user, service }),
+            &Op::EndMake { failed } => Ok(Op::EndMake { failed }),
+            Op::Give { owner, text } => Ok(Op::Give {
+                owner: *owner,
+                text: text.copy(alloc)?,
+            }),
+            &Op::UngetOwn {
+                user,
+                service,
+                object,
+            } => Ok(Op::UngetOwn {
+                user,
+                service,
+                object,
+            }),
             Op::AddListener {
                 owner,
                 name,
@@ -426,6 +478,7 @@ impl Op {
                 transient: *transient,
             }),
             &Op::BeginStart { bundle, transient } => Ok(Op::BeginStart { bundle, transient }),
+            &Op::Await { bundle } => Ok(Op::Await { bundle }),
             &Op::EndStart { bundle, failed } => Ok(Op::EndStart { bundle, failed }),
             Op::BeginStop { target, transient } => Ok(Op::BeginStop {
                 target: target.copy(alloc)?,

@@ -4,10 +4,13 @@ ghost use Rattle.std.specs.Prelude.{◌≡◌, IfOk};
 
 use crate::event::{Busy, Event};
 use crate::kind::Kind;
+use crate::object_id::ObjectId;
 use crate::refusal::Refusal;
 use crate::rows::{BundleRow, WireRow};
 use crate::service::ServiceRow;
-use osgi_base::{BundleId, Copied, List, ListenerId, RevisionId, ServiceId, Text, copy_two};
+use osgi_base::{
+    BundleId, Copied, List, ListenerId, RevisionId, ServiceId, Text, copy_option, copy_two,
+};
 use std::alloc::{AllocError, Global};
 
 pub enum Reply {
@@ -28,6 +31,17 @@ pub enum Reply {
     /// The service's object.
     Object {
         text: Text,
+    },
+    /// The object of a service that a factory made for the user.
+    Held {
+        object: ObjectId,
+        text: Text,
+    },
+    /// The object is to be made: by the section of the name in the script of the owner's depot row.
+    Make {
+        owner: BundleId,
+        row: u32,
+        name: Text,
     },
     /// Whether there was something to take back.
     Flag {
@@ -87,6 +101,14 @@ pub enum Reply {
         bundle: BundleId,
         row: u32,
     },
+    /// The bundle waits, and is started when a class of it is loaded that its policy names.
+    Waiting {
+        bundle: BundleId,
+    },
+    /// The bundle does not wait to be started.
+    Eager {
+        bundle: BundleId,
+    },
     /// The bundle was installed or resolved, so there was nothing to stop.
     Idle {
         bundle: BundleId,
@@ -121,6 +143,12 @@ pub enum Reply {
     Loaded {
         by: Option<RevisionId>,
     },
+    /// The same, where the load added a wire, which is shown, or a bundle is to be started that waited for the class.
+    LoadedMore {
+        by: Option<RevisionId>,
+        wire: Option<WireRow>,
+        wake: Option<BundleId>,
+    },
     /// All live bundles, by rising id.
     Bundles {
         rows: List<BundleRow>,
@@ -150,6 +178,12 @@ impl Drop for Reply {
             Reply::Best { service: _ } => {}
             Reply::Services { services: _ } => {}
             Reply::Object { text: _ } => {}
+            Reply::Held { object: _, text: _ } => {}
+            Reply::Make {
+                owner: _,
+                row: _,
+                name: _,
+            } => {}
             Reply::Flag { value: _ } => {}
             Reply::Listener { listener: _ } => {}
             Reply::Handed {
@@ -176,6 +210,8 @@ impl Drop for Reply {
             Reply::Active { bundle: _ } => {}
             Reply::Kept { bundle: _ } => {}
             Reply::Begun { bundle: _, row: _ } => {}
+            Reply::Waiting { bundle: _ } => {}
+            Reply::Eager { bundle: _ } => {}
             Reply::Idle { bundle: _ } => {}
             Reply::Closure { all: _, active: _ } => {}
             Reply::Ids { ids: _ } => {}
@@ -184,6 +220,11 @@ impl Drop for Reply {
             Reply::Leveled { value: _ } => {}
             Reply::Up { bundle: _ } => {}
             Reply::Loaded { by: _ } => {}
+            Reply::LoadedMore {
+                by: _,
+                wire: _,
+                wake: _,
+            } => {}
             Reply::Bundles { rows: _ } => {}
             Reply::ServiceRows { rows: _ } => {}
             Reply::Wires {
@@ -219,7 +260,7 @@ fn wires(
 
 impl Reply {
     ghost use Rattle.std.specs.Prelude.{◌≡◌, IfOk};
-    ghost use Rattle.osgi_ops.specs.Replies.{active_in, ids_in, is_refusal, started_in};
+    ghost use Rattle.osgi_ops.specs.Replies.{active_in, ids_in, is_refusal, made_in, started_in};
 
     pub fn is_refusal(&self) -> bool
         ensures refused { result ≡ is_refusal self.now }
@@ -257,6 +298,17 @@ impl Reply {
         }
     }
 
+    /// The bundle whose script makes the object that is to be made, the depot row of that script and the name of the section; None
+    /// for other replies.
+    pub fn into_make(self) -> Option<(BundleId, u32, Text)>
+        ensures made { result ≡ made_in self }
+    {
+        match self {
+            Reply::Make { owner, row, name } => Some((owner, row, name)),
+            _ => None,
+        }
+    }
+
     pub fn copy(&self, alloc: Global) -> Result<Reply, AllocError>
         ensures same { IfOk result (λ copy. copy ≡ self.now) }
     {
@@ -269,6 +321,15 @@ impl Reply {
             }),
             Reply::Object { text } => Ok(Reply::Object {
                 text: text.copy(alloc)?,
+            }),
+            Reply::Held { object, text } => Ok(Reply::Held {
+                object: *object,
+                text: text.copy(alloc)?,
+            }),
+            Reply::Make { owner, row, name } => Ok(Reply::Make {
+                owner: *owner,
+                row: *row,
+                name: name.copy(alloc)?,
             }),
             &Reply::Flag { value } => Ok(Reply::Flag { value }),
             &Reply::Listener { listener } => Ok(Reply::Listener { listener }),
@@ -304,6 +365,8 @@ impl Reply {
             &Reply::Active { bundle } => Ok(Reply::Active { bundle }),
             &Reply::Kept { bundle } => Ok(Reply::Kept { bundle }),
             &Reply::Begun { bundle, row } => Ok(Reply::Begun { bundle, row }),
+            &Reply::Waiting { bundle } => Ok(Reply::Waiting { bundle }),
+            &Reply::Eager { bundle } => Ok(Reply::Eager { bundle }),
             &Reply::Idle { bundle } => Ok(Reply::Idle { bundle }),
             Reply::Closure { all, active } => closure(alloc, all, active),
             Reply::Ids { ids } => Ok(Reply::Ids {
@@ -316,6 +379,11 @@ impl Reply {
             &Reply::Leveled { value } => Ok(Reply::Leveled { value }),
             &Reply::Up { bundle } => Ok(Reply::Up { bundle }),
             &Reply::Loaded { by } => Ok(Reply::Loaded { by }),
+            Reply::LoadedMore { by, wire, wake } => Ok(Reply::LoadedMore {
+                by: *by,
+                wire: copy_option(wire, alloc)?,
+                wake: *wake,
+            }),
             Reply::Bundles { rows } => Ok(Reply::Bundles {
                 rows: rows.copy(alloc)?,
             }),

@@ -5,16 +5,16 @@ use Rattle.std.specs.declared.result.Result.TheVariants.{Ok, Err}
 use Rattle.std.proofs.lemmas.Bool.{cases_lt, eq-eqb}
 use Rattle.osgi_base.specs.declared.ids.Tag.{Tag}
 use Rattle.osgi_core.specs.Machine.{AreSightsOf, Machine, moment_of}
-use Rattle.osgi_ops.specs.Legal.{IsReplayed, IsStep, Legal}
+use Rattle.osgi_legal.specs.Legal.{IsReplayed, IsStep, Legal}
 use Rattle.osgi_ops.specs.Moments.{Moment, Seen, sights_in}
-use Rattle.osgi_ops.specs.Operations.{IsReply}
+use Rattle.osgi_legal.specs.Operations.{IsReply}
 use Rattle.osgi_ops.specs.Settings.{Setting}
 use Rattle.osgi_ops.specs.declared.entry.Entry.{Entry}
 use Rattle.osgi_ops.specs.declared.op.Op.{Op}
 use Rattle.osgi_ops.specs.declared.refusal.Refusal.TheVariants.{HandingsSpent, HistoryFull}
 use Rattle.osgi_ops.specs.declared.reply.Reply.{Reply}
 use Rattle.osgi_ops.specs.declared.reply.Reply.TheVariants.{Refused}
-use Rattle.osgi_ops.specs.laws.Refusals.{full_step, Legal-within, spent_hand}
+use Rattle.osgi_legal.specs.laws.Refusals.{full_step, Legal-within, spent_hand}
 use Rattle.osgi_runner.specs.Calls.{IsAnswered, IsCalled, says_full, says_spent}
 use Rattle.osgi_world.specs.declared.world.World.{World}
 

@@ -6,7 +6,7 @@ use Rattle.std.proofs.lemmas.Bool.{cond-false, cond-true}
 use Rattle.std.proofs.lemmas.List.Elements.{All-cons, All-nil}
 use Rattle.std.specs.Str.Lines.{lines}
 use Rattle.osgi_console.specs.Console.{AreReadFrom}
-use Rattle.osgi_ops.specs.Legal.{AreAllowed, Legal}
+use Rattle.osgi_legal.specs.Legal.{AreAllowed, Legal}
 use Rattle.osgi_ops.specs.Moments.{entries_in, Told}
 use Rattle.osgi_ops.specs.Settings.{Bounds, Setting}
 use Rattle.osgi_ops.specs.declared.entry.Entry.{Entry}

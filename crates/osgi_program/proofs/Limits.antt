@@ -6,10 +6,10 @@ use Rattle.std.proofs.lemmas.Bool.{or_left, or_right}
 use Rattle.std.proofs.lemmas.List.Elements.{filter-append}
 use Rattle.osgi_legal.proofs.Handings as legal
 use Rattle.osgi_legal.proofs.Legal.{split-map}
-use Rattle.osgi_ops.specs.Legal.{AreAllowed, IsAllowed, Legal}
+use Rattle.osgi_legal.specs.Legal.{AreAllowed, IsAllowed, Legal}
 use Rattle.osgi_ops.specs.Listening.{handings, is_handed}
 use Rattle.osgi_ops.specs.Moments.{entries_in, Moment, moment, Told}
-use Rattle.osgi_ops.specs.Operations.{IsReply, IsRow}
+use Rattle.osgi_legal.specs.Operations.{IsReply, IsRow}
 use Rattle.osgi_ops.specs.Settings.{Setting}
 use Rattle.osgi_ops.specs.declared.entry.Entry.{Entry}
 use Rattle.osgi_ops.specs.declared.op.Op.{Op}
@@ -18,7 +18,7 @@ use Rattle.osgi_ops.specs.declared.refusal.Refusal.TheVariants.{HandingsSpent, T
 use Rattle.osgi_ops.specs.declared.reply.Reply.{Reply}
 use Rattle.osgi_ops.specs.declared.reply.Reply.TheVariants.{Handed, Refused}
 use Rattle.osgi_ops.specs.laws.Along.{AllAlong-split}
-use Rattle.osgi_ops.specs.laws.Stages.{hand-here, here-row}
+use Rattle.osgi_legal.specs.laws.Stages.{hand-here, here-row}
 use Rattle.osgi_program.specs.Outcome.{is_handing, is_spent}
 use Rattle.osgi_program.specs.computed.Ended.{hands}
 use Rattle.osgi_program.specs.computed.Running.{IsSpentOrFull}

@@ -1,8 +1,8 @@
 -- What a run of the program has done, by the status that it ends with.
-use Rattle.std.specs.Prelude.{ℕ, ◌≡◌, ◌≤◌, ◌⊎◌, ◌||◌, if◌then◌else◌, Bool, true, false, List, Option, IfSome, length, take, All}
+use Rattle.std.specs.Prelude.{ℕ, ◌≡◌, ◌≤◌, ◌⊎◌, ◌||◌, if◌then◌else◌, Bool, true, false, List, [], Option, IfSome, length, take, All}
 use Rattle.std.specs.List.{count_by, list_any}
 use Rattle.std.specs.Io.KnownBytes.{Appends}
-use Rattle.osgi_ops.specs.Legal.{Legal}
+use Rattle.osgi_legal.specs.Legal.{Legal}
 use Rattle.osgi_session.specs.Rendering.{is_full, render, IsFullWhereCut}
 use Rattle.osgi_ops.specs.Replies.{is_refusal}
 use Rattle.osgi_session.specs.Scripts.{sections_of}
@@ -78,8 +78,9 @@ status_of session =
     if list_any (is_full session.entries) session.lines then CUT
     else (if is_troubled session.lines session.entries then TROUBLED else DONE)
 
+-- no line peeks
 abbrev pub text_of : Session → List ℕ
-text_of session = render session.lines session.entries
+text_of session = render session.lines session.entries []
 
 -- the session's whole text was written and flushed
 pub record IsWritten (before after flushed : Option (List ℕ)) (session : Session) : Type 0 where

@@ -10,7 +10,7 @@ use Rattle.osgi_tables.specs.Replied.{IsAnsweredToAll}
 use Rattle.osgi_tables.specs.declared.tables.Tables.{Tables}
 
 quiet_taken : QuietServices op.TakeJob answer.NoJob
-quiet_taken = record { registered = λ n since. refl; taken = λ s owner. refl; given = λ s. refl; got = λ u s. refl; let_go = λ u s. refl; cleaned = refl }
+quiet_taken = record { registered = λ n since. refl; taken = λ s owner. refl; given = λ s. refl; got = λ u s. refl; let_go = λ u s. refl; cleaned = refl; made = λ tag opened. refl }
 
 pub replied_no_job : (tables : Tables) → IsAnsweredToAll op.TakeJob tables answer.NoJob
 replied_no_job tables who =

@@ -1,14 +1,14 @@
 -- What is decided of each operation is decided for who asks.
 use Rattle.std.proofs.Common.{◌≡◌, ap, map, sym, subst, ◌∙◌, refl}
 use Rattle.std.specs.Prelude.{true, false, List, [], ◌∷◌, None, Option, option_to_list, Some}
-use Rattle.osgi_legal.proofs.Stage.{job-end-due, late-due}
+use Rattle.osgi_legal.proofs.Stage.{job-end-due, late-due, make-end-due}
 use Rattle.osgi_ops.specs.Cleaning.{cleaned_by}
-use Rattle.osgi_ops.specs.Legal.{entry_of, IsTold}
+use Rattle.osgi_legal.specs.Legal.{entry_of, IsTold}
 use Rattle.osgi_ops.specs.Listening as happening
 use Rattle.osgi_ops.specs.Listening.{happenings, modifications}
 use Rattle.osgi_ops.specs.Moments.{Moment}
-use Rattle.osgi_ops.specs.Operations.{IsReply}
-use Rattle.osgi_ops.specs.Stages.{is_here}
+use Rattle.osgi_legal.specs.Operations.{IsReply}
+use Rattle.osgi_legal.specs.Stages.{is_here}
 use Rattle.osgi_ops.specs.declared.asked.Asked.{Asked}
 use Rattle.osgi_ops.specs.declared.entry.Entry.{Entry}
 use Rattle.osgi_ops.specs.declared.op.Op.{Op}
@@ -89,9 +89,10 @@ pub decided_unasked : (asked : Asked) (tables : Tables) (refusal : Refusal) → 
 decided_unasked asked tables refusal is =
     decided_refused asked tables refusal (plain_refusal tables.bundles (asker_here asked.op) refusal is) (λ now told stood. unasked now tables.bundles asked.op refusal told.told stood.bundles is)
 
--- an operation that is not decided has not come, or is the end of a job, of which none is open
+-- an operation that is not decided has not come, or is the end of a job or of a make, of which none is open
 undecided_due : (now : Moment) → IsTold now → (o : Op) → is_decided o ≡ false → IsReply now o (answer.Refused InvalidOperation)
 undecided_due now told op.EndJob undecided = job-end-due now told
+undecided_due now told (op.EndMake failed) undecided = make-end-due now told failed
 undecided_due now told o undecided = late-due now o undecided
 
 pub decided_not_yet : (asked : Asked) (tables : Tables) → is_decided asked.op ≡ false → IsReplyAndChange asked tables (answer.Refused InvalidOperation) change.Nothing

@@ -5,12 +5,12 @@ use Rattle.osgi_base.specs.Verdict.{Gives}
 use Rattle.osgi_base.specs.declared.ids.BundleId.{BundleId}
 use Rattle.osgi_legal.specs.Quiet.{IsQuiet}
 use Rattle.osgi_legal.proofs.Quiet.{asking-quiet}
-use Rattle.osgi_ops.specs.Legal.{entry_of}
+use Rattle.osgi_legal.specs.Legal.{entry_of}
 use Rattle.osgi_ops.specs.Listening.{happenings}
 use Rattle.osgi_ops.specs.Moments.{Moment}
-use Rattle.osgi_ops.specs.Operations.{Answers, own_conditions}
+use Rattle.osgi_legal.specs.Operations.{Answers, own_conditions}
 use Rattle.osgi_ops.specs.Replies.{verdict}
-use Rattle.osgi_ops.specs.Stages.{is_here}
+use Rattle.osgi_legal.specs.Stages.{is_here}
 use Rattle.osgi_ops.specs.declared.entry.Entry.{Entry}
 use Rattle.osgi_ops.specs.declared.op.Op.{Op}
 use Rattle.osgi_ops.specs.declared.op.Op.TheVariants as op

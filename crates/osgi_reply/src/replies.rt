@@ -23,7 +23,7 @@ use osgi_reply_services::{ServiceChange, services};
 use osgi_tables::{Change, Tables, asker_refusal};
 use std::alloc::{AllocError, Global};
 
-/// The refusal of an operation that the framework does not have yet, or of the end of a job, which nothing begins yet.
+/// The refusal of an operation that the framework does not have yet, or of the end of a job or of a make, which nothing begins yet.
 fn not_yet(tables: &Tables, asked: &Asked) -> (Reply, Change)
     requires unknown { is_decided asked.now.op ≡ false }
     ensures decided { IsReplyAndChange asked.now tables.now result.0 result.1 }

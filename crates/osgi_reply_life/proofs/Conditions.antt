@@ -8,7 +8,7 @@ use Rattle.osgi_bundle.specs.declared.kept.BundleKept.{BundleKept}
 use Rattle.osgi_legal.proofs.Targets.{target-once}
 use Rattle.osgi_ops.specs.Bundles.{is_changing}
 use Rattle.osgi_ops.specs.Conditions.{at_target, IsDeep, IsTarget, state_change, state_of}
-use Rattle.osgi_ops.specs.Legal.{IsAskedAt}
+use Rattle.osgi_legal.specs.Legal.{IsAskedAt}
 use Rattle.osgi_ops.specs.Moments.{Moment}
 use Rattle.osgi_ops.specs.Replies.{is_effective}
 use Rattle.osgi_ops.specs.declared.asked.Asked.{Asked}

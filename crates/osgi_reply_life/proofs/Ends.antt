@@ -16,17 +16,17 @@ use Rattle.osgi_ops.specs.Bundles as phases
 use Rattle.osgi_ops.specs.Bundles.{is_up, last_begin, number_of, Starting, State, Stopping}
 use Rattle.osgi_ops.specs.Cleaning.{cleaned_by}
 use Rattle.osgi_ops.specs.Conditions.{state_of}
-use Rattle.osgi_ops.specs.Legal.{entry_of, IsAskedAt, IsTold}
+use Rattle.osgi_legal.specs.Legal.{entry_of, IsAskedAt, IsTold}
 use Rattle.osgi_ops.specs.Listening.{happenings}
 use Rattle.osgi_ops.specs.Moments.{Moment}
-use Rattle.osgi_ops.specs.Operations.{IsReply}
+use Rattle.osgi_legal.specs.Operations.{IsReply}
 use Rattle.osgi_ops.specs.declared.asked.Asked.{Asked}
 use Rattle.osgi_ops.specs.declared.op.Op.TheVariants as op
 use Rattle.osgi_ops.specs.declared.refusal.Refusal.TheVariants as no
 use Rattle.osgi_ops.specs.declared.reply.Reply.{Reply}
 use Rattle.osgi_ops.specs.declared.reply.Reply.TheVariants as answer
 use Rattle.osgi_ops.specs.declared.state.TheConstants.{STARTING, STOPPING}
-use Rattle.osgi_ops.specs.laws.Stages.{row-here}
+use Rattle.osgi_legal.specs.laws.Stages.{row-here}
 use Rattle.osgi_sights.specs.Shown.{AreShown}
 use Rattle.osgi_tables.proofs.Living.{IsEndOf, own_end_at, replied_ended}
 use Rattle.osgi_tables.proofs.Replying.{decided_refused}
@@ -144,7 +144,7 @@ is_end_start b true = record {
 is_end_start b false = record {
   puts = λ c. refl;
   bundles = start_bundles b false (reply_of false);
-  cleans = record { registered = λ n since. refl; taken = λ s owner. refl; given = λ s. refl; got = λ u s. refl; let_go = λ u s. refl; cleaned = refl };
+  cleans = record { registered = λ n since. refl; taken = λ s owner. refl; given = λ s. refl; got = λ u s. refl; let_go = λ u s. refl; cleaned = refl; made = λ tag opened. refl };
   hears = refl;
   hands = record { handed = λ l. refl; counted = refl };
   no_turn = λ l. refl;

@@ -13,7 +13,7 @@ use Rattle.osgi_legal.proofs.Rows.{fragment-at}
 use Rattle.osgi_ops.specs.Bundles as phases
 use Rattle.osgi_ops.specs.Bundles.{Active, is_active, is_changing, is_live, last_begin, number_of, Phase, phase, Resolved, row_of, running, Starting, State, Stopping, Uninstalled, Unresolved}
 use Rattle.osgi_ops.specs.Conditions.{state_of}
-use Rattle.osgi_ops.specs.Legal.{IsTold}
+use Rattle.osgi_legal.specs.Legal.{IsTold}
 use Rattle.osgi_ops.specs.Moments.{Moment}
 use Rattle.osgi_ops.specs.Resolved.{is_fragment_bundle, is_resolved}
 use Rattle.osgi_ops.specs.States.{is_changing as is_changing_number}

@@ -17,9 +17,9 @@ use Rattle.osgi_legal.proofs.Targets.{no-target}
 use Rattle.osgi_ops.specs.Brackets.{starting as start_of}
 use Rattle.osgi_ops.specs.Bundles.{Active, is_active, is_changing, is_live, Resolved, row_of, starting, Unresolved}
 use Rattle.osgi_ops.specs.Conditions.{at_target, invalid_where, is_above, is_kept, IsDeep, IsTarget, no_such_bundle, state_change, state_of}
-use Rattle.osgi_ops.specs.Legal.{IsTold}
+use Rattle.osgi_legal.specs.Legal.{IsTold}
 use Rattle.osgi_ops.specs.Moments.{Moment}
-use Rattle.osgi_ops.specs.Operations.{IsReply}
+use Rattle.osgi_legal.specs.Operations.{IsReply}
 use Rattle.osgi_ops.specs.Replies.{is_effective, verdict}
 use Rattle.osgi_ops.specs.States.{is_changing as is_changing_number}
 use Rattle.osgi_ops.specs.Resolved.{is_fragment_bundle}
@@ -32,7 +32,7 @@ use Rattle.osgi_ops.specs.declared.reply.Reply.{Reply}
 use Rattle.osgi_ops.specs.declared.reply.Reply.TheVariants as answer
 use Rattle.osgi_ops.specs.declared.state.TheConstants.{ACTIVE, RESOLVED}
 use Rattle.osgi_ops.specs.declared.target.Target.{Target}
-use Rattle.osgi_ops.specs.laws.Stages.{row-here}
+use Rattle.osgi_legal.specs.laws.Stages.{row-here}
 use Rattle.osgi_ops.specs.rows.Life.{BeginStartAnswers, start_transient, WishStartAnswers}
 use Rattle.osgi_tables.proofs.Living.{IsBeginOf, replied_begun}
 use Rattle.osgi_tables.proofs.Replying.{decided_refused, decided_same, of_services, replied_refused}
@@ -159,8 +159,8 @@ wish tag target transient = record { tag = tag; op = op.WishStart target transie
 idle_wish : (target : Target) (transient : Bool) (reply : Reply) → IsIdle (op.WishStart target transient) reply
 idle_wish target transient reply = record {
   others = of_services (op.WishStart target transient) reply (λ n since. refl) (λ b. refl) (λ b. refl) refl (λ b. refl) refl refl refl (λ l. refl) refl (λ now world same. same);
-  services = record { registered = λ n since. refl; taken = λ s owner. refl; given = λ s. refl; got = λ u s. refl; let_go = λ u s. refl; cleaned = refl };
-  none = λ past before after e. refl;
+  services = record { registered = λ n since. refl; taken = λ s owner. refl; given = λ s. refl; got = λ u s. refl; let_go = λ u s. refl; cleaned = refl; made = λ tag opened. refl };
+  none = λ now told after e. refl;
 }
 
 pub replied_wish_missing : (tables : Tables) (target : Target) (transient : Bool) → ((b : BundleId) → ¬ IsTargetRow target tables.bundles.rows b) → IsAnsweredToAll (op.WishStart target transient) tables (answer.Refused no.NoSuchBundle)
@@ -205,13 +205,13 @@ begin tag b transient = record { tag = tag; op = op.BeginStart b transient }
 
 -- a begin says nothing of services
 begin_services : (b : BundleId) (transient : Bool) (reply : Reply) → QuietServices (op.BeginStart b transient) reply
-begin_services b transient reply = record { registered = λ n since. refl; taken = λ s owner. refl; given = λ s. refl; got = λ u s. refl; let_go = λ u s. refl; cleaned = refl }
+begin_services b transient reply = record { registered = λ n since. refl; taken = λ s owner. refl; given = λ s. refl; got = λ u s. refl; let_go = λ u s. refl; cleaned = refl; made = λ tag opened. refl }
 
 idle_begin : (b : BundleId) (transient : Bool) → IsIdle (op.BeginStart b transient) (answer.Active b)
 idle_begin b transient = record {
   others = of_services (op.BeginStart b transient) (answer.Active b) (λ n since. refl) (λ c. refl) (λ c. refl) refl (λ c. refl) refl refl refl (λ l. refl) refl (λ now world same. same);
   services = begin_services b transient (answer.Active b);
-  none = λ past before after e. refl;
+  none = λ now told after e. refl;
 }
 
 begins_start : (b : BundleId) (transient : Bool) (row : ℕ) → IsBeginOf starting (start_of b) b (op.BeginStart b transient) (answer.Begun b row)

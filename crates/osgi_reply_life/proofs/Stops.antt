@@ -1,6 +1,7 @@
 -- What the begin of a stop is answered.
 use Rattle.std.proofs.Common.{◌≡◌, ◌≢◌, ℕ, ◌≤◌, inl, inr, ap, sym, subst, ◌∙◌, refl}
 use Rattle.std.specs.Prelude.{Bool, true, false, cond, [], ◌∷◌, Contains, Some, IsSomeAnd, length}
+use Rattle.std.proofs.lemmas.Bool.{cond-false}
 use Rattle.osgi_base.specs.Verdict.{Gives, Where}
 use Rattle.osgi_base.specs.declared.ids.BundleId.{BundleId}
 use Rattle.osgi_base.specs.declared.ids.Tag.{Tag}
@@ -12,14 +13,15 @@ use Rattle.osgi_bundle.specs.laws.OneBundle.{rows_of_target, target_of_rows}
 use Rattle.osgi_legal.specs.Quiet.{QuietServices}
 use Rattle.osgi_legal.proofs.Current.{up-resolved}
 use Rattle.osgi_legal.proofs.Facts.{row-at}
-use Rattle.osgi_legal.proofs.Stage.{never-refreshing}
+use Rattle.osgi_legal.proofs.Stage.{never-refreshing, never-waits}
 use Rattle.osgi_legal.proofs.Targets.{no-target}
 use Rattle.osgi_ops.specs.Brackets.{stopping as stop_of}
 use Rattle.osgi_ops.specs.Bundles.{Active, is_active, is_changing, is_up, row_of, stopping, system}
 use Rattle.osgi_ops.specs.Conditions.{at_target, IsDeep, is_system, IsTarget, refreshing_where, state_change, state_of}
-use Rattle.osgi_ops.specs.Legal.{IsTold}
+use Rattle.osgi_legal.specs.Legal.{IsTold}
 use Rattle.osgi_ops.specs.Moments.{Moment}
-use Rattle.osgi_ops.specs.Operations.{IsReply}
+use Rattle.osgi_legal.specs.Operations.{IsReply}
+use Rattle.osgi_ops.specs.Waiting.{is_waiting}
 use Rattle.osgi_ops.specs.Replies.{is_effective, verdict}
 use Rattle.osgi_ops.specs.States.{is_changing as is_changing_number}
 use Rattle.osgi_ops.specs.declared.asked.Asked.{Asked}
@@ -31,7 +33,7 @@ use Rattle.osgi_ops.specs.declared.reply.Reply.{Reply}
 use Rattle.osgi_ops.specs.declared.reply.Reply.TheVariants as answer
 use Rattle.osgi_ops.specs.declared.state.TheConstants.{ACTIVE}
 use Rattle.osgi_ops.specs.declared.target.Target.{Target}
-use Rattle.osgi_ops.specs.laws.Stages.{row-here}
+use Rattle.osgi_legal.specs.laws.Stages.{row-here}
 use Rattle.osgi_ops.specs.rows.Life.{BeginStopAnswers}
 use Rattle.osgi_tables.proofs.Living.{IsBeginOf, replied_begun}
 use Rattle.osgi_tables.proofs.Replying.{decided_refused, decided_same, of_services}
@@ -105,13 +107,13 @@ begin_stop tag target transient = record { tag = tag; op = op.BeginStop target t
 
 -- a begin says nothing of services
 begin_services : (target : Target) (transient : Bool) (reply : Reply) → QuietServices (op.BeginStop target transient) reply
-begin_services target transient reply = record { registered = λ n since. refl; taken = λ s owner. refl; given = λ s. refl; got = λ u s. refl; let_go = λ u s. refl; cleaned = refl }
+begin_services target transient reply = record { registered = λ n since. refl; taken = λ s owner. refl; given = λ s. refl; got = λ u s. refl; let_go = λ u s. refl; cleaned = refl; made = λ tag opened. refl }
 
 idle_stop : (target : Target) (transient : Bool) (b : BundleId) → IsIdle (op.BeginStop target transient) (answer.Idle b)
 idle_stop target transient b = record {
   others = of_services (op.BeginStop target transient) (answer.Idle b) (λ n since. refl) (λ c. refl) (λ c. refl) refl (λ c. refl) refl refl refl (λ l. refl) refl (λ now world same. same);
   services = begin_services target transient (answer.Idle b);
-  none = λ past before after e. refl;
+  none = λ now told after e. cond-false (is_waiting b now.before) _ [] (never-waits now told b);
 }
 
 begins_stop : (target : Target) (transient : Bool) (b : BundleId) (row : ℕ) → IsBeginOf stopping (stop_of b) b (op.BeginStop target transient) (answer.Begun b row)

@@ -20,10 +20,10 @@ use Rattle.osgi_listeners.specs.laws.Premises.{handed-first, turns-apart}
 use Rattle.osgi_ops.specs.Brackets.{closes, brackets, is_own_end, own_closes}
 use Rattle.osgi_ops.specs.Bundles.{row_of}
 use Rattle.osgi_ops.specs.Conditions.{IsDeep}
-use Rattle.osgi_ops.specs.Legal.{entry_of, IsAskedAt, IsTold}
+use Rattle.osgi_legal.specs.Legal.{entry_of, IsAskedAt, IsTold}
 use Rattle.osgi_ops.specs.Listening.{AreSights, handings, happenings}
 use Rattle.osgi_ops.specs.Moments.{later, Moment}
-use Rattle.osgi_ops.specs.Operations.{Answers, IsReply, own_conditions}
+use Rattle.osgi_legal.specs.Operations.{Answers, IsReply, own_conditions}
 use Rattle.osgi_ops.specs.Replies.{verdict}
 use Rattle.osgi_ops.specs.Worlds.{Leaves}
 use Rattle.osgi_ops.specs.declared.asked.Asked.{Asked}
@@ -37,7 +37,7 @@ use Rattle.osgi_ops.specs.declared.refusal.Refusal.{Refusal}
 use Rattle.osgi_ops.specs.declared.refusal.Refusal.TheVariants as no
 use Rattle.osgi_ops.specs.declared.reply.Reply.{Reply}
 use Rattle.osgi_ops.specs.declared.reply.Reply.TheVariants as answer
-use Rattle.osgi_ops.specs.laws.Stages.{row-here}
+use Rattle.osgi_legal.specs.laws.Stages.{row-here}
 use Rattle.osgi_ops.specs.rows.Events.{HandAnswers, hand_refusals, IsAnyReady, IsHanding}
 use Rattle.osgi_reply_listening.specs.Hands.{end_reply, handed_reply}
 use Rattle.osgi_tables.proofs.DepotRows.{shown_row}

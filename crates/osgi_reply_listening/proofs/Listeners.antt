@@ -12,10 +12,10 @@ use Rattle.osgi_legal.proofs.Askers.{asker-passes}
 use Rattle.osgi_listeners.specs.Rows.{add_refusal, is_named}
 use Rattle.osgi_listeners.specs.laws.Conditions.{has-same-count, has-same-names}
 use Rattle.osgi_model.specs.declared.filter.Filter.{Filter}
-use Rattle.osgi_ops.specs.Legal.{IsAskedAt, IsTold}
+use Rattle.osgi_legal.specs.Legal.{IsAskedAt, IsTold}
 use Rattle.osgi_ops.specs.Listening.{hearing, listeners}
 use Rattle.osgi_ops.specs.Moments.{Moment}
-use Rattle.osgi_ops.specs.Operations.{Answers, IsReply, own_conditions}
+use Rattle.osgi_legal.specs.Operations.{Answers, IsReply, own_conditions}
 use Rattle.osgi_ops.specs.Replies.{is_effective, verdict}
 use Rattle.osgi_ops.specs.declared.asked.Asked.{Asked}
 use Rattle.osgi_ops.specs.declared.kind.Kind.{Kind}
@@ -27,7 +27,7 @@ use Rattle.osgi_ops.specs.declared.refusal.Refusal.{Refusal}
 use Rattle.osgi_ops.specs.declared.refusal.Refusal.TheVariants as no
 use Rattle.osgi_ops.specs.declared.reply.Reply.{Reply}
 use Rattle.osgi_ops.specs.declared.reply.Reply.TheVariants as answer
-use Rattle.osgi_ops.specs.laws.Stages.{row-here}
+use Rattle.osgi_legal.specs.laws.Stages.{row-here}
 use Rattle.osgi_ops.specs.rows.Events.{add_listener_refusals, has_listener}
 use Rattle.osgi_tables.proofs.Asking.{passed_by}
 use Rattle.osgi_tables.proofs.Heard.{added_stands, removed_stands}

@@ -7,13 +7,14 @@ use Rattle.osgi_base.specs.declared.ids.RevisionId.{RevisionId}
 use Rattle.osgi_legal.specs.Quiet.{QuietServices}
 use Rattle.osgi_legal.proofs.Current.{dead-at, live-at}
 use Rattle.osgi_ops.specs.Loading.{IsLoadedBy}
-use Rattle.osgi_ops.specs.Operations.{IsReply}
+use Rattle.osgi_legal.specs.Operations.{IsReply}
 use Rattle.osgi_ops.specs.Resolved.{current_revision, is_fragment_bundle, is_resolved}
 use Rattle.osgi_ops.specs.Soundness.{IsSound}
 use Rattle.osgi_ops.specs.declared.op.Op.TheVariants as op
 use Rattle.osgi_ops.specs.declared.refusal.Refusal.TheVariants.{InvalidOperation, NoSuchBundle}
 use Rattle.osgi_ops.specs.declared.reply.Reply.TheVariants as answer
-use Rattle.osgi_ops.specs.rows.Bundles.{is_java_class}
+use Rattle.osgi_ops.specs.rows.Bundles.{is_java_class, loaded_with}
+use Rattle.osgi_legal.proofs.Stage.{none-woken}
 use Rattle.osgi_tables.proofs.Replying.{at, from_own, of_services, replied_refused, still_tables, unseen}
 use Rattle.osgi_tables.proofs.Wired.{target_open, target_resolved}
 use Rattle.osgi_tables.specs.Replied.{IsAnsweredToAll}
@@ -70,7 +71,7 @@ load_barred tables b k class is barred who =
     )))
 
 quiet_load : (b : BundleId) (class : List ℕ) (by : Option RevisionId) → QuietServices (op.Load b class) (answer.Loaded by)
-quiet_load b class by = record { registered = λ n since. refl; taken = λ s owner. refl; given = λ s. refl; got = λ u s. refl; let_go = λ u s. refl; cleaned = refl }
+quiet_load b class by = record { registered = λ n since. refl; taken = λ s owner. refl; given = λ s. refl; got = λ u s. refl; let_go = λ u s. refl; cleaned = refl; made = λ tag opened. refl }
 
 pub load_answered : (tables : Tables) (b : BundleId) (k : Known) (class : List ℕ) (by : Option RevisionId) → current_revision tables.wirings.world b ≡ Some k → is_barred tables.wirings.world k class ≡ false →
     IsLoadedBy tables.wirings.world k.id class by → IsAnsweredToAll (op.Load b class) tables (answer.Loaded by)
@@ -80,7 +81,13 @@ load_answered tables b k class by is barred loaded who =
     (from_own tables (λ now. IsReply now (op.Load b class) reply) (λ now told stood.
     inr (
       (λ other called. let bad : true ≡ false = sym (live-at (at now tables) told b k is) ∙ called.1 in cc bad),
-      inr ((λ other called. barred_not tables.wirings.world b k class is barred called.1), (by, refl, (k, is, loaded))),
+      inr (
+        (λ other called. barred_not tables.wirings.world b k class is barred called.1),
+        inr (
+          (λ other called. let bad : Some called.0.0 ≡ None = called.0.1 in cc bad),
+          (None, by, refl, (k, is, loaded), ap (λ woke. loaded_with by None woke) (sym (none-woken (at now tables) told class by))),
+        ),
+      ),
     )))
     (λ now told stood. stood.world) (λ past before after e. refl)
     (λ now told stood.

@@ -19,9 +19,9 @@ use Rattle.osgi_legal.proofs.Windows.{revisions-more}
 use Rattle.osgi_ops.specs.Bundles.{Bundle, bundle_from, bundles, installed, revisions}
 use Rattle.osgi_ops.specs.Conditions.{depot_refusal, IsDuplicate}
 use Rattle.osgi_ops.specs.Depots.{stored_revision, revision_in, row_number, stored_at}
-use Rattle.osgi_ops.specs.Legal.{IsTold}
+use Rattle.osgi_legal.specs.Legal.{IsTold}
 use Rattle.osgi_ops.specs.Moments.{later, Moment}
-use Rattle.osgi_ops.specs.Operations.{IsReply}
+use Rattle.osgi_legal.specs.Operations.{IsReply}
 use Rattle.osgi_ops.specs.Replies.{is_effective}
 use Rattle.osgi_ops.specs.Resolved.{is_in_use}
 use Rattle.osgi_ops.specs.Soundness.{IsSound}
@@ -68,7 +68,7 @@ known_reply None id now location count is = absurd (cc is)
 known_reply (Some b) id now location count is = let same : b.bundle ≡ id = cc is in ap (λ i. answer.Bundle i true) (sym same)
 
 quiet_known : (location : List ℕ) (id : BundleId) (known : Bool) → QuietServices (op.Install location) (answer.Bundle id known)
-quiet_known location id known = record { registered = λ n since. refl; taken = λ s owner. refl; given = λ s. refl; got = λ u s. refl; let_go = λ u s. refl; cleaned = refl }
+quiet_known location id known = record { registered = λ n since. refl; taken = λ s owner. refl; given = λ s. refl; got = λ u s. refl; let_go = λ u s. refl; cleaned = refl; made = λ tag opened. refl }
 
 pub replied_known : (tables : Tables) (location : List ℕ) (id : BundleId) → row_from location tables.bundles.rows ≡ Some id → IsAnsweredToAll (op.Install location) tables (answer.Bundle id true)
 replied_known tables location id is who =

@@ -18,9 +18,9 @@ use Rattle.osgi_resolver_theory.proofs.Once.{effort_within-once, first-extends_w
 use Rattle.osgi_resolver_theory.proofs.Ordered.{partial-ordered}
 use Rattle.osgi_resolver_theory.proofs.Search.{within-not_above}
 use Rattle.osgi_ops.specs.Bundles.{Bundle, bundles, is_live}
-use Rattle.osgi_ops.specs.Legal.{entry_of, IsTold}
+use Rattle.osgi_legal.specs.Legal.{entry_of, IsTold}
 use Rattle.osgi_ops.specs.Moments.{later, Moment}
-use Rattle.osgi_ops.specs.Operations.{Answers, conditions, IsReply}
+use Rattle.osgi_legal.specs.Operations.{Answers, conditions, IsReply}
 use Rattle.osgi_ops.specs.Replies.{verdict}
 use Rattle.osgi_ops.specs.Resolved.{current_revision, is_fragment_bundle, is_in_use, is_resolved}
 use Rattle.osgi_ops.specs.Resolving.{AnswersResolve, IsResolvedTo, IsUnmet, newly_resolved, Resolves, search_conditions}
@@ -165,7 +165,7 @@ replied_fragment tables b is who =
     inr ((λ other called. live (at now tables) told b k.0 k.1 called.1), inl (InvalidOperation, (refl, is), refl))))
 
 quiet_resolve : (b : BundleId) (ids : List BundleId) → QuietServices (op.Resolve b) (answer.Resolved ids)
-quiet_resolve b ids = record { registered = λ n since. refl; taken = λ s owner. refl; given = λ s. refl; got = λ u s. refl; let_go = λ u s. refl; cleaned = refl }
+quiet_resolve b ids = record { registered = λ n since. refl; taken = λ s owner. refl; given = λ s. refl; got = λ u s. refl; let_go = λ u s. refl; cleaned = refl; made = λ tag opened. refl }
 
 pub replied_resolved : (tables : Tables) (b : BundleId) → is_fragment_bundle tables.wirings.world b ≡ false → is_resolved tables.wirings.world b ≡ true → IsAnsweredToAll (op.Resolve b) tables (answer.Resolved [])
 replied_resolved tables b whole resolved who =

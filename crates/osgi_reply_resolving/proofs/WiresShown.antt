@@ -5,7 +5,7 @@ use Rattle.std.specs.Option.{option_and_then, option_map, option_map_or}
 use Rattle.std.proofs.lemmas.List.Elements.{All-cons, All-nil}
 use Rattle.osgi_base.specs.declared.ids.BundleId.{BundleId}
 use Rattle.osgi_base.specs.declared.ids.RevisionId.{RevisionId}
-use Rattle.osgi_ops.specs.Operations.{IsReply}
+use Rattle.osgi_legal.specs.Operations.{IsReply}
 use Rattle.osgi_ops.specs.Resolved.{current_revision, current_wiring}
 use Rattle.osgi_ops.specs.WireRows.{AreWireRows, fragment_row, shown_by, wire_row}
 use Rattle.osgi_ops.specs.declared.op.Op.TheVariants as op
@@ -91,7 +91,7 @@ wires_missing tables b none who =
     (from_own tables (λ now. IsReply now (op.ListWires b) (answer.Refused NoSuchBundle)) (λ now told stood. inl (NoSuchBundle, (refl, dead-at (at now tables) told b none), refl)))
 
 quiet_wires : (b : BundleId) (rows fragments : List WireRow) → QuietServices (op.ListWires b) (answer.Wires rows fragments)
-quiet_wires b rows fragments = record { registered = λ n since. refl; taken = λ s owner. refl; given = λ s. refl; got = λ u s. refl; let_go = λ u s. refl; cleaned = refl }
+quiet_wires b rows fragments = record { registered = λ n since. refl; taken = λ s owner. refl; given = λ s. refl; got = λ u s. refl; let_go = λ u s. refl; cleaned = refl; made = λ tag opened. refl }
 
 pub wires_listed : (tables : Tables) (b : BundleId) (k : Known) (rows fragments : List WireRow) → current_revision tables.wirings.world b ≡ Some k → AreWireRows tables.wirings.world b rows fragments →
     IsAnsweredToAll (op.ListWires b) tables (answer.Wires rows fragments)

@@ -9,10 +9,13 @@ use Rattle.osgi_model.specs.declared.filter.Filter.{Filter}
 use Rattle.osgi_model.specs.declared.value.Attribute.{Attribute}
 use Rattle.osgi_ops.specs.Cleaning.{cleaned_by}
 use Rattle.osgi_ops.specs.Classes.{AreRanked, IsOf}
-use Rattle.osgi_ops.specs.Operations.{Answers}
+use Rattle.osgi_legal.specs.Operations.{Answers}
 use Rattle.osgi_ops.specs.Properties.{has_twins}
 use Rattle.osgi_ops.specs.rows.Lists.{service_row}
-use Rattle.osgi_ops.specs.Services.{live, live_at, Registered, registered, services, uses, uses_held}
+use Rattle.osgi_ops.specs.Conditions.{IsDeep}
+use Rattle.osgi_ops.specs.Moments.{Moment}
+use Rattle.osgi_ops.specs.Objects.{bundle_object}
+use Rattle.osgi_ops.specs.Services.{live, live_at, made_uses, Registered, registered, services, uses, uses_held}
 use Rattle.osgi_ops.specs.declared.limits.TheConstants.{MAX_SERVICES}
 use Rattle.osgi_base.specs.Verdict.{answers, Gives, refuses, Verdict, Where}
 use Rattle.osgi_ops.specs.declared.entry.Entry.{Entry}
@@ -20,13 +23,16 @@ use Rattle.osgi_ops.specs.declared.op.Op.{Op}
 use Rattle.osgi_ops.specs.declared.op.Op.TheVariants as op
 use Rattle.osgi_ops.specs.declared.refusal.Many.TheVariants.{Services}
 use Rattle.osgi_ops.specs.declared.refusal.Refusal.{Refusal}
-use Rattle.osgi_ops.specs.declared.refusal.Refusal.TheVariants.{InvalidOperation, NoSuchService, BadProperties, NotOwner, TooMany}
+use Rattle.osgi_ops.specs.declared.refusal.Refusal.TheVariants.{InvalidOperation, NoSuchService, BadProperties, NotOwner, TooDeep, TooMany}
 use Rattle.osgi_ops.specs.declared.reply.Reply.{Reply}
 use Rattle.osgi_ops.specs.declared.reply.Reply.TheVariants as answer
 use Rattle.osgi_ops.specs.declared.scope.Scope.{Scope}
 use Rattle.osgi_ops.specs.declared.scope.Scope.TheVariants.{Singleton}
 use Rattle.osgi_ops.specs.declared.service.Service.{Service}
 use Rattle.osgi_ops.specs.declared.service.ServiceRow.{ServiceRow}
+use Rattle.osgi_ops.specs.laws.Services.{uses-plain}
+use Rattle.osgi_ops.specs.rows.Services.{got, got_as, got_reply, is_making, IsToMake, shared, to_make}
+use Rattle.osgi_legal.proofs.Stage.{live-single-at, no-made-uses}
 use Rattle.osgi_registry.specs.laws.Standing.{Found, nowhere, quiet_find_all, quiet_list, quiet_refused, rows_found, rows_length, rows_services, stands_quiet, there}
 use Rattle.osgi_registry.specs.Rows.{count_of, modify_refusal, object_at, refusal_at, register_refusal, RegistryRows, LiveService, row_at, services_in, twins_refusal, use_count}
 use Rattle.osgi_registry.specs.Stands.{IsRowOf, StandsAfter, StandsFor}
@@ -112,7 +118,7 @@ served_registered owner classes object scope properties old new service single n
   due = λ now asked stood.
       let is : answer.Service service ≡ answer.Service (record { 0 = length (registered now.before) + 1 }) = λ i. answer.Service (record { 0 = (id ∙ ap (λ n. n + 1) stood.issued) i }) in
       inr (
-        (λ g called. called.1 single),
+        (λ g called. called.1.0 single),
         register_passed properties old.rows (length (live now.before)) (Answers now (op.Register owner classes object scope properties)) (answers (answer.Service service)) (has_twins properties) (nat_le MAX_SERVICES (length old.rows)) refl refl (room_is now.before old stood) none is,
       );
   stands = stands;
@@ -123,7 +129,7 @@ pub served_unregistered : (owner : BundleId) (classes : List (List ℕ)) (object
 served_unregistered owner classes object scope properties old new refusal single some same who = record {
   due = λ now asked stood.
       inr (
-        (λ g called. called.1 single),
+        (λ g called. called.1.0 single),
         register_refused properties old.rows (length (live now.before)) refusal (Answers now (op.Register owner classes object scope properties)) (has_twins properties) (nat_le MAX_SERVICES (length old.rows)) refl refl (room_is now.before old stood) some,
       );
   stands = refused_stands _ old new refusal refl same;
@@ -133,7 +139,7 @@ served_unregistered owner classes object scope properties old new refusal single
 pub served_no_singleton : (owner : BundleId) (classes : List (List ℕ)) (object : List ℕ) (scope : Scope) (properties : List Attribute) (old new : RegistryRows) → scope ≢ Singleton → new ≡ old →
     IsServedToAll (op.Register owner classes object scope properties) old new (answer.Refused InvalidOperation)
 served_no_singleton owner classes object scope properties old new other same who = record {
-  due = λ now asked stood. inl (InvalidOperation, (refl, other), refl);
+  due = λ now asked stood. inl (InvalidOperation, (refl, (other, inr refl)), refl);
   stands = refused_stands _ old new InvalidOperation refl same;
 }
 
@@ -202,34 +208,55 @@ served_found_all asker class filter registry found ranked who = record {
 }
 
 -- Get
-get_refused : (at : Option LiveService) (of : Option Registered) (refusal : Refusal) (due : Reply → Type 0) → Found at of → Err refusal ≡ object_at at → Gives (Where NoSuchService (of ≡ None) ∷ []) due (refuses refusal)
-get_refused None (Some r) refusal due found e = elim found [ ]
-get_refused (Some row) None refusal due found e = elim found [ ]
-get_refused None None refusal due nowhere e =
+get_refused : (at : Option LiveService) (of : Option Registered) (refusal : Refusal) (rest : List (Refusal → Type 0)) (due : Reply → Type 0) → Found at of → Err refusal ≡ object_at at →
+    Gives (Where NoSuchService (of ≡ None) ∷ rest) due (refuses refusal)
+get_refused None (Some r) refusal rest due found e = elim found [ ]
+get_refused (Some row) None refusal rest due found e = elim found [ ]
+get_refused None None refusal rest due nowhere e =
     let named : refusal ≡ NoSuchService = cc e in
     inl (NoSuchService, (refl, refl), ap refuses named)
-get_refused (Some row) (Some r) refusal due (there is) e = absurd (cc e)
+get_refused (Some row) (Some r) refusal rest due (there is) e = absurd (cc e)
 
-get_answers : (at : Option LiveService) (of : Option Registered) (text : List ℕ) → Found at of → Ok text ≡ object_at at →
-    Gives (Where NoSuchService (of ≡ None) ∷ []) (λ reply. IsSomeAnd of (λ r. reply ≡ answer.Object r.object)) (answers (answer.Object text))
-get_answers None (Some r) text found e = elim found [ ]
-get_answers (Some row) None text found e = elim found [ ]
-get_answers None None text nowhere e = absurd (cc e)
-get_answers (Some row) (Some r) text (there is) e =
+-- while each service has one object for all, a Get answers that, and none is made
+shared_now : (now : Moment) (user : BundleId) (r : Registered) → r.scope ≡ Singleton → got now false user r ≡ shared
+shared_now now user r single = ap (λ (s : Scope). got_as false s (bundle_object user r.service now.before)) single
+
+none_to_make : (now : Moment) (user : BundleId) (of : Option Registered) → ((r : Registered) → of ≡ Some r → r.scope ≡ Singleton) → IsSomeAnd of (λ r. got now false user r ≡ to_make) → ⊥
+none_to_make now user None single is = is
+none_to_make now user (Some r) single is = let bad : shared ≡ to_make = sym (shared_now now user r (single r refl)) ∙ is in cc bad
+
+get_answers : (now : Moment) (user : BundleId) (at : Option LiveService) (of : Option Registered) (text : List ℕ) (making : Refusal → Type 0) (deep : Type 0) → ((r : Registered) → of ≡ Some r → r.scope ≡ Singleton) → Found at of →
+    Ok text ≡ object_at at →
+    Gives (Where NoSuchService (of ≡ None) ∷ (λ refusal. IsSomeAnd of (λ r. got now false user r ≡ to_make) × making refusal) ∷ Where TooDeep (IsSomeAnd of (λ r. got now false user r ≡ to_make) × deep) ∷ [])
+    (λ reply. IsSomeAnd of (λ r. reply ≡ got_reply now r (got now false user r))) (answers (answer.Object text))
+get_answers now user None (Some r) text making deep single found e = elim found [ ]
+get_answers now user (Some row) None text making deep single found e = elim found [ ]
+get_answers now user None None text making deep single nowhere e = absurd (cc e)
+get_answers now user (Some row) (Some r) text making deep single (there is) e =
     let same : text ≡ row.service.object = cc e in
-    inr ((λ f called. cc called.1), ap answer.Object (same ∙ ap (λ (s : Service). s.object) is.service))
+    let none = none_to_make now user (Some r) single in
+    inr (
+      (λ f called. cc called.1),
+      inr (
+        (λ f called. none called.0),
+        inr ((λ f called. none called.1.0), ap answer.Object (same ∙ ap (λ (s : Service). s.object) is.service) ∙ sym (ap (got_reply now r) (shared_now now user r (single r refl)))),
+      ),
+    )
 
 pub served_got : (user : BundleId) (service : ServiceId) (old new : RegistryRows) (text : List ℕ) → Ok text ≡ object_at (row_at service old.rows) → StandsAfter (op.Get user service) (answer.Object text) old new →
     IsServedToAll (op.Get user service) old new (answer.Object text)
-served_got user service old new text got stands who = record {
-  due = λ now asked stood. get_answers (row_at service old.rows) (live_at service now.before) text (found_now now.before old service stood) got;
+served_got user service old new text got_it stands who = record {
+  due = λ now asked stood.
+      get_answers now user (row_at service old.rows) (live_at service now.before) text (is_making now user service) (IsDeep now) (live-single-at now asked.told service) (found_now now.before old service stood) got_it;
   stands = stands;
 }
 
 pub served_ungotten : (user : BundleId) (service : ServiceId) (old new : RegistryRows) (refusal : Refusal) → Err refusal ≡ object_at (row_at service old.rows) → new ≡ old →
     IsServedToAll (op.Get user service) old new (answer.Refused refusal)
-served_ungotten user service old new refusal got same who = record {
-  due = λ now asked stood. get_refused (row_at service old.rows) (live_at service now.before) refusal (Answers now (op.Get user service)) (found_now now.before old service stood) got;
+served_ungotten user service old new refusal none same who = record {
+  due = λ now asked stood.
+      get_refused (row_at service old.rows) (live_at service now.before) refusal
+      ((λ f. IsToMake now false user service × is_making now user service f) ∷ Where TooDeep (IsToMake now false user service × IsDeep now) ∷ []) (Answers now (op.Get user service)) (found_now now.before old service stood) none;
   stands = refused_stands _ old new refusal refl same;
 }
 
@@ -240,14 +267,15 @@ count_found user (Some row) None found = elim found [ ]
 count_found user None None nowhere = refl
 count_found user (Some row) (Some r) (there is) = is.uses user
 
--- the registry counts the uses of the history
-pub uses_now : (history : List Entry) (registry : RegistryRows) (user : BundleId) (service : ServiceId) → StandsFor history registry → use_count user service registry.rows ≡ uses user service history
-uses_now history registry user service stands = count_found user (row_at service registry.rows) (live_at service history) (found_now history registry service stands)
+-- the registry counts the uses of the history, where none of them began with a make
+pub uses_now : (history : List Entry) (registry : RegistryRows) (user : BundleId) (service : ServiceId) → made_uses history ≡ [] → StandsFor history registry → use_count user service registry.rows ≡ uses user service history
+uses_now history registry user service none stands =
+    count_found user (row_at service registry.rows) (live_at service history) (found_now history registry service stands) ∙ sym (uses-plain user service history none)
 
 pub served_ungot : (user : BundleId) (service : ServiceId) (old new : RegistryRows) (value : Bool) → value ≡ nat_lt 0 (use_count user service old.rows) → StandsAfter (op.Unget user service) (answer.Flag value) old new →
     IsServedToAll (op.Unget user service) old new (answer.Flag value)
 served_ungot user service old new value is stands who = record {
-  due = λ now asked stood. ap answer.Flag (is ∙ ap (nat_lt 0) (uses_now now.before old user service stood));
+  due = λ now asked stood. ap answer.Flag (is ∙ ap (nat_lt 0) (uses_now now.before old user service (no-made-uses now asked.told) stood));
   stands = stands;
 }
 

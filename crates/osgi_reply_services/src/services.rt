@@ -1,6 +1,7 @@
 //! What operations on services answer, and change in the registry.
 
-ghost use Rattle.std.specs.Prelude.{◌≡◌, ◌<◌, IfOk, map};
+ghost use Rattle.std.specs.Prelude.{◌≡◌, ◌<◌, IfOk, map, None};
+ghost use Rattle.osgi_ops.specs.Brackets.{opens};
 ghost use Rattle.osgi_ops.specs.rows.Lists.{service_row};
 ghost use Rattle.osgi_ops.specs.declared.op.Op.TheVariants as op;
 ghost use Rattle.osgi_registry.specs.Rows.{services_in, use_count};
@@ -103,6 +104,7 @@ pub fn get(
 ) -> Result<(Reply, ServiceChange), AllocError>
     requires countable { use_count user service registry.now.rows < u64.MAX }
     ensures decided { IfOk result (λ r. IsReplyAndChange (op.Get user service) registry.now r.0 r.1) }
+    ensures unopened { IfOk result (λ r. opens (op.Get user service) r.0 ≡ None) }
 {
     let Some(object) = registry.object(service) else {
         let refusal = Refusal::NoSuchService;

@@ -25,6 +25,7 @@ fn is_section(which: &Section, other: &Section) -> bool
         (Section::Stop, Section::Stop) => true,
         (Section::On(name), Section::On(other)) => name == other,
         (Section::Job(name), Section::Job(other)) => name == other,
+        (Section::Make(name), Section::Make(other)) => name == other,
         _ => false,
     }
 }

@@ -11,7 +11,7 @@ ghost use Rattle.osgi_session.specs.Runs.{bind, bound_by, command_of, held};
 
 use osgi_base::{BundleId, List, ServiceId, Text, copy_three, copy_two};
 use osgi_model::{Attributes, Filter};
-use osgi_ops::{Kind, Target};
+use osgi_ops::{Kind, Scope, Target};
 use osgi_session::{Command, Statement};
 use std::alloc::{AllocError, Global};
 
@@ -61,6 +61,24 @@ fn register(
     Ok(Command::Register {
         classes,
         object,
+        properties,
+    })
+}
+
+fn factory(
+    alloc: Global,
+    classes: &List<Text>,
+    scope: Scope,
+    name: &Text,
+    properties: &Attributes,
+) -> Result<Command, AllocError>
+    ensures made { IfOk result (λ made. made ≡ Command.Factory classes.now scope name.now properties.now) }
+{
+    let (classes, name, properties) = copy_three(classes, name, properties, alloc)?;
+    Ok(Command::Factory {
+        classes,
+        scope,
+        name,
         properties,
     })
 }
@@ -118,6 +136,19 @@ pub fn command_of(
         Statement::Unget { var } => Ok(Command::Unget {
             service: held(bindings, var),
         }),
+        Statement::GetOwn { var } => Ok(Command::GetOwn {
+            service: held(bindings, var),
+        }),
+        Statement::Factory {
+            var: _,
+            classes,
+            scope,
+            name,
+            properties,
+        } => factory(alloc, classes, *scope, name, properties),
+        Statement::Give { text } => Ok(Command::Give {
+            text: text.copy(alloc)?,
+        }),
         Statement::Start { name } => Ok(Command::Start {
             target: Target::Name(name.copy(alloc)?),
             transient: false,
@@ -151,7 +182,9 @@ fn bound_by(statement: &Statement) -> Option<&Text>
     ensures var { option_map (λ (var : Bor (List ℕ)). var.now) result ≡ bound_by statement.now }
 {
     match statement {
-        Statement::Register { var, .. } | Statement::Find { var, .. } => Some(var),
+        Statement::Register { var, .. }
+        | Statement::Find { var, .. }
+        | Statement::Factory { var, .. } => Some(var),
         _ => None,
     }
 }

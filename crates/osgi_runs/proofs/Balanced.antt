@@ -4,9 +4,8 @@ use Rattle.std.proofs.lemmas.Bool.{and_from, eq-eqb}
 use Rattle.std.specs.Prelude.{Option, None, Some, ◌&&◌, ◌==◌}
 use Rattle.osgi_base.specs.declared.ids.Tag.{Tag}
 use Rattle.osgi_ops.specs.Brackets.{Bracket, bracket, Cause, handing, job, ends, is_end, opens, own_closes, own_turned, without_first}
-use Rattle.osgi_runs.specs.Bound.{AreBound, ClosesTask, push}
+use Rattle.osgi_runs.specs.Bound.{AreBound, ClosesTask, has_closed, push}
 use Rattle.osgi_session.specs.Plans.{End}
-use Rattle.osgi_ops.specs.Replies.{is_effective}
 use Rattle.osgi_session.specs.Runs.{Call, call, command_of, has_failed, Task, ends_drain, ends_jobs, Sections, Reads, at_stop, asked, ran, calm, empty, handed, over, fails, goes, none, took}
 use Rattle.osgi_ops.specs.declared.op.Op.{Op}
 use Rattle.osgi_ops.specs.declared.op.Op.TheVariants.{Hand, EndHand, TakeJob, EndJob}
@@ -48,7 +47,7 @@ behind limit tag after own asks reply calls n h = subst (λ b. AreBound limit ta
 
 -- the brackets behind the end of the innermost one
 pub behind-end : (limit : ℕ) (tag : Tag) (after : List Bracket → Type 0) (own : List Bracket) (cause : Cause) (asks : Op) (reply : Reply) (calls : List Call) → ends asks cause ≡ true →
-    AreBound limit tag after (bracket tag cause ∷ own) (call asks reply ∷ calls) → (is_effective reply ≡ true) × AreBound limit tag after own calls
+    AreBound limit tag after (bracket tag cause ∷ own) (call asks reply ∷ calls) → (has_closed asks reply ≡ true) × AreBound limit tag after own calls
 behind-end limit tag after own cause asks reply calls n h =
     let closed : own_closes tag asks (bracket tag cause ∷ own) ≡ true = and_from (tag.command == tag.command) _ (eq-eqb tag.command tag.command refl) n in
     (h.0.ended closed, subst (λ b. AreBound limit tag after b calls) (turn-end tag (opens asks reply) _ (bracket tag cause ∷ own) (ends-open-none asks reply (is-end asks cause n)) closed) h.1)

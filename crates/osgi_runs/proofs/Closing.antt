@@ -1,8 +1,9 @@
 -- Each plan closes what it opens.
 use Rattle.std.proofs.Common.{ℕ, suc, zero, List, [], ◌∷◌, Bool, true, false, refl}
-use Rattle.std.specs.Prelude.{None, ◌||◌, ◌+◌, ◌-◌, cond, nat_lt, ◌==◌, reverse}
+use Rattle.std.specs.Prelude.{None, Some, ◌||◌, ◌+◌, ◌-◌, cond, nat_lt, ◌==◌, reverse}
 use Rattle.std.proofs.lemmas.Bool.{eq-eqb}
 use Rattle.osgi_base.specs.declared.ids.BundleId.{BundleId}
+use Rattle.osgi_base.specs.declared.ids.ServiceId.{ServiceId}
 use Rattle.osgi_ops.specs.Brackets.{opens}
 use Rattle.osgi_runs.specs.Bound.{Closes}
 use Rattle.osgi_ops.specs.Replies.{is_refusal}
@@ -13,7 +14,7 @@ use Rattle.osgi_ops.specs.declared.target.Target.{Target}
 use Rattle.osgi_ops.specs.declared.target.Target.TheVariants.{Id}
 use Rattle.osgi_ops.specs.declared.reply.Reply.{Reply}
 use Rattle.osgi_ops.specs.declared.reply.Reply.TheVariants as answer
-use Rattle.osgi_session.specs.Plans.{Plan, ask, stop, done, unless_refused, after_one, one, after_begin_start, after_resolve, after_wish, start, Stop, stopped, section_failed, not_stopped, how_stopped, after_begin_stop, halt, past_failure, past_stop, start_all, halt_all, restart, after_stop_to_update, stop_members, after_begin_refresh, to_start, to_stop, unless_stuck, climb, descend, after_begin_level, after_last_set, after_set, after_register, after_find, plan, end_of}
+use Rattle.osgi_session.specs.Plans.{Plan, ask, stop, done, unless_refused, after_one, one, after_begin_start, after_resolve, after_wish, start, Stop, stopped, section_failed, not_stopped, how_stopped, after_begin_stop, halt, past_failure, past_stop, start_all, halt_all, restart, after_stop_to_update, stop_members, after_begin_refresh, to_start, to_stop, unless_stuck, climb, descend, after_begin_level, after_last_set, after_set, after_register, after_find, after_await, after_resolve_lazy, after_wish_lazy, after_load, after_get, plan, end_of}
 
 after-refusal : (reply : Reply) (rest : Plan) → Closes None rest → Closes None (unless_refused reply rest)
 after-refusal (answer.Refused refusal) rest c = tt
@@ -123,9 +124,39 @@ find : (reply : Reply) → Closes None (after_find reply)
 find (answer.Best found) = tt
 find reply = after-one reply
 
-loads : (console : Bool) (bundle : BundleId) (class : List ℕ) → Closes None (cond console (ask (op.Resolve bundle) (λ reply. unless_refused reply (one (op.Load bundle class)))) (one (op.Load bundle class)))
-loads true bundle class = (refl, λ reply. after-refusal reply (one (op.Load bundle class)) (refl, after-one))
-loads false bundle class = (refl, after-one)
+-- a start of a bundle that may wait
+await : (bundle : BundleId) (rest : Bool → Plan) → ((bad : Bool) → Closes None (rest bad)) → (reply : Reply) → Closes None (after_await bundle rest reply)
+await bundle rest c (answer.Eager eager) = (refl, begin-start bundle false rest c)
+await bundle rest c (answer.Refused refusal) = c true
+await bundle rest c reply = c false
+
+resolve-lazy : (bundle : BundleId) (rest : Bool → Plan) → ((bad : Bool) → Closes None (rest bad)) → (reply : Reply) → Closes None (after_resolve_lazy bundle rest reply)
+resolve-lazy bundle rest c (answer.Refused refusal) = c true
+resolve-lazy bundle rest c reply = (refl, await bundle rest c)
+
+wish-lazy : (rest : Bool → Plan) → ((bad : Bool) → Closes None (rest bad)) → (reply : Reply) → Closes None (after_wish_lazy rest reply)
+wish-lazy rest c (answer.Go bundle) = (refl, resolve-lazy bundle rest c)
+wish-lazy rest c (answer.Refused refusal) = c true
+wish-lazy rest c reply = c false
+
+-- a load that starts a bundle which waited
+load-more : (reply : Reply) → Closes None (after_load reply)
+load-more (answer.LoadedMore by wire (Some bundle)) = closes-start (Id bundle) true (λ bad. stop done) (λ bad. tt)
+load-more reply = after-one reply
+
+-- a make that a Get begins ends with its own end
+get : (user : BundleId) (service : ServiceId) (reply : Reply) → Closes (opens (op.Get user service) reply) (after_get reply)
+get user service (answer.Make owner row name) = λ fails. (refl, λ reply good. (refl, after-one reply))
+get user service reply = after-one reply
+
+get-own : (user : BundleId) (service : ServiceId) (reply : Reply) → Closes (opens (op.GetOwn user service) reply) (after_get reply)
+get-own user service (answer.Make owner row name) = λ fails. (refl, λ reply good. (refl, after-one reply))
+get-own user service reply = after-one reply
+
+loads : (console : Bool) (bundle : BundleId) (class : List ℕ) →
+    Closes None (cond console (ask (op.Resolve bundle) (λ reply. unless_refused reply (ask (op.Load bundle class) after_load))) (ask (op.Load bundle class) after_load))
+loads true bundle class = (refl, λ reply. after-refusal reply (ask (op.Load bundle class) after_load) (refl, load-more))
+loads false bundle class = (refl, load-more)
 
 -- every plan does
 pub closes-plan : (owner : BundleId) (c : Command) → Closes None (plan owner c)
@@ -143,7 +174,13 @@ closes-plan owner (command.Fail text) = (refl, λ reply. after-refusal reply _ t
 closes-plan owner (command.Modify service properties) = (refl, after-one)
 closes-plan owner (command.Unregister service) = (refl, after-one)
 closes-plan owner (command.FindAll class filter) = (refl, after-one)
-closes-plan owner (command.Get service) = (refl, after-one)
+closes-plan owner (command.Get service) = (refl, get owner service)
+closes-plan owner (command.GetOwn service) = (refl, get-own owner service)
+closes-plan owner (command.UngetOwn service object) = (refl, after-one)
+closes-plan owner (command.Factory classes scope name properties) = (refl, register)
+closes-plan owner (command.Give text) = (refl, after-one)
+closes-plan owner (command.Peek class filter) = tt
+closes-plan owner (command.StartLazy bundle) = (refl, wish-lazy (λ bad. stop (end_of bad)) (λ bad. tt))
 closes-plan owner (command.Unget service) = (refl, after-one)
 closes-plan owner (command.Install location) = (refl, after-one)
 closes-plan owner (command.Resolve bundle) = (refl, after-one)

@@ -6,9 +6,9 @@ use Rattle.osgi_ops.specs.Along.{AllAlong}
 use Rattle.osgi_ops.specs.Brackets.{Bracket, brackets, brackets_of, closes, opens, with_entry, own_closes, own_turned}
 use Rattle.osgi_ops.specs.Conditions.{IsDeep}
 use Rattle.osgi_ops.specs.declared.limits.TheConstants.{MAX_BRACKETS}
-use Rattle.osgi_runs.specs.Bound.{finds_nothing, is_hand, is_take, IsBound}
-use Rattle.osgi_ops.specs.Legal.{IsAllowed}
-use Rattle.osgi_ops.specs.Operations.{Answers, IsReply, IsRow}
+use Rattle.osgi_runs.specs.Bound.{finds_nothing, has_closed, is_hand, is_take, IsBound}
+use Rattle.osgi_legal.specs.Legal.{IsAllowed}
+use Rattle.osgi_legal.specs.Operations.{Answers, IsReply, IsRow}
 use Rattle.osgi_ops.specs.Jobs.{jobs, Queued}
 use Rattle.osgi_ops.specs.rows.Events.{IsHanding, IsNothing}
 use Rattle.osgi_ops.specs.rows.Jobs.{taken}
@@ -18,11 +18,11 @@ use Rattle.osgi_session.specs.Runs.{call, ends_drain, ends_jobs}
 use Rattle.osgi_ops.specs.Callers.{by, is_by}
 use Rattle.osgi_session.specs.Sessions.{call_of}
 use Rattle.osgi_ops.specs.Settings.{Setting}
-use Rattle.osgi_ops.specs.laws.Stages.{hand-here, here-row, take-here}
+use Rattle.osgi_legal.specs.laws.Stages.{hand-here, here-row, take-here}
 use Rattle.osgi_ops.specs.Moments.{moment, entries_in, Moment, Told}
 use Rattle.osgi_ops.specs.declared.entry.Entry.{Entry}
 use Rattle.osgi_ops.specs.declared.op.Op.{Op}
-use Rattle.osgi_ops.specs.declared.op.Op.TheVariants.{Hand, TakeJob}
+use Rattle.osgi_ops.specs.declared.op.Op.TheVariants.{EndMake, Hand, TakeJob}
 use Rattle.osgi_ops.specs.declared.refusal.Refusal.TheVariants.{HandingsSpent, TooDeep}
 use Rattle.osgi_ops.specs.declared.reply.Reply.{Reply}
 use Rattle.osgi_ops.specs.declared.reply.Reply.TheVariants.{Refused}
@@ -53,9 +53,13 @@ found-by m Hand reply r h e = by (hand-row m reply (here-row m Hand reply hand-h
     by (inr (inr (inr nothing))) = inl (ap (finds_nothing Hand) nothing.is)
 found-by m op reply r h e = absurd (cc h)
 
+closed-by : (m : Moment) (op : Op) (reply : Reply) → IsReply m op reply → closes m.tag op (brackets m.before) ≡ true → has_closed op reply ≡ true
+closed-by m (EndMake failed) reply r f = refl
+closed-by m op reply r f = ended-by m op reply r refl f
+
 pub due-reply : (m : Moment) (op : Op) (reply : Reply) → IsReply m op reply → IsBound MAX_BRACKETS m.tag (brackets_of m.tag.caller m.before) (call op reply)
 due-reply m op reply r =
-    record { ended = λ f. ended-by m op reply r (closes-own m.tag op (brackets m.before) ∙ f); found = found-by m op reply r; taken = taken-by m op reply r }
+    record { ended = λ f. closed-by m op reply r (closes-own m.tag op (brackets m.before) ∙ f); found = found-by m op reply r; taken = taken-by m op reply r }
 
 -- ---- a caller's own entries
 

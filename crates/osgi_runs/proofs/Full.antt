@@ -7,7 +7,7 @@ use Rattle.std.proofs.lemmas.List.Elements.{All-append, All-cons, All-head, All-
 use Rattle.osgi_base.specs.declared.ids.Tag.{Tag}
 use Rattle.osgi_ops.specs.Brackets.{Bracket, brackets_of}
 use Rattle.osgi_ops.specs.Callers.{by}
-use Rattle.osgi_ops.specs.Legal.{Legal}
+use Rattle.osgi_legal.specs.Legal.{Legal}
 use Rattle.osgi_ops.specs.Moments.{entries_in}
 use Rattle.osgi_ops.specs.Settings.{Setting}
 use Rattle.osgi_ops.specs.declared.entry.Entry.{Entry}

@@ -11,10 +11,10 @@ use Rattle.osgi_ops.specs.Along.{AllAlong}
 use Rattle.osgi_ops.specs.Brackets.{Bracket, brackets, brackets_of}
 use Rattle.osgi_ops.specs.Callers.{by, is_by}
 use Rattle.osgi_ops.specs.Conditions.{IsDeep}
-use Rattle.osgi_ops.specs.Legal.{AreAllowed, IsAllowed}
+use Rattle.osgi_legal.specs.Legal.{AreAllowed, IsAllowed}
 use Rattle.osgi_ops.specs.Listening.{Added, due, event_at, hands, handed, happenings, Happening, IsAt, IsReady, IsSight, is_in_turn, is_sight_of, is_turn_of, listener_at, seen, Spot, spots}
 use Rattle.osgi_ops.specs.Moments.{entries_in, Moment, moment, Sight, sights_in, Told, world_after}
-use Rattle.osgi_ops.specs.Operations.{IsReply}
+use Rattle.osgi_legal.specs.Operations.{IsReply}
 use Rattle.osgi_ops.specs.Replies.{is_accepted, is_effective}
 use Rattle.osgi_ops.specs.Settings.{Setting}
 use Rattle.osgi_ops.specs.declared.entry.Entry.{Entry}
@@ -25,7 +25,7 @@ use Rattle.osgi_ops.specs.declared.refusal.Refusal.TheVariants.{HandingsSpent, T
 use Rattle.osgi_ops.specs.declared.reply.Reply.{Reply}
 use Rattle.osgi_ops.specs.declared.reply.Reply.TheVariants as answer
 use Rattle.osgi_ops.specs.laws.Along.{AllAlong-split}
-use Rattle.osgi_ops.specs.laws.Stages.{hand-here, here-row}
+use Rattle.osgi_legal.specs.laws.Stages.{hand-here, here-row}
 use Rattle.osgi_ops.specs.rows.Events.{IsAnyReady, IsHanding, IsNothing}
 use Rattle.osgi_runs.specs.Bound.{finds_nothing}
 use Rattle.osgi_runs.specs.Handed.{AllHanded, AllHandedIn}
@@ -36,6 +36,9 @@ use Rattle.osgi_session.specs.Rendering.{is_full}
 use Rattle.osgi_session.specs.Sessions.{IsWhole, Lane, MayBeCut, Never, Uncut}
 use Rattle.osgi_session.specs.declared.line.Line.{Line}
 use Rattle.osgi_world.specs.declared.world.World.{World}
+use Rattle.osgi_ops.specs.Waiting.{is_waiting, waiting}
+use Rattle.osgi_ops.specs.laws.Waiting.{not-waiting}
+use Rattle.osgi_legal.proofs.Early.{nobody-waits}
 use Rattle.osgi_legal.proofs.Hands.{all-handed}
 use Rattle.osgi_legal.proofs.Legal.{due-spots, handed-flat, handed-is-prefix, split-map, spots-flat}
 use Rattle.osgi_legal.proofs.Listening.{ends_turn, live-between, turn-lasts}
@@ -57,23 +60,27 @@ in-cond : {A : Type 0} {place : ℕ} {item : A} (k : Bool) (list : List A) → I
 in-cond true list x = refl
 in-cond false list x = absurd (none-at x)
 
-pub happening-stirs : (past : List Entry) (before after : World) (e : Entry) (o : Op) (reply : Reply) {place : ℕ} {h : Happening} → IsAt place (happenings past before after e o reply) h → stirs o reply ≡ true
-happening-stirs past before after e (op.Register owner classes object scope properties) (answer.Service id) x = refl
-happening-stirs past before after e (op.Modify owner id properties) reply x = in-cond (is_accepted reply) _ x
-happening-stirs past before after e (op.Unregister owner id) reply x = in-cond (is_accepted reply) _ x
-happening-stirs past before after e (op.Install location) (answer.Bundle b false) x = refl
-happening-stirs past before after e (op.Resolve b) (answer.Resolved all) x = refl
-happening-stirs past before after e (op.BeginStart b transient) (answer.Begun begun row) x = refl
-happening-stirs past before after e (op.EndStart b bad) answer.Done x = refl
-happening-stirs past before after e (op.EndStart b bad) reply x = in-cond (is_effective reply) _ x
-happening-stirs past before after e (op.BeginStop target transient) (answer.Begun b row) x = refl
-happening-stirs past before after e (op.EndStop b bad) reply x = in-cond (is_effective reply) _ x
-happening-stirs past before after e (op.Update b location) reply x = in-cond (is_accepted reply) _ x
-happening-stirs past before after e (op.Uninstall b) reply x = in-cond (is_accepted reply) _ x
-happening-stirs past before after e op.DropWirings (answer.Ids ids) x = refl
-happening-stirs past before after e op.EndRefresh reply x = in-cond (is_accepted reply) _ x
-happening-stirs past before after e op.EndLevel reply x = in-cond (is_accepted reply) _ x
-happening-stirs past before after e o reply x = absurd (none-at x)
+-- of each entry behind which nobody waits, since then an Idle ends no waiting
+pub happening-stirs : (past : List Entry) → waiting past ≡ [] → (before after : World) (e : Entry) (o : Op) (reply : Reply) {place : ℕ} {h : Happening} → IsAt place (happenings past before after e o reply) h → stirs o reply ≡ true
+happening-stirs past none before after e (op.Register owner classes object scope properties) (answer.Service id) x = refl
+happening-stirs past none before after e (op.Modify owner id properties) reply x = in-cond (is_accepted reply) _ x
+happening-stirs past none before after e (op.Unregister owner id) reply x = in-cond (is_accepted reply) _ x
+happening-stirs past none before after e (op.Install location) (answer.Bundle b false) x = refl
+happening-stirs past none before after e (op.Resolve b) (answer.Resolved all) x = refl
+happening-stirs past none before after e (op.BeginStart b transient) (answer.Begun begun row) x = refl
+happening-stirs past none before after e (op.EndStart b bad) answer.Done x = refl
+happening-stirs past none before after e (op.EndStart b bad) reply x = in-cond (is_effective reply) _ x
+happening-stirs past none before after e (op.BeginStop target transient) (answer.Begun b row) x = refl
+happening-stirs past none before after e (op.BeginStop target transient) (answer.Idle b) x =
+    absurd (let bad : true ≡ false = sym (in-cond (is_waiting b past) _ x) ∙ not-waiting b past none in cc bad)
+happening-stirs past none before after e (op.Await asked) (answer.Waiting b) x = refl
+happening-stirs past none before after e (op.EndStop b bad) reply x = in-cond (is_effective reply) _ x
+happening-stirs past none before after e (op.Update b location) reply x = in-cond (is_accepted reply) _ x
+happening-stirs past none before after e (op.Uninstall b) reply x = in-cond (is_accepted reply) _ x
+happening-stirs past none before after e op.DropWirings (answer.Ids ids) x = refl
+happening-stirs past none before after e op.EndRefresh reply x = in-cond (is_accepted reply) _ x
+happening-stirs past none before after e op.EndLevel reply x = in-cond (is_accepted reply) _ x
+happening-stirs past none before after e o reply x = absurd (none-at x)
 
 -- ---- the entries that concern a listener
 
@@ -119,15 +126,15 @@ ends-hand listener (op.EndHand held) e = refl
 ends-hand listener o e = absurd (cc e)
 
 -- such an entry may leave something to be handed, and the listener is live before it
-concerned : (setting : Setting) (listener : ListenerId) (front : List Told) (x : Told) → IsAllowed setting front x → Concerns listener front x →
+concerned : (setting : Setting) (listener : ListenerId) (front : List Told) (x : Told) → AreAllowed setting front → IsAllowed setting front x → Concerns listener front x →
     (leaves_some x.entry.op x.entry.reply ≡ true) × ((a : Added) × (listener_at listener (entries_in front) ≡ Some a))
-concerned setting listener front x a c = go (or-cases (is_some_there (seen listener front x)) _ c)
+concerned setting listener front x before a c = go (or-cases (is_some_there (seen listener front x)) _ c)
   where
     go : (is_some_there (seen listener front x) ≡ true) ⊎ ((ends_turn listener x.entry.op && is_some (listener_at listener (entries_in front))) ≡ true) →
         (leaves_some x.entry.op x.entry.reply ≡ true) × ((a : Added) × (listener_at listener (entries_in front) ≡ Some a))
     go (inl s) =
         let r = a-sight (IsSight (entries_in front) (world_after front) x.world x.entry) listener x.sights a.seen.only s in
-        let d : stirs x.entry.op x.entry.reply ≡ true = happening-stirs (entries_in front) (world_after front) x.world x.entry x.entry.op x.entry.reply r.1.at in
+        let d : stirs x.entry.op x.entry.reply ≡ true = happening-stirs (entries_in front) (nobody-waits setting front before) (world_after front) x.world x.entry x.entry.op x.entry.reply r.1.at in
         let same : r.0.listener ≡ listener = (let q : r.0.listener.0 ≡ listener.0 = r.2 in λ i. record { 0 = q i }) in
         (or_left _ _ d, (r.1.listener, subst (λ l. listener_at l (entries_in front) ≡ Some r.1.listener) same r.1.is))
     go (inr h) =
@@ -246,7 +253,7 @@ runs-handed setting script told legal runs listener a live =
     after u e v is c none =
         let ok = IsAllowed setting in
         let parts = AllAlong-split ok [] u (e ∷ v) (subst (AreAllowed setting) is legal) in
-        let here = concerned setting listener u e parts.1.0 c in
+        let here = concerned setting listener u e parts.0 parts.1.0 c in
         let caller : ℕ = e.entry.tag.caller in
         let own = subst (λ l. AreSettled (calls_of l)) (ap (λ l. by caller (entries_in l)) is ∙ split-by caller u e v refl) (calm caller).0 in
         let found = settles-at caller v (settled-at (by caller (entries_in u)) e.entry (by caller (entries_in v)) own here.0) in

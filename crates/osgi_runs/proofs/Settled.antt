@@ -7,7 +7,7 @@ use Rattle.osgi_ops.specs.Brackets.{Bracket, bracket, Cause, handing, is_end, jo
 use Rattle.osgi_ops.specs.declared.op.Op.{Op}
 use Rattle.osgi_ops.specs.declared.op.Op.TheVariants.{Hand, EndHand, EndJob}
 use Rattle.osgi_ops.specs.declared.reply.Reply.{Reply}
-use Rattle.osgi_ops.specs.laws.Stages.{hand-here}
+use Rattle.osgi_legal.specs.laws.Stages.{hand-here}
 use Rattle.osgi_runs.specs.Bound.{AreBound, ClosesTask, finds_nothing, push}
 use Rattle.osgi_session.specs.Plans.{End, is_drained, Plan, stirs}
 use Rattle.osgi_session.specs.Runs.{Call, call, command_of, has_failed, Task, planned, drained, taking, Sections, Reads, at_stop, asked, ran, calm, empty, handed, over, fails, goes, none, took}

@@ -1,6 +1,6 @@
 -- No plan of a command takes a job.
 use Rattle.std.proofs.Common.{ℕ, suc, zero, List, [], ◌∷◌, Bool, true, false, refl}
-use Rattle.std.specs.Prelude.{◌||◌, ◌+◌, ◌-◌, cond, nat_lt, ◌==◌, reverse}
+use Rattle.std.specs.Prelude.{Some, ◌||◌, ◌+◌, ◌-◌, cond, nat_lt, ◌==◌, reverse}
 use Rattle.osgi_base.specs.declared.ids.BundleId.{BundleId}
 use Rattle.osgi_runs.specs.Bound.{NoTake}
 use Rattle.osgi_ops.specs.Replies.{is_refusal}
@@ -11,7 +11,7 @@ use Rattle.osgi_ops.specs.declared.target.Target.{Target}
 use Rattle.osgi_ops.specs.declared.target.Target.TheVariants.{Id}
 use Rattle.osgi_ops.specs.declared.reply.Reply.{Reply}
 use Rattle.osgi_ops.specs.declared.reply.Reply.TheVariants as answer
-use Rattle.osgi_session.specs.Plans.{Plan, ask, stop, done, unless_refused, after_one, one, after_begin_start, after_resolve, after_wish, start, Stop, stopped, section_failed, not_stopped, how_stopped, after_begin_stop, halt, past_failure, past_stop, start_all, halt_all, restart, after_stop_to_update, stop_members, after_begin_refresh, to_start, to_stop, unless_stuck, climb, descend, after_begin_level, after_last_set, after_set, after_register, after_find, plan, end_of}
+use Rattle.osgi_session.specs.Plans.{Plan, ask, stop, done, unless_refused, after_one, one, after_begin_start, after_resolve, after_wish, start, Stop, stopped, section_failed, not_stopped, how_stopped, after_begin_stop, halt, past_failure, past_stop, start_all, halt_all, restart, after_stop_to_update, stop_members, after_begin_refresh, to_start, to_stop, unless_stuck, climb, descend, after_begin_level, after_last_set, after_set, after_register, after_find, after_await, after_resolve_lazy, after_wish_lazy, after_load, after_get, plan, end_of}
 
 after-refusal : (reply : Reply) (rest : Plan) → NoTake rest → NoTake (unless_refused reply rest)
 after-refusal (answer.Refused refusal) rest c = tt
@@ -120,9 +120,33 @@ find : (reply : Reply) → NoTake (after_find reply)
 find (answer.Best found) = tt
 find reply = after-one reply
 
-loads : (console : Bool) (bundle : BundleId) (class : List ℕ) → NoTake (cond console (ask (op.Resolve bundle) (λ reply. unless_refused reply (one (op.Load bundle class)))) (one (op.Load bundle class)))
-loads true bundle class = (refl, λ reply. after-refusal reply (one (op.Load bundle class)) (refl, after-one))
-loads false bundle class = (refl, after-one)
+-- a start of a bundle that may wait
+await : (bundle : BundleId) (rest : Bool → Plan) → ((bad : Bool) → NoTake (rest bad)) → (reply : Reply) → NoTake (after_await bundle rest reply)
+await bundle rest c (answer.Eager eager) = (refl, begin-start bundle false rest c)
+await bundle rest c (answer.Refused refusal) = c true
+await bundle rest c reply = c false
+
+resolve-lazy : (bundle : BundleId) (rest : Bool → Plan) → ((bad : Bool) → NoTake (rest bad)) → (reply : Reply) → NoTake (after_resolve_lazy bundle rest reply)
+resolve-lazy bundle rest c (answer.Refused refusal) = c true
+resolve-lazy bundle rest c reply = (refl, await bundle rest c)
+
+wish-lazy : (rest : Bool → Plan) → ((bad : Bool) → NoTake (rest bad)) → (reply : Reply) → NoTake (after_wish_lazy rest reply)
+wish-lazy rest c (answer.Go bundle) = (refl, resolve-lazy bundle rest c)
+wish-lazy rest c (answer.Refused refusal) = c true
+wish-lazy rest c reply = c false
+
+load-more : (reply : Reply) → NoTake (after_load reply)
+load-more (answer.LoadedMore by wire (Some bundle)) = takes-start (Id bundle) true (λ bad. stop done) (λ bad. tt)
+load-more reply = after-one reply
+
+get : (reply : Reply) → NoTake (after_get reply)
+get (answer.Make owner row name) = λ fails. (refl, after-one)
+get reply = after-one reply
+
+loads : (console : Bool) (bundle : BundleId) (class : List ℕ) →
+    NoTake (cond console (ask (op.Resolve bundle) (λ reply. unless_refused reply (ask (op.Load bundle class) after_load))) (ask (op.Load bundle class) after_load))
+loads true bundle class = (refl, λ reply. after-refusal reply (ask (op.Load bundle class) after_load) (refl, load-more))
+loads false bundle class = (refl, load-more)
 
 -- none of them
 pub takes-plan : (owner : BundleId) (c : Command) → NoTake (plan owner c)
@@ -140,7 +164,13 @@ takes-plan owner (command.Fail text) = (refl, λ reply. after-refusal reply _ tt
 takes-plan owner (command.Modify service properties) = (refl, after-one)
 takes-plan owner (command.Unregister service) = (refl, after-one)
 takes-plan owner (command.FindAll class filter) = (refl, after-one)
-takes-plan owner (command.Get service) = (refl, after-one)
+takes-plan owner (command.Get service) = (refl, get)
+takes-plan owner (command.GetOwn service) = (refl, get)
+takes-plan owner (command.UngetOwn service object) = (refl, after-one)
+takes-plan owner (command.Factory classes scope name properties) = (refl, register)
+takes-plan owner (command.Give text) = (refl, after-one)
+takes-plan owner (command.Peek class filter) = tt
+takes-plan owner (command.StartLazy bundle) = (refl, wish-lazy (λ bad. stop (end_of bad)) (λ bad. tt))
 takes-plan owner (command.Unget service) = (refl, after-one)
 takes-plan owner (command.Install location) = (refl, after-one)
 takes-plan owner (command.Resolve bundle) = (refl, after-one)

@@ -7,7 +7,7 @@ use Rattle.osgi_ops.specs.Replies.{is_effective}
 use Rattle.osgi_session.specs.Rendering.{takes_no_job}
 use Rattle.osgi_session.specs.Runs.{Call, drained, ends_drain, ends_jobs, taking, planned, statements, Task}
 use Rattle.osgi_ops.specs.declared.op.Op.{Op}
-use Rattle.osgi_ops.specs.declared.op.Op.TheVariants.{Hand, TakeJob}
+use Rattle.osgi_ops.specs.declared.op.Op.TheVariants.{EndMake, Hand, TakeJob}
 use Rattle.osgi_ops.specs.declared.reply.Reply.{Reply}
 use Rattle.osgi_ops.specs.declared.reply.Reply.TheVariants.{Nothing}
 
@@ -24,10 +24,15 @@ abbrev pub finds_nothing : Op → Reply → Bool
 finds_nothing Hand (Nothing busy) = true
 finds_nothing _ _ = false
 
+-- an end with this reply ended its bracket: that of a make, refused or not, and any other that did its work
+abbrev pub has_closed : Op → Reply → Bool
+has_closed (EndMake failed) reply = true
+has_closed op reply = is_effective reply
+
 -- what its reply is bound to: the end of the innermost bracket is not refused as none; and a Hand that ends its drain finds nothing to hand,
 -- and a TakeJob that takes no job finds none, unless as many brackets are open as there may be
 pub record IsBound (limit : ℕ) (tag : Tag) (own : List Bracket) (c : Call) : Type 0 where
-  pub ended : own_closes tag c.op own ≡ true → is_effective c.reply ≡ true
+  pub ended : own_closes tag c.op own ≡ true → has_closed c.op c.reply ≡ true
   pub found : is_hand c.op ≡ true → ends_drain c.reply ≡ true → (finds_nothing c.op c.reply ≡ true) ⊎ (limit ≤ length own)
   pub taken : is_take c.op ≡ true → ends_jobs c.reply ≡ true → (takes_no_job c.op c.reply ≡ true) ⊎ (limit ≤ length own)
 
@@ -42,7 +47,7 @@ Closes None (stop end) = ⊤
 Closes (Some cause) (stop end) = ⊥
 Closes o (run row owner which next) = (fails : Bool) → Closes o (next fails)
 Closes None (ask asks next) = (is_end asks ≡ false) × ((reply : Reply) → Closes (opens asks reply) (next reply))
-Closes (Some cause) (ask asks next) = (ends asks cause ≡ true) × ((reply : Reply) → is_effective reply ≡ true → (stirs asks reply ≡ true) × Closes None (next reply))
+Closes (Some cause) (ask asks next) = (ends asks cause ≡ true) × ((reply : Reply) → has_closed asks reply ≡ true → (stirs asks reply ≡ true) × Closes None (next reply))
 
 abbrev pub ClosesTask : Option Cause → Task → Type 0
 ClosesTask o (planned p) = Closes o p

@@ -1,7 +1,7 @@
 -- What listeners were handed in the end.
 use Rattle.std.specs.Prelude.{◌≡◌, List, Some}
 use Rattle.osgi_base.specs.declared.ids.ListenerId.{ListenerId}
-use Rattle.osgi_ops.specs.Legal.{AreAllowed}
+use Rattle.osgi_legal.specs.Legal.{AreAllowed}
 use Rattle.osgi_ops.specs.Listening.{Added, due, handed, listener_at}
 use Rattle.osgi_ops.specs.Moments.{entries_in, Told}
 use Rattle.osgi_ops.specs.Settings.{Setting}

@@ -18,7 +18,7 @@ use Rattle.std.proofs.lemmas.Option.{cond_some}
 use Rattle.std.proofs.lemmas.Slice.Eq.{bytes_eq-Decides}
 use Rattle.osgi_model.specs.laws.Made.{mapped}
 use Rattle.osgi_ops.specs.declared.section.Section.{Section}
-use Rattle.osgi_ops.specs.declared.section.Section.TheVariants.{Start, Stop, On, Job}
+use Rattle.osgi_ops.specs.declared.section.Section.TheVariants.{Start, Stop, On, Job, Make}
 use Rattle.osgi_session.specs.declared.statement.Statement.{Statement}
 use Rattle.osgi_script.specs.computed.ScriptReader.{add_statement, has_section, is_taken, same_section, with_statement}
 use Rattle.osgi_session.specs.declared.script.Part.{Part}
@@ -30,6 +30,7 @@ same_sound Start Start e = refl
 same_sound Stop Stop e = refl
 same_sound (On name) (On other) e = ap On ((bytes_eq-Decides name other).0 e)
 same_sound (Job name) (Job other) e = ap Job ((bytes_eq-Decides name other).0 e)
+same_sound (Make name) (Make other) e = ap Make ((bytes_eq-Decides name other).0 e)
 same_sound s t e = absurd (cc e)
 
 pub same_self : (s : Section) → same_section s s ≡ true
@@ -37,6 +38,7 @@ same_self Start = refl
 same_self Stop = refl
 same_self (On name) = (bytes_eq-Decides name name).1 refl
 same_self (Job name) = (bytes_eq-Decides name name).1 refl
+same_self (Make name) = (bytes_eq-Decides name name).1 refl
 
 abbrev section_of : Part → Section
 section_of part = part.section
@@ -97,19 +99,30 @@ name_taken old new key name same updates q =
 
 pub on_taken : (taken : Taken) (new : BTreeSet (List ℕ)) (section : Section) (key name : List ℕ) → section ≡ On name → key ≡ name →
     ((q : List ℕ) → contains (slice_cmp nat_cmp) new q ≡ cond (is_at (slice_cmp nat_cmp key) q) true (contains (slice_cmp nat_cmp) taken.on q)) →
-    (other : Section) → is_taken (record { start = taken.start; stop = taken.stop; on = new; job = taken.job }) other ≡ (same_section other section || is_taken taken other)
+    (other : Section) → is_taken (record { start = taken.start; stop = taken.stop; on = new; job = taken.job; make = taken.make }) other ≡ (same_section other section || is_taken taken other)
 on_taken taken new section key name is same updates Start = rw is refl
 on_taken taken new section key name is same updates Stop = rw is refl
 on_taken taken new section key name is same updates (On q) = rw is (name_taken taken.on new key name same updates q)
 on_taken taken new section key name is same updates (Job q) = rw is refl
+on_taken taken new section key name is same updates (Make q) = rw is refl
 
 pub job_taken : (taken : Taken) (new : BTreeSet (List ℕ)) (section : Section) (key name : List ℕ) → section ≡ Job name → key ≡ name →
     ((q : List ℕ) → contains (slice_cmp nat_cmp) new q ≡ cond (is_at (slice_cmp nat_cmp key) q) true (contains (slice_cmp nat_cmp) taken.job q)) →
-    (other : Section) → is_taken (record { start = taken.start; stop = taken.stop; on = taken.on; job = new }) other ≡ (same_section other section || is_taken taken other)
+    (other : Section) → is_taken (record { start = taken.start; stop = taken.stop; on = taken.on; job = new; make = taken.make }) other ≡ (same_section other section || is_taken taken other)
 job_taken taken new section key name is same updates Start = rw is refl
 job_taken taken new section key name is same updates Stop = rw is refl
 job_taken taken new section key name is same updates (On q) = rw is refl
 job_taken taken new section key name is same updates (Job q) = rw is (name_taken taken.job new key name same updates q)
+job_taken taken new section key name is same updates (Make q) = rw is refl
+
+pub make_taken : (taken : Taken) (new : BTreeSet (List ℕ)) (section : Section) (key name : List ℕ) → section ≡ Make name → key ≡ name →
+    ((q : List ℕ) → contains (slice_cmp nat_cmp) new q ≡ cond (is_at (slice_cmp nat_cmp key) q) true (contains (slice_cmp nat_cmp) taken.make q)) →
+    (other : Section) → is_taken (record { start = taken.start; stop = taken.stop; on = taken.on; job = taken.job; make = new }) other ≡ (same_section other section || is_taken taken other)
+make_taken taken new section key name is same updates Start = rw is refl
+make_taken taken new section key name is same updates Stop = rw is refl
+make_taken taken new section key name is same updates (On q) = rw is refl
+make_taken taken new section key name is same updates (Job q) = rw is refl
+make_taken taken new section key name is same updates (Make q) = rw is (name_taken taken.make new key name same updates q)
 
 -- a statement more leaves the sections as they are
 pub same_sections : (s : Statement) (old new : List Part) → add_statement s old ≡ Some new → (section : Section) → has_section new section ≡ has_section old section

@@ -16,6 +16,7 @@ pub struct Taken {
     stop: bool,
     on: BTreeSet<Text>,
     job: BTreeSet<Text>,
+    make: BTreeSet<Text>,
 }
 
 impl Taken {
@@ -31,6 +32,7 @@ impl Taken {
             stop: false,
             on: BTreeSet::new(alloc),
             job: BTreeSet::new(alloc),
+            make: BTreeSet::new(alloc),
         }
     }
 
@@ -52,6 +54,7 @@ impl Taken {
             }
             Section::On(name) => Ok(self.on.insert(name.copy(alloc)?)?),
             Section::Job(name) => Ok(self.job.insert(name.copy(alloc)?)?),
+            Section::Make(name) => Ok(self.make.insert(name.copy(alloc)?)?),
         }
     }
 }

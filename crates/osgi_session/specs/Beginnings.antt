@@ -1,5 +1,5 @@
 -- The operation with which the plan of a command begins, and what of the command is kept for a later one.
-use Rattle.std.specs.Prelude.{ℕ, ◌==◌, true, if◌then◌else◌, List, Option, None, Some}
+use Rattle.std.specs.Prelude.{ℕ, ◌==◌, Bool, true, false, if◌then◌else◌, List, Option, None, Some}
 use Rattle.osgi_base.specs.declared.ids.BundleId.{BundleId}
 use Rattle.osgi_ops.specs.declared.op.Op.{Op}
 use Rattle.osgi_ops.specs.declared.op.Op.TheVariants as op
@@ -7,6 +7,11 @@ use Rattle.osgi_ops.specs.declared.scope.Scope.TheVariants.{Singleton}
 use Rattle.osgi_ops.specs.declared.target.Target.TheVariants as target
 use Rattle.osgi_session.specs.declared.command.Command.{Command}
 use Rattle.osgi_session.specs.declared.command.Command.TheVariants as command
+
+-- the command asks for no operation
+abbrev pub is_peek : Command → Bool
+is_peek (command.Peek class filter) = true
+is_peek _ = false
 
 -- the operation that the plan of a command begins with, where the owner runs it. A bundle is stopped before it is updated or
 -- uninstalled, and resolved before the console loads a class from it
@@ -18,6 +23,12 @@ op_of owner (command.Find class filter) = op.Find owner class filter
 op_of owner (command.FindAll class filter) = op.FindAll owner class filter
 op_of owner (command.Get service) = op.Get owner service
 op_of owner (command.Unget service) = op.Unget owner service
+op_of owner (command.GetOwn service) = op.GetOwn owner service
+op_of owner (command.UngetOwn service object) = op.UngetOwn owner service object
+op_of owner (command.Factory classes scope name properties) = op.Register owner classes name scope properties
+op_of owner (command.Give text) = op.Give owner text
+op_of owner (command.Peek class filter) = op.ListServices
+op_of owner (command.StartLazy bundle) = op.WishStart (target.Id bundle) false
 op_of owner (command.Start target transient) = op.WishStart target transient
 op_of owner (command.Stop target transient) = op.BeginStop target transient
 op_of owner (command.Load bundle class) = if owner.0 == 0 then op.Resolve bundle else op.Load bundle class

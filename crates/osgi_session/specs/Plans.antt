@@ -4,7 +4,6 @@ use Rattle.osgi_base.specs.declared.ids.BundleId.{BundleId}
 use Rattle.osgi_base.specs.declared.ids.ServiceId.{ServiceId}
 use Rattle.osgi_ops.specs.Bundles.{system}
 use Rattle.osgi_ops.specs.Replies.{is_accepted, is_effective, is_refusal}
-use Rattle.osgi_ops.specs.Stages.{is_here}
 use Rattle.osgi_session.specs.declared.command.Command.{Command}
 use Rattle.osgi_session.specs.declared.command.Command.TheVariants as command
 use Rattle.osgi_ops.specs.declared.op.Op.{Op}
@@ -32,6 +31,11 @@ pub data Plan : Type 0 where
   run : ℕ → BundleId → Section → (Bool → Plan) → Plan
   stop : End → Plan
 
+-- bundles may wait for a load of one of their classes. Then a stop that finds nothing to stop may have ended such a waiting, of which
+-- there are events
+abbrev pub waits_here : Bool
+waits_here = false
+
 -- after this operation with this reply something may wait to be handed to a listener
 abbrev pub stirs : Op → Reply → Bool
 stirs (op.Register owner classes object scope properties) reply = is_accepted reply
@@ -42,7 +46,10 @@ stirs (op.Resolve bundle) reply = is_accepted reply
 stirs (op.BeginStart bundle transient) (answer.Begun begun row) = true
 stirs (op.EndStart bundle fails) reply = is_effective reply
 stirs (op.BeginStop target transient) (answer.Begun begun row) = true
+stirs (op.BeginStop target transient) (answer.Idle bundle) = waits_here
 stirs (op.EndStop bundle fails) reply = is_effective reply
+stirs (op.Await asked) (answer.Waiting bundle) = true
+stirs (op.EndMake fails) reply = true
 stirs (op.Update bundle location) reply = is_accepted reply
 stirs (op.Uninstall bundle) reply = is_accepted reply
 stirs op.DropWirings reply = is_accepted reply
@@ -50,9 +57,9 @@ stirs op.EndRefresh reply = is_accepted reply
 stirs op.EndLevel reply = is_accepted reply
 stirs _ _ = false
 
--- a drain follows it, as soon as events are handed at all
+-- a drain follows it
 abbrev pub is_drained : Op → Reply → Bool
-is_drained o reply = is_here op.Hand && stirs o reply
+is_drained o reply = stirs o reply
 
 abbrev pub end_of : Bool → End
 end_of true = refused
@@ -91,6 +98,25 @@ after_wish transient rest reply = rest false
 
 abbrev pub start : Target → Bool → (Bool → Plan) → Plan
 start target transient rest = ask (op.WishStart target transient) (after_wish transient rest)
+
+-- ---- starts of bundles that may wait: one that does not wait is started as any other
+
+abbrev pub after_await : BundleId → (Bool → Plan) → Reply → Plan
+after_await bundle rest (answer.Eager eager) = ask (op.BeginStart bundle false) (after_begin_start bundle rest)
+after_await bundle rest (answer.Refused refusal) = rest true
+after_await bundle rest reply = rest false
+
+abbrev pub after_resolve_lazy : BundleId → (Bool → Plan) → Reply → Plan
+after_resolve_lazy bundle rest (answer.Refused refusal) = rest true
+after_resolve_lazy bundle rest reply = ask (op.Await bundle) (after_await bundle rest)
+
+abbrev pub after_wish_lazy : (Bool → Plan) → Reply → Plan
+after_wish_lazy rest (answer.Go bundle) = ask (op.Resolve bundle) (after_resolve_lazy bundle rest)
+after_wish_lazy rest (answer.Refused refusal) = rest true
+after_wish_lazy rest reply = rest false
+
+abbrev pub start_lazy : BundleId → (Bool → Plan) → Plan
+start_lazy bundle rest = ask (op.WishStart (Id bundle) false) (after_wish_lazy rest)
 
 -- ---- stops
 
@@ -208,8 +234,19 @@ abbrev pub after_find : Reply → Plan
 after_find (answer.Best found) = stop (bound found)
 after_find reply = after_one reply
 
+-- a bundle that waited for the class is started, and what comes of that does not end the plan
+abbrev pub after_load : Reply → Plan
+after_load (answer.LoadedMore by wire (Some bundle)) = start (Id bundle) true (λ bad. stop done)
+after_load reply = after_one reply
+
 abbrev pub load : BundleId → BundleId → List ℕ → Plan
-load owner bundle class = if owner.0 == 0 then ask (op.Resolve bundle) (λ reply. unless_refused reply (one (op.Load bundle class))) else one (op.Load bundle class)
+load owner bundle class =
+    if owner.0 == 0 then ask (op.Resolve bundle) (λ reply. unless_refused reply (ask (op.Load bundle class) after_load)) else ask (op.Load bundle class) after_load
+
+-- an object that is to be made is made by a section
+abbrev pub after_get : Reply → Plan
+after_get (answer.Make owner row name) = run row owner (section.Make name) (λ fails. one (op.EndMake fails))
+after_get reply = after_one reply
 
 -- the plan of a command that the owner runs
 abbrev pub plan : BundleId → Command → Plan
@@ -218,7 +255,13 @@ plan owner (command.Modify service properties) = one (op.Modify owner service pr
 plan owner (command.Unregister service) = one (op.Unregister owner service)
 plan owner (command.Find class filter) = ask (op.Find owner class filter) after_find
 plan owner (command.FindAll class filter) = one (op.FindAll owner class filter)
-plan owner (command.Get service) = one (op.Get owner service)
+plan owner (command.Get service) = ask (op.Get owner service) after_get
+plan owner (command.GetOwn service) = ask (op.GetOwn owner service) after_get
+plan owner (command.UngetOwn service object) = one (op.UngetOwn owner service object)
+plan owner (command.Factory classes scope name properties) = ask (op.Register owner classes name scope properties) after_register
+plan owner (command.Give text) = one (op.Give owner text)
+plan owner (command.Peek class filter) = stop done
+plan owner (command.StartLazy bundle) = start_lazy bundle (λ bad. stop (end_of bad))
 plan owner (command.Unget service) = one (op.Unget owner service)
 plan owner (command.Start target transient) = start target transient (λ bad. stop (end_of bad))
 plan owner (command.Stop target transient) = halt target transient (past_stop (stop done))

@@ -1,5 +1,5 @@
 -- The text of a session: what each line and each entry writes.
-use Rattle.std.specs.Prelude.{ℕ, ◌≡◌, ◌↔◌, ◌&&◌, ◌||◌, ◌==◌, ◌+◌, not, if◌then◌else◌, Bool, true, false, List, [], ◌∷◌, ◌++◌, Option, None, Some, codes, length, map, replicate}
+use Rattle.std.specs.Prelude.{ℕ, ◌≡◌, ◌↔◌, ◌&&◌, ◌||◌, ◌==◌, ◌+◌, not, if◌then◌else◌, Bool, true, false, List, [], ◌∷◌, ◌++◌, Option, None, Some, codes, filter, length, map, replicate}
 use Rattle.std.specs.List.{concat, join_with_byte}
 use Rattle.std.specs.Fmt.{decimal, signed_decimal}
 use Rattle.std.specs.Option.{option_to_list}
@@ -16,11 +16,13 @@ use Rattle.osgi_session.specs.Runs.{Sections}
 use Rattle.osgi_session.specs.Sessions.{IsRunOf}
 use Rattle.osgi_ops.specs.declared.event.Event.{Event}
 use Rattle.osgi_ops.specs.declared.event.Event.TheVariants as event
+use Rattle.osgi_ops.specs.declared.object_id.ObjectId.{ObjectId}
 use Rattle.osgi_ops.specs.declared.op.Op.{Op}
 use Rattle.osgi_ops.specs.declared.op.Op.TheVariants as op
 use Rattle.osgi_ops.specs.declared.reply.Reply.{Reply}
 use Rattle.osgi_ops.specs.declared.reply.Reply.TheVariants as answer
 use Rattle.osgi_ops.specs.declared.entry.Entry.{Entry}
+use Rattle.osgi_ops.specs.declared.peek.Peek.{Peek}
 use Rattle.osgi_ops.specs.declared.rows.BundleRow.{BundleRow}
 use Rattle.osgi_ops.specs.declared.rows.WireRow.{WireRow}
 use Rattle.osgi_ops.specs.declared.service.ServiceRow.{ServiceRow}
@@ -86,14 +88,27 @@ event_text (event.Service code service) = codes "service" ++ spaced (decimal cod
 event_text (event.Bundle code bundle) = codes "bundle" ++ spaced (decimal code) ++ spaced (decimal bundle.0)
 event_text (event.Framework code) = codes "framework" ++ spaced (decimal code)
 
+-- an object that a factory made
+abbrev pub held_text : ObjectId → List ℕ → List ℕ
+held_text object text = codes "object" ++ spaced (codes "o" ++ decimal object.0) ++ spaced (quoted text)
+
 abbrev pub loaded_text : Option RevisionId → List ℕ
 loaded_text None = codes "none"
 loaded_text (Some r) = codes "r" ++ decimal r.0
+
+abbrev pub wired_row_text : WireRow → List ℕ
+wired_row_text row = codes "wired" ++ spaced row.namespace ++ spaced row.name ++ revision_text row
+
+-- the wire that a load added
+abbrev pub added_lines : Option WireRow → List (List ℕ)
+added_lines None = []
+added_lines (Some row) = wired_row_text row ∷ []
 
 -- what an operation writes that was done, where this is the active start level
 abbrev pub done_lines : ℕ → Op → List (List ℕ)
 done_lines level (op.Modify owner service properties) = (codes "modified" ++ spaced (decimal service.0)) ∷ []
 done_lines level (op.Unregister owner service) = (codes "unregistered" ++ spaced (decimal service.0)) ∷ []
+done_lines level (op.UngetOwn user service object) = (codes "ungetown" ++ spaced (codes "o" ++ decimal object.0)) ∷ []
 done_lines level (op.QueueJob owner name) = codes "queued" ∷ []
 done_lines level (op.Print owner text) = text ∷ []
 done_lines level (op.Fail owner text) = (codes "fail" ++ spaced (quoted text)) ∷ []
@@ -111,6 +126,10 @@ entry_lines level o (answer.Service service) = (codes "service" ++ spaced (decim
 entry_lines level o (answer.Best service) = (codes "found" ++ services_text (option_to_list service)) ∷ []
 entry_lines level o (answer.Services services) = (codes "found" ++ services_text services) ∷ []
 entry_lines level o (answer.Object text) = (codes "object" ++ spaced (quoted text)) ∷ []
+entry_lines level o (answer.Held object text) = held_text object text ∷ []
+entry_lines level o (answer.Make owner row name) = (codes "making" ++ spaced (decimal owner.0) ++ spaced name) ∷ []
+entry_lines level o (answer.Waiting bundle) = (codes "waiting" ++ spaced (decimal bundle.0)) ∷ []
+entry_lines level o (answer.LoadedMore by wire wake) = added_lines wire ++ (codes "loaded" ++ spaced (loaded_text by)) ∷ []
 entry_lines level o (answer.Listener listener) = (codes "listener" ++ spaced (decimal listener.0)) ∷ []
 entry_lines level o (answer.Handed listener kind owner row name e) = (codes "event" ++ spaced (decimal listener.0) ++ spaced (event_text e)) ∷ []
 entry_lines level o (answer.Job owner row name) = (codes "job" ++ spaced (decimal owner.0) ++ spaced name) ∷ []
@@ -184,16 +203,24 @@ abbrev pub IsFullWhereCut : Sections → ℕ → List Entry → Line → Type 0
 IsFullWhereCut scripts caller history line =
     has_command line.content ≡ true → (is_full history line ≡ false) ↔ IsRunOf scripts caller line (entries_of line history)
 
-abbrev pub content_text : List Entry → ℕ → Content → List ℕ
-content_text history number Empty = []
-content_text history number Join = []
-content_text history number Bad = with_line_end (codes "syntax")
-content_text history number (Run command) = entries_text number history
+-- what a line's peek writes: how many entries there were, and the services
+abbrev pub peek_text : Peek → List ℕ
+peek_text p = with_line_end (codes "peek" ++ spaced (decimal p.place) ++ services_text p.services)
+
+-- the peeks of a line
+abbrev pub peeks_text : ℕ → List Peek → List ℕ
+peeks_text number peeks = concat (map peek_text (filter (λ (p : Peek). p.tag.command == number) peeks))
+
+abbrev pub content_text : List Entry → List Peek → ℕ → Content → List ℕ
+content_text history peeks number Empty = []
+content_text history peeks number Join = []
+content_text history peeks number Bad = with_line_end (codes "syntax")
+content_text history peeks number (Run command) = peeks_text number peeks ++ entries_text number history
 
 -- a line writes its text, and `full` where it is so
-abbrev pub line_text : List Entry → Line → List ℕ
-line_text history line = content_text history line.number line.content ++ (if is_full history line then with_line_end (codes "full") else [])
+abbrev pub line_text : List Entry → List Peek → Line → List ℕ
+line_text history peeks line = content_text history peeks line.number line.content ++ (if is_full history line then with_line_end (codes "full") else [])
 
 -- the lines write their texts in input order
-abbrev pub render : List Line → List Entry → List ℕ
-render lines history = concat (map (line_text history) lines)
+abbrev pub render : List Line → List Entry → List Peek → List ℕ
+render lines history peeks = concat (map (line_text history peeks) lines)

@@ -53,6 +53,9 @@ command_of owner bindings (statement.Unregister var) = command.Unregister (held 
 command_of owner bindings (statement.Find var class filter) = command.Find class filter
 command_of owner bindings (statement.Get var) = command.Get (held bindings var)
 command_of owner bindings (statement.Unget var) = command.Unget (held bindings var)
+command_of owner bindings (statement.GetOwn var) = command.GetOwn (held bindings var)
+command_of owner bindings (statement.Factory var classes scope name properties) = command.Factory classes scope name properties
+command_of owner bindings (statement.Give text) = command.Give text
 command_of owner bindings (statement.Start name) = command.Start (Name name) false
 command_of owner bindings (statement.Stop name) = command.Stop (Name name) false
 command_of owner bindings (statement.Load class) = command.Load owner class
@@ -66,6 +69,7 @@ command_of owner bindings (statement.Fail text) = command.Fail text
 abbrev pub bound_by : Statement → Option (List ℕ)
 bound_by (statement.Register var classes object properties) = Some var
 bound_by (statement.Find var class filter) = Some var
+bound_by (statement.Factory var classes scope name properties) = Some var
 bound_by _ = None
 
 abbrev pub bind : Option (List ℕ) → End → List Binding → List Binding

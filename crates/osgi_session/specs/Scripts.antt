@@ -14,6 +14,7 @@ is_section section.Start section.Start = true
 is_section section.Stop section.Stop = true
 is_section (section.On name) (section.On other) = bytes_eq name other
 is_section (section.Job name) (section.Job other) = bytes_eq name other
+is_section (section.Make name) (section.Make other) = bytes_eq name other
 is_section _ _ = false
 
 -- the statements of a section of the row's script: none where the script does not have it, or the row has no script

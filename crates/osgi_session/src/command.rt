@@ -1,12 +1,12 @@
 //! The commands of the console and of scripts.
 
-ghost use Rattle.std.specs.Prelude.{◌≡◌, true, IfOk};
+ghost use Rattle.std.specs.Prelude.{◌≡◌, true, false, IfOk};
 ghost use Rattle.osgi_ops.specs.declared.target.Target.TheVariants as target;
-ghost use Rattle.osgi_session.specs.Beginnings.{later_text, op_of};
+ghost use Rattle.osgi_session.specs.Beginnings.{is_peek, later_text, op_of};
 
 use osgi_base::{BundleId, Copied, List, ServiceId, Text, copy_three, copy_two};
 use osgi_model::{Attributes, Filter};
-use osgi_ops::{Kind, Op, Scope, Target};
+use osgi_ops::{Kind, ObjectId, Op, Scope, Target};
 use std::alloc::{AllocError, Global};
 
 pub enum Command {
@@ -42,6 +42,35 @@ pub enum Command {
     /// `unget ID`
     Unget {
         service: ServiceId,
+    },
+    /// `getown ID`
+    GetOwn {
+        service: ServiceId,
+    },
+    /// `ungetown ID N`
+    UngetOwn {
+        service: ServiceId,
+        object: ObjectId,
+    },
+    /// `factory CLASS[,CLASS].. bundle|prototype NAME [PROP]..`, in scripts
+    Factory {
+        classes: List<Text>,
+        scope: Scope,
+        name: Text,
+        properties: Attributes,
+    },
+    /// `give "TEXT"`, in scripts
+    Give {
+        text: Text,
+    },
+    /// `peek CLASS [FILTER]`, which asks for no operation
+    Peek {
+        class: Text,
+        filter: Option<Filter>,
+    },
+    /// `start -p ID`
+    StartLazy {
+        bundle: BundleId,
     },
     /// `start [-t] ID`
     Start {
@@ -143,6 +172,23 @@ impl Drop for Command {
                 filter: _,
             } => {}
             Command::Get { service: _ } => {}
+            Command::GetOwn { service: _ } => {}
+            Command::UngetOwn {
+                service: _,
+                object: _,
+            } => {}
+            Command::Factory {
+                classes: _,
+                scope: _,
+                name: _,
+                properties: _,
+            } => {}
+            Command::Give { text: _ } => {}
+            Command::Peek {
+                class: _,
+                filter: _,
+            } => {}
+            Command::StartLazy { bundle: _ } => {}
             Command::Unget { service: _ } => {}
             Command::Start {
                 target: _,
@@ -236,6 +282,31 @@ fn listen(
     Ok(Command::Listen { name, kind, filter })
 }
 
+fn factory(
+    alloc: Global,
+    classes: &List<Text>,
+    scope: Scope,
+    name: &Text,
+    properties: &Attributes,
+) -> Result<Command, AllocError>
+    ensures made { IfOk result (λ made. made ≡ Command.Factory classes.now scope name.now properties.now) }
+{
+    let (classes, name, properties) = copy_three(classes, name, properties, alloc)?;
+    Ok(Command::Factory {
+        classes,
+        scope,
+        name,
+        properties,
+    })
+}
+
+fn peek(alloc: Global, class: &Text, filter: &Option<Filter>) -> Result<Command, AllocError>
+    ensures made { IfOk result (λ made. made ≡ Command.Peek class.now filter.now) }
+{
+    let (class, filter) = copy_two(class, filter, alloc)?;
+    Ok(Command::Peek { class, filter })
+}
+
 impl Command {
     pub fn copy(&self, alloc: Global) -> Result<Command, AllocError>
         ensures same { IfOk result (λ copy. copy ≡ self.now) }
@@ -254,6 +325,19 @@ impl Command {
             Command::Find { class, filter } => find(alloc, class, filter),
             Command::FindAll { class, filter } => find_all(alloc, class, filter),
             &Command::Get { service } => Ok(Command::Get { service }),
+            &Command::GetOwn { service } => Ok(Command::GetOwn { service }),
+            &Command::UngetOwn { service, object } => Ok(Command::UngetOwn { service, object }),
+            Command::Factory {
+                classes,
+                scope,
+                name,
+                properties,
+            } => factory(alloc, classes, *scope, name, properties),
+            Command::Give { text } => Ok(Command::Give {
+                text: text.copy(alloc)?,
+            }),
+            Command::Peek { class, filter } => peek(alloc, class, filter),
+            &Command::StartLazy { bundle } => Ok(Command::StartLazy { bundle }),
             &Command::Unget { service } => Ok(Command::Unget { service }),
             Command::Start { target, transient } => Ok(Command::Start {
                 target: target.copy(alloc)?,
@@ -303,6 +387,7 @@ impl Command {
     /// The operation that the command's plan begins with, where the bundle runs it, of the command's own parts, and the text that
     /// a later operation needs, if one does.
     pub fn into_op(self, asker: BundleId) -> (Op, Option<Text>)
+        requires asks { is_peek self ≡ false }
         ensures operation { result.0 ≡ op_of asker self }
         ensures later { result.1 ≡ later_text asker self }
     {
@@ -342,6 +427,34 @@ impl Command {
                 filter,
             },
             Command::Get { service } => Op::Get { user, service },
+            Command::GetOwn { service } => Op::GetOwn { user, service },
+            Command::UngetOwn { service, object } => Op::UngetOwn {
+                user,
+                service,
+                object,
+            },
+            Command::Factory {
+                classes,
+                scope,
+                name,
+                properties,
+            } => Op::Register {
+                owner,
+                classes,
+                object: name,
+                scope,
+                properties,
+            },
+            Command::Give { text } => Op::Give { owner, text },
+            // It asks for none.
+            Command::Peek {
+                class: _,
+                filter: _,
+            } => Op::ListServices,
+            Command::StartLazy { bundle } => Op::WishStart {
+                target: Target::Id(bundle),
+                transient: false,
+            },
             Command::Unget { service } => Op::Unget { user, service },
             Command::Start { target, transient } => Op::WishStart { target, transient },
             Command::Stop { target, transient } => Op::BeginStop { target, transient },

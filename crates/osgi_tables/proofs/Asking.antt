@@ -11,12 +11,12 @@ use Rattle.osgi_legal.proofs.Askers.{asker-down, asker-gone}
 use Rattle.osgi_ops.specs.Bundles.{Active, is_live, is_up as is_up_state, number_of, Phase, phase, Resolved, running, Starting, State, state, Stopping, Uninstalled, Unresolved}
 use Rattle.osgi_ops.specs.Bundles as phases
 use Rattle.osgi_ops.specs.Conditions.{asker_of, state_of}
-use Rattle.osgi_ops.specs.Legal.{IsTold}
+use Rattle.osgi_legal.specs.Legal.{IsTold}
 use Rattle.osgi_ops.specs.Moments.{Moment}
-use Rattle.osgi_ops.specs.Operations.{IsReply}
+use Rattle.osgi_legal.specs.Operations.{IsReply}
 use Rattle.osgi_ops.specs.Replies.{is_effective}
 use Rattle.osgi_ops.specs.Resolved.{is_resolved}
-use Rattle.osgi_ops.specs.Stages.{is_here}
+use Rattle.osgi_legal.specs.Stages.{is_here}
 use Rattle.osgi_ops.specs.States.{is_up}
 use Rattle.osgi_ops.specs.declared.state.TheConstants.{UNINSTALLED}
 use Rattle.osgi_ops.specs.declared.op.Op.{Op}

@@ -10,7 +10,7 @@ use Rattle.osgi_bundle.specs.laws.OneBundle.{found_row}
 use Rattle.osgi_bundle.specs.laws.Worlds.{current_new}
 use Rattle.osgi_legal.proofs.Rows.{current-at}
 use Rattle.osgi_ops.specs.Bundles.{Bundle, bundles}
-use Rattle.osgi_ops.specs.Legal.{IsTold}
+use Rattle.osgi_legal.specs.Legal.{IsTold}
 use Rattle.osgi_ops.specs.Listening.{bundle, Happening, happenings, leaving, of_bundle}
 use Rattle.osgi_ops.specs.Moments.{Moment}
 use Rattle.osgi_ops.specs.Resolved.{current_revision, is_current_of}

@@ -21,7 +21,7 @@ use Rattle.osgi_listeners.specs.laws.Premises.{of-added, turns-apart}
 use Rattle.osgi_listeners.specs.laws.Standing.{stands-with-added, stands-with-ended, stands-with-handed, stands-with-removed}
 use Rattle.osgi_model.specs.declared.filter.Filter.{Filter}
 use Rattle.osgi_ops.specs.Brackets.{handing, own_closes}
-use Rattle.osgi_ops.specs.Legal.{entry_of, IsTold}
+use Rattle.osgi_legal.specs.Legal.{entry_of, IsTold}
 use Rattle.osgi_ops.specs.Listening.{handings, is_handed}
 use Rattle.osgi_ops.specs.Moments.{later, Moment, Seen}
 use Rattle.osgi_ops.specs.Soundness.{IsSound}
@@ -107,7 +107,7 @@ add_quiet : (owner : BundleId) (name : List ℕ) (kind : Kind) (given : Option F
 add_quiet owner name kind given id = record {
   bundles = record { installed = λ n since. refl; gone = λ b. refl; updated = λ b. refl; brings = refl };
   phases = λ b. refl;
-  services = record { registered = λ n since. refl; taken = λ s owner. refl; given = λ s. refl; got = λ u s. refl; let_go = λ u s. refl; cleaned = refl };
+  services = record { registered = λ n since. refl; taken = λ s owner. refl; given = λ s. refl; got = λ u s. refl; let_go = λ u s. refl; cleaned = refl; made = λ tag opened. refl };
 }
 
 pub added_stands : (now : Moment) (old new : Tables) (owner : BundleId) (name : List ℕ) (kind : Kind) (given : Option Filter) → IsTold now → StandsFor now old → Listens owner name kind given old new →
@@ -127,7 +127,7 @@ remove_quiet : (owner : BundleId) (name : List ℕ) (value : Bool) → IsOfListe
 remove_quiet owner name value = record {
   bundles = record { installed = λ n since. refl; gone = λ b. refl; updated = λ b. refl; brings = refl };
   phases = λ b. refl;
-  services = record { registered = λ n since. refl; taken = λ s owner. refl; given = λ s. refl; got = λ u s. refl; let_go = λ u s. refl; cleaned = refl };
+  services = record { registered = λ n since. refl; taken = λ s owner. refl; given = λ s. refl; got = λ u s. refl; let_go = λ u s. refl; cleaned = refl; made = λ tag opened. refl };
 }
 
 pub removed_stands : (now : Moment) (old new : Tables) (owner : BundleId) (name : List ℕ) → StandsFor now old → new ≡ record old { listeners = without_listener owner name old.listeners } →
@@ -146,7 +146,7 @@ hand_quiet : (listener : ListenerId) (kind : Kind) (owner : BundleId) (row : ℕ
 hand_quiet listener kind owner row name event = record {
   bundles = record { installed = λ n since. refl; gone = λ b. refl; updated = λ b. refl; brings = refl };
   phases = λ b. refl;
-  services = record { registered = λ n since. refl; taken = λ s owner. refl; given = λ s. refl; got = λ u s. refl; let_go = λ u s. refl; cleaned = refl };
+  services = record { registered = λ n since. refl; taken = λ s owner. refl; given = λ s. refl; got = λ u s. refl; let_go = λ u s. refl; cleaned = refl; made = λ tag opened. refl };
 }
 
 pub handed_stands : (now : Moment) (old new : Tables) (tag : Tag) (listener : ListenerId) (kind : Kind) (owner : BundleId) (row : ℕ) (name : List ℕ) (event : Event) → now.tag ≡ tag → StandsFor now old → Hands tag listener old new →
@@ -165,7 +165,7 @@ nothing_quiet : (busy : List Busy) → IsOfListeners op.Hand (answer.Nothing bus
 nothing_quiet busy = record {
   bundles = record { installed = λ n since. refl; gone = λ b. refl; updated = λ b. refl; brings = refl };
   phases = λ b. refl;
-  services = record { registered = λ n since. refl; taken = λ s owner. refl; given = λ s. refl; got = λ u s. refl; let_go = λ u s. refl; cleaned = refl };
+  services = record { registered = λ n since. refl; taken = λ s owner. refl; given = λ s. refl; got = λ u s. refl; let_go = λ u s. refl; cleaned = refl; made = λ tag opened. refl };
 }
 
 pub nothing_stands : (now : Moment) (tables : Tables) (busy : List Busy) → StandsFor now tables → StandsFor (later now op.Hand (answer.Nothing busy) tables.wirings.world []) tables
@@ -179,7 +179,7 @@ end_quiet : (listener : ListenerId) → IsOfListeners (op.EndHand listener) answ
 end_quiet listener = record {
   bundles = record { installed = λ n since. refl; gone = λ b. refl; updated = λ b. refl; brings = refl };
   phases = λ b. refl;
-  services = record { registered = λ n since. refl; taken = λ s owner. refl; given = λ s. refl; got = λ u s. refl; let_go = λ u s. refl; cleaned = refl };
+  services = record { registered = λ n since. refl; taken = λ s owner. refl; given = λ s. refl; got = λ u s. refl; let_go = λ u s. refl; cleaned = refl; made = λ tag opened. refl };
 }
 
 -- the listeners where the turn is ended

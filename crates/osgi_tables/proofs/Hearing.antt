@@ -14,7 +14,7 @@ use Rattle.osgi_listeners.specs.laws.Premises.{quiet-entry}
 use Rattle.osgi_listeners.specs.laws.Standing.{stands-with-cleaned, stands-with-quiet}
 use Rattle.osgi_ops.specs.Brackets.{brackets, closes, is_end}
 use Rattle.osgi_ops.specs.Cleaning.{cleaned_by}
-use Rattle.osgi_ops.specs.Legal.{entry_of}
+use Rattle.osgi_legal.specs.Legal.{entry_of}
 use Rattle.osgi_ops.specs.Listening.{handed_by, handings, heard_by, is_handed}
 use Rattle.osgi_ops.specs.Moments.{Moment, Seen, seen_after}
 use Rattle.osgi_ops.specs.declared.entry.Entry.{Entry}

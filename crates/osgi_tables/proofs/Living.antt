@@ -18,10 +18,10 @@ use Rattle.osgi_legal.proofs.Quiet.{bundles-quiet}
 use Rattle.osgi_ops.specs.Brackets.{brackets, brackets_of, Cause, is_end, is_own_end, opens, own_closes}
 use Rattle.osgi_ops.specs.Bundles.{Phase, put_into}
 use Rattle.osgi_ops.specs.Cleaning.{cleaned_by}
-use Rattle.osgi_ops.specs.Legal.{entry_of, IsAskedAt}
+use Rattle.osgi_legal.specs.Legal.{entry_of, IsAskedAt}
 use Rattle.osgi_ops.specs.Listening.{clears, happenings, heard_by}
 use Rattle.osgi_ops.specs.Moments.{later, Moment}
-use Rattle.osgi_ops.specs.Operations.{IsReply}
+use Rattle.osgi_legal.specs.Operations.{IsReply}
 use Rattle.osgi_ops.specs.Resolved.{is_resolved}
 use Rattle.osgi_ops.specs.Soundness.{IsSound}
 use Rattle.osgi_ops.specs.Worlds.{Leaves}

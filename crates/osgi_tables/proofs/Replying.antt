@@ -16,18 +16,19 @@ use Rattle.osgi_legal.specs.Quiet.{QuietBundles, QuietPhases, QuietServices}
 use Rattle.osgi_legal.proofs.Askers.{asker-passes}
 use Rattle.osgi_legal.proofs.Owned.{closes-not, closes-own}
 use Rattle.osgi_legal.proofs.Quiet.{bundles-quiet, refused-quiet, refused_end_quiet}
+use Rattle.osgi_legal.proofs.Stage.{no-make-ends}
 use Rattle.osgi_listeners.specs.Rows.{Listening}
 use Rattle.osgi_ops.specs.Brackets.{brackets, closes, is_end, opens, own_closes}
 use Rattle.osgi_ops.specs.Bundles.{brings_revision, installed_by, is_uninstall, put_into, updated_to}
 use Rattle.osgi_ops.specs.Cleaning.{cleaned_by}
 use Rattle.osgi_ops.specs.Conditions.{asker_of}
-use Rattle.osgi_ops.specs.Legal.{entry_of, IsAskedAt, IsTold}
+use Rattle.osgi_legal.specs.Legal.{entry_of, IsAskedAt, IsTold}
 use Rattle.osgi_ops.specs.Listening.{handed_by, Happening, happenings, heard_by, is_handed}
 use Rattle.osgi_ops.specs.Moments.{later, Moment}
-use Rattle.osgi_ops.specs.Operations.{Answers, IsReply, own_conditions}
+use Rattle.osgi_legal.specs.Operations.{Answers, IsReply, own_conditions}
 use Rattle.osgi_ops.specs.Replies.{is_effective, verdict}
 use Rattle.osgi_ops.specs.Soundness.{IsSound}
-use Rattle.osgi_ops.specs.Stages.{is_here}
+use Rattle.osgi_legal.specs.Stages.{is_here}
 use Rattle.osgi_ops.specs.Worlds.{Leaves}
 use Rattle.osgi_ops.specs.declared.asked.Asked.{Asked}
 use Rattle.osgi_ops.specs.declared.entry.Entry.{Entry}
@@ -36,7 +37,7 @@ use Rattle.osgi_ops.specs.declared.op.Op.TheVariants as op
 use Rattle.osgi_ops.specs.declared.refusal.Refusal.{Refusal}
 use Rattle.osgi_ops.specs.declared.reply.Reply.{Reply}
 use Rattle.osgi_ops.specs.declared.reply.Reply.TheVariants as answer
-use Rattle.osgi_ops.specs.laws.Stages.{row-here}
+use Rattle.osgi_legal.specs.laws.Stages.{row-here}
 use Rattle.osgi_registry.specs.Rows.{RegistryRows}
 use Rattle.osgi_registry.specs.Stands as registries
 use Rattle.osgi_registry.specs.laws.Standing as registry
@@ -89,14 +90,22 @@ from_own old P prove now asked stood =
 pub none_shown : (happens : List Happening) → happens ≡ [] → AreShown [] happens
 none_shown happens none = subst (AreShown []) (sym none) tt
 
-pub unseen : (asked : Asked) (old new : Tables) (reply : Reply) → EachTime asked old (λ now. IsReply now asked.op reply) → EachTime asked old (λ now. Leaves now asked.op reply new.wirings.world) →
-    ((past : List Entry) (before after : World) (e : Entry) → happenings past before after e asked.op reply ≡ []) → EachTime asked old (λ now. StandsFor (later now asked.op reply new.wirings.world []) new) → IsAnswered asked old new reply []
-unseen asked old new reply due left none stands = record {
+-- nothing happens at it at the moments that the tables stand for
+pub unseen_then : (asked : Asked) (old new : Tables) (reply : Reply) → EachTime asked old (λ now. IsReply now asked.op reply) → EachTime asked old (λ now. Leaves now asked.op reply new.wirings.world) →
+    EachTime asked old (λ now. happenings now.before now.world new.wirings.world (entry_of now asked.op reply) asked.op reply ≡ []) → EachTime asked old (λ now. StandsFor (later now asked.op reply new.wirings.world []) new) →
+    IsAnswered asked old new reply []
+unseen_then asked old new reply due left none stands = record {
   due = due;
   left = left;
-  happens = λ now told stood. let e : Entry = entry_of now asked.op reply in none_shown (happenings now.before now.world new.wirings.world e asked.op reply) (none now.before now.world new.wirings.world e);
+  happens = λ now told stood. none_shown (happenings now.before now.world new.wirings.world (entry_of now asked.op reply) asked.op reply) (none now told stood);
   stands = stands;
 }
+
+-- at no moment
+pub unseen : (asked : Asked) (old new : Tables) (reply : Reply) → EachTime asked old (λ now. IsReply now asked.op reply) → EachTime asked old (λ now. Leaves now asked.op reply new.wirings.world) →
+    ((past : List Entry) (before after : World) (e : Entry) → happenings past before after e asked.op reply ≡ []) → EachTime asked old (λ now. StandsFor (later now asked.op reply new.wirings.world []) new) → IsAnswered asked old new reply []
+unseen asked old new reply due left none stands =
+    unseen_then asked old new reply due left (λ now told stood. none now.before now.world new.wirings.world (entry_of now asked.op reply)) stands
 
 -- ---- operations that say nothing of bundles: one law for all tables
 
@@ -183,10 +192,10 @@ refused-leaves now op.DropWirings f world same = same
 refused-leaves now o f world same = same
 
 -- what is refused, but for a section that failed, changes nothing
-still_refused : (now : Moment) (tables : Tables) (o : Op) (refusal : Refusal) → is_effective (answer.Refused refusal) ≡ false → IsReply now o (answer.Refused refusal) → StandsFor now tables → StandsFor (later now o (answer.Refused refusal) tables.wirings.world []) tables
-still_refused now tables o refusal none due stood =
+still_refused : (now : Moment) (tables : Tables) (o : Op) (refusal : Refusal) → IsTold now → is_effective (answer.Refused refusal) ≡ false → IsReply now o (answer.Refused refusal) → StandsFor now tables → StandsFor (later now o (answer.Refused refusal) tables.wirings.world []) tables
+still_refused now tables o refusal told none due stood =
     let quiet = refused-quiet o refusal none in
-    still_by now tables o (answer.Refused refusal) tables.registry stood quiet.bundles quiet.phases (quiet_keeps o (answer.Refused refusal) quiet.listeners) quiet.opened (refused_end_quiet now o refusal due none)
+    still_by now tables o (answer.Refused refusal) tables.registry stood quiet.bundles quiet.phases (quiet_keeps o (answer.Refused refusal) quiet.listeners) quiet.opened (refused_end_quiet now o refusal due (no-make-ends now told) none)
     (registry.stands_quiet now.before tables.registry (entry_of now o (answer.Refused refusal)) stood.services (unsaid (entry_of now o (answer.Refused refusal)) quiet.services))
 
 pub replied_refused : (asked : Asked) (tables : Tables) (refusal : Refusal) → is_effective (answer.Refused refusal) ≡ false → EachTime asked tables (λ now. IsReply now asked.op (answer.Refused refusal)) →
@@ -195,7 +204,7 @@ replied_refused asked tables refusal none due =
     unseen asked tables tables (answer.Refused refusal) due
     (λ now told stood. refused-leaves now asked.op refusal tables.wirings.world stood.world)
     (refused-quiet asked.op refusal none).listeners.happens
-    (λ now told stood. still_refused now tables asked.op refusal none (due now told stood) stood)
+    (λ now told stood. still_refused now tables asked.op refusal told.told none (due now told stood) stood)
 
 -- ---- what is decided
 

@@ -7,7 +7,7 @@ use Rattle.std.specs.Option.{option_map}
 use Rattle.osgi_base.specs.declared.ids.BundleId.{BundleId}
 use Rattle.osgi_bundle.specs.Rows.{IsSettable, row_at}
 use Rattle.osgi_bundle.specs.declared.kept.BundleKept.{BundleKept}
-use Rattle.osgi_ops.specs.Legal.{IsTold}
+use Rattle.osgi_legal.specs.Legal.{IsTold}
 use Rattle.osgi_ops.specs.Listening.{Happening, of_bundle}
 use Rattle.osgi_ops.specs.Listening as happening
 use Rattle.osgi_ops.specs.Moments.{Moment}

@@ -15,7 +15,7 @@ use Rattle.osgi_listeners.specs.Stands.{AreSmall}
 use Rattle.osgi_legal.proofs.Sights.{sights-once}
 use Rattle.osgi_listeners.specs.laws.Premises.{handed-first, handed-first-same, small-more}
 use Rattle.osgi_listeners.specs.laws.Standing.{stands-with-all-seen}
-use Rattle.osgi_ops.specs.Legal.{entry_of, IsAskedAt, IsTold}
+use Rattle.osgi_legal.specs.Legal.{entry_of, IsAskedAt, IsTold}
 use Rattle.osgi_ops.specs.Listening.{AreSights, handed_by, happenings, IsAt}
 use Rattle.osgi_ops.specs.Moments.{later, Moment, Seen, Sight}
 use Rattle.osgi_ops.specs.declared.asked.Asked.{Asked}

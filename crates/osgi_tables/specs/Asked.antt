@@ -3,10 +3,10 @@ use Rattle.std.specs.Prelude.{ℕ, ◌==◌, if◌then◌else◌, Bool, true, fa
 use Rattle.osgi_base.specs.declared.ids.BundleId.{BundleId}
 use Rattle.osgi_bundle.specs.Rows.{state_at, TableRows}
 use Rattle.osgi_ops.specs.Conditions.{asker_of}
-use Rattle.osgi_ops.specs.Stages.{is_here}
+use Rattle.osgi_legal.specs.Stages.{is_here}
 use Rattle.osgi_ops.specs.States.{is_up}
 use Rattle.osgi_ops.specs.declared.op.Op.{Op}
-use Rattle.osgi_ops.specs.declared.op.Op.TheVariants.{EndHand, EndJob}
+use Rattle.osgi_ops.specs.declared.op.Op.TheVariants.{EndHand, EndJob, EndMake}
 use Rattle.osgi_ops.specs.declared.refusal.Refusal.{Refusal}
 use Rattle.osgi_ops.specs.declared.refusal.Refusal.TheVariants.{InvalidOperation, NoSuchBundle}
 use Rattle.osgi_ops.specs.declared.state.TheConstants.{UNINSTALLED}
@@ -16,9 +16,10 @@ abbrev pub ends_hand : Op → Bool
 ends_hand (EndHand listener) = true
 ends_hand op = false
 
--- the operation has come, and is not the end of a job, which nothing begins yet
+-- the operation has come, and is not the end of a job or of a make, which nothing begins yet
 abbrev pub is_decided : Op → Bool
 is_decided EndJob = false
+is_decided (EndMake failed) = false
 is_decided op = is_here op
 
 -- the bundle that asks for an operation that has come, where one does. Others are refused whoever asks

@@ -7,10 +7,10 @@ use Rattle.osgi_bundle.specs.Stands as table
 use Rattle.osgi_listeners.specs.Stands as hearing
 use Rattle.osgi_listeners.specs.Stands.{AreSmall}
 use Rattle.osgi_ops.specs.Bundles.{revisions}
-use Rattle.osgi_ops.specs.Legal.{entry_of, IsAskedAt}
+use Rattle.osgi_legal.specs.Legal.{entry_of, IsAskedAt}
 use Rattle.osgi_ops.specs.Listening.{AreSights, handings, happenings}
 use Rattle.osgi_ops.specs.Moments.{later, Moment, Sight}
-use Rattle.osgi_ops.specs.Operations.{IsReply}
+use Rattle.osgi_legal.specs.Operations.{IsReply}
 use Rattle.osgi_ops.specs.Resolved.{current_revision}
 use Rattle.osgi_ops.specs.Soundness.{IsSound}
 use Rattle.osgi_ops.specs.Worlds.{Leaves, with_revision}

@@ -1,17 +1,19 @@
 -- Which revision's folder a class is loaded from is determined.
 use Rattle.std.proofs.Common.{◌≡◌, ◌<◌, ℕ, inl, inr, List, [], ◌∷◌, ◌++◌, find, refl, sym, ap, ◌∙◌, subst, arith}
-use Rattle.std.specs.Prelude.{Some}
+use Rattle.std.specs.Prelude.{false, Option, None, Some}
 use Rattle.std.proofs.lemmas.List.Elements.{All-contains}
 use Rattle.osgi_base.specs.declared.ids.BundleId.{BundleId}
 use Rattle.osgi_base.specs.declared.ids.RevisionId.{RevisionId}
 use Rattle.osgi_legal.proofs.Verdicts.{IsOne}
 use Rattle.osgi_ops.specs.Assignable.{package_of}
-use Rattle.osgi_ops.specs.Legal.{IsTold}
-use Rattle.osgi_ops.specs.Loading.{all_with_fragments, AreGiven, AreRequired, AreSearched, has_file, IsLoadedBy, none, other, path_of, through, with_fragments}
+use Rattle.osgi_legal.specs.Legal.{IsTold}
+use Rattle.osgi_ops.specs.Loading.{all_with_fragments, AreGiven, AreRequired, AreSearched, has_file, IsLoaded, IsLoadedBy, none, other, path_of, through, with_fragments}
 use Rattle.osgi_ops.specs.Moments.{Moment}
-use Rattle.osgi_ops.specs.declared.reply.Reply.TheVariants as answer
 use Rattle.osgi_ops.specs.laws.Members.{AreAmong, ordered-once}
-use Rattle.osgi_ops.specs.rows.Bundles.{LoadAnswers}
+use Rattle.osgi_ops.specs.rows.Bundles.{loaded_with, LoadAnswers, woken}
+use Rattle.osgi_ops.specs.Dynamic.{with_added}
+use Rattle.osgi_ops.specs.laws.Dynamic.{none-added}
+use Rattle.osgi_legal.proofs.Loads.{load-shown}
 use Rattle.osgi_verdicts.proofs.Providers.{one-provider}
 use Rattle.osgi_world.specs.Sources.{GivesPackage}
 use Rattle.osgi_world.specs.declared.wiring.Wire.{Wire}
@@ -50,9 +52,12 @@ loaded_by-one : (now : Moment) → IsTold now → (r : RevisionId) (class : List
 loaded_by-one now told r class x y a b =
     a.2 ∙ ap (find (has_file now.world (path_of class))) (searched-one now told r (package_of class) a.0 b.0 a.1 b.1) ∙ sym b.2
 
-pub load-one : (now : Moment) → IsTold now → (bundle : BundleId) (class : List ℕ) → IsOne (LoadAnswers now bundle class)
+pub load-one : (now : Moment) → IsTold now → (bundle : BundleId) (class : List ℕ) → IsOne (LoadAnswers false now bundle class)
 load-one now told bundle class y z a b =
-    let here = a.2 in
-    let there = b.2 in
+    let world : (wire : Option Wire) → wire ≡ None → with_added now.world bundle wire ≡ now.world = λ wire is. ap (with_added now.world bundle) is in
+    let here = subst (λ w. IsLoaded w bundle class a.1) (world a.0 (none-added now.world bundle class a.0 a.2)) a.3 in
+    let there = subst (λ w. IsLoaded w bundle class b.1) (world b.0 (none-added now.world bundle class b.0 b.2)) b.3 in
     let same : there.0 ≡ here.0 = (let e : Some there.0 ≡ Some here.0 = sym there.1 ∙ here.1 in cc e) in
-    a.1 ∙ ap answer.Loaded (loaded_by-one now told here.0.id class a.0 b.0 here.2 (subst (λ (k : Known). IsLoadedBy now.world k.id class b.0) same there.2)) ∙ sym b.1
+    load-shown now bundle class y a
+    ∙ ap (λ by. loaded_with by None (woken now class by)) (loaded_by-one now told here.0.id class a.1 b.1 here.2 (subst (λ (k : Known). IsLoadedBy now.world k.id class b.1) same there.2))
+    ∙ sym (load-shown now bundle class z b)

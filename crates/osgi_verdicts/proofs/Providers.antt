@@ -10,7 +10,7 @@ use Rattle.osgi_legal.proofs.Owned.{entries-last}
 use Rattle.osgi_legal.proofs.Tidy.{extends-of, IsTidy, known-bundle, passed-id}
 use Rattle.osgi_legal.proofs.Windows.{always-kept, revisions-more, revisions-same}
 use Rattle.osgi_ops.specs.Bundles.{brings_revision, revisions}
-use Rattle.osgi_ops.specs.Legal.{AreAllowed, entry_of, IsAllowed, IsTold}
+use Rattle.osgi_legal.specs.Legal.{AreAllowed, entry_of, IsAllowed, IsTold}
 use Rattle.osgi_ops.specs.Levels.{Refresh, refresh}
 use Rattle.osgi_ops.specs.Moments.{entries_in, first_world, Moment, moment, Told, world_after}
 use Rattle.osgi_ops.specs.Resolved.{is_current_of, is_resolved}
@@ -35,6 +35,8 @@ use Rattle.osgi_world.specs.declared.wiring.Wire.{Wire}
 use Rattle.osgi_world.specs.declared.wiring.Wiring.{Wiring}
 use Rattle.osgi_world.specs.declared.world.Known.{Known}
 use Rattle.osgi_world.specs.declared.world.World.{World}
+use Rattle.osgi_legal.proofs.Loads.{load-stays}
+use Rattle.osgi_legal.specs.Operations.{IsReply}
 
 -- a world in which so many revisions were brought: one provider for each package of each revision, and capabilities of given revisions alone
 pub record IsWired (n : ℕ) (world : World) : Type 0 where
@@ -176,13 +178,14 @@ module _ (m : Moment) (t : IsTidy (revisions m.before) m.world) (wired : IsWired
   drops-wired o y None after l = absurd l
   drops-wired o y (Some r) after l = leave-within o y after (subst (IsWithin (revisions m.before) m.world) (sym l) (dropped-within (revisions m.before) r.members m.world))
 
-  leaves-wired : (o : Op) (y : Reply) (after : World) → Leaves m o y after → IsWired (revisions (m.before ++ entry_of m o y ∷ [])) after
-  leaves-wired (op.Install location) (answer.Bundle b false) after l = brings-wired _ _ b location m.world after (itself-within (revisions m.before) m.world) l
-  leaves-wired (op.Resolve b) (answer.Resolved added) after l = resolves-wired _ _ b added (is_resolved m.world b) after l
-  leaves-wired (op.Update b location) answer.Done after l = brings-wired _ _ b location (pended b m.world) after (pended-within (revisions m.before) b m.world) l
-  leaves-wired (op.Uninstall b) answer.Done after l = leave-within _ _ after (subst (IsWithin (revisions m.before) m.world) (sym l) (pended-within (revisions m.before) b m.world))
-  leaves-wired op.DropWirings (answer.Ids ids) after l = drops-wired _ _ (refresh m.before) after l
-  leaves-wired o y after l = same-wired o y after l
+  leaves-wired : (o : Op) (y : Reply) (after : World) → IsReply m o y → Leaves m o y after → IsWired (revisions (m.before ++ entry_of m o y ∷ [])) after
+  leaves-wired (op.Install location) (answer.Bundle b false) after r l = brings-wired _ _ b location m.world after (itself-within (revisions m.before) m.world) l
+  leaves-wired (op.Resolve b) (answer.Resolved added) after r l = resolves-wired _ _ b added (is_resolved m.world b) after l
+  leaves-wired (op.Update b location) answer.Done after r l = brings-wired _ _ b location (pended b m.world) after (pended-within (revisions m.before) b m.world) l
+  leaves-wired (op.Uninstall b) answer.Done after r l = leave-within _ _ after (subst (IsWithin (revisions m.before) m.world) (sym l) (pended-within (revisions m.before) b m.world))
+  leaves-wired op.DropWirings (answer.Ids ids) after r l = drops-wired _ _ (refresh m.before) after l
+  leaves-wired (op.Load b class) y after r l = same-wired _ _ after (load-stays m b class y after r l)
+  leaves-wired o y after r l = same-wired o y after l
 
 -- ---- every legal history
 
@@ -201,7 +204,7 @@ all-wired setting told legal =
     (λ front x before wired a.
     subst (λ h. IsWired (revisions h) (world_after (front ++ x ∷ []))) (sym (entries-last front x))
     (subst (IsWired (revisions (entries_in front ++ x.entry ∷ []))) (sym (world-last front x))
-    (leaves-wired (moment setting front x.entry.tag) (always-kept setting front before).tidy wired x.entry.op x.entry.reply x.world a.left)))
+    (leaves-wired (moment setting front x.entry.tag) (always-kept setting front before).tidy wired x.entry.op x.entry.reply x.world a.replied a.left)))
     told legal
 
 pub one-provider : (now : Moment) → IsTold now → (r : RevisionId) (p : List ℕ) (x y : RevisionId) → PackageWire now.world.known now.world.wirings r p x → PackageWire now.world.known now.world.wirings r p y → x ≡ y

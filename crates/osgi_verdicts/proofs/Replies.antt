@@ -5,29 +5,29 @@ use Rattle.osgi_base.specs.Verdict.{answers, refuses, Verdict}
 use Rattle.osgi_base.specs.declared.ids.BundleId.{BundleId}
 use Rattle.osgi_legal.proofs.Verdicts.{EachIsOne, IsOne, verdict-one, where-one}
 use Rattle.osgi_ops.specs.Bundles.{Bundle, bundle_from, is_changing, is_up}
-use Rattle.osgi_ops.specs.Legal.{IsTold}
+use Rattle.osgi_legal.specs.Legal.{IsTold}
 use Rattle.osgi_ops.specs.Moments.{Moment}
-use Rattle.osgi_ops.specs.Operations.{Answers, conditions, IsReply, IsRow}
+use Rattle.osgi_legal.specs.Operations.{Answers, conditions, IsReply, IsRow}
 use Rattle.osgi_ops.specs.Replies.{verdict}
 use Rattle.osgi_ops.specs.Resolved.{is_resolved}
-use Rattle.osgi_ops.specs.Stages.{is_here}
+use Rattle.osgi_legal.specs.Stages.{is_here}
 use Rattle.osgi_ops.specs.declared.op.Op.{Op}
 use Rattle.osgi_ops.specs.declared.op.Op.TheVariants as op
 use Rattle.osgi_ops.specs.declared.refusal.Refusal.{Refusal}
 use Rattle.osgi_ops.specs.declared.reply.Reply.{Reply}
 use Rattle.osgi_ops.specs.declared.reply.Reply.TheVariants.{Refused}
-use Rattle.osgi_ops.specs.laws.Stages.{here-row, late-refused}
+use Rattle.osgi_legal.specs.laws.Stages.{here-row, late-refused}
 use Rattle.osgi_ops.specs.rows.Bundles.{install_refusals, unresolved_refusals}
 use Rattle.osgi_verdicts.proofs.Bundles.{over_budget-one, resolve-one, unresolvable-one}
 use Rattle.osgi_verdicts.proofs.Chosen.{lowest-one}
-use Rattle.osgi_verdicts.proofs.Conditions.{change-one, duplicate-one, owner-one, read-one, refreshing-one, target-one}
+use Rattle.osgi_verdicts.proofs.Conditions.{change-one, duplicate-one, make-one, making-one, owner-one, read-one, refreshing-one, target-one, with-one}
 use Rattle.osgi_verdicts.proofs.Events.{hand-one}
 use Rattle.osgi_verdicts.proofs.Levels as levels
 use Rattle.osgi_verdicts.proofs.Life.{stop-one, wish-one}
 use Rattle.osgi_verdicts.proofs.Lists.{wires-one}
 use Rattle.osgi_verdicts.proofs.Loading.{load-one}
 use Rattle.osgi_verdicts.proofs.Refreshes as refresh
-use Rattle.osgi_verdicts.proofs.Services.{find-one, find_all-one, get-one}
+use Rattle.osgi_verdicts.proofs.Services.{end_make-one, find-one, find_all-one, get-one}
 
 -- ---- conditions
 
@@ -46,7 +46,13 @@ each-one now told (op.Modify owner service properties) = (where-one _ _, (where-
 each-one now told (op.Unregister owner service) = (where-one _ _, (where-one _ _, (where-one _ _, (owner-one now owner service, tt))))
 each-one now told (op.Find asker class filter) = (where-one _ _, (where-one _ _, tt))
 each-one now told (op.FindAll asker class filter) = (where-one _ _, (where-one _ _, tt))
-each-one now told (op.Get user service) = (where-one _ _, (where-one _ _, (where-one _ _, tt)))
+each-one now told (op.Get user service) = (where-one _ _, (where-one _ _, (where-one _ _, (with-one _ _ (making-one now user service), (where-one _ _, tt)))))
+each-one now told (op.GetOwn user service) = (where-one _ _, (where-one _ _, (where-one _ _, (with-one _ _ (making-one now user service), (where-one _ _, tt)))))
+each-one now told (op.EndMake failed) =
+    (where-one _ _, (where-one _ _, (make-one now _ (λ m. where-one _ _), (make-one now _ (λ m. where-one _ _), (make-one now _ (λ m. where-one _ _), tt)))))
+each-one now told (op.Give owner text) = (where-one _ _, (where-one _ _, (where-one _ _, tt)))
+each-one now told (op.UngetOwn user service object) = (where-one _ _, (where-one _ _, (where-one _ _, (where-one _ _, tt))))
+each-one now told (op.Await bundle) = (where-one _ _, (where-one _ _, (refreshing-one now _, (change-one is_changing now bundle, tt))))
 each-one now told (op.Unget user service) = (where-one _ _, (where-one _ _, tt))
 each-one now told (op.AddListener owner name kind filter) = (where-one _ _, (where-one _ _, (where-one _ _, (where-one _ _, tt))))
 each-one now told (op.RemoveListener owner name) = (where-one _ _, (where-one _ _, tt))
@@ -89,7 +95,7 @@ each-one now told (op.ListLevel level) = tt
 each-one now told (op.MoveLevel to) = levels.move-each now to
 each-one now told op.EndLevel = (where-one _ _, tt)
 each-one now told (op.SetBundleLevel bundle level) = (where-one _ _, (where-one _ _, (change-one is_changing now bundle, tt)))
-each-one now told (op.Load bundle class) = (where-one _ _, (where-one _ _, tt))
+each-one now told (op.Load bundle class) = (where-one _ _, (where-one _ _, (with-one _ _ (refreshing-one now _), tt)))
 each-one now told op.ListBundles = tt
 each-one now told op.ListServices = tt
 each-one now told (op.ListWires bundle) = (where-one _ _, tt)
@@ -102,7 +108,12 @@ answer-one now told (op.Modify owner service properties) y z a b = a ∙ sym b
 answer-one now told (op.Unregister owner service) y z a b = a ∙ sym b
 answer-one now told (op.Find asker class filter) y z a b = find-one now asker class filter y z a b
 answer-one now told (op.FindAll asker class filter) y z a b = find_all-one now class filter y z a b
-answer-one now told (op.Get user service) y z a b = get-one now service y z a b
+answer-one now told (op.Get user service) y z a b = get-one now false user service y z a b
+answer-one now told (op.GetOwn user service) y z a b = get-one now true user service y z a b
+answer-one now told (op.EndMake failed) y z a b = end_make-one now y z a b
+answer-one now told (op.Give owner text) y z a b = a ∙ sym b
+answer-one now told (op.UngetOwn user service object) y z a b = a ∙ sym b
+answer-one now told (op.Await bundle) y z a b = a ∙ sym b
 answer-one now told (op.Unget user service) y z a b = a ∙ sym b
 answer-one now told (op.AddListener owner name kind filter) y z a b = a ∙ sym b
 answer-one now told (op.RemoveListener owner name) y z a b = a ∙ sym b

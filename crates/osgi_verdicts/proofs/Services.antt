@@ -1,6 +1,6 @@
 -- What the operations on services answer is determined: which service is best, and in which order all stand.
 use Rattle.std.proofs.Common.{◌≡◌, ℕ, List, refl, sym, ap, ◌∙◌}
-use Rattle.std.specs.Prelude.{Option, None, Some, false, Contains, IsSomeAnd}
+use Rattle.std.specs.Prelude.{◌+◌, Bool, Option, None, Some, false, Contains, IsSomeAnd}
 use Rattle.std.specs.Cmp.{IsTotalOrder}
 use Rattle.std.specs.Ordering.{is_gt, nat_cmp, ordering_reverse, ordering_then}
 use Rattle.std.specs.declared.cmp.Ordering.{Ordering}
@@ -13,13 +13,14 @@ use Rattle.osgi_base.specs.declared.ids.ServiceId.{ServiceId}
 use Rattle.osgi_legal.proofs.Verdicts.{IsOne}
 use Rattle.osgi_model.specs.declared.filter.Filter.{Filter}
 use Rattle.osgi_ops.specs.Classes.{AreRanked, ids_of, IsBest, IsFound, IsOf, IsOpenTo, rank_cmp}
+use Rattle.osgi_ops.specs.Makes.{given_text, made_count}
 use Rattle.osgi_ops.specs.Moments.{Moment}
 use Rattle.osgi_ops.specs.Properties.{ranking}
 use Rattle.osgi_ops.specs.Services.{live_at, Registered, services}
 use Rattle.osgi_ops.specs.declared.reply.Reply.TheVariants as answer
 use Rattle.osgi_ops.specs.declared.service.Service.{Service}
 use Rattle.osgi_ops.specs.laws.Members.{AreAmong, ordered-once}
-use Rattle.osgi_ops.specs.rows.Services.{FindAllAnswers, FindAnswers, GetAnswers}
+use Rattle.osgi_ops.specs.rows.Services.{EndMakeAnswers, FindAllAnswers, FindAnswers, GetAnswers, got, got_reply}
 
 rank_total : IsTotalOrder rank_cmp
 rank_total = then_total (on_total (λ (s : Service). ranking s.properties) (back_total int_cmp_total)) (on_total (λ (s : Service). s.service.0) nat_cmp_total)
@@ -85,9 +86,16 @@ pub find_all-one : (now : Moment) (class : List ℕ) (filter : Option Filter) �
 find_all-one now class filter y z one other =
     one.1 ∙ ap answer.Services (one-ranked (IsOf class filter) (services now.before) one.0 other.0 one.2 other.2) ∙ sym other.1
 
-pub get-one : (now : Moment) (service : ServiceId) → IsOne (GetAnswers now service)
-get-one now service y z one other = go (live_at service now.before) one other
+pub get-one : (now : Moment) (own : Bool) (user : BundleId) (service : ServiceId) → IsOne (GetAnswers now own user service)
+get-one now own user service y z one other = go (live_at service now.before) one other
   where
-    go : (o : Option Registered) → IsSomeAnd o (λ r. y ≡ answer.Object r.object) → IsSomeAnd o (λ r. z ≡ answer.Object r.object) → y ≡ z
+    go : (o : Option Registered) → IsSomeAnd o (λ r. y ≡ got_reply now r (got now own user r)) → IsSomeAnd o (λ r. z ≡ got_reply now r (got now own user r)) → y ≡ z
     go None p q = absurd p
     go (Some r) p q = p ∙ sym q
+
+pub end_make-one : (now : Moment) → IsOne (EndMakeAnswers now)
+end_make-one now y z one other = go (given_text now.tag.caller now.before) one other
+  where
+    go : (o : Option (List ℕ)) → IsSomeAnd o (λ text. y ≡ answer.Held (record { 0 = made_count now.before + 1 }) text) → IsSomeAnd o (λ text. z ≡ answer.Held (record { 0 = made_count now.before + 1 }) text) → y ≡ z
+    go None p q = absurd p
+    go (Some text) p q = p ∙ sym q

@@ -14,7 +14,7 @@ use Rattle.osgi_bundle.specs.Stands.{IsNewBundle, IsOfDepot, kept_of, StandsFor}
 use Rattle.osgi_bundle.specs.laws.Worlds.{resolved_other, unresolved_new}
 use Rattle.osgi_bundle.specs.declared.kept.BundleKept.{BundleKept}
 use Rattle.osgi_ops.specs.Bundles.{Active, Bundle, bundle_from as bundle_of, bundles, idle, installed, installed_by, is_live, is_uninstall, last_begin, number_of, phase, put_into, row_from, running, state, Uninstalled, updated_to, was_given}
-use Rattle.osgi_ops.specs.Conditions.{IsDuplicate}
+use Rattle.osgi_ops.specs.Conditions.{IsDuplicate, state_of}
 use Rattle.osgi_ops.specs.Depots.{row_number, stored_revision}
 use Rattle.osgi_ops.specs.Levels.{level_of}
 use Rattle.osgi_ops.specs.Moments.{Moment}
@@ -31,6 +31,8 @@ use Rattle.osgi_ops.specs.laws.Bundles.{bundles-push, has_id, HaveRows, installe
 use Rattle.osgi_ops.specs.laws.Items.{contains-In, find-some, found-in, In-contains}
 use Rattle.osgi_ops.specs.laws.Members.{Contains-first, Contains-more}
 use Rattle.osgi_ops.specs.rows.Lists.{bundle_row}
+use Rattle.osgi_ops.specs.Waiting.{is_waiting}
+use Rattle.osgi_ops.specs.declared.state.TheConstants.{STARTING}
 use Rattle.osgi_version.specs.declared.version.Version.{Version}
 use Rattle.osgi_world.specs.declared.revision.Revision.{Revision}
 use Rattle.osgi_world.specs.declared.world.World.{World}
@@ -235,13 +237,13 @@ from_location depot history world table location stands =
     ∙ ap (option_map (λ (row : BundleKept). row.bundle)) (found_map (kept_of world history) (has_location_row location) (bundles depot history))
     ∙ bundle_by world history (bundle_of depot history location)
 
--- a list of the rows shows the bundles, where each has the level that it began with
-pub rows_shown : (now : Moment) (table : TableRows) → StandsFor now.setting.depot now.before now.world table → ((b : BundleId) → level_of b now.before ≡ first_level_of b) →
+-- a list of the rows shows the bundles, where each has the level that it began with and none waits
+pub rows_shown : (now : Moment) (table : TableRows) → StandsFor now.setting.depot now.before now.world table → ((b : BundleId) → level_of b now.before ≡ first_level_of b) → ((b : BundleId) → is_waiting b now.before ≡ false) →
     map row_of table.rows ≡ map (bundle_row now) (bundles now.setting.depot now.before)
-rows_shown now table stands levels =
+rows_shown now table stands levels none =
     ap (map row_of) stands.rows
     ∙ map_twice row_of (kept_of now.world now.before) (bundles now.setting.depot now.before)
-    ∙ (λ i. map (λ b. record (bundle_row now b) { level = sym (levels b.bundle) i }) (bundles now.setting.depot now.before))
+    ∙ (λ i. map (λ b. record (bundle_row now b) { level = sym (levels b.bundle) i; state = cond (sym (none b.bundle) i) STARTING (number_of (state_of now b.bundle)) }) (bundles now.setting.depot now.before))
 
 -- as many rows as bundles
 pub rows_count : (depot : List DepotRow) (history : List Entry) (world : World) (table : TableRows) → StandsFor depot history world table → length table.rows ≡ length (bundles depot history)

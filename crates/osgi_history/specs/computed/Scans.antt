@@ -1,9 +1,10 @@
 -- The counts that the scans take.
 use Rattle.std.specs.Prelude.{ℕ, ◌-◌, Bool, true, false, List, count_by}
+use Rattle.std.specs.Option.{option_map_or}
 use Rattle.osgi_base.specs.declared.ids.BundleId.{BundleId}
 use Rattle.osgi_base.specs.declared.ids.ServiceId.{ServiceId}
 use Rattle.osgi_ops.specs.Replies.{is_accepted}
-use Rattle.osgi_ops.specs.Services.{is_get, is_unget, since_cleaning}
+use Rattle.osgi_ops.specs.Services.{is_get, is_unget, live_at, since_cleaning, uses_held}
 use Rattle.osgi_ops.specs.declared.op.Op.{Op}
 use Rattle.osgi_ops.specs.declared.op.Op.TheVariants.{Register}
 use Rattle.osgi_ops.specs.declared.refusal.Refusal.TheVariants.{ActivatorError}
@@ -25,3 +26,7 @@ has_failed _ = false
 abbrev pub held : BundleId → ServiceId → List Entry → ℕ
 held user service since =
     count_by (λ e. is_get user service e.op e.reply) (since_cleaning user since) - count_by (λ e. is_unget user service e.op e.reply) (since_cleaning user since)
+
+-- how often the user holds the service by these entries, objects that were made for it not counted
+abbrev pub uses_shared : BundleId → ServiceId → List Entry → ℕ
+uses_shared user service history = option_map_or (uses_held user) (live_at service history) 0

@@ -16,12 +16,12 @@ use Rattle.osgi_base.specs.declared.ids.ListenerId.{ListenerId}
 use Rattle.osgi_base.specs.declared.ids.Tag.{Tag}
 use Rattle.osgi_ops.specs.Brackets.{Bracket, brackets, Cause, closes, handing, job, opens, starting, stopping, turned, without_innermost}
 use Rattle.osgi_ops.specs.Conditions.{IsDeep}
-use Rattle.osgi_ops.specs.Legal.{AreAllowed, IsAllowed, IsTold}
+use Rattle.osgi_legal.specs.Legal.{AreAllowed, IsAllowed, IsTold}
 use Rattle.osgi_ops.specs.Listening.{adds, clears, event_at, handed_by, heard_by, Hearing, hearing, HearingChange, is_in_turn, is_turn_of, IsSight, lets_go, spot_of, with_heard}
 use Rattle.osgi_ops.specs.Moments.{entries_in, Moment, moment, Seen, seen_after, Sight, sights_in, Told}
-use Rattle.osgi_ops.specs.Operations.{IsReply}
+use Rattle.osgi_legal.specs.Operations.{IsReply}
 use Rattle.osgi_ops.specs.Settings.{Setting}
-use Rattle.osgi_ops.specs.laws.Stages.{row-or}
+use Rattle.osgi_legal.specs.laws.Stages.{row-or}
 use Rattle.osgi_ops.specs.rows.Events.{IsHanding, IsNothing}
 use Rattle.osgi_ops.specs.declared.entry.Entry.{Entry}
 use Rattle.osgi_ops.specs.declared.op.Op.{Op}
@@ -161,6 +161,8 @@ fresh-turn m op.Hand reply r cause e listener t = elim (row-or m op.Hand reply r
 fresh-turn m op.TakeJob (answer.Job owner row name) r cause e listener t = no-hand cause job listener refl e t
 fresh-turn m (op.BeginStart b transient) (answer.Begun begun row) r cause e listener t = no-hand cause (starting b) listener refl e t
 fresh-turn m (op.BeginStop target transient) (answer.Begun begun row) r cause e listener t = no-hand cause (stopping begun) listener refl e t
+fresh-turn m (op.Get user service) (answer.Make owner row name) r cause e listener t = no-hand cause _ listener refl e t
+fresh-turn m (op.GetOwn user service) (answer.Make owner row name) r cause e listener t = no-hand cause _ listener refl e t
 fresh-turn m o reply r cause e listener t = absurd (cc e)
 
 turns-apart-told : (setting : Setting) (told : List Told) → AreAllowed setting told → AreTurnsApart (brackets (entries_in told))
@@ -182,13 +184,18 @@ handed-first-same sights history e none first listener = let r = first listener 
 
 -- ---- quiet entries
 
+opened-other : (cause is : Cause) (n : ℕ) → is_turn_of (record { 0 = n }) is ≡ false → Some is ≡ Some cause → is_turn_of (record { 0 = n }) cause ≡ false
+opened-other cause is n other e = let same : is ≡ cause = cc e in ap (is_turn_of (record { 0 = n })) (sym same) ∙ other
+
 -- what hands nothing opens no turn
 opens-no-turn : (o : Op) (reply : Reply) → ((listener : ListenerId) → handed_by listener o reply ≡ []) → (n : ℕ) (cause : Cause) → opens o reply ≡ Some cause → is_turn_of (record { 0 = n }) cause ≡ false
 opens-no-turn op.Hand (answer.Handed to kind owner row name event) none n cause e =
     let bad : event ∷ [] ≡ [] = sym (ap (λ k. cond k (event ∷ []) []) (eq-eqb to.0 to.0 refl)) ∙ none to in absurd (cc bad)
-opens-no-turn op.TakeJob (answer.Job owner row name) none n cause e = let is : job ≡ cause = cc e in ap (is_turn_of (record { 0 = n })) (sym is)
-opens-no-turn (op.BeginStart b transient) (answer.Begun begun row) none n cause e = let is : starting b ≡ cause = cc e in ap (is_turn_of (record { 0 = n })) (sym is)
-opens-no-turn (op.BeginStop target transient) (answer.Begun begun row) none n cause e = let is : stopping begun ≡ cause = cc e in ap (is_turn_of (record { 0 = n })) (sym is)
+opens-no-turn op.TakeJob (answer.Job owner row name) none n cause e = opened-other cause job n refl e
+opens-no-turn (op.BeginStart b transient) (answer.Begun begun row) none n cause e = opened-other cause (starting b) n refl e
+opens-no-turn (op.BeginStop target transient) (answer.Begun begun row) none n cause e = opened-other cause (stopping begun) n refl e
+opens-no-turn (op.Get user service) (answer.Make owner row name) none n cause e = opened-other cause _ n refl e
+opens-no-turn (op.GetOwn user service) (answer.Make owner row name) none n cause e = opened-other cause _ n refl e
 opens-no-turn o reply none n cause e = absurd (cc e)
 
 -- what says nothing of listeners, hands nothing and closes no hand is quiet; so is an EndHand that is refused

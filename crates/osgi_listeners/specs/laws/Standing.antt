@@ -31,7 +31,7 @@ use Rattle.osgi_ops.specs.declared.reply.Reply.{Reply}
 use Rattle.osgi_legal.proofs.Listening.{ends_turn}
 use Rattle.osgi_legal.proofs.Owned.{brackets-last}
 use Rattle.osgi_listeners.specs.Stands.{is_turn, listener_row, row_of, StandsFor, tag_in, turn_of, waiting_for, AreHandedFirst, AreOfAdded, AreTurnsApart, IsQuietEntry}
-use Rattle.osgi_ops.specs.Legal.{entry_of, IsTold}
+use Rattle.osgi_legal.specs.Legal.{entry_of, IsTold}
 use Rattle.osgi_world.specs.declared.world.World.{World}
 use Rattle.osgi_listeners.specs.laws.Items.{bytes-turn, eq-turn, in-all, map-twice, none-taken}
 use Rattle.osgi_listeners.specs.laws.Waiting.{handed-same, hearing-last, none-waits, rows-changed, rows-filtered, rows-same, waits-fewer, waits-same, waits-seen}

@@ -12,11 +12,11 @@ use Rattle.std.specs.Cmp.{ranks, unsigned_tied}
 use Rattle.std.proofs.lemmas.Bool.{and_parts, eq-eqb, eqb-true, ne_eqb, or_left, or_right, or_parts}
 use Rattle.osgi_base.specs.declared.ids.ListenerId.{ListenerId}
 use Rattle.osgi_base.specs.declared.ids.Tag.{Tag}
-use Rattle.osgi_ops.specs.Brackets.{Bracket, bracket, brackets, Cause, handing, starting, stopping, job, closes, ends, is_ended, opens, turned, without_innermost}
+use Rattle.osgi_ops.specs.Brackets.{Bracket, bracket, brackets, Cause, handing, starting, stopping, job, making, closes, ends, is_ended, opens, turned, without_innermost}
 use Rattle.osgi_ops.specs.Listening.{is_turn_of}
 use Rattle.osgi_ops.specs.declared.entry.Entry.{Entry}
 use Rattle.osgi_ops.specs.declared.op.Op.{Op}
-use Rattle.osgi_ops.specs.declared.op.Op.TheVariants.{EndHand, EndJob, EndStart, EndStop}
+use Rattle.osgi_ops.specs.declared.op.Op.TheVariants.{EndHand, EndJob, EndMake, EndStart, EndStop}
 use Rattle.osgi_legal.proofs.Listening.{ends_turn}
 use Rattle.osgi_legal.proofs.Owned.{brackets-last}
 use Rattle.osgi_listeners.specs.Rows.{AreRising, RiseFrom}
@@ -42,6 +42,7 @@ ends-no-turn listener (EndStop n bad) (handing h) f e = absurd (cc e)
 ends-no-turn listener (EndStop n bad) job f e = refl
 ends-no-turn listener (EndStop n bad) (starting b) f e = refl
 ends-no-turn listener (EndStop n bad) (stopping b) f e = refl
+ends-no-turn listener (EndMake bad) (making m) f e = refl
 ends-no-turn listener op cause f e = absurd (cc e)
 
 -- a bracket that is no turn of the listener goes
@@ -76,6 +77,7 @@ ends-turn listener n (handing h) e = ap (λ m. m == n) (sym (eqb-true listener.0
 ends-turn listener n (starting b) e = absurd (cc e)
 ends-turn listener n (stopping b) e = absurd (cc e)
 ends-turn listener n job e = absurd (cc e)
+ends-turn listener n (making m) e = absurd (cc e)
 
 find-none : {X : Type 0} (p : X → Bool) (xs : List X) → list_any p xs ≡ false → find p xs ≡ None
 find-none p [] e = refl

@@ -1,26 +1,28 @@
 -- The services of a history with one more entry at its end.
 use Rattle.std.proofs.Common.{◌≡◌, ◌+◌, ◌≤◌, ℕ, suc, List, [], ◌∷◌, ◌++◌, length, length-append, map, append-nil, append_assoc, ap, sym, ◌∙◌, refl, arith}
-use Rattle.std.specs.Prelude.{Bool, true, false, cond, not, Option, None, Some, filter, unwrap_or, find, All, count_by}
+use Rattle.std.specs.Prelude.{◌==◌, ◌-◌, Bool, true, false, cond, not, Option, None, Some, filter, unwrap_or, find, All, count_by}
 use Rattle.std.specs.List.{filter_map, last_or, list_any}
 use Rattle.std.specs.Option.{option_map_or}
 use Rattle.std.proofs.lemmas.List.{length-map, map-append}
 use Rattle.std.proofs.lemmas.List.Elements.{All-append, All-cons, All-filter, All-head, All-nil, All-tail, All-weaker, filter-append, filter_map-append}
 use Rattle.std.proofs.lemmas.List.Folds.{list_any-append}
-use Rattle.std.proofs.lemmas.List.Sums.{count_by-le-length, sum_by-append}
+use Rattle.std.proofs.lemmas.List.Sums.{count_by-le-length, length-filter, sum_by-append}
 use Rattle.osgi_base.specs.declared.ids.BundleId.{BundleId}
 use Rattle.osgi_base.specs.declared.ids.ServiceId.{ServiceId}
 use Rattle.osgi_model.specs.declared.value.Attribute.{Attribute}
-use Rattle.osgi_ops.specs.Along.{carry}
-use Rattle.osgi_ops.specs.Cleaning.{cleans}
+use Rattle.osgi_ops.specs.Along.{carried, carry}
+use Rattle.osgi_base.specs.declared.ids.Tag.{Tag}
+use Rattle.osgi_ops.specs.Brackets.{Bracket, brackets, Making}
+use Rattle.osgi_ops.specs.Cleaning.{cleaned_by, cleans}
 use Rattle.osgi_ops.specs.Properties.{with_framework}
 use Rattle.osgi_ops.specs.Replies.{is_accepted}
-use Rattle.osgi_ops.specs.Services.{since_cleaning, gets, given_by, given_last, is_get, is_live, is_service, is_unget, live, Registered, registered, registered_after, registered_by, service_now, takes_out, ungets, uses, uses_held}
+use Rattle.osgi_ops.specs.Services.{since_cleaning, gets, given_by, given_last, is_get, is_live, is_service, is_unget, is_use_of, live, live_at, made, made_of, made_uses, makes_own, Registered, registered, registered_after, registered_by, service_now, takes_out, ungets, Use, use_by, uses, uses_held, uses_with, with_use, without_user}
 use Rattle.osgi_ops.specs.declared.op.Op.{Op}
 use Rattle.osgi_ops.specs.declared.scope.Scope.{Scope}
 use Rattle.osgi_ops.specs.declared.op.Op.TheVariants.{Register}
 use Rattle.osgi_ops.specs.declared.reply.Reply.{Reply}
 use Rattle.osgi_ops.specs.declared.entry.Entry.{Entry}
-use Rattle.osgi_ops.specs.laws.Along.{carry-last}
+use Rattle.osgi_ops.specs.laws.Along.{carried-last, carried-still, carry-last}
 
 -- a registered service with one more entry since
 abbrev pub later : Entry → Registered → Registered
@@ -196,9 +198,80 @@ found-le f most p (r ∷ rest) all =
 uses-short : (user : BundleId) (most : ℕ) (r : Registered) → IsShort most r → uses_held user r ≤ most
 uses-short user most r short = omega (arith, short, kept-short user [] r.since, count_by-le-length (λ (e : Entry). is_get user r.service e.op e.reply) (since_cleaning user r.since))
 
--- nobody uses a service more often than there are entries
-pub uses-le-length : (user : BundleId) (service : ServiceId) (history : List Entry) → uses user service history ≤ length history
-uses-le-length user service history =
+-- by what all share or the user has, nobody uses a service more often than there are entries
+pub held-le-length : (user : BundleId) (service : ServiceId) (history : List Entry) → option_map_or (uses_held user) (live_at service history) 0 ≤ length history
+held-le-length user service history =
     found-le (uses_held user) (length history) (is_service service) (live history)
     (All-weaker (IsShort (length history)) (λ r. uses_held user r ≤ length history) (λ r short. uses-short user (length history) r short) (live history)
     (All-filter is_live (IsShort (length history)) (registered history) (short_after (length history) 0 history (omega arith))))
+
+-- ---- uses that began with a make
+
+pub made_uses-push : (history : List Entry) (e : Entry) → made_uses (history ++ e ∷ []) ≡ with_use history (made_uses history) e
+made_uses-push history e = carried-last with_use [] history e
+
+-- an operation with its reply made nothing
+abbrev pub MakesNone : Op → Reply → Type 0
+MakesNone op reply = (tag : Tag) (opened : List Bracket) → made_of tag opened op reply ≡ None
+
+no-use : (before : List Entry) (o : Option Making) → o ≡ None → use_by before o ≡ []
+no-use before o is = ap (use_by before) is
+
+none-without : (user : Option BundleId) → without_user user [] ≡ []
+none-without None = refl
+none-without (Some user) = refl
+
+-- where no entry made anything, no use began with a make
+pub made_uses-none : (history : List Entry) → All (λ (e : Entry). MakesNone e.op e.reply) history → made_uses history ≡ []
+made_uses-none history none =
+    carried-still with_use [] [] history
+    (All-weaker (λ (e : Entry). MakesNone e.op e.reply) (λ e. (before : List Entry) → with_use before [] e ≡ [])
+    (λ e m before. ap (λ l. l ++ use_by before (made before e)) (none-without (cleaned_by e.op e.reply)) ∙ no-use before (made before e) (m e.tag (brackets before))) history none)
+
+-- then the uses are those by what all share
+pub uses-plain : (user : BundleId) (service : ServiceId) (history : List Entry) → made_uses history ≡ [] → uses user service history ≡ option_map_or (uses_held user) (live_at service history) 0
+uses-plain user service history none =
+    let no : count_by (is_use_of user service) (made_uses history) ≡ 0 = ap (count_by (is_use_of user service)) none in
+    ap (λ n. option_map_or (uses_with n user) (live_at service history) 0) no ∙ at (live_at service history)
+  where
+    at : (o : Option Registered) → option_map_or (uses_with 0 user) o 0 ≡ option_map_or (uses_held user) o 0
+    at None = refl
+    at (Some r) = let same : gets user r + 0 ≡ gets user r = omega arith in ap (λ n. n - ungets user r) same
+
+-- ---- bounds of these
+
+without-le : (user : Option BundleId) (all : List Use) → length (without_user user all) ≤ length all
+without-le None all = omega arith
+without-le (Some user) all = omega (arith, length-filter (λ (u : Use). not (user.0 == u.user.0)) all, count_by-le-length (λ (u : Use). not (user.0 == u.user.0)) all)
+
+one-or-none : (before : List Entry) (o : Option Making) → length (use_by before o) ≤ 1
+one-or-none before None = omega arith
+one-or-none before (Some m) = go (makes_own before m)
+  where
+    go : (own : Bool) → let u : Use = record { user = m.user; service = m.service } in length (cond own [] (u ∷ [])) ≤ 1
+    go true = omega arith
+    go false = omega arith
+
+made_uses-le-from : (front : List Entry) (all : List Use) (history : List Entry) → length (carried with_use front all history) ≤ length all + length history
+made_uses-le-from front all [] = omega arith
+made_uses-le-from front all (e ∷ rest) =
+    omega (arith, made_uses-le-from (front ++ e ∷ []) (with_use front all e) rest, length-append (without_user (cleaned_by e.op e.reply) all) (use_by front (made front e)), without-le (cleaned_by e.op e.reply) all, one-or-none front (made front e))
+
+-- each entry begins one at most
+pub made_uses-le-length : (history : List Entry) → length (made_uses history) ≤ length history
+made_uses-le-length history = omega (arith, made_uses-le-from [] [] history)
+
+uses-with-le : (user : BundleId) (from_makes : ℕ) (r : Registered) (most : ℕ) → IsShort most r → uses_with from_makes user r ≤ most + from_makes
+uses-with-le user from_makes r most short = omega (arith, short, kept-short user [] r.since, count_by-le-length (λ (e : Entry). is_get user r.service e.op e.reply) (since_cleaning user r.since))
+
+-- nobody uses a service more often than twice for each entry
+pub uses-le-length : (user : BundleId) (service : ServiceId) (history : List Entry) → uses user service history ≤ length history + length history
+uses-le-length user service history =
+    let from_makes = count_by (is_use_of user service) (made_uses history) in
+    let few : from_makes ≤ length history = omega (arith, count_by-le-length (is_use_of user service) (made_uses history), made_uses-le-length history) in
+    let most : ℕ = length history + from_makes in
+    let all : option_map_or (uses_with from_makes user) (live_at service history) 0 ≤ most
+    = found-le (uses_with from_makes user) most (is_service service) (live history)
+    (All-weaker (IsShort (length history)) (λ r. uses_with from_makes user r ≤ most) (λ r short. uses-with-le user from_makes r (length history) short) (live history)
+    (All-filter is_live (IsShort (length history)) (registered history) (short_after (length history) 0 history (omega arith)))) in
+    omega (arith, all, few)

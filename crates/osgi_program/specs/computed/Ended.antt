@@ -1,7 +1,7 @@
 -- A session as it ran, before its text is written. No public promise speaks of this.
 use Rattle.std.specs.Prelude.{ℕ, Bool, ◌≡◌, if◌then◌else◌, List, []}
 use Rattle.std.specs.List.{count_by}
-use Rattle.osgi_ops.specs.Legal.{Legal}
+use Rattle.osgi_legal.specs.Legal.{Legal}
 use Rattle.osgi_ops.specs.Settings.{Bounds}
 use Rattle.osgi_ops.specs.declared.entry.Entry.{Entry}
 use Rattle.osgi_console.specs.Console.{AreLinesOf}

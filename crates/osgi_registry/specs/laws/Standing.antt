@@ -427,6 +427,7 @@ cleaning bundle e is = record {
 
     none_got : (o : Op) (reply : Reply) → cleaned_by o reply ≡ Some bundle → (user : BundleId) (service : ServiceId) → is_get user service o reply ≡ false
     none_got (op.Get by got) reply is user service = absurd (cc is)
+    none_got (op.GetOwn by got) reply is user service = absurd (cc is)
     none_got o reply is user service = refl
 
     none_ungot : (o : Op) (reply : Reply) → cleaned_by o reply ≡ Some bundle → (user : BundleId) (service : ServiceId) → is_unget user service o reply ≡ false
@@ -515,6 +516,7 @@ quiet_refused tag o refusal none = record {
 
     none_got : (o : Op) (refusal : Refusal) (user : BundleId) (service : ServiceId) → is_get user service o (answer.Refused refusal) ≡ false
     none_got (op.Get by got) refusal user service = refl
+    none_got (op.GetOwn by got) refusal user service = refl
     none_got o refusal user service = refl
 
     none_ungot : (o : Op) (refusal : Refusal) (user : BundleId) (service : ServiceId) → is_unget user service o (answer.Refused refusal) ≡ false

@@ -7,7 +7,7 @@ use Rattle.std.specs.Option.{option_map}
 use Rattle.std.specs.Ordering.{nat_cmp}
 use Rattle.std.specs.Str.{bytes_eq}
 use Rattle.osgi_ops.specs.declared.section.Section.{Section}
-use Rattle.osgi_ops.specs.declared.section.Section.TheVariants.{Start, Stop, On, Job}
+use Rattle.osgi_ops.specs.declared.section.Section.TheVariants.{Start, Stop, On, Job, Make}
 use Rattle.osgi_session.specs.declared.statement.Statement.{Statement}
 use Rattle.osgi_script.specs.declared.lines.ScriptLine.{ScriptLine}
 use Rattle.osgi_script.specs.declared.lines.ScriptLine.TheVariants as line
@@ -41,6 +41,7 @@ same_section Start Start = true
 same_section Stop Stop = true
 same_section (On name) (On other) = bytes_eq name other
 same_section (Job name) (Job other) = bytes_eq name other
+same_section (Make name) (Make other) = bytes_eq name other
 same_section _ _ = false
 
 abbrev pub has_section : List Part → Section → Bool
@@ -52,6 +53,7 @@ is_taken taken Start = taken.start
 is_taken taken Stop = taken.stop
 is_taken taken (On name) = contains (slice_cmp nat_cmp) taken.on name
 is_taken taken (Job name) = contains (slice_cmp nat_cmp) taken.job name
+is_taken taken (Make name) = contains (slice_cmp nat_cmp) taken.make name
 
 -- the sections that have heads are those of the parts
 abbrev pub AreTaken : Taken → List Part → Type 0

@@ -1,5 +1,5 @@
 -- What a line writes by the texts is what it writes by the history.
-use Rattle.std.proofs.Common.{◌≡◌, ◌+◌, ◌++◌, ◌∷◌, List, ap, sym, ◌∙◌, drop, drop-cons, add-one, append_assoc, suc}
+use Rattle.std.proofs.Common.{◌≡◌, ◌+◌, ◌++◌, ◌∷◌, [], List, ap, sym, ◌∙◌, drop, drop-cons, add-one, append_assoc, suc}
 use Rattle.osgi_session.specs.Rendering.{line_text, render}
 use Rattle.osgi_ops.specs.declared.entry.Entry.{Entry}
 use Rattle.osgi_session.specs.declared.line.Line.{Line}
@@ -15,5 +15,5 @@ loop-line-preserved c =
     let left : drop i lines ≡ line ∷ drop (i + 1) lines
     = rw add-one (drop-cons lines i line c.loop-line-test.true ∙ ap (λ (x : Line). x ∷ drop (suc i) lines) (sym c.line-item.is)) in
     rw (c.in_ok-add_line.ensures.added, line_text_from entries c.in_ok-texts.texts line c.in_ok-texts.ensures.texts)
-    (append_assoc c.loop-line.out.items (line_text entries line) (render (drop (i + 1) lines) entries)
-    ∙ ap (λ l. c.loop-line.out.items ++ render l entries) (sym left) ∙ c.loop-line.invariant)
+    (append_assoc c.loop-line.out.items (line_text entries [] line) (render (drop (i + 1) lines) entries [])
+    ∙ ap (λ l. c.loop-line.out.items ++ render l entries []) (sym left) ∙ c.loop-line.invariant)

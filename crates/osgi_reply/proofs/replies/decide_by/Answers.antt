@@ -24,7 +24,7 @@ returns-in-Unregister-clause-decided c =
 
 pub returns-in_ok-get-in-Get-clause-decided : goal.returns-in_ok-get-in-Get-clause-decided
 returns-in_ok-get-in-Get-clause-decided c =
-    in_registry c.args.asked.now (op.Get c.in-Get.user c.in-Get.service) c.args.tables.now c.in_registry-in-Get.result c.in_ok-get-in-Get.field-0 c.in_registry-in-Get.ensures.same c.in-Get.is refl refl (of_services _ _ (λ n since. refl) (λ b. refl) (λ b. refl) refl (λ b. refl) refl refl refl (λ l. refl) refl (λ now world same. same)) c.requires.asker c.in_ok-get-in-Get.ensures.decided
+    in_registry c.args.asked.now (op.Get c.in-Get.user c.in-Get.service) c.args.tables.now c.in_registry-in-Get.result c.in_ok-get-in-Get.field-0 c.in_registry-in-Get.ensures.same c.in-Get.is refl refl (of_services _ _ (λ n since. refl) (λ b. refl) (λ b. refl) refl (λ b. refl) c.in_ok-get-in-Get.ensures.unopened refl refl (λ l. refl) refl (λ now world same. same)) c.requires.asker c.in_ok-get-in-Get.ensures.decided
 
 pub returns-in-Unget-clause-decided : goal.returns-in-Unget-clause-decided
 returns-in-Unget-clause-decided c =

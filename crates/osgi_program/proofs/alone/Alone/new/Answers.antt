@@ -1,7 +1,7 @@
 -- The history of a machine is within what it may be.
 use Rattle.std.proofs.Common.{◌≤◌, length, subst}
 use Rattle.osgi_ops.specs.Settings.{Setting}
-use Rattle.osgi_ops.specs.laws.Refusals.{Replayed-within}
+use Rattle.osgi_legal.specs.laws.Refusals.{Replayed-within}
 use Rattle.osgi_program.proofs.alone.Alone.new.Goals as goal
 
 pub invariant_of-result : goal.invariant_of-result

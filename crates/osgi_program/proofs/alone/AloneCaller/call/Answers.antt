@@ -1,7 +1,7 @@
 -- A call of the machine is a call of its only caller.
 use Rattle.std.proofs.Common.{◌≡◌, ◌≤◌, ◌∙◌, length, subst}
 use Rattle.osgi_ops.specs.Settings.{Setting}
-use Rattle.osgi_ops.specs.laws.Refusals.{Legal-within}
+use Rattle.osgi_legal.specs.laws.Refusals.{Legal-within}
 use Rattle.osgi_program.proofs.Calling.{called}
 use Rattle.osgi_program.proofs.alone.AloneCaller.call.Goals as goal
 

@@ -3,7 +3,7 @@ use Rattle.std.specs.Prelude.{◌≡◌, ◌<◌, ◌≤◌, List, [], ◌∷◌
 use Rattle.osgi_ops.specs.Along.{AllAlong}
 use Rattle.osgi_ops.specs.Listening.{AreSights}
 use Rattle.osgi_ops.specs.Moments.{entries_in, Moment, moment, Sight, sights_in, Told, world_after}
-use Rattle.osgi_ops.specs.Operations.{IsReply}
+use Rattle.osgi_legal.specs.Operations.{IsReply}
 use Rattle.osgi_ops.specs.Settings.{Setting}
 use Rattle.osgi_ops.specs.Worlds.{Leaves}
 use Rattle.osgi_ops.specs.declared.asked.Asked.{Asked}

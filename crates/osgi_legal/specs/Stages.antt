@@ -3,8 +3,8 @@ use Rattle.std.specs.Prelude.{Bool, true, false}
 use Rattle.osgi_ops.specs.declared.op.Op.{Op}
 use Rattle.osgi_ops.specs.declared.op.Op.TheVariants as op
 
--- The end of a job is here before what opens it: while none is open, its own conditions refuse it. So is TakeJob, which finds no job while
--- none can be queued
+-- The end of a job, and that of a make, are here before what opens them: while none is open, their own conditions refuse them. So is
+-- TakeJob, which finds no job while none can be queued
 abbrev pub is_here : Op → Bool
 is_here (op.QueueJob owner name) = false
 is_here (op.Update bundle location) = false
@@ -17,4 +17,16 @@ is_here (op.ListLevel level) = false
 is_here (op.MoveLevel to) = false
 is_here op.EndLevel = false
 is_here (op.SetBundleLevel bundle level) = false
+is_here (op.GetOwn user service) = false
+is_here (op.Give owner text) = false
+is_here (op.UngetOwn user service object) = false
+is_here (op.Await bundle) = false
 is_here _ = true
+
+-- services of other scopes may be registered than those with one object for all
+abbrev pub factories_here : Bool
+factories_here = false
+
+-- a load may add a wire
+abbrev pub dynamics_here : Bool
+dynamics_here = false

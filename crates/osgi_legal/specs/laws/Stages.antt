@@ -3,9 +3,9 @@ use Rattle.std.proofs.Common.{◌≡◌, ◌⊎◌, inl, inr, Bool, true, false,
 use Rattle.std.specs.Prelude.{MatchBool}
 use Rattle.osgi_ops.specs.Brackets.{is_end}
 use Rattle.osgi_ops.specs.Moments.{Moment}
-use Rattle.osgi_ops.specs.Operations.{IsReply, IsRow}
+use Rattle.osgi_legal.specs.Operations.{IsReply, IsRow}
 use Rattle.osgi_ops.specs.Replies.{is_accepted, is_effective}
-use Rattle.osgi_ops.specs.Stages.{is_here}
+use Rattle.osgi_legal.specs.Stages.{is_here}
 use Rattle.osgi_ops.specs.declared.op.Op.{Op}
 use Rattle.osgi_ops.specs.declared.op.Op.TheVariants as op
 use Rattle.osgi_ops.specs.declared.refusal.Refusal.TheVariants.{InvalidOperation}
@@ -53,6 +53,7 @@ ends-here (op.EndHand listener) e = refl
 ends-here op.EndJob e = refl
 ends-here (op.EndStart bundle failed) e = refl
 ends-here (op.EndStop bundle failed) e = refl
+ends-here (op.EndMake failed) e = refl
 ends-here _ e = absurd (cc e)
 
 pub hand-here : is_here op.Hand ≡ true
