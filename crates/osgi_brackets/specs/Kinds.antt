@@ -10,7 +10,7 @@ cause_of (Hand listener) = handing listener
 cause_of (Start bundle) = starting bundle
 cause_of (Stop bundle) = stopping bundle
 cause_of Job = job
-cause_of (Make m) = making (record { user = m.user; service = m.service; own = m.own; owner = m.owner })
+cause_of (Make m) = making (record { user = m.user; service = m.service; asked_own = m.asked_own; owner = m.owner })
 
 -- the bracket, as one of this caller
 abbrev pub bracket_of : ℕ → OpenBracket → Bracket

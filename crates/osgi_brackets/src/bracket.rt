@@ -28,7 +28,7 @@ pub enum BracketKind {
 pub struct Made {
     pub user: BundleId,
     pub service: ServiceId,
-    pub own: bool,
+    pub asked_own: bool,
     pub owner: BundleId,
 }
 
@@ -52,7 +52,7 @@ pub fn opens(op: &Op, reply: &Reply) -> Option<BracketKind>
             Some(BracketKind::Make(Made {
                 user: *user,
                 service: *service,
-                own: false,
+                asked_own: false,
                 owner: *owner,
             }))
         }
@@ -60,7 +60,7 @@ pub fn opens(op: &Op, reply: &Reply) -> Option<BracketKind>
             Some(BracketKind::Make(Made {
                 user: *user,
                 service: *service,
-                own: true,
+                asked_own: true,
                 owner: *owner,
             }))
         }

@@ -10,7 +10,7 @@ use Rattle.std.proofs.lemmas.List.Elements.{filter-append}
 use Rattle.osgi_base.specs.declared.ids.BundleId.{BundleId}
 use Rattle.osgi_base.specs.declared.ids.ServiceId.{ServiceId}
 use Rattle.osgi_ops.specs.Replies.{is_accepted, is_refusal}
-use Rattle.osgi_ops.specs.Services.{is_live, is_service, Registered, registered_after, registered_by, takes_out, uses_held}
+use Rattle.osgi_ops.specs.Services.{is_live, is_service, Registered, registered_after, registered_by, takes_out, uses_without_makes}
 use Rattle.osgi_ops.specs.declared.op.Op.{Op}
 use Rattle.osgi_ops.specs.declared.op.Op.TheVariants.{Register}
 use Rattle.osgi_ops.specs.declared.reply.Reply.{Reply}
@@ -74,19 +74,19 @@ is_that new service = option_eq (λ a b. nat_eq a.0 b.0) new (Some service)
 
 -- how often the user holds the first of the services that has the id
 abbrev pub uses_in : BundleId → ServiceId → List Registered → ℕ
-uses_in user service list = option_map_or (uses_held user) (find (is_service service) list) 0
+uses_in user service list = option_map_or (uses_without_makes user) (find (is_service service) list) 0
 
-held_of : (user : BundleId) (service : ServiceId) (r : Registered) → r.service.0 ≡ service.0 → uses_held user r ≡ held user service r.since
+held_of : (user : BundleId) (service : ServiceId) (r : Registered) → r.service.0 ≡ service.0 → uses_without_makes user r ≡ held user service r.since
 held_of user service r same = let of : ℕ → ℕ = λ n. held user (record { 0 = n }) r.since in ap of same
 
 first_uses : (user : BundleId) (service : ServiceId) (r : Registered) (rest : List Registered) (same : Bool) → nat_eq r.service.0 service.0 ≡ same →
     uses_in user service (r ∷ rest) ≡ cond same (held user service r.since) (uses_in user service rest)
 first_uses user service r rest true is =
     let e : r.service.0 ≡ service.0 = eqb-true r.service.0 service.0 is in
-    ap (λ o. option_map_or (uses_held user) o 0) (cond-true (nat_eq service.0 r.service.0) (Some r) (find (is_service service) rest) (eq-eqb service.0 r.service.0 (sym e)))
+    ap (λ o. option_map_or (uses_without_makes user) o 0) (cond-true (nat_eq service.0 r.service.0) (Some r) (find (is_service service) rest) (eq-eqb service.0 r.service.0 (sym e)))
     ∙ held_of user service r e
 first_uses user service r rest false is =
-    ap (λ o. option_map_or (uses_held user) o 0) (cond-false (nat_eq service.0 r.service.0) (Some r) (find (is_service service) rest) (ne_eqb service.0 r.service.0 (λ e. eqb-false r.service.0 service.0 is (sym e))))
+    ap (λ o. option_map_or (uses_without_makes user) o 0) (cond-false (nat_eq service.0 r.service.0) (Some r) (find (is_service service) rest) (ne_eqb service.0 r.service.0 (λ e. eqb-false r.service.0 service.0 is (sym e))))
 
 one_uses : (user : BundleId) (service : ServiceId) (r : Registered) (rest : List Registered) (live : Bool) (new : Option ServiceId) (same : Bool) →
     option_to_list new ≡ ids_of (cond live (r ∷ []) []) → is_that new service ≡ same →

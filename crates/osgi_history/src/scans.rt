@@ -4,7 +4,7 @@ ghost use Rattle.std.specs.Prelude.{◌≡◌, ◌<◌, [], count_by, filter, ma
 ghost use Rattle.std.specs.List.{list_any};
 ghost use Rattle.std.specs.Option.{option_map_or, option_to_list};
 ghost use Rattle.osgi_ops.specs.Cleaning.{cleaned_by, cleans};
-ghost use Rattle.osgi_ops.specs.Services.{is_get, is_live, is_unget, live, made_uses, registered_by, since_cleaning, takes_out, uses};
+ghost use Rattle.osgi_ops.specs.Services.{gets_object, is_live, is_unget, live, made_uses, registered_by, since_cleaning, takes_out, uses};
 ghost use Rattle.osgi_history.specs.computed.Scans.{has_failed, held, is_registration, uses_shared};
 
 use osgi_base::{BundleId, List, ServiceId};
@@ -98,8 +98,8 @@ pub fn live(alloc: Global, entries: &[Entry]) -> Result<List<ServiceId>, AllocEr
 }
 
 /// Whether the entry is a Get of the service by the user, or a GetOwn, that answered an object which all share or which the user has.
-fn is_get(entry: &Entry, user: BundleId, service: ServiceId) -> bool
-    ensures got { result ≡ is_get user service entry.now.op entry.now.reply }
+fn gets_object(entry: &Entry, user: BundleId, service: ServiceId) -> bool
+    ensures got { result ≡ gets_object user service entry.now.op entry.now.reply }
 {
     match (&entry.op, &entry.reply) {
         (
@@ -148,11 +148,11 @@ fn since_cleaning(entries: &[Entry], bundle: BundleId) -> &[Entry]
 
 /// How many of the entries are such a Get.
 fn gets(entries: &[Entry], user: BundleId, service: ServiceId) -> usize
-    ensures count { result ≡ count_by (λ e. is_get user service e.op e.reply) entries.now }
+    ensures count { result ≡ count_by (λ e. gets_object user service e.op e.reply) entries.now }
 {
     entries
         .iter()
-        .filter(|entry| is_get(entry, user, service))
+        .filter(|entry| gets_object(entry, user, service))
         .count()
 }
 

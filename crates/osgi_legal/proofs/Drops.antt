@@ -5,11 +5,12 @@ use Rattle.std.specs.Option.{option_map_or}
 use Rattle.std.proofs.lemmas.Bool.{false_from_ne_true, not-true}
 use Rattle.osgi_base.specs.declared.ids.RevisionId.{RevisionId}
 use Rattle.osgi_resolver_theory.proofs.Drop.{kept-consistent, kept-world}
-use Rattle.osgi_ops.specs.Closures.{DependsOn, LeansOn, wired}
+use Rattle.osgi_ops.specs.Bundles.{is_member}
+use Rattle.osgi_ops.specs.Closures.{DependsOn, IsClosed, LeansOn, wired}
 use Rattle.osgi_ops.specs.Levels.{Refresh, refresh}
 use Rattle.osgi_legal.specs.Legal.{IsTold}
 use Rattle.osgi_ops.specs.Moments.{Moment}
-use Rattle.osgi_ops.specs.Worlds.{dropped, is_member}
+use Rattle.osgi_ops.specs.Worlds.{dropped}
 use Rattle.osgi_world.specs.Consistency.{Consistent}
 use Rattle.osgi_world.specs.Lookups.{bundle_of}
 use Rattle.osgi_world.specs.Wirings.{HasWire, IsWorld}
@@ -18,7 +19,7 @@ use Rattle.osgi_world.specs.declared.world.Known.{Known}
 use Rattle.osgi_world.specs.declared.world.World.{World}
 use Rattle.osgi_base.specs.declared.ids.BundleId.{BundleId}
 use Rattle.osgi_legal.proofs.Facts.{closed-at, kept-at}
-use Rattle.osgi_legal.proofs.Tidy.{contains-member, IsClosed, IsTidy, known-bundle, member-contains}
+use Rattle.osgi_legal.proofs.Tidy.{contains-member, IsTidy, known-bundle, member-contains}
 
 -- the revisions that stay: those of no member
 abbrev pub stays_put : World → List BundleId → RevisionId → Bool

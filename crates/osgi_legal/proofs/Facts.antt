@@ -5,6 +5,7 @@ use mathlib.Core.List.{IsPrefix}
 use Rattle.osgi_base.specs.declared.ids.BundleId.{BundleId}
 use Rattle.osgi_base.specs.declared.ids.ListenerId.{ListenerId}
 use Rattle.osgi_legal.specs.States.{state_at}
+use Rattle.osgi_ops.specs.Closures.{IsClosed}
 use Rattle.osgi_ops.specs.Assignable.{IsAssignable}
 use Rattle.osgi_ops.specs.Brackets.{Bracket, brackets}
 use Rattle.osgi_ops.specs.Bundles.{Bundle, bundles, is_live, is_up, revisions, system}
@@ -27,7 +28,6 @@ use Rattle.osgi_legal.proofs.Phases.{IsFit, phases-fit}
 use Rattle.osgi_legal.proofs.Running.{all-run, IsRunning}
 use Rattle.osgi_legal.proofs.States.{live-row, state-agrees}
 use Rattle.osgi_legal.proofs.SystemSources.{own-assignable}
-use Rattle.osgi_legal.proofs.Tidy.{IsClosed}
 use Rattle.osgi_legal.proofs.Turns.{AreTurns, same-turn, turns_of, turns-fit}
 use Rattle.osgi_legal.proofs.Up.{up-refused}
 use Rattle.osgi_legal.proofs.Windows.{always-kept, IsKept, IsWindow, members-closed, members-stay}

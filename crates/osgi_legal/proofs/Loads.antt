@@ -20,16 +20,16 @@ use Rattle.osgi_legal.proofs.Accepted.{accepted}
 -- a reply that shows no wire leaves the world
 shown-none : (m : Moment) (b : BundleId) (class : List ℕ) (by : Option RevisionId) (wake : Option BundleId) (after : World) → Leaves m (op.Load b class) (loaded_with by None wake) after → after ≡ m.world
 shown-none m b class by None after l = l
-shown-none m b class by (Some woke) after l = l.2 ∙ ap (with_added m.world b) l.1
+shown-none m b class by (Some woke) after l = l.is ∙ ap (with_added m.world b) l.added
 
 -- what an accepted load answers shows none
-pub load-shown : (m : Moment) (b : BundleId) (class : List ℕ) (y : Reply) (a : LoadAnswers false m b class y) → y ≡ loaded_with a.1 None (woken m class a.1)
-load-shown m b class y a = a.4 ∙ ap (λ w. loaded_with a.1 (option_and_then (wire_row m.world.known) w) (woken m class a.1)) (none-added m.world b class a.0 a.2)
+pub load-shown : (m : Moment) (b : BundleId) (class : List ℕ) (y : Reply) (a : LoadAnswers false m b class y) → y ≡ loaded_with a.by None (woken m class a.by)
+load-shown m b class y a = a.says ∙ ap (λ w. loaded_with a.by (option_and_then (wire_row m.world.known) w) (woken m class a.by)) (none-added m.world b class a.wire a.added)
 
 load-accepted : (m : Moment) (b : BundleId) (class : List ℕ) (y : Reply) (after : World) → IsReply m (op.Load b class) y → is_accepted y ≡ true → Leaves m (op.Load b class) y after → after ≡ m.world
 load-accepted m b class y after r e l =
     let a : LoadAnswers false m b class y = (accepted m (op.Load b class) y r e).1 in
-    shown-none m b class a.1 (woken m class a.1) after (subst (λ z. Leaves m (op.Load b class) z after) (load-shown m b class y a) l)
+    shown-none m b class a.by (woken m class a.by) after (subst (λ z. Leaves m (op.Load b class) z after) (load-shown m b class y a) l)
 
 pub load-stays : (m : Moment) (b : BundleId) (class : List ℕ) (y : Reply) (after : World) → IsReply m (op.Load b class) y → Leaves m (op.Load b class) y after → after ≡ m.world
 load-stays m b class (answer.Refused f) after r l = l

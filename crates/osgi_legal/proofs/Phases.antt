@@ -146,9 +146,9 @@ turn-of b op.TakeJob (answer.Job owner row name) = leaves refl (λ cause q. quie
 turn-of b (op.EndHand listener) reply = leaves refl (λ cause q. never b cause q) (λ q f. refl)
 turn-of b op.EndJob reply = leaves refl (λ cause q. never b cause q) (λ q f. refl)
 turn-of b (op.Get user service) (answer.Make owner row name) =
-    leaves refl (λ cause q. quiet-cause b (making (record { user = user; service = service; own = false; owner = owner })) cause q refl) (λ q f. absurd (cc q))
+    leaves refl (λ cause q. quiet-cause b (making (record { user = user; service = service; asked_own = false; owner = owner })) cause q refl) (λ q f. absurd (cc q))
 turn-of b (op.GetOwn user service) (answer.Make owner row name) =
-    leaves refl (λ cause q. quiet-cause b (making (record { user = user; service = service; own = true; owner = owner })) cause q refl) (λ q f. absurd (cc q))
+    leaves refl (λ cause q. quiet-cause b (making (record { user = user; service = service; asked_own = true; owner = owner })) cause q refl) (λ q f. absurd (cc q))
 turn-of b (op.EndMake bad) reply = leaves refl (λ cause q. never b cause q) (λ q f. refl)
 turn-of b o reply = leaves refl (λ cause q. never b cause q) (λ q f. absurd (cc q))
 

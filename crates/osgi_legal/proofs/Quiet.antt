@@ -26,7 +26,7 @@ use Rattle.osgi_ops.specs.Moments.{Moment}
 use Rattle.osgi_legal.specs.Operations.{IsReply}
 use Rattle.osgi_ops.specs.Properties.{with_framework}
 use Rattle.osgi_ops.specs.Replies.{is_effective}
-use Rattle.osgi_ops.specs.Services.{gets, given_by, given_last, is_get, is_service, is_unget, is_use_of, live, made_of, made_uses, Registered, registered, registered_by, service_now, takes_out, ungets, use_by, uses_with, without_user}
+use Rattle.osgi_ops.specs.Services.{gets, given_by, given_last, gets_object, is_service, is_unget, is_use_of, live, made_of, made_uses, Registered, registered, registered_by, service_now, takes_out, ungets, use_by, uses_with, without_user}
 use Rattle.osgi_ops.specs.declared.depot.DepotRow.{DepotRow}
 use Rattle.osgi_ops.specs.declared.entry.Entry.{Entry}
 use Rattle.osgi_ops.specs.declared.op.Op.{Op}
@@ -101,7 +101,7 @@ services-quiet h e q = record {
     counted c n t f g = ap (λ k. cond k 0 (n + kept.one_where t)) f ∙ ap (λ k. n + kept.one_where k) g ∙ (let z : n + 0 ≡ n = omega arith in z)
 
     got : (u : BundleId) (r : Registered) → gets u (kept.later e r) ≡ gets u r
-    got u r = kept.gets-push u r e ∙ counted (cleans u e.op e.reply) (gets u r) (is_get u r.service e.op e.reply) (not-cleaned e.op e.reply q.cleaned u) (q.got u r.service)
+    got u r = kept.gets-push u r e ∙ counted (cleans u e.op e.reply) (gets u r) (gets_object u r.service e.op e.reply) (not-cleaned e.op e.reply q.cleaned u) (q.got u r.service)
 
     gave : (u : BundleId) (r : Registered) → ungets u (kept.later e r) ≡ ungets u r
     gave u r = kept.ungets-push u r e ∙ counted (cleans u e.op e.reply) (ungets u r) (is_unget u r.service e.op e.reply) (not-cleaned e.op e.reply q.cleaned u) (q.let_go u r.service)
@@ -344,7 +344,7 @@ services-refused o f e = record {
     given (op.Modify owner modified properties) s = refl
     given o s = refl
 
-    got : (o : Op) (u : BundleId) (s : ServiceId) → is_get u s o (answer.Refused f) ≡ false
+    got : (o : Op) (u : BundleId) (s : ServiceId) → gets_object u s o (answer.Refused f) ≡ false
     got (op.Get by service) u s = refl
     got (op.GetOwn by service) u s = refl
     got o u s = refl

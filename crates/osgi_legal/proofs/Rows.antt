@@ -6,7 +6,7 @@ use Rattle.std.specs.Option.{option_map_or}
 use Rattle.std.proofs.lemmas.Bool.{and_parts, eq-eqb, eqb-true, false_from_ne_true, ne_eqb, not-true, or_right}
 use Rattle.osgi_base.specs.declared.ids.BundleId.{BundleId}
 use Rattle.osgi_legal.specs.Quiet.{QuietBundles}
-use Rattle.osgi_ops.specs.Bundles.{Bundle, bundle_from, bundles, Installed, installed, installed_by, is_uninstall, live, revisions, row_from, source, system, the_system_bundle, updated_to}
+use Rattle.osgi_ops.specs.Bundles.{is_member, Bundle, bundle_from, bundles, Installed, installed, installed_by, is_uninstall, live, revisions, row_from, source, system, the_system_bundle, updated_to}
 use Rattle.osgi_ops.specs.Depots.{stored_revision}
 use Rattle.osgi_legal.specs.Legal.{AreAllowed, entry_of, IsAllowed, IsTold}
 use Rattle.osgi_ops.specs.Levels.{refresh}
@@ -16,7 +16,7 @@ use Rattle.osgi_ops.specs.Replies.{is_accepted}
 use Rattle.osgi_ops.specs.Resolved.{current_revision, is_current_of, is_fragment_bundle, is_resolved}
 use Rattle.osgi_ops.specs.Resolving.{AnswersResolve, newly_resolved, Resolves}
 use Rattle.osgi_ops.specs.Settings.{Setting}
-use Rattle.osgi_ops.specs.Worlds.{Brings, dropped, is_member, Leaves, pended, with_revision}
+use Rattle.osgi_ops.specs.Worlds.{Brings, dropped, Leaves, pended, with_revision}
 use Rattle.osgi_ops.specs.rows.Bundles.{installs}
 use Rattle.osgi_ops.specs.declared.depot.DepotRow.{DepotRow}
 use Rattle.osgi_ops.specs.declared.entry.Entry.{Entry}
@@ -229,10 +229,10 @@ current-accepted m (op.Uninstall u) y after r acc l g a =
     (removed-current m u after (λ e. p.0.1.0 no.InvalidOperation (refl, e)) (subst (λ z. Leaves m (op.Uninstall u) z after) p.1 l) a)
 current-accepted m op.DropWirings y after r acc l g a =
     let p = (accepted m op.DropWirings y r acc).1 in
-    let some : IsSomeAnd (refresh m.before) (λ r. after ≡ dropped r.members m.world) = subst (λ z. Leaves m op.DropWirings z after) p.3 l in
-    let is : after ≡ dropped p.0.members m.world = subst (λ o. IsSomeAnd o (λ r. after ≡ dropped r.members m.world)) p.2.0 some in
+    let some : IsSomeAnd (refresh m.before) (λ r. after ≡ dropped r.members m.world) = subst (λ z. Leaves m op.DropWirings z after) p.says l in
+    let is : after ≡ dropped p.refresh.members m.world = subst (λ o. IsSomeAnd o (λ r. after ≡ dropped r.members m.world)) p.own.0 some in
     still-current m op.DropWirings y after (record { installed = λ n since. refl; gone = λ b. refl; updated = λ b. refl; brings = refl })
-    (λ x. ap (λ w. current_revision w x) is ∙ find-kept (is_current_of x) (λ (k : Known). not (is_member p.0.members k.bundle.0) || k.current) m.world.known (λ k c. or_right _ _ (and_parts k.current _ c).0)) a
+    (λ x. ap (λ w. current_revision w x) is ∙ find-kept (is_current_of x) (λ (k : Known). not (is_member p.refresh.members k.bundle.0) || k.current) m.world.known (λ k c. or_right _ _ (and_parts k.current _ c).0)) a
 current-accepted m (op.Load b class) y after r acc l g a =
     still-current m (op.Load b class) y after (record { installed = λ n since. refl; gone = λ b. refl; updated = λ b. refl; brings = refl }) (λ x. ap (λ w. current_revision w x) (load-stays m b class y after r l)) a
 current-accepted m o y after r acc l g a =

@@ -9,7 +9,7 @@ use Rattle.osgi_base.specs.declared.ids.RevisionId.{RevisionId}
 use Rattle.osgi_base.specs.declared.ids.Tag.{Tag}
 use Rattle.osgi_ops.specs.Brackets.{Bracket, brackets, is_end}
 use Rattle.osgi_ops.specs.Bundles as bundles
-use Rattle.osgi_ops.specs.Bundles.{active, Bundle, bundle_from, idle, installed, is_active, is_live, is_uninstall, is_up, phase, Phase, running, State, state, system}
+use Rattle.osgi_ops.specs.Bundles.{is_member, active, Bundle, bundle_from, idle, installed, is_active, is_live, is_uninstall, is_up, phase, Phase, running, State, state, system}
 use Rattle.osgi_ops.specs.Conditions.{state_change, state_of}
 use Rattle.osgi_legal.specs.Legal.{AreAllowed, IsAllowed}
 use Rattle.osgi_ops.specs.Levels.{Refresh, refresh}
@@ -19,7 +19,7 @@ use Rattle.osgi_ops.specs.Replies.{is_accepted, is_effective}
 use Rattle.osgi_ops.specs.Resolved.{current_revision, is_current_of, is_fragment_bundle, is_in_use, is_resolved}
 use Rattle.osgi_ops.specs.Resolving.{AnswersResolve, newly_resolved, Resolves}
 use Rattle.osgi_ops.specs.Settings.{Setting}
-use Rattle.osgi_ops.specs.Worlds.{Brings, dropped, stays_known, is_member, Leaves, passed, pended, with_revision}
+use Rattle.osgi_ops.specs.Worlds.{Brings, dropped, stays_known, Leaves, passed, pended, with_revision}
 use Rattle.osgi_ops.specs.laws.Resolved.{in_use-true}
 use Rattle.osgi_ops.specs.rows.Bundles.{installs}
 use Rattle.osgi_ops.specs.rows.Life.{begin_start_refusals}
@@ -356,8 +356,8 @@ running-stays setting front tag o y after legal reply left b apart up run = go (
         subst (λ x. IsRunning x b) (sym w) (waiting u (apart-of u p.0.1.1.1.0))
     accepting op.DropWirings acc r l =
         let p = (accepted m op.DropWirings y r acc).1 in
-        let some : IsSomeAnd (refresh m.before) (λ r. after ≡ dropped r.members m.world) = subst (λ z. Leaves m op.DropWirings z after) p.3 l in
-        dropping p.0 p.2.0 p.2.1 p.2.2 acc r (subst (λ o. IsSomeAnd o (λ r. after ≡ dropped r.members m.world)) p.2.0 some)
+        let some : IsSomeAnd (refresh m.before) (λ r. after ≡ dropped r.members m.world) = subst (λ z. Leaves m op.DropWirings z after) p.says l in
+        dropping p.refresh p.own.0 p.own.1 p.own.2 acc r (subst (λ o. IsSomeAnd o (λ r. after ≡ dropped r.members m.world)) p.own.0 some)
     accepting (op.Load bundle class) acc r l = same (load-stays m bundle class y after r l)
     accepting p acc r l = same l
 

@@ -11,8 +11,8 @@ use Rattle.osgi_base.specs.declared.ids.BundleId.{BundleId}
 use Rattle.osgi_base.specs.declared.ids.RevisionId.{RevisionId}
 use Rattle.osgi_legal.specs.Quiet.{QuietBundles, SameBundles}
 use Rattle.osgi_legal.specs.States.{resolved_at, resolves_by, state_at}
-use Rattle.osgi_ops.specs.Bundles.{Bundle, bundle_from, bundles, Installed, installed, installed_by, is_live, is_uninstall, live, phase, revisions, row_from, running, source, state, system, the_system_bundle, Active, Uninstalled, updated_to}
-use Rattle.osgi_ops.specs.Closures.{attached, DependsOn, hosting}
+use Rattle.osgi_ops.specs.Bundles.{is_member, Bundle, bundle_from, bundles, Installed, installed, installed_by, is_live, is_uninstall, live, phase, revisions, row_from, running, source, state, system, the_system_bundle, Active, Uninstalled, updated_to}
+use Rattle.osgi_ops.specs.Closures.{attached, DependsOn, hosting, IsClosed}
 use Rattle.osgi_ops.specs.Conditions.{depot_refusal}
 use Rattle.osgi_ops.specs.Depots.{stored_revision, revision_in, row_number}
 use Rattle.osgi_legal.specs.Legal.{AreAllowed, entry_of, IsAllowed}
@@ -23,7 +23,7 @@ use Rattle.osgi_ops.specs.Replies.{is_accepted}
 use Rattle.osgi_ops.specs.Resolved.{current_revision, is_current_of, is_in_use, is_resolved}
 use Rattle.osgi_ops.specs.Resolving.{AnswersResolve, newly_resolved, Resolves}
 use Rattle.osgi_ops.specs.Settings.{Setting}
-use Rattle.osgi_ops.specs.Worlds.{Brings, dropped, stays_known, is_member, Leaves, passed, pended, with_revision}
+use Rattle.osgi_ops.specs.Worlds.{Brings, dropped, stays_known, Leaves, passed, pended, with_revision}
 use Rattle.osgi_ops.specs.laws.Resolved.{in_use-from, in_use-true}
 use Rattle.osgi_ops.specs.rows.Bundles.{installs}
 use Rattle.osgi_ops.specs.declared.depot.DepotRow.{DepotRow}
@@ -54,7 +54,7 @@ use Rattle.osgi_legal.proofs.Owned.{entries-last}
 use Rattle.osgi_legal.proofs.Phases.{same-id}
 use Rattle.osgi_legal.proofs.Quiet.{bundles-quiet, bundles-refused, count-same, live-same}
 use Rattle.osgi_legal.proofs.Running.{current-pended}
-use Rattle.osgi_legal.proofs.Tidy.{any-in, contains-member, extends-of, in-any, IsClosed, IsTidy, known-bundle, member-contains, passed-bundle, pended-tidy}
+use Rattle.osgi_legal.proofs.Tidy.{any-in, contains-member, extends-of, in-any, IsTidy, known-bundle, member-contains, passed-bundle, pended-tidy}
 use Rattle.osgi_legal.proofs.Windows.{always-kept, IsKept, IsWindow, leaves-refused, refused-is, window-closed, window-outside}
 use Rattle.osgi_legal.proofs.Loads.{load-stays}
 
@@ -630,10 +630,10 @@ agrees-accepted m (op.Uninstall u) y after r acc l k a =
     (by-removal m u after (λ e. p.0.1.0 no.InvalidOperation (refl, e)) (subst (λ z. Leaves m (op.Uninstall u) z after) p.1 l) a)
 agrees-accepted m op.DropWirings y after r acc l k a =
     let p = (accepted m op.DropWirings y r acc).1 in
-    let some : IsSomeAnd (refresh m.before) (λ r. after ≡ dropped r.members m.world) = subst (λ z. Leaves m op.DropWirings z after) p.3 l in
-    subst (λ z. Agrees m.setting.depot (m.before ++ entry_of m op.DropWirings z ∷ []) after) (sym p.3)
-    (by-fall m p.0 p.1 after k.tidy (k.window p.0 p.2.0 p.2.2) (subst (λ o. IsSomeAnd o (λ r. after ≡ dropped r.members m.world)) p.2.0 some)
-    (λ b i. All-contains (λ b. Contains p.0.members b × (is_resolved m.world b ≡ true)) p.1 b p.4.only i) (λ b c q. p.4.every b (c, q)) a)
+    let some : IsSomeAnd (refresh m.before) (λ r. after ≡ dropped r.members m.world) = subst (λ z. Leaves m op.DropWirings z after) p.says l in
+    subst (λ z. Agrees m.setting.depot (m.before ++ entry_of m op.DropWirings z ∷ []) after) (sym p.says)
+    (by-fall m p.refresh p.ids after k.tidy (k.window p.refresh p.own.0 p.own.2) (subst (λ o. IsSomeAnd o (λ r. after ≡ dropped r.members m.world)) p.own.0 some)
+    (λ b i. All-contains (λ b. Contains p.refresh.members b × (is_resolved m.world b ≡ true)) p.ids b p.resolved.only i) (λ b c q. p.resolved.every b (c, q)) a)
 agrees-accepted m (op.Load b class) y after r acc l k a =
     still-agrees m (op.Load b class) y after (load-stays m b class y after r l) (record { installed = λ n since. refl; gone = λ b. refl; updated = λ b. refl; brings = refl }) (λ b. refl) a
 agrees-accepted m o y after r acc l k a = still-agrees m o y after l (record { installed = λ n since. refl; gone = λ b. refl; updated = λ b. refl; brings = refl }) (λ b. refl) a

@@ -6,12 +6,12 @@ use Rattle.std.specs.Option.{option_map, option_map_or}
 use Rattle.std.proofs.lemmas.Bool.{eq-eqb, eqb-true, false_from_ne_true, ne_eqb, not-true, or_cases, or_left, or_right}
 use Rattle.osgi_base.specs.declared.ids.BundleId.{BundleId}
 use Rattle.osgi_base.specs.declared.ids.RevisionId.{RevisionId}
-use Rattle.osgi_ops.specs.Bundles.{system}
-use Rattle.osgi_ops.specs.Closures.{DependsOn, hosting, LeansOn, wired}
+use Rattle.osgi_ops.specs.Bundles.{is_member, system}
+use Rattle.osgi_ops.specs.Closures.{DependsOn, hosting, IsClosed, LeansOn, wired}
 use Rattle.osgi_ops.specs.Moments.{first_world}
 use Rattle.osgi_ops.specs.Resolved.{is_current_of, is_in_use}
 use Rattle.osgi_ops.specs.Resolving.{IsResolvedTo}
-use Rattle.osgi_ops.specs.Worlds.{dropped, stays_known, is_member, passed, pended, with_revision}
+use Rattle.osgi_ops.specs.Worlds.{dropped, stays_known, passed, pended, with_revision}
 use Rattle.osgi_ops.specs.laws.Resolved.{in_use-from}
 use Rattle.osgi_world.specs.Consistency.{Extends}
 use Rattle.osgi_world.specs.Lists.{In}
@@ -259,10 +259,6 @@ member-contains members b e =
 
 pub contains-member : (members : List BundleId) (b : BundleId) → Contains members b → is_member members b.0 ≡ true
 contains-member members b c = in-any (λ (x : BundleId). x.0 == b.0) members b (contains-In members b c) (eq-eqb b.0 b.0 refl)
-
--- the members take in what depends on one
-abbrev pub IsClosed : World → List BundleId → Type 0
-IsClosed world members = (b c : BundleId) → DependsOn world c b → Contains members b → Contains members c
 
 abbrev keeps : List BundleId → Known → Bool
 keeps members k = not (is_member members k.bundle.0) || k.current

@@ -7,7 +7,7 @@ use Rattle.std.proofs.lemmas.List.Elements.{All-contains, All-weaker, filter-app
 use Rattle.osgi_base.specs.declared.ids.BundleId.{BundleId}
 use Rattle.osgi_base.specs.declared.ids.RevisionId.{RevisionId}
 use Rattle.osgi_ops.specs.Bundles.{brings_revision, Bundle, bundle_from, installed, revisions, system}
-use Rattle.osgi_ops.specs.Closures.{asked, attached, depends, DependsOn, hosting, IsAsked, IsClosure, IsMember, LeansOn, wired}
+use Rattle.osgi_ops.specs.Closures.{asked, attached, depends, DependsOn, hosting, IsAsked, IsClosed, IsClosure, IsMember, LeansOn, wired}
 use Rattle.osgi_legal.specs.Legal.{AreAllowed, entry_of, IsAllowed}
 use Rattle.osgi_ops.specs.Levels.{Refresh, refresh, refresh_by}
 use Rattle.osgi_ops.specs.Moments.{entries_in, Moment, moment, Told, world_after}
@@ -37,7 +37,7 @@ use Rattle.osgi_ops.specs.laws.Items.{In-left, In-push}
 use Rattle.osgi_legal.proofs.Accepted.{accepted, NoneHolds}
 use Rattle.osgi_legal.proofs.Legal.{world-last}
 use Rattle.osgi_legal.proofs.Owned.{entries-last}
-use Rattle.osgi_legal.proofs.Tidy.{any-in, brought-tidy, dropped-tidy, first-tidy, IsClosed, IsTidy, pended-tidy, resolved-tidy}
+use Rattle.osgi_legal.proofs.Tidy.{any-in, brought-tidy, dropped-tidy, first-tidy, IsTidy, pended-tidy, resolved-tidy}
 use Rattle.osgi_legal.proofs.Loads.{load-stays}
 
 -- ---- the closure, with one more revision known
@@ -275,10 +275,10 @@ by-begin m named y after r acc l k =
     subst (IsKept (m.before ++ entry_of m (op.BeginRefresh named) y ∷ [])) (sym l) (record {
       tidy = subst (λ n. IsTidy n m.world) (sym (revisions-same m.before (entry_of m (op.BeginRefresh named) y) refl)) k.tidy;
       window = λ r e d.
-          let is : Some (record { tag = m.tag; members = p.1.0; dropped = false }) ≡ Some r =
-          sym (ap (λ z. refresh_by (refresh m.before) (entry_of m (op.BeginRefresh named) y) (op.BeginRefresh named) z) p.1.2) ∙ sym (refresh-last m.before (entry_of m (op.BeginRefresh named) y)) ∙ e in
-          let same : record { tag = m.tag; members = p.1.0; dropped = false } ≡ r = cc is in
-          subst (IsWindow m.world) same (record { begun = m.world; named = named; closure = p.1.3; apart = asked-apart named p.0.1.0 });
+          let is : Some (record { tag = m.tag; members = p.1.all; dropped = false }) ≡ Some r =
+          sym (ap (λ z. refresh_by (refresh m.before) (entry_of m (op.BeginRefresh named) y) (op.BeginRefresh named) z) p.1.says) ∙ sym (refresh-last m.before (entry_of m (op.BeginRefresh named) y)) ∙ e in
+          let same : record { tag = m.tag; members = p.1.all; dropped = false } ≡ r = cc is in
+          subst (IsWindow m.world) same (record { begun = m.world; named = named; closure = p.1.closure; apart = asked-apart named p.0.1.0 });
     })
   where
     asked-apart : (list : List BundleId) → ((f : Refusal) → (f ≡ no.InvalidOperation) × Contains list system → ⊥) → IsAsked m.world list system → ⊥
@@ -289,18 +289,18 @@ by-drop : (m : Moment) (y : Reply) (after : World) → IsReply m op.DropWirings 
     IsKept (m.before ++ entry_of m op.DropWirings y ∷ []) after
 by-drop m y after r acc l k =
     let p = (accepted m op.DropWirings y r acc).1 in
-    let some : IsSomeAnd (refresh m.before) (λ r. after ≡ dropped r.members m.world) = subst (λ z. Leaves m op.DropWirings z after) p.3 l in
-    let same : after ≡ dropped p.0.members m.world = subst (λ o. IsSomeAnd o (λ r. after ≡ dropped r.members m.world)) p.2.0 some in
-    let w = k.window p.0 p.2.0 p.2.2 in
+    let some : IsSomeAnd (refresh m.before) (λ r. after ≡ dropped r.members m.world) = subst (λ z. Leaves m op.DropWirings z after) p.says l in
+    let same : after ≡ dropped p.refresh.members m.world = subst (λ o. IsSomeAnd o (λ r. after ≡ dropped r.members m.world)) p.own.0 some in
+    let w = k.window p.refresh p.own.0 p.own.2 in
     record {
       tidy = subst (λ n. IsTidy n after) (sym (revisions-same m.before (entry_of m op.DropWirings y) refl))
-          (subst (IsTidy (revisions m.before)) (sym same) (dropped-tidy (revisions m.before) m.world p.0.members (window-closed m.world p.0 w) (window-outside (revisions m.before) m.world p.0 k.tidy w) k.tidy));
+          (subst (IsTidy (revisions m.before)) (sym same) (dropped-tidy (revisions m.before) m.world p.refresh.members (window-closed m.world p.refresh w) (window-outside (revisions m.before) m.world p.refresh k.tidy w) k.tidy));
       window = λ r e d.
-          let is : Some (record p.0 { dropped = true }) ≡ Some r =
-          sym (ap (λ o. option_map (λ (x : Refresh). record x { dropped = true }) o) p.2.0)
+          let is : Some (record p.refresh { dropped = true }) ≡ Some r =
+          sym (ap (λ o. option_map (λ (x : Refresh). record x { dropped = true }) o) p.own.0)
           ∙ sym (ap (λ c. cond c (option_map (λ (x : Refresh). record x { dropped = true }) (refresh m.before)) (refresh m.before)) acc)
           ∙ sym (refresh-last m.before (entry_of m op.DropWirings y)) ∙ e in
-          let gone : record p.0 { dropped = true } ≡ r = cc is in
+          let gone : record p.refresh { dropped = true } ≡ r = cc is in
           absurd (let bad : true ≡ false = ap (λ (x : Refresh). x.dropped) gone ∙ d in cc bad);
     }
 

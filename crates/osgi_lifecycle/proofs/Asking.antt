@@ -4,7 +4,7 @@ use Rattle.osgi_ops.specs.declared.op.Op.{Op}
 use Rattle.osgi_ops.specs.declared.reply.Reply.{Reply}
 use Rattle.osgi_session.specs.Plans as plans
 use Rattle.osgi_session.specs.Plans.{stirs}
-use Rattle.osgi_session.specs.Steps.{begin, drained_first, drained_out, draining, first_step, left_section, replied, resume, waiting}
+use Rattle.osgi_session.specs.Steps.{begin, drained_first, drained_out, draining, first_step, left_section, replied, resume, awaiting}
 use Rattle.osgi_lifecycle.specs.Draining.{drained_by}
 use Rattle.osgi_lifecycle.specs.Following.{after_reply, after_section, left_of}
 use Rattle.osgi_lifecycle.specs.Pendings.{IsAnswer, last_of, pending_at, pending_of}
@@ -19,7 +19,7 @@ use Rattle.osgi_lifecycle.specs.declared.stirring.Stirring.{Stirring}
 -- an operation was asked, and its reply is awaited
 pub asked : (p : Plan) (o : Op) (kept : Stirring) → drained_by kept ≡ stirs o →
     pending_at stage.Waiting (record p { stage = stage.Waiting; stirring = kept }) ≡ (first_step (left_of (head.Ask o) p.rest)).pending
-asked p o kept e = ap (λ (f : Reply → Bool). waiting f (after_reply p.rest.at p.rest.kept)) e
+asked p o kept e = ap (λ (f : Reply → Bool). awaiting f (after_reply p.rest.at p.rest.kept)) e
 
 begun-at : (s : Stage) (p : Plan) → IsAnswer (pending_at s p) begin → resume (pending_at s p) begin ≡ first_step (left_of p.ready p.rest)
 begun-at stage.Fresh p h = refl

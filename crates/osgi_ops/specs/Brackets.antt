@@ -11,11 +11,12 @@ use Rattle.osgi_ops.specs.declared.reply.Reply.{Reply}
 use Rattle.osgi_ops.specs.declared.reply.Reply.TheVariants.{Handed, Job, Begun, Make}
 use Rattle.osgi_ops.specs.declared.entry.Entry.{Entry}
 
--- an object that is being made: for which user, of which service, whether the user asked for one of its own, and whose factory makes it
+-- an object that is being made: for which user, of which service, whether the user asked for one of its own (which it is then only where
+-- the service has a scope that gives such), and whose factory makes it
 pub record Making : Type 0 where
   pub user : BundleId
   pub service : ServiceId
-  pub own : Bool
+  pub asked_own : Bool
   pub owner : BundleId
 
 -- what a bracket is open for
@@ -40,8 +41,8 @@ opens Hand (Handed listener kind owner row name event) = Some (handing listener)
 opens TakeJob (Job owner row name) = Some job
 opens (BeginStart bundle transient) (Begun begun row) = Some (starting bundle)
 opens (BeginStop target transient) (Begun begun row) = Some (stopping begun)
-opens (Get user service) (Make owner row name) = Some (making (record { user = user; service = service; own = false; owner = owner }))
-opens (GetOwn user service) (Make owner row name) = Some (making (record { user = user; service = service; own = true; owner = owner }))
+opens (Get user service) (Make owner row name) = Some (making (record { user = user; service = service; asked_own = false; owner = owner }))
+opens (GetOwn user service) (Make owner row name) = Some (making (record { user = user; service = service; asked_own = true; owner = owner }))
 opens _ _ = None
 
 -- the operation is an end
@@ -126,5 +127,5 @@ abbrev pub innermost : ℕ → List Bracket → Option Bracket
 innermost caller opened = find (λ b. b.tag.caller == caller) opened
 
 -- what the innermost bracket of a caller makes
-abbrev pub made_by : ℕ → List Bracket → Option Making
-made_by caller opened = option_and_then making_in (innermost caller opened)
+abbrev pub making_of_innermost : ℕ → List Bracket → Option Making
+making_of_innermost caller opened = option_and_then making_in (innermost caller opened)

@@ -24,6 +24,10 @@ use Rattle.osgi_world.specs.declared.world.World.{World}
 abbrev pub system : BundleId
 system = record { 0 = 0 }
 
+-- the bundle of this number is one of the list
+abbrev pub is_member : List BundleId → ℕ → Bool
+is_member bundles bundle = list_any (λ (b : BundleId). b.0 == bundle) bundles
+
 -- a bundle as its Install tells it, with the entries since
 pub record Installed : Type 0 where
   pub bundle : BundleId

@@ -1,5 +1,5 @@
 -- The conditions of refusals that several operations share, and who asks for an operation.
-use Rattle.std.specs.Prelude.{ℕ, ◌≡◌, ◌≢◌, ◌==◌, ◌+◌, ◌≤◌, ◌<◌, ◌&&◌, ◌⊎◌, ⊤, nat_lt, not, Bool, true, false, if◌then◌else◌, List, [], ◌∷◌, Option, None, Some, length, IsSomeAnd, All, AllPairs, Contains}
+use Rattle.std.specs.Prelude.{ℕ, ◌≡◌, ◌≢◌, ◌==◌, ◌+◌, ◌≤◌, ◌<◌, ◌&&◌, ◌⊎◌, ⊤, nat_le, nat_lt, not, Bool, true, false, if◌then◌else◌, List, [], ◌∷◌, Option, None, Some, length, IsSomeAnd, All, AllPairs, Contains}
 use Rattle.std.specs.Option.{option_map_or}
 use Rattle.std.specs.Ordering.{is_gt}
 use Rattle.osgi_base.specs.Verdict.{Where}
@@ -13,7 +13,7 @@ use Rattle.osgi_ops.specs.Moments.{Moment}
 use Rattle.osgi_ops.specs.Services.{live_at}
 use Rattle.osgi_ops.specs.declared.depot.Stored.{Stored}
 use Rattle.osgi_ops.specs.declared.depot.Stored.TheVariants as stored
-use Rattle.osgi_ops.specs.declared.limits.TheConstants.{MAX_BRACKETS}
+use Rattle.osgi_ops.specs.declared.limits.TheConstants.{MAX_BRACKETS, MAX_LEVEL}
 use Rattle.osgi_ops.specs.declared.op.Op.{Op}
 use Rattle.osgi_ops.specs.declared.op.Op.TheVariants as op
 use Rattle.osgi_ops.specs.declared.refusal.Many.TheVariants.{Locations}
@@ -180,8 +180,9 @@ is_above now bundle = nat_lt (highest now) (level_of bundle now.before)
 abbrev pub is_kept : Moment → BundleId → Bool
 is_kept now bundle = not (is_active (state_of now bundle)) && is_above now bundle
 
+-- a level that a bundle which was installed, and the framework, may have
 abbrev pub is_level : ℕ → Bool
-is_level level = nat_lt 0 level && nat_lt level 101
+is_level level = nat_le 1 level && nat_le level MAX_LEVEL
 
 abbrev pub IsOneStep : ℕ → ℕ → ℕ → Type 0
 IsOneStep from to target = ((to ≡ from + 1) × (to ≤ target)) ⊎ ((from ≡ to + 1) × (target ≤ to))

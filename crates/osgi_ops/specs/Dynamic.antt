@@ -81,25 +81,25 @@ pub record IsFirstWire (world : World) (r : RevisionId) (pack : List ℕ) (w : W
   pub first : (other : Wire) → IsDynamicWire world r pack other → (other ≡ w) ⊎ IsEarlierWire world.known w other
 
 -- the package has a source for r, or a file of r's payload stands in it, or r waits for removal: then no wire is added
-abbrev pub IsSettledFor : World → RevisionId → List ℕ → Type 0
-IsSettledFor world r pack =
+abbrev pub NeedsNoWire : World → RevisionId → List ℕ → Type 0
+NeedsNoWire world r pack =
     ((x : RevisionId) × Sources world.known world.wirings r pack x) ⊎ (has_own_files world r pack ≡ true) ⊎ WaitsForRemoval world.known world.wirings r
 
 -- the wire that a load of the package by r adds, if it adds one
-abbrev pub IsDynamic : World → RevisionId → List ℕ → Option Wire → Type 0
-IsDynamic world r pack None = IsSettledFor world r pack ⊎ ((w : Wire) → ¬ IsDynamicWire world r pack w)
-IsDynamic world r pack (Some w) = (¬ IsSettledFor world r pack) × IsFirstWire world r pack w
+abbrev pub IsWireToAdd : World → RevisionId → List ℕ → Option Wire → Type 0
+IsWireToAdd world r pack None = NeedsNoWire world r pack ⊎ ((w : Wire) → ¬ IsDynamicWire world r pack w)
+IsWireToAdd world r pack (Some w) = (¬ NeedsNoWire world r pack) × IsFirstWire world r pack w
 
 -- the wire that a load of the class by the bundle adds, if it adds one; none while dynamic imports have not come: the first argument says
 -- whether they have
 abbrev pub IsAdded : Bool → World → BundleId → List ℕ → Option Wire → Type 0
 IsAdded dynamics world bundle class wire =
-    MatchBool dynamics ((k : Known) × (current_revision world bundle ≡ Some k) × IsDynamic world k.id (package_of class) wire) (wire ≡ None)
+    MatchBool dynamics ((k : Known) × (current_revision world bundle ≡ Some k) × IsWireToAdd world k.id (package_of class) wire) (wire ≡ None)
 
 -- the wire that a load has added whose reply shows this row, if it shows one
-abbrev pub IsAddedAs : World → BundleId → List ℕ → Option WireRow → Option Wire → Type 0
-IsAddedAs world bundle class None wire = wire ≡ None
-IsAddedAs world bundle class (Some row) wire = IsAdded true world bundle class wire
+abbrev pub IsAddedWhere : World → BundleId → List ℕ → Option WireRow → Option Wire → Type 0
+IsAddedWhere world bundle class None wire = wire ≡ None
+IsAddedWhere world bundle class (Some row) wire = IsAdded true world bundle class wire
 
 -- the world with the wire of the bundle's current revision
 abbrev pub with_added : World → BundleId → Option Wire → World

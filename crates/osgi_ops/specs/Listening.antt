@@ -24,6 +24,7 @@ use Rattle.osgi_ops.specs.Moments.{Told, Seen, Sight, entries_in}
 use Rattle.osgi_ops.specs.declared.entry.Entry.{Entry}
 use Rattle.osgi_ops.specs.declared.event.Event.{Event}
 use Rattle.osgi_ops.specs.declared.event.Event.TheVariants as event
+use Rattle.osgi_ops.specs.declared.event_codes.TheConstants.{BUNDLE_INSTALLED, BUNDLE_LAZY_ACTIVATION, BUNDLE_RESOLVED, BUNDLE_STARTED, BUNDLE_STARTING, BUNDLE_STOPPED, BUNDLE_STOPPING, BUNDLE_UNINSTALLED, BUNDLE_UNRESOLVED, BUNDLE_UPDATED, FRAMEWORK_PACKAGES_REFRESHED, FRAMEWORK_STARTLEVEL_CHANGED, SERVICE_MODIFIED, SERVICE_MODIFIED_ENDMATCH, SERVICE_REGISTERED, SERVICE_UNREGISTERING}
 use Rattle.osgi_ops.specs.declared.kind.Kind.{Kind}
 use Rattle.osgi_ops.specs.declared.kind.Kind.TheVariants as kind
 use Rattle.osgi_ops.specs.declared.op.Op.{Op}
@@ -110,14 +111,14 @@ services_at id history = map service_now (option_to_list (live_at id history))
 -- the bundle's services go, by rising id
 abbrev pub leaving : Option BundleId → List Entry → List Happening
 leaving None history = []
-leaving (Some owner) history = map (λ r. service 4 (service_now r)) (filter (λ r. r.owner.0 == owner.0) (live history))
+leaving (Some owner) history = map (λ r. service SERVICE_UNREGISTERING (service_now r)) (filter (λ r. r.owner.0 == owner.0) (live history))
 
 abbrev pub of_bundle : ℕ → World → World → BundleId → Happening
 of_bundle code before after b = bundle code b (elim (current_revision after b) [ Some k ↦ Some k | None ↦ current_revision before b ])
 
 -- it is no longer resolved, where it was
 abbrev pub unresolving : World → World → BundleId → List Happening
-unresolving before after b = if is_resolved before b then of_bundle 64 before after b ∷ [] else []
+unresolving before after b = if is_resolved before b then of_bundle BUNDLE_UNRESOLVED before after b ∷ [] else []
 
 abbrev pub modifications : List declared.Service → List declared.Service → List Happening
 modifications (old ∷ []) (new ∷ []) = modified old new ∷ []
@@ -125,26 +126,26 @@ modifications _ _ = []
 
 -- what happens at an operation that did its work, after these entries and between these worlds, in order
 abbrev pub happenings : List Entry → World → World → Entry → Op → Reply → List Happening
-happenings past before after e (op.Register owner classes object scope properties) (answer.Service id) = map (service 1) (services_at id (past ++ e ∷ []))
+happenings past before after e (op.Register owner classes object scope properties) (answer.Service id) = map (service SERVICE_REGISTERED) (services_at id (past ++ e ∷ []))
 happenings past before after e (op.Modify owner id properties) reply =
     if is_accepted reply then modifications (services_at id past) (services_at id (past ++ e ∷ [])) else []
-happenings past before after e (op.Unregister owner id) reply = if is_accepted reply then map (service 4) (services_at id past) else []
-happenings past before after e (op.Install location) (answer.Bundle b false) = of_bundle 1 before after b ∷ []
-happenings past before after e (op.Resolve b) (answer.Resolved all) = map (of_bundle 32 before after) all
-happenings past before after e (op.BeginStart b transient) (answer.Begun begun row) = of_bundle 128 before after b ∷ []
-happenings past before after e (op.EndStart b fails) answer.Done = of_bundle 2 before after b ∷ []
+happenings past before after e (op.Unregister owner id) reply = if is_accepted reply then map (service SERVICE_UNREGISTERING) (services_at id past) else []
+happenings past before after e (op.Install location) (answer.Bundle b false) = of_bundle BUNDLE_INSTALLED before after b ∷ []
+happenings past before after e (op.Resolve b) (answer.Resolved all) = map (of_bundle BUNDLE_RESOLVED before after) all
+happenings past before after e (op.BeginStart b transient) (answer.Begun begun row) = of_bundle BUNDLE_STARTING before after b ∷ []
+happenings past before after e (op.EndStart b fails) answer.Done = of_bundle BUNDLE_STARTED before after b ∷ []
 happenings past before after e (op.EndStart b fails) reply =
-    if is_effective reply then of_bundle 256 before after b ∷ leaving (Some b) past ++ of_bundle 4 before after b ∷ [] else []
-happenings past before after e (op.BeginStop target transient) (answer.Begun b row) = of_bundle 256 before after b ∷ []
+    if is_effective reply then of_bundle BUNDLE_STOPPING before after b ∷ leaving (Some b) past ++ of_bundle BUNDLE_STOPPED before after b ∷ [] else []
+happenings past before after e (op.BeginStop target transient) (answer.Begun b row) = of_bundle BUNDLE_STOPPING before after b ∷ []
 happenings past before after e (op.BeginStop target transient) (answer.Idle b) =
-    if is_waiting b past then of_bundle 256 before after b ∷ of_bundle 4 before after b ∷ [] else []
-happenings past before after e (op.Await asked) (answer.Waiting b) = of_bundle 512 before after b ∷ []
-happenings past before after e (op.EndStop b fails) reply = if is_effective reply then leaving (Some b) past ++ of_bundle 4 before after b ∷ [] else []
-happenings past before after e (op.Update b location) reply = if is_accepted reply then unresolving before after b ++ of_bundle 8 before after b ∷ [] else []
-happenings past before after e (op.Uninstall b) reply = if is_accepted reply then unresolving before after b ++ of_bundle 16 before after b ∷ [] else []
-happenings past before after e op.DropWirings (answer.Ids ids) = map (of_bundle 64 before after) ids
-happenings past before after e op.EndRefresh reply = if is_accepted reply then framework 4 ∷ [] else []
-happenings past before after e op.EndLevel reply = if is_accepted reply then framework 8 ∷ [] else []
+    if is_waiting b past then of_bundle BUNDLE_STOPPING before after b ∷ of_bundle BUNDLE_STOPPED before after b ∷ [] else []
+happenings past before after e (op.Await asked) (answer.Waiting b) = of_bundle BUNDLE_LAZY_ACTIVATION before after b ∷ []
+happenings past before after e (op.EndStop b fails) reply = if is_effective reply then leaving (Some b) past ++ of_bundle BUNDLE_STOPPED before after b ∷ [] else []
+happenings past before after e (op.Update b location) reply = if is_accepted reply then unresolving before after b ++ of_bundle BUNDLE_UPDATED before after b ∷ [] else []
+happenings past before after e (op.Uninstall b) reply = if is_accepted reply then unresolving before after b ++ of_bundle BUNDLE_UNINSTALLED before after b ∷ [] else []
+happenings past before after e op.DropWirings (answer.Ids ids) = map (of_bundle BUNDLE_UNRESOLVED before after) ids
+happenings past before after e op.EndRefresh reply = if is_accepted reply then framework FRAMEWORK_PACKAGES_REFRESHED ∷ [] else []
+happenings past before after e op.EndLevel reply = if is_accepted reply then framework FRAMEWORK_STARTLEVEL_CHANGED ∷ [] else []
 happenings past before after e _ _ = []
 
 -- ---- who sees them
@@ -174,8 +175,8 @@ abbrev pub SeesAs : World → Added → Happening → Event → Type 0
 SeesAs world a (service code s) seen = AsksFor world a s × Passes a.given s.properties × (seen ≡ event.Service code s.service)
 SeesAs world a (modified old new) seen =
     AsksFor world a new ×
-    ((Passes a.given new.properties × (seen ≡ event.Service 2 new.service))
-    ⊎ ((¬ Passes a.given new.properties) × Passes a.given old.properties × (seen ≡ event.Service 8 new.service)))
+    ((Passes a.given new.properties × (seen ≡ event.Service SERVICE_MODIFIED new.service))
+    ⊎ ((¬ Passes a.given new.properties) × Passes a.given old.properties × (seen ≡ event.Service SERVICE_MODIFIED_ENDMATCH new.service)))
 SeesAs world a (bundle code b known) seen = (a.kind ≡ kind.Bundle) × Passes a.given (attributes_of code b known) × (seen ≡ event.Bundle code b)
 SeesAs world a (framework code) seen = (a.kind ≡ kind.Framework) × Passes a.given (attributes_of code system None) × (seen ≡ event.Framework code)
 

@@ -8,51 +8,52 @@ use Rattle.osgi_ops.specs.declared.op.Op.TheVariants.{EndMake, Give}
 use Rattle.osgi_ops.specs.declared.reply.Reply.{Reply}
 use Rattle.osgi_ops.specs.declared.reply.Reply.TheVariants.{Done, Held}
 
--- of a make that is open: its caller, and the text that was given last
-pub record Gift : Type 0 where
+-- a make that is open: its caller, and the text that it was given last
+pub record OpenMake : Type 0 where
   pub caller : ℕ
   pub text : Option (List ℕ)
 
 -- what becomes of the makes of a caller: one begins, the innermost ends, or it is given a text
-pub data GiftChange : Type 0 where
-  begins : GiftChange
-  ends : GiftChange
-  gives : List ℕ → GiftChange
+pub data MakeChange : Type 0 where
+  make_begins : MakeChange
+  make_ends : MakeChange
+  text_given : List ℕ → MakeChange
 
-abbrev pub is_making : Option Cause → Bool
-is_making (Some (making m)) = true
-is_making _ = false
+-- what is opened is a make
+abbrev pub opens_make : Option Cause → Bool
+opens_make (Some (making m)) = true
+opens_make _ = false
 
 -- what an operation with its reply says of them, where it closes a bracket or does not
-abbrev pub gift_change : Bool → Op → Reply → Option GiftChange
-gift_change closed (EndMake failed) reply = if closed then Some ends else None
-gift_change closed (Give owner text) Done = Some (gives text)
-gift_change closed op reply = if is_making (opens op reply) then Some begins else None
+abbrev pub make_change : Bool → Op → Reply → Option MakeChange
+make_change closed (EndMake failed) reply = if closed then Some make_ends else None
+make_change closed (Give owner text) Done = Some (text_given text)
+make_change closed op reply = if opens_make (opens op reply) then Some make_begins else None
 
-abbrev pub without_gift : ℕ → List Gift → List Gift
-without_gift caller [] = []
-without_gift caller (g ∷ outer) = if g.caller == caller then outer else g ∷ without_gift caller outer
+abbrev pub without_make : ℕ → List OpenMake → List OpenMake
+without_make caller [] = []
+without_make caller (m ∷ outer) = if m.caller == caller then outer else m ∷ without_make caller outer
 
-abbrev pub with_text : ℕ → List ℕ → List Gift → List Gift
+abbrev pub with_text : ℕ → List ℕ → List OpenMake → List OpenMake
 with_text caller text [] = []
-with_text caller text (g ∷ outer) = if g.caller == caller then record g { text = Some text } ∷ outer else g ∷ with_text caller text outer
+with_text caller text (m ∷ outer) = if m.caller == caller then record m { text = Some text } ∷ outer else m ∷ with_text caller text outer
 
-abbrev pub with_gift_change : ℕ → Option GiftChange → List Gift → List Gift
-with_gift_change caller None gifts = gifts
-with_gift_change caller (Some begins) gifts = record { caller = caller; text = None } ∷ gifts
-with_gift_change caller (Some ends) gifts = without_gift caller gifts
-with_gift_change caller (Some (gives text)) gifts = with_text caller text gifts
+abbrev pub with_make_change : ℕ → Option MakeChange → List OpenMake → List OpenMake
+with_make_change caller None makes = makes
+with_make_change caller (Some make_begins) makes = record { caller = caller; text = None } ∷ makes
+with_make_change caller (Some make_ends) makes = without_make caller makes
+with_make_change caller (Some (text_given text)) makes = with_text caller text makes
 
-abbrev pub with_gift : List Entry → List Gift → Entry → List Gift
-with_gift before gifts e = with_gift_change e.tag.caller (gift_change (closes e.tag e.op (brackets before)) e.op e.reply) gifts
+abbrev pub with_make : List Entry → List OpenMake → Entry → List OpenMake
+with_make before makes e = with_make_change e.tag.caller (make_change (closes e.tag e.op (brackets before)) e.op e.reply) makes
 
 -- the open makes of all callers, the innermost of each first
-abbrev pub gifts : List Entry → List Gift
-gifts history = carried with_gift [] [] history
+abbrev pub open_makes : List Entry → List OpenMake
+open_makes history = carried with_make [] [] history
 
 -- the text that was given last to the innermost make of the caller
 abbrev pub given_text : ℕ → List Entry → Option (List ℕ)
-given_text caller history = option_and_then (λ (g : Gift). g.text) (find (λ (g : Gift). g.caller == caller) (gifts history))
+given_text caller history = option_and_then (λ (m : OpenMake). m.text) (find (λ (m : OpenMake). m.caller == caller) (open_makes history))
 
 -- the operation made an object
 abbrev pub is_made : Op → Reply → Bool

@@ -16,7 +16,7 @@ use Rattle.osgi_ops.specs.declared.reply.Reply.{Reply}
 use Rattle.osgi_ops.specs.declared.reply.Reply.TheVariants.{Done, Held}
 
 -- an object of a service that a user holds. The user has it for each use of the service, or it is the user's own
-pub record Object : Type 0 where
+pub record HeldObject : Type 0 where
   pub object : ObjectId
   pub service : ServiceId
   pub user : BundleId
@@ -28,36 +28,36 @@ text_in (Held object text) = text
 text_in _ = []
 
 -- what an entry made after these, if it made one; its number is one more than that of those made before
-abbrev pub object_by : List Entry → Entry → Option Making → List Object
+abbrev pub object_by : List Entry → Entry → Option Making → List HeldObject
 object_by before e None = []
 object_by before e (Some m) = record { object = record { 0 = made_count before + 1 }; service = m.service; user = m.user; own = makes_own before m; text = text_in e.reply } ∷ []
 
 -- the operation gave this object of its user's own back
-abbrev pub is_given_back : Object → Op → Reply → Bool
+abbrev pub is_given_back : HeldObject → Op → Reply → Bool
 is_given_back o (UngetOwn user service object) Done = (user.0 == o.user.0) && (service.0 == o.service.0) && (object.0 == o.object.0) && o.own
 is_given_back o _ _ = false
 
 -- an object stays, after these entries, the last of which is e: its service is live, its user was not cleaned, and the user has a use of the
 -- service, or did not give back what is its own
-abbrev pub stays : List Entry → Entry → Object → Bool
+abbrev pub stays : List Entry → Entry → HeldObject → Bool
 stays after e o =
     is_some (live_at o.service after) && not (cleans o.user e.op e.reply) && not (is_given_back o e.op e.reply) && (o.own || nat_lt 0 (uses o.user o.service after))
 
-abbrev pub with_object : List Entry → List Object → Entry → List Object
+abbrev pub with_object : List Entry → List HeldObject → Entry → List HeldObject
 with_object before held e = filter (stays (before ++ e ∷ []) e) (held ++ object_by before e (made before e))
 
 -- the objects that are held, in the order in which they were made
-abbrev pub objects : List Entry → List Object
+abbrev pub objects : List Entry → List HeldObject
 objects history = carried with_object [] [] history
 
-abbrev pub is_bundle_object : BundleId → ServiceId → Object → Bool
+abbrev pub is_bundle_object : BundleId → ServiceId → HeldObject → Bool
 is_bundle_object user service o = not o.own && (o.user.0 == user.0) && (o.service.0 == service.0)
 
 -- the object that a user has for each of its uses of a service
-abbrev pub bundle_object : BundleId → ServiceId → List Entry → Option Object
+abbrev pub bundle_object : BundleId → ServiceId → List Entry → Option HeldObject
 bundle_object user service history = find (is_bundle_object user service) (objects history)
 
 -- the user holds this object of the service as its own
 abbrev pub holds_own : BundleId → ServiceId → ObjectId → List Entry → Bool
 holds_own user service object history =
-    list_any (λ (o : Object). o.own && (o.user.0 == user.0) && (o.service.0 == service.0) && (o.object.0 == object.0)) (objects history)
+    list_any (λ (o : HeldObject). o.own && (o.user.0 == user.0) && (o.service.0 == service.0) && (o.object.0 == object.0)) (objects history)

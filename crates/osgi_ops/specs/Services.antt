@@ -7,7 +7,7 @@ use Rattle.osgi_base.specs.declared.ids.ServiceId.{ServiceId}
 use Rattle.osgi_model.specs.declared.value.Attribute.{Attribute}
 use Rattle.osgi_base.specs.declared.ids.Tag.{Tag}
 use Rattle.osgi_ops.specs.Along.{carried, carry, latest}
-use Rattle.osgi_ops.specs.Brackets.{Bracket, brackets, closes, made_by, Making}
+use Rattle.osgi_ops.specs.Brackets.{Bracket, brackets, closes, making_of_innermost, Making}
 use Rattle.osgi_ops.specs.Cleaning.{cleaned_by, cleans}
 use Rattle.osgi_ops.specs.Properties.{with_framework}
 use Rattle.osgi_ops.specs.Replies.{is_accepted}
@@ -95,13 +95,13 @@ services history = map service_now (live history)
 
 -- ---- uses
 
--- the operation is a Get of the service by the user, or a GetOwn, that answered an object which all share or which the user has
-abbrev pub is_get : BundleId → ServiceId → Op → Reply → Bool
-is_get user service (Get by got) (Object text) = (by.0 == user.0) && (got.0 == service.0)
-is_get user service (Get by got) (Held object text) = (by.0 == user.0) && (got.0 == service.0)
-is_get user service (GetOwn by got) (Object text) = (by.0 == user.0) && (got.0 == service.0)
-is_get user service (GetOwn by got) (Held object text) = (by.0 == user.0) && (got.0 == service.0)
-is_get user service _ _ = false
+-- the operation is a Get of the service by the user, or a GetOwn, that answered an object which all share or which the user has already
+abbrev pub gets_object : BundleId → ServiceId → Op → Reply → Bool
+gets_object user service (Get by got) (Object text) = (by.0 == user.0) && (got.0 == service.0)
+gets_object user service (Get by got) (Held object text) = (by.0 == user.0) && (got.0 == service.0)
+gets_object user service (GetOwn by got) (Object text) = (by.0 == user.0) && (got.0 == service.0)
+gets_object user service (GetOwn by got) (Held object text) = (by.0 == user.0) && (got.0 == service.0)
+gets_object user service _ _ = false
 
 -- it is an Unget of the service by the user that answered true
 abbrev pub is_unget : BundleId → ServiceId → Op → Reply → Bool
@@ -114,15 +114,16 @@ since_cleaning bundle entries = carry (λ kept e. if cleans bundle e.op e.reply 
 
 -- how often the user got the service since the service's Register and the user's last cleaning
 abbrev pub gets : BundleId → Registered → ℕ
-gets user r = count_by (λ e. is_get user r.service e.op e.reply) (since_cleaning user r.since)
+gets user r = count_by (λ e. gets_object user r.service e.op e.reply) (since_cleaning user r.since)
 
 -- and how often it gave it back
 abbrev pub ungets : BundleId → Registered → ℕ
 ungets user r = count_by (λ e. is_unget user r.service e.op e.reply) (since_cleaning user r.since)
 
--- how often the user holds it, objects that were made for it not counted
-abbrev pub uses_held : BundleId → Registered → ℕ
-uses_held user r = gets user r - ungets user r
+-- how often the user holds it by its Gets alone: the use that begins as an object is made is not counted, the Ungets are. So it says how
+-- often the user holds the service only where nothing was made
+abbrev pub uses_without_makes : BundleId → Registered → ℕ
+uses_without_makes user r = gets user r - ungets user r
 
 -- ---- uses by the objects that were made
 
@@ -137,11 +138,11 @@ scope_of service history = option_map_or (λ r. r.scope) (find (is_service servi
 
 -- what is made is the user's own
 abbrev pub makes_own : List Entry → Making → Bool
-makes_own history m = is_own m.own (scope_of m.service history)
+makes_own history m = is_own m.asked_own (scope_of m.service history)
 
 -- what an operation made, by the open brackets, being the end of a make that answered an object
 abbrev pub made_of : Tag → List Bracket → Op → Reply → Option Making
-made_of tag opened (EndMake failed) (Held object text) = if closes tag (EndMake failed) opened then made_by tag.caller opened else None
+made_of tag opened (EndMake failed) (Held object text) = if closes tag (EndMake failed) opened then making_of_innermost tag.caller opened else None
 made_of tag opened _ _ = None
 
 -- what an entry made after these

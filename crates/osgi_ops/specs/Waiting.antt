@@ -1,9 +1,9 @@
 -- The bundles that wait until a class of theirs is loaded.
 use Rattle.std.specs.Prelude.{ℕ, ◌==◌, not, Bool, if◌then◌else◌, List, [], ◌∷◌, Option, None, Some, filter}
-use Rattle.std.specs.List.{list_any}
 use Rattle.std.specs.Option.{option_map_or}
 use Rattle.osgi_base.specs.declared.ids.BundleId.{BundleId}
 use Rattle.osgi_ops.specs.Along.{carried}
+use Rattle.osgi_ops.specs.Bundles.{is_member}
 use Rattle.osgi_ops.specs.Levels.{Refresh, refresh}
 use Rattle.osgi_ops.specs.Replies.{is_accepted}
 use Rattle.osgi_ops.specs.declared.entry.Entry.{Entry}
@@ -29,9 +29,6 @@ waited_by (op.Uninstall bundle) reply = if is_accepted reply then Some (leaves b
 waited_by op.DropWirings reply = if is_accepted reply then Some drops else None
 waited_by _ _ = None
 
-abbrev pub is_among : List BundleId → BundleId → Bool
-is_among bundles bundle = list_any (λ (b : BundleId). b.0 == bundle.0) bundles
-
 abbrev pub without : BundleId → List BundleId → List BundleId
 without bundle list = filter (λ (b : BundleId). not (b.0 == bundle.0)) list
 
@@ -39,15 +36,15 @@ abbrev pub with_wait : List BundleId → Option WaitChange → List BundleId →
 with_wait members None list = list
 with_wait members (Some (waits bundle)) list = bundle ∷ without bundle list
 with_wait members (Some (leaves bundle)) list = without bundle list
-with_wait members (Some drops) list = filter (λ (b : BundleId). not (is_among members b)) list
+with_wait members (Some drops) list = filter (λ (b : BundleId). not (is_member members b.0)) list
 
--- the bundles of the refresh that is open
+-- the bundles of a refresh, where there is one
 abbrev pub members_of : Option Refresh → List BundleId
-members_of now = option_map_or (λ (r : Refresh). r.members) now []
+members_of at = option_map_or (λ (r : Refresh). r.members) at []
 
 -- the bundles that wait
 abbrev pub waiting : List Entry → List BundleId
 waiting history = carried (λ before list e. with_wait (members_of (refresh before)) (waited_by e.op e.reply) list) [] [] history
 
 abbrev pub is_waiting : BundleId → List Entry → Bool
-is_waiting bundle history = is_among (waiting history) bundle
+is_waiting bundle history = is_member (waiting history) bundle.0

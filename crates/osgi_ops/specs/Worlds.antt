@@ -1,11 +1,10 @@
 -- How operations change the world: the revisions that are known, and their wirings.
-use Rattle.std.specs.Prelude.{◌≡◌, ◌==◌, ◌+◌, ◌&&◌, ◌||◌, not, Bool, if◌then◌else◌, ℕ, List, [], ◌∷◌, ◌++◌, true, false, Option, Some, filter, map, IsSomeAnd}
-use Rattle.std.specs.List.{list_any}
+use Rattle.std.specs.Prelude.{◌≡◌, ◌+◌, ◌||◌, not, Bool, if◌then◌else◌, ℕ, List, [], ◌∷◌, ◌++◌, true, false, Option, Some, filter, map, is_some, IsSomeAnd}
 use Rattle.osgi_base.specs.declared.ids.BundleId.{BundleId}
 use Rattle.osgi_base.specs.declared.ids.RevisionId.{RevisionId}
-use Rattle.osgi_ops.specs.Bundles.{revisions}
+use Rattle.osgi_ops.specs.Bundles.{is_member, revisions}
 use Rattle.osgi_ops.specs.Depots.{stored_revision}
-use Rattle.osgi_ops.specs.Dynamic.{IsAddedAs, with_added}
+use Rattle.osgi_ops.specs.Dynamic.{IsAddedWhere, with_added}
 use Rattle.osgi_ops.specs.Levels.{refresh}
 use Rattle.osgi_ops.specs.Moments.{Moment}
 use Rattle.osgi_ops.specs.Resolved.{is_current_of, is_in_use, is_resolved}
@@ -14,6 +13,7 @@ use Rattle.osgi_ops.specs.declared.op.Op.{Op}
 use Rattle.osgi_ops.specs.declared.op.Op.TheVariants as op
 use Rattle.osgi_ops.specs.declared.reply.Reply.{Reply}
 use Rattle.osgi_ops.specs.declared.reply.Reply.TheVariants as answer
+use Rattle.osgi_ops.specs.declared.rows.WireRow.{WireRow}
 use Rattle.osgi_world.specs.Lookups.{bundle_of}
 use Rattle.osgi_world.specs.declared.revision.Revision.{Revision}
 use Rattle.osgi_world.specs.declared.wiring.Wire.{Wire}
@@ -40,9 +40,6 @@ stays_known wirings bundle k = not (is_current_of bundle k) || is_in_use wirings
 abbrev pub pended : BundleId → World → World
 pended bundle world = record { known = map (passed bundle) (filter (stays_known world.wirings bundle) world.known); wirings = world.wirings }
 
-abbrev pub is_member : List BundleId → ℕ → Bool
-is_member bundles bundle = list_any (λ (b : BundleId). b.0 == bundle) bundles
-
 -- the members' wirings are dropped, and their revisions that are not current are forgotten
 abbrev pub dropped : List BundleId → World → World
 dropped members world = record {
@@ -57,6 +54,12 @@ pub record Brings (now : Moment) (bundle : BundleId) (location : List ℕ) (befo
   pub read : stored_revision now.setting.depot location ≡ Some revision
   pub is : after ≡ with_revision before (record { 0 = revisions now.before + 1 }) bundle revision
 
+-- the world with the wire that a load has added whose reply shows this row, or none where it shows none
+pub record IsLeftByLoad (before : World) (bundle : BundleId) (class : List ℕ) (row : Option WireRow) (after : World) : Type 0 where
+  pub wire : Option Wire
+  pub added : IsAddedWhere before bundle class row wire
+  pub is : after ≡ with_added before bundle wire
+
 -- the world that an operation with this reply leaves. An accepted Install of a bundle that was not known brings its revision; an accepted
 -- Resolve brings wirings, where the bundle was not resolved; an accepted Update or Uninstall makes the bundle's revision no longer
 -- current, and an Update brings another; DropWirings takes the wirings of a refresh; a Load may add a wire. Nothing else changes the world
@@ -67,5 +70,16 @@ Leaves now (op.Update bundle location) answer.Done after = Brings now bundle loc
 Leaves now (op.Uninstall bundle) answer.Done after = after ≡ pended bundle now.world
 Leaves now op.DropWirings (answer.Ids ids) after = IsSomeAnd (refresh now.before) (λ r. after ≡ dropped r.members now.world)
 Leaves now (op.Load bundle class) (answer.LoadedMore by row wake) after =
-    (wire : Option Wire) × IsAddedAs now.world bundle class row wire × (after ≡ with_added now.world bundle wire)
+    IsLeftByLoad now.world bundle class row after
 Leaves now _ _ after = after ≡ now.world
+
+-- an operation with this reply changes the world: what it leaves may be another. So does a Resolve exactly where it resolved a bundle
+abbrev pub changes_world : Op → Reply → Bool
+changes_world (op.Install location) (answer.Bundle bundle known) = not known
+changes_world (op.Resolve bundle) (answer.Resolved []) = false
+changes_world (op.Resolve bundle) (answer.Resolved (first ∷ more)) = true
+changes_world (op.Update bundle location) answer.Done = true
+changes_world (op.Uninstall bundle) answer.Done = true
+changes_world op.DropWirings (answer.Ids ids) = true
+changes_world (op.Load bundle class) (answer.LoadedMore by row wake) = is_some row
+changes_world _ _ = false

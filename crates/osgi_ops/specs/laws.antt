@@ -7,4 +7,6 @@ pub mod Makes
 pub mod Members
 pub mod Resolved
 pub mod Services
+pub mod Those
 pub mod Waiting
+pub mod Worlds

@@ -7,6 +7,6 @@ pub enum Scope {
     Singleton,
     /// Each bundle that uses the service has an object of its own.
     Bundle,
-    /// Each request gets an object of its own.
+    /// A bundle may ask for objects of its own; one that does not gets the one of its bundle.
     Prototype,
 }

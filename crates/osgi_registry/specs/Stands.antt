@@ -3,7 +3,7 @@ use Rattle.std.specs.Prelude.{◌≡◌, ◌≤◌, List, [], ◌∷◌, ◌++�
 use Rattle.osgi_base.specs.declared.ids.BundleId.{BundleId}
 use Rattle.osgi_base.specs.declared.ids.Tag.{Tag}
 use Rattle.osgi_ops.specs.Cleaning.{cleaned_by}
-use Rattle.osgi_ops.specs.Services.{gets, live, Registered, registered, service_now, ungets, uses_held}
+use Rattle.osgi_ops.specs.Services.{gets, live, Registered, registered, service_now, ungets, uses_without_makes}
 use Rattle.osgi_ops.specs.declared.entry.Entry.{Entry}
 use Rattle.osgi_ops.specs.declared.op.Op.{Op}
 use Rattle.osgi_ops.specs.declared.reply.Reply.{Reply}
@@ -13,7 +13,7 @@ use Rattle.osgi_registry.specs.Rows.{count_of, RegistryRows, LiveService}
 pub record IsRowOf (row : LiveService) (r : Registered) : Type 0 where
   pub service : row.service ≡ service_now r
   pub scope : row.scope ≡ r.scope
-  pub uses : (user : BundleId) → count_of user row.uses ≡ uses_held user r
+  pub uses : (user : BundleId) → count_of user row.uses ≡ uses_without_makes user r
   pub paid : (user : BundleId) → ungets user r ≤ gets user r
 
 abbrev pub AreRowsOf : List LiveService → List Registered → Type 0

@@ -85,7 +85,13 @@ load_answered tables b k class by is barred loaded who =
         (λ other called. barred_not tables.wirings.world b k class is barred called.1),
         inr (
           (λ other called. let bad : Some called.0.0 ≡ None = called.0.1 in cc bad),
-          (None, by, refl, (k, is, loaded), ap (λ woke. loaded_with by None woke) (sym (none-woken (at now tables) told class by))),
+          record {
+            wire = None;
+            by = by;
+            added = refl;
+            loaded = (k, is, loaded);
+            says = ap (λ woke. loaded_with by None woke) (sym (none-woken (at now tables) told class by));
+          },
         ),
       ),
     )))

@@ -15,7 +15,7 @@ use Rattle.osgi_ops.specs.rows.Lists.{service_row}
 use Rattle.osgi_ops.specs.Conditions.{IsDeep}
 use Rattle.osgi_ops.specs.Moments.{Moment}
 use Rattle.osgi_ops.specs.Objects.{bundle_object}
-use Rattle.osgi_ops.specs.Services.{live, live_at, made_uses, Registered, registered, services, uses, uses_held}
+use Rattle.osgi_ops.specs.Services.{live, live_at, made_uses, Registered, registered, services, uses, uses_without_makes}
 use Rattle.osgi_ops.specs.declared.limits.TheConstants.{MAX_SERVICES}
 use Rattle.osgi_base.specs.Verdict.{answers, Gives, refuses, Verdict, Where}
 use Rattle.osgi_ops.specs.declared.entry.Entry.{Entry}
@@ -31,7 +31,7 @@ use Rattle.osgi_ops.specs.declared.scope.Scope.TheVariants.{Singleton}
 use Rattle.osgi_ops.specs.declared.service.Service.{Service}
 use Rattle.osgi_ops.specs.declared.service.ServiceRow.{ServiceRow}
 use Rattle.osgi_ops.specs.laws.Services.{uses-plain}
-use Rattle.osgi_ops.specs.rows.Services.{got, got_as, got_reply, is_making, IsToMake, shared, to_make}
+use Rattle.osgi_ops.specs.rows.Services.{got, got_as, got_reply, making_change, IsToMake, shared, to_make}
 use Rattle.osgi_legal.proofs.Stage.{live-single-at, no-made-uses}
 use Rattle.osgi_registry.specs.laws.Standing.{Found, nowhere, quiet_find_all, quiet_list, quiet_refused, rows_found, rows_length, rows_services, stands_quiet, there}
 use Rattle.osgi_registry.specs.Rows.{count_of, modify_refusal, object_at, refusal_at, register_refusal, RegistryRows, LiveService, row_at, services_in, twins_refusal, use_count}
@@ -247,7 +247,7 @@ pub served_got : (user : BundleId) (service : ServiceId) (old new : RegistryRows
     IsServedToAll (op.Get user service) old new (answer.Object text)
 served_got user service old new text got_it stands who = record {
   due = λ now asked stood.
-      get_answers now user (row_at service old.rows) (live_at service now.before) text (is_making now user service) (IsDeep now) (live-single-at now asked.told service) (found_now now.before old service stood) got_it;
+      get_answers now user (row_at service old.rows) (live_at service now.before) text (making_change now user service) (IsDeep now) (live-single-at now asked.told service) (found_now now.before old service stood) got_it;
   stands = stands;
 }
 
@@ -256,12 +256,12 @@ pub served_ungotten : (user : BundleId) (service : ServiceId) (old new : Registr
 served_ungotten user service old new refusal none same who = record {
   due = λ now asked stood.
       get_refused (row_at service old.rows) (live_at service now.before) refusal
-      ((λ f. IsToMake now false user service × is_making now user service f) ∷ Where TooDeep (IsToMake now false user service × IsDeep now) ∷ []) (Answers now (op.Get user service)) (found_now now.before old service stood) none;
+      ((λ f. IsToMake now false user service × making_change now user service f) ∷ Where TooDeep (IsToMake now false user service × IsDeep now) ∷ []) (Answers now (op.Get user service)) (found_now now.before old service stood) none;
   stands = refused_stands _ old new refusal refl same;
 }
 
 -- Unget
-count_found : (user : BundleId) (at : Option LiveService) (of : Option Registered) → Found at of → option_map_or (λ row. count_of user row.uses) at 0 ≡ option_map_or (uses_held user) of 0
+count_found : (user : BundleId) (at : Option LiveService) (of : Option Registered) → Found at of → option_map_or (λ row. count_of user row.uses) at 0 ≡ option_map_or (uses_without_makes user) of 0
 count_found user None (Some r) found = elim found [ ]
 count_found user (Some row) None found = elim found [ ]
 count_found user None None nowhere = refl

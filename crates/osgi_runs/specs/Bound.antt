@@ -24,7 +24,8 @@ abbrev pub finds_nothing : Op → Reply → Bool
 finds_nothing Hand (Nothing busy) = true
 finds_nothing _ _ = false
 
--- an end with this reply ended its bracket: that of a make, refused or not, and any other that did its work
+-- an operation that is the end of its caller's innermost bracket ended it with this reply: that of a make, refused or not, and any other
+-- that did its work
 abbrev pub has_closed : Op → Reply → Bool
 has_closed (EndMake failed) reply = true
 has_closed op reply = is_effective reply

@@ -14,7 +14,8 @@ is_peek (command.Peek class filter) = true
 is_peek _ = false
 
 -- the operation that the plan of a command begins with, where the owner runs it. A bundle is stopped before it is updated or
--- uninstalled, and resolved before the console loads a class from it
+-- uninstalled, and resolved before the console loads a class from it. The plan of a peek begins with no operation, and what stands for it
+-- here is asked for by nobody
 abbrev pub op_of : BundleId → Command → Op
 op_of owner (command.Register classes object properties) = op.Register owner classes object Singleton properties
 op_of owner (command.Modify service properties) = op.Modify owner service properties

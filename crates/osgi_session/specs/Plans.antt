@@ -32,7 +32,8 @@ pub data Plan : Type 0 where
   stop : End → Plan
 
 -- bundles may wait for a load of one of their classes. Then a stop that finds nothing to stop may have ended such a waiting, of which
--- there are events
+-- there are events, and a reply that says so does not tell whether it did: a drain follows each. This has to say what `is_here` says of
+-- Await, which stands above: where Await has come and this is false, the events of a waiting that ended are not handed
 abbrev pub waits_here : Bool
 waits_here = false
 

@@ -9,6 +9,7 @@ use Rattle.osgi_session.specs.declared.script.Part.{Part}
 use Rattle.osgi_session.specs.declared.script.Script.{Script}
 use Rattle.osgi_session.specs.declared.scripts.Scripts.{Scripts}
 
+-- both are the same section
 abbrev pub is_section : Section → Section → Bool
 is_section section.Start section.Start = true
 is_section section.Stop section.Stop = true

@@ -5,6 +5,7 @@ use Rattle.osgi_ops.specs.Callers.{by}
 use Rattle.osgi_session.specs.Lines.{has_command}
 use Rattle.osgi_session.specs.Runs.{Call, call, Follows, IsCutRun, IsSpentRun, Sections}
 use Rattle.osgi_session.specs.declared.command.Command.{Command}
+use Rattle.osgi_ops.specs.declared.limits.TheConstants.{MAX_LANES}
 use Rattle.osgi_ops.specs.declared.entry.Entry.{Entry}
 use Rattle.osgi_session.specs.declared.line.Content.TheVariants as content
 use Rattle.osgi_session.specs.declared.line.Line.{Line}
@@ -57,12 +58,9 @@ lanes_from zero lane lines = []
 lanes_from (suc more) lane lines =
     unless_empty (of_lane lane lines) ++ lanes_from more (lane + 1) lines
 
-abbrev pub most_lanes : ℕ
-most_lanes = 8
-
--- lanes are numbered from 1
+-- lanes are numbered from 1; there are no more than so many
 abbrev pub lanes_of : List Line → List (List Line)
-lanes_of lines = lanes_from most_lanes 1 lines
+lanes_of lines = lanes_from MAX_LANES 1 lines
 
 abbrev pub gathered : List Line → List Block
 gathered [] = []

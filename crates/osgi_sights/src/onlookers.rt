@@ -13,15 +13,9 @@ use osgi_base::{BundleId, ListenerId};
 use osgi_listeners::{ListenerRow, Listeners};
 use osgi_loader::is_assignable;
 use osgi_model::Attributes;
-use osgi_ops::{Event, Kind, Service};
+use osgi_ops::{Event, Kind, SERVICE_MODIFIED, SERVICE_MODIFIED_ENDMATCH, Service};
 use osgi_wiring::Wirings;
 use std::alloc::{AllocError, Global};
-
-/// OSGi's code for a service whose properties changed.
-const MODIFIED: u8 = 2;
-
-/// OSGi's code for a service whose properties changed so that the filter does not match them any more.
-const MODIFIED_ENDMATCH: u8 = 8;
 
 /// Who may see what happens at an entry: the live listeners but those of the bundle that it cleans. Services are assignable by
 /// these wirings.
@@ -98,10 +92,10 @@ impl Onlookers<'_> {
         ensures answer { IfOk result (IsAnswer self.now.wirings.now.world (added_of row.now) (Shown.modified old.now new.now)) }
     {
         if passes(&row.filter, &new.properties) {
-            return self.event_asked(row, MODIFIED, new);
+            return self.event_asked(row, SERVICE_MODIFIED, new);
         }
         if passes(&row.filter, &old.properties) {
-            return self.event_asked(row, MODIFIED_ENDMATCH, new);
+            return self.event_asked(row, SERVICE_MODIFIED_ENDMATCH, new);
         }
         Ok(None)
     }

@@ -23,6 +23,7 @@ use Rattle.osgi_ops.specs.Resolved.{current_revision}
 use Rattle.osgi_ops.specs.declared.asked.Asked.{Asked}
 use Rattle.osgi_model.specs.declared.filter.Filter.{Filter}
 use Rattle.osgi_ops.specs.declared.event.Event.{Event}
+use Rattle.osgi_ops.specs.declared.event_codes.TheConstants.{BUNDLE_INSTALLED, BUNDLE_RESOLVED, BUNDLE_STARTED, BUNDLE_STARTING, BUNDLE_STOPPED, BUNDLE_STOPPING, SERVICE_REGISTERED, SERVICE_UNREGISTERING}
 use Rattle.osgi_ops.specs.declared.kind.Kind.{Kind}
 use Rattle.osgi_ops.specs.declared.op.Op.{Op}
 use Rattle.osgi_ops.specs.declared.refusal.Refusal.{Refusal}
@@ -194,13 +195,13 @@ bundles_shown code ids rows = filter_map (shown_at code rows) ids
 
 -- the bundle's services go
 abbrev pub leaving : BundleId → RegistryRows → List Shown
-leaving b registry = map (shown.service 4) (services_in (filter (is_owned b) registry.rows))
+leaving b registry = map (shown.service SERVICE_UNREGISTERING) (services_in (filter (is_owned b) registry.rows))
 
 -- a service comes, is changed, or goes
 abbrev pub services_shown : ServiceChange → RegistryRows → List Shown
-services_shown (service.Insert made scope) registry = shown.service 1 made ∷ []
+services_shown (service.Insert made scope) registry = shown.service SERVICE_REGISTERED made ∷ []
 services_shown (service.Modify made) registry = map (λ (row : LiveService). shown.modified row.service made) (option_to_list (row_at made.service registry.rows))
-services_shown (service.Remove owner id) registry = map (λ (row : LiveService). shown.service 4 row.service) (option_to_list (row_at id registry.rows))
+services_shown (service.Remove owner id) registry = map (λ (row : LiveService). shown.service SERVICE_UNREGISTERING row.service) (option_to_list (row_at id registry.rows))
 services_shown (service.AddUse user id) registry = []
 services_shown (service.TakeUse user id) registry = []
 services_shown service.Nothing registry = []
@@ -209,17 +210,17 @@ services_shown service.Nothing registry = []
 abbrev pub happened : Change → RegistryRows → TableRows → List Shown
 happened Nothing registry bundles = []
 happened (Services change) registry bundles = services_shown change registry
-happened (Install made revision) registry bundles = shown.bundle 1 made.bundle made.name made.version ∷ []
-happened (Resolve added resolved) registry bundles = bundles_shown 32 resolved bundles.rows
+happened (Install made revision) registry bundles = shown.bundle BUNDLE_INSTALLED made.bundle made.name made.version ∷ []
+happened (Resolve added resolved) registry bundles = bundles_shown BUNDLE_RESOLVED resolved bundles.rows
 happened (Listen owner name kind filter) registry bundles = []
 happened (Unlisten owner name) registry bundles = []
 happened (Hand tag listener) registry bundles = []
-happened (BeginStart tag bundle) registry bundles = bundles_shown 128 (bundle ∷ []) bundles.rows
+happened (BeginStart tag bundle) registry bundles = bundles_shown BUNDLE_STARTING (bundle ∷ []) bundles.rows
 happened (EndStart tag bundle true) registry bundles =
-    bundles_shown 256 (bundle ∷ []) bundles.rows ++ leaving bundle registry ++ bundles_shown 4 (bundle ∷ []) bundles.rows
-happened (EndStart tag bundle false) registry bundles = bundles_shown 2 (bundle ∷ []) bundles.rows
-happened (BeginStop tag bundle) registry bundles = bundles_shown 256 (bundle ∷ []) bundles.rows
-happened (EndStop tag bundle failed) registry bundles = leaving bundle registry ++ bundles_shown 4 (bundle ∷ []) bundles.rows
+    bundles_shown BUNDLE_STOPPING (bundle ∷ []) bundles.rows ++ leaving bundle registry ++ bundles_shown BUNDLE_STOPPED (bundle ∷ []) bundles.rows
+happened (EndStart tag bundle false) registry bundles = bundles_shown BUNDLE_STARTED (bundle ∷ []) bundles.rows
+happened (BeginStop tag bundle) registry bundles = bundles_shown BUNDLE_STOPPING (bundle ∷ []) bundles.rows
+happened (EndStop tag bundle failed) registry bundles = leaving bundle registry ++ bundles_shown BUNDLE_STOPPED (bundle ∷ []) bundles.rows
 
 -- the bundle that it cleans
 abbrev pub cleaned_in : Change → Option BundleId

@@ -8,28 +8,14 @@ ghost use Rattle.osgi_tables.specs.Changes.{bundles_shown, happened, leaving, se
 use crate::change::Change;
 use osgi_base::BundleId;
 use osgi_bundle::Table;
+use osgi_ops::{
+    BUNDLE_INSTALLED, BUNDLE_RESOLVED, BUNDLE_STARTED, BUNDLE_STARTING, BUNDLE_STOPPED,
+    BUNDLE_STOPPING, SERVICE_REGISTERED, SERVICE_UNREGISTERING,
+};
 use osgi_registry::Registry;
 use osgi_reply_services::ServiceChange;
 use osgi_sights::{Happened, Happening};
 use std::alloc::{AllocError, Global};
-
-/// OSGi's codes of service events.
-const REGISTERED: u8 = 1;
-
-const UNREGISTERING: u8 = 4;
-
-/// OSGi's codes of bundle events.
-const INSTALLED: u16 = 1;
-
-const STARTED: u16 = 2;
-
-const STOPPED: u16 = 4;
-
-const RESOLVED: u16 = 32;
-
-const STARTING: u16 = 128;
-
-const STOPPING: u16 = 256;
 
 /// What happens to a live bundle, with the name and version that its row shows.
 fn of_bundle<'t>(code: u16, bundle: BundleId, bundles: &'t Table) -> Option<Happening<'t>>
@@ -72,7 +58,7 @@ fn add_leaving<'t>(
     let services = registry.owned(bundle)?;
     for service in services.as_slice() {
         happened.push(Happening::Service {
-            code: UNREGISTERING,
+            code: SERVICE_UNREGISTERING,
             service: *service,
         })?;
     }
@@ -85,7 +71,7 @@ fn of_service<'t>(change: &'t ServiceChange, registry: &'t Registry) -> Option<H
 {
     match change {
         ServiceChange::Insert { service, .. } => Some(Happening::Service {
-            code: REGISTERED,
+            code: SERVICE_REGISTERED,
             service,
         }),
         ServiceChange::Modify { service } => Some(Happening::Modified {
@@ -93,7 +79,7 @@ fn of_service<'t>(change: &'t ServiceChange, registry: &'t Registry) -> Option<H
             new: service,
         }),
         ServiceChange::Remove { service, .. } => Some(Happening::Service {
-            code: UNREGISTERING,
+            code: SERVICE_UNREGISTERING,
             service: registry.service(*service)?,
         }),
         _ => None,
@@ -119,33 +105,33 @@ pub(crate) fn happenings<'t>(
             }
         }
         Change::Install { made, .. } => happened.push(Happening::Bundle {
-            code: INSTALLED,
+            code: BUNDLE_INSTALLED,
             bundle: made.bundle,
             name: &made.name,
             version: &made.version,
         })?,
         Change::Resolve { resolved, .. } => {
-            add_bundles(RESOLVED, resolved.items(), bundles, &mut happened)?;
+            add_bundles(BUNDLE_RESOLVED, resolved.items(), bundles, &mut happened)?;
         }
         Change::BeginStart { bundle, .. } => {
-            add_bundles(STARTING, &[*bundle], bundles, &mut happened)?;
+            add_bundles(BUNDLE_STARTING, &[*bundle], bundles, &mut happened)?;
         }
         Change::EndStart {
             bundle,
             failed: false,
             ..
-        } => add_bundles(STARTED, &[*bundle], bundles, &mut happened)?,
+        } => add_bundles(BUNDLE_STARTED, &[*bundle], bundles, &mut happened)?,
         Change::EndStart { bundle, .. } => {
-            add_bundles(STOPPING, &[*bundle], bundles, &mut happened)?;
+            add_bundles(BUNDLE_STOPPING, &[*bundle], bundles, &mut happened)?;
             add_leaving(*bundle, registry, &mut happened)?;
-            add_bundles(STOPPED, &[*bundle], bundles, &mut happened)?;
+            add_bundles(BUNDLE_STOPPED, &[*bundle], bundles, &mut happened)?;
         }
         Change::BeginStop { bundle, .. } => {
-            add_bundles(STOPPING, &[*bundle], bundles, &mut happened)?;
+            add_bundles(BUNDLE_STOPPING, &[*bundle], bundles, &mut happened)?;
         }
         Change::EndStop { bundle, .. } => {
             add_leaving(*bundle, registry, &mut happened)?;
-            add_bundles(STOPPED, &[*bundle], bundles, &mut happened)?;
+            add_bundles(BUNDLE_STOPPED, &[*bundle], bundles, &mut happened)?;
         }
     }
     Ok(happened)

@@ -17,7 +17,7 @@ use Rattle.osgi_ops.specs.Services.{live_at, Registered}
 use Rattle.osgi_ops.specs.declared.refusal.Refusal.{Refusal}
 use Rattle.osgi_ops.specs.declared.refusal.Refusal.TheVariants as no
 use Rattle.osgi_ops.specs.declared.target.Target.{Target}
-use Rattle.osgi_ops.specs.rows.Services.{in_make, is_bundle_make, is_making, makes_now}
+use Rattle.osgi_ops.specs.rows.Services.{in_make, is_bundle_make, making_change, making_now}
 use Rattle.osgi_world.specs.declared.revision.Revision.{Revision}
 
 pub change-one : (is_such : State → Bool) (now : Moment) (bundle : BundleId) → IsOne (state_change is_such now bundle)
@@ -47,7 +47,7 @@ target-one now target condition each f g one other =
     each one.0 f g one.2 (subst (λ b. condition b g) (target-once now target other.0 one.0 other.1 one.1) other.2)
 
 -- the make that a Get waits for
-pub making-one : (now : Moment) (user : BundleId) (service : ServiceId) → IsOne (is_making now user service)
+pub making-one : (now : Moment) (user : BundleId) (service : ServiceId) → IsOne (making_change now user service)
 making-one now user service f g one other = go (find (is_bundle_make now user service) (brackets now.before)) one other
   where
     go : (o : Option Bracket) → IsSomeAnd o (λ b. f ≡ no.StateChange b.tag) → IsSomeAnd o (λ b. g ≡ no.StateChange b.tag) → f ≡ g
@@ -60,7 +60,7 @@ with-one X condition each f g one other = each f g one.1 other.1
 
 -- a condition on what the innermost bracket of the caller makes
 pub make-one : (now : Moment) (condition : Making → Refusal → Type 0) → ((m : Making) → IsOne (condition m)) → IsOne (in_make now condition)
-make-one now condition each f g one other = go (makes_now now) one other
+make-one now condition each f g one other = go (making_now now) one other
   where
     go : (o : Option Making) → IsSomeAnd o (λ m. condition m f) → IsSomeAnd o (λ m. condition m g) → f ≡ g
     go None p q = absurd p

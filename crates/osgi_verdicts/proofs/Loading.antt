@@ -55,9 +55,9 @@ loaded_by-one now told r class x y a b =
 pub load-one : (now : Moment) → IsTold now → (bundle : BundleId) (class : List ℕ) → IsOne (LoadAnswers false now bundle class)
 load-one now told bundle class y z a b =
     let world : (wire : Option Wire) → wire ≡ None → with_added now.world bundle wire ≡ now.world = λ wire is. ap (with_added now.world bundle) is in
-    let here = subst (λ w. IsLoaded w bundle class a.1) (world a.0 (none-added now.world bundle class a.0 a.2)) a.3 in
-    let there = subst (λ w. IsLoaded w bundle class b.1) (world b.0 (none-added now.world bundle class b.0 b.2)) b.3 in
+    let here = subst (λ w. IsLoaded w bundle class a.by) (world a.wire (none-added now.world bundle class a.wire a.added)) a.loaded in
+    let there = subst (λ w. IsLoaded w bundle class b.by) (world b.wire (none-added now.world bundle class b.wire b.added)) b.loaded in
     let same : there.0 ≡ here.0 = (let e : Some there.0 ≡ Some here.0 = sym there.1 ∙ here.1 in cc e) in
     load-shown now bundle class y a
-    ∙ ap (λ by. loaded_with by None (woken now class by)) (loaded_by-one now told here.0.id class a.1 b.1 here.2 (subst (λ (k : Known). IsLoadedBy now.world k.id class b.1) same there.2))
+    ∙ ap (λ by. loaded_with by None (woken now class by)) (loaded_by-one now told here.0.id class a.by b.by here.2 (subst (λ (k : Known). IsLoadedBy now.world k.id class b.by) same there.2))
     ∙ sym (load-shown now bundle class z b)

@@ -15,11 +15,11 @@ use Rattle.osgi_verdicts.proofs.Chosen.{closure-one, lowest-one, rising-one, sto
 
 pub begin-one : (now : Moment) (named : List BundleId) → IsOne (BeginRefreshAnswers now named)
 begin-one now named y z a b =
-    let all : b.0 ≡ a.0 = closure-one now.world (IsAsked now.world named) b.0 a.0 b.3 a.3 in
-    let there : AreThose (λ x. Contains a.0 x × (state_of now x ≡ Active)) (IsStopOrder now) b.1 =
-    subst (λ (l : List BundleId). AreThose (λ x. Contains l x × (state_of now x ≡ Active)) (IsStopOrder now) b.1) all b.4 in
-    let active : a.1 ≡ b.1 = stopped-one now (λ x. Contains a.0 x × (state_of now x ≡ Active)) a.1 b.1 a.4 there in
-    a.2 ∙ (λ i. answer.Closure (sym all i) (active i)) ∙ sym b.2
+    let all : b.all ≡ a.all = closure-one now.world (IsAsked now.world named) b.all a.all b.closure a.closure in
+    let there : AreThose (λ x. Contains a.all x × (state_of now x ≡ Active)) (IsStopOrder now) b.active =
+    subst (λ (l : List BundleId). AreThose (λ x. Contains l x × (state_of now x ≡ Active)) (IsStopOrder now) b.active) all b.stopped in
+    let active : a.active ≡ b.active = stopped-one now (λ x. Contains a.all x × (state_of now x ≡ Active)) a.active b.active a.stopped there in
+    a.says ∙ (λ i. answer.Closure (sym all i) (active i)) ∙ sym b.says
 
 own-one : (now : Moment) (dropped : Bool) → IsOne (IsOwnRefresh now dropped)
 own-one now dropped r s a b = let same : Some r ≡ Some s = sym a.0 ∙ b.0 in cc same
@@ -36,6 +36,6 @@ drop-each now = (
 
 pub drop-one : (now : Moment) → IsOne (DropWiringsAnswers now)
 drop-one now y z a b =
-    let there : AreThose (λ x. Contains a.0.members x × (is_resolved now.world x ≡ true)) Rises b.1 =
-    subst (λ (r : Refresh). AreThose (λ x. Contains r.members x × (is_resolved now.world x ≡ true)) Rises b.1) (own-one now false b.0 a.0 b.2 a.2) b.4 in
-    a.3 ∙ ap answer.Ids (rising-one (λ x. Contains a.0.members x × (is_resolved now.world x ≡ true)) a.1 b.1 a.4 there) ∙ sym b.3
+    let there : AreThose (λ x. Contains a.refresh.members x × (is_resolved now.world x ≡ true)) Rises b.ids =
+    subst (λ (r : Refresh). AreThose (λ x. Contains r.members x × (is_resolved now.world x ≡ true)) Rises b.ids) (own-one now false b.refresh a.refresh b.own a.own) b.resolved in
+    a.says ∙ ap answer.Ids (rising-one (λ x. Contains a.refresh.members x × (is_resolved now.world x ≡ true)) a.ids b.ids a.resolved there) ∙ sym b.says

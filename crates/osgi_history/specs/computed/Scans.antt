@@ -4,7 +4,7 @@ use Rattle.std.specs.Option.{option_map_or}
 use Rattle.osgi_base.specs.declared.ids.BundleId.{BundleId}
 use Rattle.osgi_base.specs.declared.ids.ServiceId.{ServiceId}
 use Rattle.osgi_ops.specs.Replies.{is_accepted}
-use Rattle.osgi_ops.specs.Services.{is_get, is_unget, live_at, since_cleaning, uses_held}
+use Rattle.osgi_ops.specs.Services.{gets_object, is_unget, live_at, since_cleaning, uses_without_makes}
 use Rattle.osgi_ops.specs.declared.op.Op.{Op}
 use Rattle.osgi_ops.specs.declared.op.Op.TheVariants.{Register}
 use Rattle.osgi_ops.specs.declared.refusal.Refusal.TheVariants.{ActivatorError}
@@ -25,8 +25,8 @@ has_failed _ = false
 -- how often the user holds the service by these entries since its Register
 abbrev pub held : BundleId → ServiceId → List Entry → ℕ
 held user service since =
-    count_by (λ e. is_get user service e.op e.reply) (since_cleaning user since) - count_by (λ e. is_unget user service e.op e.reply) (since_cleaning user since)
+    count_by (λ e. gets_object user service e.op e.reply) (since_cleaning user since) - count_by (λ e. is_unget user service e.op e.reply) (since_cleaning user since)
 
 -- how often the user holds the service by these entries, objects that were made for it not counted
 abbrev pub uses_shared : BundleId → ServiceId → List Entry → ℕ
-uses_shared user service history = option_map_or (uses_held user) (live_at service history) 0
+uses_shared user service history = option_map_or (uses_without_makes user) (live_at service history) 0

@@ -3,7 +3,7 @@ use Rattle.std.proofs.Common.{◌≡◌, ◌≢◌, ◌⊎◌, ◌<◌, ◌+◌,
 use Rattle.std.specs.Prelude.{IsTrue, false, Option, None, Some}
 use Rattle.osgi_base.specs.declared.ids.BundleId.{BundleId}
 use Rattle.osgi_base.specs.declared.ids.RevisionId.{RevisionId}
-use Rattle.osgi_ops.specs.Dynamic.{IsAdded, IsDynamic, IsEarlierWire, IsPreferredInForce}
+use Rattle.osgi_ops.specs.Dynamic.{IsAdded, IsWireToAdd, IsEarlierWire, IsPreferredInForce}
 use Rattle.osgi_world.specs.Candidates.{is_higher}
 use Rattle.osgi_world.specs.Lookups.{bundle_of}
 use Rattle.osgi_world.specs.declared.wiring.CapRef.{CapRef}
@@ -47,7 +47,7 @@ earlier-one K one v w (inr (same, p)) (inl b) = not-below v.requirement.index (s
 earlier-one K one v w (inr (same, p)) (inr (same', q)) = preferred-one K one v.capability w.capability p q
 
 -- there is one answer to what a load adds
-pub dynamic-one : (world : World) → IsOneWay world.known → (r : RevisionId) (p : List ℕ) (a b : Option Wire) → IsDynamic world r p a → IsDynamic world r p b → a ≡ b
+pub dynamic-one : (world : World) → IsOneWay world.known → (r : RevisionId) (p : List ℕ) (a b : Option Wire) → IsWireToAdd world r p a → IsWireToAdd world r p b → a ≡ b
 dynamic-one world one r p None None i j = refl
 dynamic-one world one r p None (Some w) (inl settled) j = absurd (j.0 settled)
 dynamic-one world one r p None (Some w) (inr none) j = absurd (none w j.1.is)

@@ -5,8 +5,8 @@ use Rattle.std.proofs.lemmas.List.Elements.{All-weaker}
 use Rattle.osgi_base.specs.declared.ids.BundleId.{BundleId}
 use Rattle.osgi_base.specs.declared.ids.ServiceId.{ServiceId}
 use Rattle.osgi_ops.specs.Brackets.{brackets, closes, opens}
-use Rattle.osgi_ops.specs.Makes.{gift_change, GiftChange, gifts, is_making, with_gift, with_gift_change}
-use Rattle.osgi_ops.specs.Objects.{bundle_object, Object, object_by, objects, stays, with_object}
+use Rattle.osgi_ops.specs.Makes.{make_change, MakeChange, open_makes, opens_make, with_make, with_make_change}
+use Rattle.osgi_ops.specs.Objects.{bundle_object, HeldObject, object_by, objects, stays, with_object}
 use Rattle.osgi_ops.specs.Services.{made}
 use Rattle.osgi_ops.specs.declared.entry.Entry.{Entry}
 use Rattle.osgi_ops.specs.declared.op.Op.{Op}
@@ -14,12 +14,12 @@ use Rattle.osgi_ops.specs.declared.reply.Reply.{Reply}
 use Rattle.osgi_ops.specs.laws.Along.{carried-last, carried-still}
 use Rattle.osgi_ops.specs.laws.Services.{MakesNone}
 
-pub gifts-push : (history : List Entry) (e : Entry) → gifts (history ++ e ∷ []) ≡ with_gift history (gifts history) e
-gifts-push history e = carried-last with_gift [] history e
+pub open_makes-push : (history : List Entry) (e : Entry) → open_makes (history ++ e ∷ []) ≡ with_make history (open_makes history) e
+open_makes-push history e = carried-last with_make [] history e
 
 -- an entry that says nothing of makes leaves them
-pub gifts-quiet : (history : List Entry) (e : Entry) → gift_change (closes e.tag e.op (brackets history)) e.op e.reply ≡ None → gifts (history ++ e ∷ []) ≡ gifts history
-gifts-quiet history e none = gifts-push history e ∙ ap (λ c. with_gift_change e.tag.caller c (gifts history)) none
+pub open_makes-quiet : (history : List Entry) (e : Entry) → make_change (closes e.tag e.op (brackets history)) e.op e.reply ≡ None → open_makes (history ++ e ∷ []) ≡ open_makes history
+open_makes-quiet history e none = open_makes-push history e ∙ ap (λ c. with_make_change e.tag.caller c (open_makes history)) none
 
 -- the objects that are left after an entry, and the one that it made
 pub objects-push : (history : List Entry) (e : Entry) → objects (history ++ e ∷ []) ≡ filter (stays (history ++ e ∷ []) e) (objects history ++ object_by history e (made history e))

@@ -16,7 +16,7 @@ use Rattle.osgi_ops.specs.Brackets.{Bracket, brackets, Making}
 use Rattle.osgi_ops.specs.Cleaning.{cleaned_by, cleans}
 use Rattle.osgi_ops.specs.Properties.{with_framework}
 use Rattle.osgi_ops.specs.Replies.{is_accepted}
-use Rattle.osgi_ops.specs.Services.{since_cleaning, gets, given_by, given_last, is_get, is_live, is_service, is_unget, is_use_of, live, live_at, made, made_of, made_uses, makes_own, Registered, registered, registered_after, registered_by, service_now, takes_out, ungets, Use, use_by, uses, uses_held, uses_with, with_use, without_user}
+use Rattle.osgi_ops.specs.Services.{since_cleaning, gets, given_by, given_last, gets_object, is_live, is_service, is_unget, is_use_of, live, live_at, made, made_of, made_uses, makes_own, Registered, registered, registered_after, registered_by, service_now, takes_out, ungets, Use, use_by, uses, uses_without_makes, uses_with, with_use, without_user}
 use Rattle.osgi_ops.specs.declared.op.Op.{Op}
 use Rattle.osgi_ops.specs.declared.scope.Scope.{Scope}
 use Rattle.osgi_ops.specs.declared.op.Op.TheVariants.{Register}
@@ -150,8 +150,8 @@ counted-push : (test : Entry → Bool) (kept since : List Entry) (e : Entry) (cl
 counted-push test kept since e true is = ap (count_by test) is
 counted-push test kept since e false is = ap (count_by test) is ∙ grind (arith, sum_by-append (λ (x : Entry). one_where (test x)) kept (e ∷ []))
 
-pub gets-push : (user : BundleId) (r : Registered) (e : Entry) → gets user (later e r) ≡ cond (cleans user e.op e.reply) 0 (gets user r + one_where (is_get user r.service e.op e.reply))
-gets-push user r e = counted-push (λ x. is_get user r.service x.op x.reply) (since_cleaning user r.since) _ e (cleans user e.op e.reply) (since-push user r.since e)
+pub gets-push : (user : BundleId) (r : Registered) (e : Entry) → gets user (later e r) ≡ cond (cleans user e.op e.reply) 0 (gets user r + one_where (gets_object user r.service e.op e.reply))
+gets-push user r e = counted-push (λ x. gets_object user r.service x.op x.reply) (since_cleaning user r.since) _ e (cleans user e.op e.reply) (since-push user r.since e)
 
 pub ungets-push : (user : BundleId) (r : Registered) (e : Entry) → ungets user (later e r) ≡ cond (cleans user e.op e.reply) 0 (ungets user r + one_where (is_unget user r.service e.op e.reply))
 ungets-push user r e = counted-push (λ x. is_unget user r.service x.op x.reply) (since_cleaning user r.since) _ e (cleans user e.op e.reply) (since-push user r.since e)
@@ -195,14 +195,14 @@ found-le f most p [] all = omega arith
 found-le f most p (r ∷ rest) all =
     found_by f most (p r) r (find p rest) (All-head (λ x. f x ≤ most) r rest all) (found-le f most p rest (All-tail (λ x. f x ≤ most) r rest all))
 
-uses-short : (user : BundleId) (most : ℕ) (r : Registered) → IsShort most r → uses_held user r ≤ most
-uses-short user most r short = omega (arith, short, kept-short user [] r.since, count_by-le-length (λ (e : Entry). is_get user r.service e.op e.reply) (since_cleaning user r.since))
+uses-short : (user : BundleId) (most : ℕ) (r : Registered) → IsShort most r → uses_without_makes user r ≤ most
+uses-short user most r short = omega (arith, short, kept-short user [] r.since, count_by-le-length (λ (e : Entry). gets_object user r.service e.op e.reply) (since_cleaning user r.since))
 
 -- by what all share or the user has, nobody uses a service more often than there are entries
-pub held-le-length : (user : BundleId) (service : ServiceId) (history : List Entry) → option_map_or (uses_held user) (live_at service history) 0 ≤ length history
+pub held-le-length : (user : BundleId) (service : ServiceId) (history : List Entry) → option_map_or (uses_without_makes user) (live_at service history) 0 ≤ length history
 held-le-length user service history =
-    found-le (uses_held user) (length history) (is_service service) (live history)
-    (All-weaker (IsShort (length history)) (λ r. uses_held user r ≤ length history) (λ r short. uses-short user (length history) r short) (live history)
+    found-le (uses_without_makes user) (length history) (is_service service) (live history)
+    (All-weaker (IsShort (length history)) (λ r. uses_without_makes user r ≤ length history) (λ r short. uses-short user (length history) r short) (live history)
     (All-filter is_live (IsShort (length history)) (registered history) (short_after (length history) 0 history (omega arith))))
 
 -- ---- uses that began with a make
@@ -229,12 +229,12 @@ made_uses-none history none =
     (λ e m before. ap (λ l. l ++ use_by before (made before e)) (none-without (cleaned_by e.op e.reply)) ∙ no-use before (made before e) (m e.tag (brackets before))) history none)
 
 -- then the uses are those by what all share
-pub uses-plain : (user : BundleId) (service : ServiceId) (history : List Entry) → made_uses history ≡ [] → uses user service history ≡ option_map_or (uses_held user) (live_at service history) 0
+pub uses-plain : (user : BundleId) (service : ServiceId) (history : List Entry) → made_uses history ≡ [] → uses user service history ≡ option_map_or (uses_without_makes user) (live_at service history) 0
 uses-plain user service history none =
     let no : count_by (is_use_of user service) (made_uses history) ≡ 0 = ap (count_by (is_use_of user service)) none in
     ap (λ n. option_map_or (uses_with n user) (live_at service history) 0) no ∙ at (live_at service history)
   where
-    at : (o : Option Registered) → option_map_or (uses_with 0 user) o 0 ≡ option_map_or (uses_held user) o 0
+    at : (o : Option Registered) → option_map_or (uses_with 0 user) o 0 ≡ option_map_or (uses_without_makes user) o 0
     at None = refl
     at (Some r) = let same : gets user r + 0 ≡ gets user r = omega arith in ap (λ n. n - ungets user r) same
 
@@ -262,7 +262,7 @@ pub made_uses-le-length : (history : List Entry) → length (made_uses history) 
 made_uses-le-length history = omega (arith, made_uses-le-from [] [] history)
 
 uses-with-le : (user : BundleId) (from_makes : ℕ) (r : Registered) (most : ℕ) → IsShort most r → uses_with from_makes user r ≤ most + from_makes
-uses-with-le user from_makes r most short = omega (arith, short, kept-short user [] r.since, count_by-le-length (λ (e : Entry). is_get user r.service e.op e.reply) (since_cleaning user r.since))
+uses-with-le user from_makes r most short = omega (arith, short, kept-short user [] r.since, count_by-le-length (λ (e : Entry). gets_object user r.service e.op e.reply) (since_cleaning user r.since))
 
 -- nobody uses a service more often than twice for each entry
 pub uses-le-length : (user : BundleId) (service : ServiceId) (history : List Entry) → uses user service history ≤ length history + length history

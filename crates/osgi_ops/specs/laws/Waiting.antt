@@ -3,8 +3,9 @@ use Rattle.std.proofs.Common.{◌≡◌, List, [], ◌∷◌, ◌++◌, ap, ◌�
 use Rattle.std.specs.Prelude.{Bool, false, All, Option, None, Some}
 use Rattle.std.proofs.lemmas.List.Elements.{All-weaker}
 use Rattle.osgi_base.specs.declared.ids.BundleId.{BundleId}
+use Rattle.osgi_ops.specs.Bundles.{is_member}
 use Rattle.osgi_ops.specs.Levels.{refresh}
-use Rattle.osgi_ops.specs.Waiting.{drops, is_among, is_waiting, leaves, members_of, WaitChange, waited_by, waiting, waits, with_wait}
+use Rattle.osgi_ops.specs.Waiting.{drops, is_waiting, leaves, members_of, WaitChange, waited_by, waiting, waits, with_wait}
 use Rattle.osgi_ops.specs.declared.entry.Entry.{Entry}
 use Rattle.osgi_ops.specs.declared.op.Op.{Op}
 use Rattle.osgi_ops.specs.declared.reply.Reply.{Reply}
@@ -35,4 +36,4 @@ none-waiting history none =
     (λ e m before. still (members_of (refresh before)) (waited_by e.op e.reply) m) history none)
 
 pub not-waiting : (bundle : BundleId) (history : List Entry) → waiting history ≡ [] → is_waiting bundle history ≡ false
-not-waiting bundle history none = ap (λ l. is_among l bundle) none
+not-waiting bundle history none = ap (λ l. is_member l bundle.0) none

@@ -105,7 +105,9 @@ loaded_with by None None = answer.Loaded by
 loaded_with by wire wake = answer.LoadedMore by wire wake
 
 -- the class is loaded in the world with the wire that was added
-abbrev pub LoadAnswers : Bool → Moment → BundleId → List ℕ → Reply → Type 0
-LoadAnswers dynamics now bundle class reply =
-    (wire : Option Wire) × (by : Option RevisionId) × IsAdded dynamics now.world bundle class wire × IsLoaded (with_added now.world bundle wire) bundle class by
-    × (reply ≡ loaded_with by (option_and_then (wire_row now.world.known) wire) (woken now class by))
+pub record LoadAnswers (dynamics : Bool) (now : Moment) (bundle : BundleId) (class : List ℕ) (reply : Reply) : Type 0 where
+  pub wire : Option Wire
+  pub by : Option RevisionId
+  pub added : IsAdded dynamics now.world bundle class wire
+  pub loaded : IsLoaded (with_added now.world bundle wire) bundle class by
+  pub says : reply ≡ loaded_with by (option_and_then (wire_row now.world.known) wire) (woken now class by)

@@ -15,7 +15,7 @@ use Rattle.osgi_model.specs.declared.value.Attribute.{Attribute}
 use Rattle.osgi_ops.specs.Cleaning.{cleaned_by, cleans}
 use Rattle.osgi_ops.specs.laws.Services.{gets-push, later, left_by, live-push, one_where, registered-push, service-push, ungets-push}
 use Rattle.osgi_ops.specs.Properties.{with_framework}
-use Rattle.osgi_ops.specs.Services.{gets, given_by, given_last, is_get, is_service, is_unget, live, Registered, registered, registered_by, service_now, takes_out, ungets, uses_held}
+use Rattle.osgi_ops.specs.Services.{gets, given_by, given_last, gets_object, is_service, is_unget, live, Registered, registered, registered_by, service_now, takes_out, ungets, uses_without_makes}
 use Rattle.osgi_ops.specs.declared.entry.Entry.{Entry}
 use Rattle.osgi_ops.specs.declared.op.Op.{Op}
 use Rattle.osgi_ops.specs.declared.op.Op.TheVariants as op
@@ -97,7 +97,7 @@ pub record IsQuiet (e : Entry) : Type 0 where
   pub registers : (earlier : ℕ) (since : List Entry) → registered_by earlier e.op e.reply since ≡ []
   pub takes : (service : ServiceId) (owner : BundleId) → takes_out service owner e.op e.reply ≡ false
   pub gives : (service : ServiceId) → given_by service e.op e.reply ≡ None
-  pub gets : (user : BundleId) (service : ServiceId) → is_get user service e.op e.reply ≡ false
+  pub gets : (user : BundleId) (service : ServiceId) → gets_object user service e.op e.reply ≡ false
   pub ungets : (user : BundleId) (service : ServiceId) → is_unget user service e.op e.reply ≡ false
   pub cleans : cleaned_by e.op e.reply ≡ None
 
@@ -109,27 +109,27 @@ service_kept : (row : LiveService) (r : Registered) (e : Entry) → row.service 
 service_kept row r e is none = is ∙ sym (service-push r e ∙ ap (λ o. record (service_now r) { properties = with_framework (unwrap_or o (given_last r)) r.classes r.scope r.service r.owner }) none)
 
 -- of a user that is not cleaned
-gets_more : (user : BundleId) (r : Registered) (e : Entry) → cleans user e.op e.reply ≡ false → gets user (later e r) ≡ gets user r + one_where (is_get user r.service e.op e.reply)
-gets_more user r e kept = gets-push user r e ∙ ap (λ cleaned. cond cleaned 0 (gets user r + one_where (is_get user r.service e.op e.reply))) kept
+gets_more : (user : BundleId) (r : Registered) (e : Entry) → cleans user e.op e.reply ≡ false → gets user (later e r) ≡ gets user r + one_where (gets_object user r.service e.op e.reply)
+gets_more user r e kept = gets-push user r e ∙ ap (λ cleaned. cond cleaned 0 (gets user r + one_where (gets_object user r.service e.op e.reply))) kept
 
 ungets_more : (user : BundleId) (r : Registered) (e : Entry) → cleans user e.op e.reply ≡ false → ungets user (later e r) ≡ ungets user r + one_where (is_unget user r.service e.op e.reply)
 ungets_more user r e kept = ungets-push user r e ∙ ap (λ cleaned. cond cleaned 0 (ungets user r + one_where (is_unget user r.service e.op e.reply))) kept
 
-gets_kept : (user : BundleId) (r : Registered) (e : Entry) → cleans user e.op e.reply ≡ false → is_get user r.service e.op e.reply ≡ false → gets user (later e r) ≡ gets user r
+gets_kept : (user : BundleId) (r : Registered) (e : Entry) → cleans user e.op e.reply ≡ false → gets_object user r.service e.op e.reply ≡ false → gets user (later e r) ≡ gets user r
 gets_kept user r e kept none = gets_more user r e kept ∙ (rw none (let same : gets user r + 0 ≡ gets user r = omega arith in same))
 
 ungets_kept : (user : BundleId) (r : Registered) (e : Entry) → cleans user e.op e.reply ≡ false → is_unget user r.service e.op e.reply ≡ false → ungets user (later e r) ≡ ungets user r
 ungets_kept user r e kept none = ungets_more user r e kept ∙ (rw none (let same : ungets user r + 0 ≡ ungets user r = omega arith in same))
 
 -- an entry that cleans no user, and is no use of the service, leaves what each user holds
-uses_kept : (e : Entry) (row : LiveService) (r : Registered) (user : BundleId) → cleans user e.op e.reply ≡ false → is_get user r.service e.op e.reply ≡ false → is_unget user r.service e.op e.reply ≡ false → IsRowOf row r → count_of user row.uses ≡ uses_held user (later e r)
+uses_kept : (e : Entry) (row : LiveService) (r : Registered) (user : BundleId) → cleans user e.op e.reply ≡ false → gets_object user r.service e.op e.reply ≡ false → is_unget user r.service e.op e.reply ≡ false → IsRowOf row r → count_of user row.uses ≡ uses_without_makes user (later e r)
 uses_kept e row r user kept no_get no_unget is = is.uses user ∙ (λ i. sym (gets_kept user r e kept no_get) i - sym (ungets_kept user r e kept no_unget) i)
 
-paid_kept : (e : Entry) (row : LiveService) (r : Registered) (user : BundleId) → cleans user e.op e.reply ≡ false → is_get user r.service e.op e.reply ≡ false → is_unget user r.service e.op e.reply ≡ false → IsRowOf row r → ungets user (later e r) ≤ gets user (later e r)
+paid_kept : (e : Entry) (row : LiveService) (r : Registered) (user : BundleId) → cleans user e.op e.reply ≡ false → gets_object user r.service e.op e.reply ≡ false → is_unget user r.service e.op e.reply ≡ false → IsRowOf row r → ungets user (later e r) ≤ gets user (later e r)
 paid_kept e row r user kept no_get no_unget is = let p = is.paid user in omega (arith, p, gets_kept user r e kept no_get, ungets_kept user r e kept no_unget)
 
 -- an entry that cleans nobody, and is no use of the service and no change of it
-quiet_row : (e : Entry) (row : LiveService) (r : Registered) → ((user : BundleId) → cleans user e.op e.reply ≡ false) → ((user : BundleId) → is_get user r.service e.op e.reply ≡ false) →
+quiet_row : (e : Entry) (row : LiveService) (r : Registered) → ((user : BundleId) → cleans user e.op e.reply ≡ false) → ((user : BundleId) → gets_object user r.service e.op e.reply ≡ false) →
     ((user : BundleId) → is_unget user r.service e.op e.reply ≡ false) → given_by r.service e.op e.reply ≡ None → IsRowOf row r → IsRowOf row (later e r)
 quiet_row e row r kept no_get no_unget no_given is = record {
   service = service_kept row r e is.service no_given;
@@ -201,7 +201,7 @@ stands_registered history old new tag owner classes object scope properties serv
 -- ---- a change of properties
 
 modified_by : (e : Entry) (service : ServiceId) (properties : List Attribute) (row : LiveService) (r : Registered) (here : Bool) → is_service service r ≡ here → given_by r.service e.op e.reply ≡ cond here (Some properties) None →
-    ((user : BundleId) → cleans user e.op e.reply ≡ false) → ((user : BundleId) → is_get user r.service e.op e.reply ≡ false) → ((user : BundleId) → is_unget user r.service e.op e.reply ≡ false) → IsRowOf row r →
+    ((user : BundleId) → cleans user e.op e.reply ≡ false) → ((user : BundleId) → gets_object user r.service e.op e.reply ≡ false) → ((user : BundleId) → is_unget user r.service e.op e.reply ≡ false) → IsRowOf row r →
     IsRowOf (cond here (with_properties properties row) row) (later e r)
 modified_by e service properties row r true here gives kept no_get no_unget is = record {
   service =
@@ -287,10 +287,10 @@ and_true false = refl
 
 -- ---- one use more
 
-more_by : (user other : BundleId) (row : LiveService) (r : Registered) (e : Entry) (own : Bool) → (user.0 == other.0) ≡ own → cleans other e.op e.reply ≡ false → is_get other r.service e.op e.reply ≡ own → is_unget other r.service e.op e.reply ≡ false → IsRowOf row r →
-    cond own (count_of user row.uses + 1) (count_of other row.uses) ≡ uses_held other (later e r)
+more_by : (user other : BundleId) (row : LiveService) (r : Registered) (e : Entry) (own : Bool) → (user.0 == other.0) ≡ own → cleans other e.op e.reply ≡ false → gets_object other r.service e.op e.reply ≡ own → is_unget other r.service e.op e.reply ≡ false → IsRowOf row r →
+    cond own (count_of user row.uses + 1) (count_of other row.uses) ≡ uses_without_makes other (later e r)
 more_by user other row r e true own kept get no_unget is =
-    let held : count_of other row.uses ≡ uses_held other r = is.uses other in
+    let held : count_of other row.uses ≡ uses_without_makes other r = is.uses other in
     let same : count_of user row.uses ≡ count_of other row.uses = same_count user other row.uses (eqb-true user.0 other.0 own) in
     let paid = is.paid other in
     let more : gets other (later e r) ≡ gets other r + 1 = gets_more other r e kept ∙ ap (λ b. gets other r + one_where b) get in
@@ -302,7 +302,7 @@ used_by : (tag : Tag) (user : BundleId) (service : ServiceId) (text : List ℕ) 
     IsRowOf (cond here (used_more user row) row) (later (record { tag = tag; op = op.Get user service; reply = answer.Object text }) r)
 used_by tag user service text row r true here is =
     let e : Entry = record { tag = tag; op = op.Get user service; reply = answer.Object text } in
-    let get : (other : BundleId) → is_get other r.service e.op e.reply ≡ (user.0 == other.0) = λ other. ap (λ b. (user.0 == other.0) && b) here ∙ and_true (user.0 == other.0) in
+    let get : (other : BundleId) → gets_object other r.service e.op e.reply ≡ (user.0 == other.0) = λ other. ap (λ b. (user.0 == other.0) && b) here ∙ and_true (user.0 == other.0) in
     record {
       service = service_kept row r e is.service refl;
       scope = is.scope;
@@ -325,20 +325,20 @@ stands_used history old new tag user service text stands rows issued =
 
 -- ---- one use less
 
-less_by : (user other : BundleId) (row : LiveService) (r : Registered) (e : Entry) (own : Bool) → (user.0 == other.0) ≡ own → cleans other e.op e.reply ≡ false → is_unget other r.service e.op e.reply ≡ own → is_get other r.service e.op e.reply ≡ false → IsRowOf row r →
-    cond own (count_of user row.uses - 1) (count_of other row.uses) ≡ uses_held other (later e r)
+less_by : (user other : BundleId) (row : LiveService) (r : Registered) (e : Entry) (own : Bool) → (user.0 == other.0) ≡ own → cleans other e.op e.reply ≡ false → is_unget other r.service e.op e.reply ≡ own → gets_object other r.service e.op e.reply ≡ false → IsRowOf row r →
+    cond own (count_of user row.uses - 1) (count_of other row.uses) ≡ uses_without_makes other (later e r)
 less_by user other row r e true own kept unget no_get is =
-    let held : count_of other row.uses ≡ uses_held other r = is.uses other in
+    let held : count_of other row.uses ≡ uses_without_makes other r = is.uses other in
     let same : count_of user row.uses ≡ count_of other row.uses = same_count user other row.uses (eqb-true user.0 other.0 own) in
     let more : ungets other (later e r) ≡ ungets other r + 1 = ungets_more other r e kept ∙ ap (λ b. ungets other r + one_where b) unget in
     let less : gets other (later e r) ≡ gets other r = gets_kept other r e kept no_get in
     rw (more, less, same, held) (omega arith)
 less_by user other row r e false own kept unget no_get is = uses_kept e row r other kept no_get unget is
 
-paid_by : (user other : BundleId) (row : LiveService) (r : Registered) (e : Entry) (own : Bool) → (user.0 == other.0) ≡ own → cleans other e.op e.reply ≡ false → is_unget other r.service e.op e.reply ≡ own → is_get other r.service e.op e.reply ≡ false → IsRowOf row r →
+paid_by : (user other : BundleId) (row : LiveService) (r : Registered) (e : Entry) (own : Bool) → (user.0 == other.0) ≡ own → cleans other e.op e.reply ≡ false → is_unget other r.service e.op e.reply ≡ own → gets_object other r.service e.op e.reply ≡ false → IsRowOf row r →
     0 < count_of user row.uses → ungets other (later e r) ≤ gets other (later e r)
 paid_by user other row r e true own kept unget no_get is held =
-    let uses : count_of other row.uses ≡ uses_held other r = is.uses other in
+    let uses : count_of other row.uses ≡ uses_without_makes other r = is.uses other in
     let same : count_of user row.uses ≡ count_of other row.uses = same_count user other row.uses (eqb-true user.0 other.0 own) in
     let more : ungets other (later e r) ≡ ungets other r + 1 = ungets_more other r e kept ∙ ap (λ b. ungets other r + one_where b) unget in
     omega (arith, held, uses, same, more, gets_kept other r e kept no_get)
@@ -396,7 +396,7 @@ record IsCleaning (bundle : BundleId) (e : Entry) : Type 0 where
   pub registers : (earlier : ℕ) → registered_by earlier e.op e.reply [] ≡ []
   pub takes : (service : ServiceId) (owner : BundleId) → takes_out service owner e.op e.reply ≡ (bundle.0 == owner.0)
   pub gives : (service : ServiceId) → given_by service e.op e.reply ≡ None
-  pub gets : (user : BundleId) (service : ServiceId) → is_get user service e.op e.reply ≡ false
+  pub gets : (user : BundleId) (service : ServiceId) → gets_object user service e.op e.reply ≡ false
   pub ungets : (user : BundleId) (service : ServiceId) → is_unget user service e.op e.reply ≡ false
   pub cleans : (user : BundleId) → cleans user e.op e.reply ≡ (bundle.0 == user.0)
 
@@ -425,7 +425,7 @@ cleaning bundle e is = record {
     none_given (op.Modify owner modified properties) reply is service = absurd (cc is)
     none_given o reply is service = refl
 
-    none_got : (o : Op) (reply : Reply) → cleaned_by o reply ≡ Some bundle → (user : BundleId) (service : ServiceId) → is_get user service o reply ≡ false
+    none_got : (o : Op) (reply : Reply) → cleaned_by o reply ≡ Some bundle → (user : BundleId) (service : ServiceId) → gets_object user service o reply ≡ false
     none_got (op.Get by got) reply is user service = absurd (cc is)
     none_got (op.GetOwn by got) reply is user service = absurd (cc is)
     none_got o reply is user service = refl
@@ -458,9 +458,9 @@ count-without bundle user (first ∷ rest) =
     (count-without bundle user rest)
 
 let_go_by : (bundle user : BundleId) (row : LiveService) (r : Registered) (e : Entry) (own : Bool) → IsCleaning bundle e → (bundle.0 == user.0) ≡ own → IsRowOf row r →
-    (cond own 0 (count_of user row.uses) ≡ uses_held user (later e r)) × (ungets user (later e r) ≤ gets user (later e r))
+    (cond own 0 (count_of user row.uses) ≡ uses_without_makes user (later e r)) × (ungets user (later e r) ≤ gets user (later e r))
 let_go_by bundle user row r e true cleaning own is =
-    let got : gets user (later e r) ≡ 0 = gets-push user r e ∙ ap (λ c. cond c 0 (gets user r + one_where (is_get user r.service e.op e.reply))) (cleaning.cleans user ∙ own) in
+    let got : gets user (later e r) ≡ 0 = gets-push user r e ∙ ap (λ c. cond c 0 (gets user r + one_where (gets_object user r.service e.op e.reply))) (cleaning.cleans user ∙ own) in
     let ungot : ungets user (later e r) ≡ 0 = ungets-push user r e ∙ ap (λ c. cond c 0 (ungets user r + one_where (is_unget user r.service e.op e.reply))) (cleaning.cleans user ∙ own) in
     (rw (got, ungot) refl, rw (got, ungot) (omega arith))
 let_go_by bundle user row r e false cleaning own is =
@@ -514,7 +514,7 @@ quiet_refused tag o refusal none = record {
     none_given (op.Modify owner modified properties) refusal service = refl
     none_given o refusal service = refl
 
-    none_got : (o : Op) (refusal : Refusal) (user : BundleId) (service : ServiceId) → is_get user service o (answer.Refused refusal) ≡ false
+    none_got : (o : Op) (refusal : Refusal) (user : BundleId) (service : ServiceId) → gets_object user service o (answer.Refused refusal) ≡ false
     none_got (op.Get by got) refusal user service = refl
     none_got (op.GetOwn by got) refusal user service = refl
     none_got o refusal user service = refl

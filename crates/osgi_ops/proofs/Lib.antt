@@ -1,0 +1,2 @@
+-- Lists of bundles by their ids.
+mod Numbered
