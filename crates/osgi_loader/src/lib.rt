@@ -13,4 +13,4 @@ mod sources;
 mod wires;
 
 pub use assigning::{assignable, is_assignable};
-pub use loading::{load, load_class};
+pub use loading::load;

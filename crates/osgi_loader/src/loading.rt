@@ -1,13 +1,12 @@
 //! Whose file a class is loaded from.
 
-ghost use Rattle.std.specs.Prelude.{◌≡◌, None, Some, IfOk, IsSome};
-ghost use Rattle.osgi_ops.specs.Loading.{IsLoaded, IsLoadedBy};
-ghost use Rattle.osgi_ops.specs.Resolved.{current_revision};
+ghost use Rattle.std.specs.Prelude.{IfOk};
+ghost use Rattle.osgi_ops.specs.Loading.{IsLoadedBy};
 
 use crate::classes::{package_of, path_of};
 use crate::files::first_with;
 use crate::searched::searched;
-use osgi_base::{BundleId, RevisionId, Text};
+use osgi_base::{RevisionId, Text};
 use osgi_wiring::Wirings;
 use std::alloc::{AllocError, Global};
 
@@ -30,21 +29,4 @@ pub fn load(
     let hosts = searched(alloc, wirings, package_of(class.bytes()), revision)?;
     let path = path_of(alloc, class.bytes())?;
     Ok(first_with(wirings, path.as_slice(), hosts.as_slice()))
-}
-
-/// The revision from which the class is loaded for a bundle's current revision, if there is one; none where the bundle has no current
-/// revision.
-pub fn load_class(
-    alloc: Global,
-    wirings: &Wirings,
-    bundle: BundleId,
-    class: &Text,
-) -> Result<Option<RevisionId>, AllocError>
-    ensures loaded { IfOk result (λ by. IsSome (current_revision wirings.now.world bundle) → IsLoaded wirings.now.world bundle class.now by) }
-    ensures none { current_revision wirings.now.world bundle ≡ None → IfOk result (λ by. by ≡ None) }
-{
-    let Some(known) = wirings.current(bundle) else {
-        return Ok(None);
-    };
-    Ok(load(alloc, wirings, known.id, class)?)
 }

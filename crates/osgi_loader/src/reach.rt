@@ -2,7 +2,6 @@
 
 ghost use Rattle.std.specs.Prelude.{◌≡◌, ◌↔◌, ℕ, Contains, IfOk, OnOk, map, nat_eq};
 ghost use Rattle.std.specs.List.{filter_map};
-ghost use Rattle.std.specs.List.Sorted.{IsStrictlyIncreasing};
 ghost use Rattle.indexmap.specs.IndexSet.{insert_all};
 ghost use Rattle.osgi_base.specs.declared.ids.RevisionId.{RevisionId};
 ghost use Rattle.osgi_loader.specs.computed.Wires.{IsGiven, IsReached, given_by, numbered, reexports};
@@ -88,14 +87,4 @@ pub fn given(
     let bundles = reached(alloc, wirings, starts)?;
     let numbers = given_by_these(alloc, wirings, package, bundles.as_slice())?;
     Ok(numbers)
-}
-
-/// The same numbers, each once and rising.
-pub fn rising(mut numbers: Vec<u32>) -> Vec<u32>
-    ensures rising { IsStrictlyIncreasing result.items }
-    ensures same { (n : ℕ) → Contains result.items n ↔ Contains numbers.items n }
-{
-    numbers.sort_unstable();
-    numbers.dedup();
-    numbers
 }

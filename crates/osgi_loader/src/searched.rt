@@ -7,9 +7,10 @@ ghost use Rattle.osgi_ops.specs.Loading.{all_with_fragments, AreRequired, AreSea
 ghost use Rattle.osgi_wiring.specs.States.{IsKeptWorld};
 
 use crate::lookups::wires_of;
-use crate::reach::{given, rising};
+use crate::reach::given;
 use crate::wires::{is_required, provider_of};
 use osgi_base::RevisionId;
+use osgi_ops::rising;
 use osgi_wiring::Wirings;
 use osgi_world::Wire;
 use std::alloc::{AllocError, Global};

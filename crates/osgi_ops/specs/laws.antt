@@ -1,5 +1,6 @@
 -- Laws of the definitions, for the proofs of other crates, with what they rest on. No promise cites them.
 pub mod Along
+pub mod Brackets
 pub mod Bundles
 pub mod Dynamic
 pub mod Items
