@@ -43,7 +43,8 @@ impl Brackets {
 
     /// The innermost bracket of the caller, if it has one.
     pub fn innermost(&self, caller: u32) -> Option<OpenBracket>
-        ensures innermost { option_map (bracket_of caller) result ≡ innermost_of (open_of self.now caller) }
+        ensures innermost { option_map (bracket_of caller) result
+            ≡ innermost_of (open_of self.now caller) }
     {
         self.callers.get(caller)?.last().copied()
     }
@@ -104,7 +105,9 @@ impl Brackets {
 
     /// Opens what an entry of the history opens, or closes what it ends. If memory runs out, nothing is opened.
     pub fn follow(&mut self, entry: &Entry) -> Result<(), AllocError>
-        ensures follows { (history : List Entry) → StandsFor history self.old → OnOk result (StandsFor (history ++ entry.now ∷ []) self.new) }
+        ensures follows { (history : List Entry)
+            → StandsFor history self.old
+            → OnOk result (StandsFor (history ++ entry.now ∷ []) self.new) }
         ensures unchanged { OnErr result (HoldsSame self.old self.new) }
     {
         if let Some(kind) = opens(&entry.op, &entry.reply) {

@@ -79,7 +79,9 @@ impl Directory {
 
     /// The bundle with the highest version of the name: the last that comes before all keys of longer names.
     pub fn highest(&self, name: &Text) -> Result<Option<BundleId>, AllocError>
-        ensures highest { IfOk result (λ found. MatchOption found (HasNoVersion self.now.names name.now) (IsHighest self.now.names name.now)) }
+        ensures highest { IfOk result (λ found.
+            MatchOption found (HasNoVersion self.now.names name.now)
+            (IsHighest self.now.names name.now)) }
     {
         let end = BundleName::after(self.alloc, name)?;
         let Some((key, &bundle)) = self.names.range(..end).next_back() else {
@@ -100,9 +102,11 @@ impl Directory {
         bundle: BundleId,
     ) -> Result<(), AllocError>
         requires fresh { get name_cmp self.old.names name ≡ None }
-        ensures locations { OnOk result (AddsFirst text_cmp self.old.locations self.new.locations location.now bundle) }
+        ensures locations { OnOk result
+            (AddsFirst text_cmp self.old.locations self.new.locations location.now bundle) }
         ensures names { OnOk result (AddsFirst name_cmp self.old.names self.new.names name bundle) }
-        ensures same_locations { OnErr result (HoldsSame text_cmp self.old.locations self.new.locations) }
+        ensures same_locations { OnErr result
+            (HoldsSame text_cmp self.old.locations self.new.locations) }
         ensures same_names { OnErr result (HoldsSame name_cmp self.old.names self.new.names) }
     {
         if self.locations.contains_key(location) {

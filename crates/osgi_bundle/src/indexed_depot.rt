@@ -43,8 +43,9 @@ impl IndexedDepot {
 
     /// What the depot has at a location, with the number of its row.
     pub fn find(&self, location: &Text) -> Option<(u32, &Stored)>
-        ensures found { MatchOption result (stored_at self.now.rows location.now ≡ None)
-            (λ r. (stored_at self.now.rows location.now ≡ Some r.1.now) × (r.0 ≡ row_number self.now.rows location.now)) }
+        ensures found { MatchOption result (stored_at self.now.rows location.now ≡ None) (λ r.
+            (stored_at self.now.rows location.now ≡ Some r.1.now)
+            × (r.0 ≡ row_number self.now.rows location.now)) }
     {
         let &place = self.places.get(location)?;
         Some((place, &self.depot.rows.items()[place as usize].stored))

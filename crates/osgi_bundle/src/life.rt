@@ -26,13 +26,18 @@ pub enum Begun {
 impl Table {
     /// The start of a bundle begins, for the line of the tag.
     pub fn begin_start(&mut self, tag: Tag, bundle: BundleId) -> Result<Begun, Refusal>
-        ensures answer { Gives (begin_start_refusals bundle self.old.rows) (StartBegins bundle self.old.rows) (verdict_of result) }
-        ensures rows { IfOk result (λ begun. self.new.rows ≡ rows_begun bundle STARTING tag self.old.rows begun) }
+        ensures answer { Gives (begin_start_refusals bundle self.old.rows)
+            (StartBegins bundle self.old.rows) (verdict_of result) }
+        ensures rows { IfOk result (λ begun.
+            self.new.rows ≡ rows_begun bundle STARTING tag self.old.rows begun) }
         ensures issued { self.new.issued ≡ self.old.issued }
-        ensures stands { IfOk result (λ begun. begun ≢ Already → StandsPut starting tag bundle self.old self.new) }
+        ensures stands { IfOk result (λ begun.
+            begun ≢ Already → StandsPut starting tag bundle self.old self.new) }
         ensures already { IfOk result (λ begun. begun ≡ Already → self.new ≡ self.old) }
         ensures refused { OnErr result (self.new ≡ self.old) }
-        ensures possible { IsStartable bundle self.old.rows → IsOkAnd result (λ begun. (begun ≢ Already) × StandsPut starting tag bundle self.old self.new) }
+        ensures possible { IsStartable bundle self.old.rows
+            → IsOkAnd result
+            (λ begun. (begun ≢ Already) × StandsPut starting tag bundle self.old self.new) }
     {
         let begun = self.start(bundle)?;
         if let Begun::Run { .. } = begun {
@@ -43,10 +48,13 @@ impl Table {
 
     /// The start of a bundle ends, which the line of the tag began. Where a section failed, the bundle is not active.
     pub fn end_start(&mut self, tag: Tag, bundle: BundleId, failed: bool) -> Result<(), Refusal>
-        ensures answer { Gives (end_refusals STARTING tag bundle failed self.old.rows) (λ done. ⊤) (verdict_of result) }
-        ensures rows { IsInChange STARTING tag bundle self.old.rows → self.new.rows ≡ with_state bundle (started_state failed) self.old.rows }
+        ensures answer { Gives (end_refusals STARTING tag bundle failed self.old.rows) (λ done. ⊤)
+            (verdict_of result) }
+        ensures rows { IsInChange STARTING tag bundle self.old.rows
+            → self.new.rows ≡ with_state bundle (started_state failed) self.old.rows }
         ensures issued { self.new.issued ≡ self.old.issued }
-        ensures stands { IsInChange STARTING tag bundle self.old.rows → StandsPut (started_phase failed) tag bundle self.old self.new }
+        ensures stands { IsInChange STARTING tag bundle self.old.rows
+            → StandsPut (started_phase failed) tag bundle self.old self.new }
         ensures refused { ¬ IsInChange STARTING tag bundle self.old.rows → self.new ≡ self.old }
     {
         if !self.is_in_change(STARTING, tag, bundle) {
@@ -62,13 +70,18 @@ impl Table {
 
     /// The stop of a bundle begins, for the line of the tag.
     pub fn begin_stop(&mut self, tag: Tag, bundle: BundleId) -> Result<Begun, Refusal>
-        ensures answer { Gives (begin_stop_refusals bundle self.old.rows) (StopBegins bundle self.old.rows) (verdict_of result) }
-        ensures rows { IfOk result (λ begun. self.new.rows ≡ rows_begun bundle STOPPING tag self.old.rows begun) }
+        ensures answer { Gives (begin_stop_refusals bundle self.old.rows)
+            (StopBegins bundle self.old.rows) (verdict_of result) }
+        ensures rows { IfOk result (λ begun.
+            self.new.rows ≡ rows_begun bundle STOPPING tag self.old.rows begun) }
         ensures issued { self.new.issued ≡ self.old.issued }
-        ensures stands { IfOk result (λ begun. begun ≢ Already → StandsPut stopping tag bundle self.old self.new) }
+        ensures stands { IfOk result (λ begun.
+            begun ≢ Already → StandsPut stopping tag bundle self.old self.new) }
         ensures already { IfOk result (λ begun. begun ≡ Already → self.new ≡ self.old) }
         ensures refused { OnErr result (self.new ≡ self.old) }
-        ensures possible { IsStoppable bundle self.old.rows → IsOkAnd result (λ begun. (begun ≢ Already) × StandsPut stopping tag bundle self.old self.new) }
+        ensures possible { IsStoppable bundle self.old.rows
+            → IsOkAnd result
+            (λ begun. (begun ≢ Already) × StandsPut stopping tag bundle self.old self.new) }
     {
         let begun = self.stop(bundle)?;
         if let Begun::Run { .. } = begun {
@@ -79,10 +92,13 @@ impl Table {
 
     /// The stop of a bundle ends, which the line of the tag began. The bundle is at rest, even where a section failed.
     pub fn end_stop(&mut self, tag: Tag, bundle: BundleId, failed: bool) -> Result<(), Refusal>
-        ensures answer { Gives (end_refusals STOPPING tag bundle failed self.old.rows) (λ done. ⊤) (verdict_of result) }
-        ensures rows { IsInChange STOPPING tag bundle self.old.rows → self.new.rows ≡ with_state bundle RESOLVED self.old.rows }
+        ensures answer { Gives (end_refusals STOPPING tag bundle failed self.old.rows) (λ done. ⊤)
+            (verdict_of result) }
+        ensures rows { IsInChange STOPPING tag bundle self.old.rows
+            → self.new.rows ≡ with_state bundle RESOLVED self.old.rows }
         ensures issued { self.new.issued ≡ self.old.issued }
-        ensures stands { IsInChange STOPPING tag bundle self.old.rows → StandsPut idle tag bundle self.old self.new }
+        ensures stands { IsInChange STOPPING tag bundle self.old.rows
+            → StandsPut idle tag bundle self.old self.new }
         ensures refused { ¬ IsInChange STOPPING tag bundle self.old.rows → self.new ≡ self.old }
     {
         if !self.is_in_change(STOPPING, tag, bundle) {
@@ -97,7 +113,8 @@ impl Table {
 
     /// What a start of the bundle would come to.
     fn start(&self, bundle: BundleId) -> Result<Begun, Refusal>
-        ensures answer { Gives (begin_start_refusals bundle self.now.rows) (StartBegins bundle self.now.rows) (verdict_of result) }
+        ensures answer { Gives (begin_start_refusals bundle self.now.rows)
+            (StartBegins bundle self.now.rows) (verdict_of result) }
     {
         let Some(row) = self.row(bundle) else {
             return Err(Refusal::NoSuchBundle);
@@ -116,7 +133,8 @@ impl Table {
 
     /// What a stop of the bundle would come to.
     fn stop(&self, bundle: BundleId) -> Result<Begun, Refusal>
-        ensures answer { Gives (begin_stop_refusals bundle self.now.rows) (StopBegins bundle self.now.rows) (verdict_of result) }
+        ensures answer { Gives (begin_stop_refusals bundle self.now.rows)
+            (StopBegins bundle self.now.rows) (verdict_of result) }
     {
         let Some(row) = self.row(bundle) else {
             return Err(Refusal::NoSuchBundle);

@@ -139,7 +139,9 @@ impl Table {
 
     /// The live bundle of this name with the highest version.
     pub(crate) fn named(&self, name: &Text) -> Result<Option<BundleId>, AllocError>
-        ensures named { IfOk result (λ found. MatchOption found ((id : BundleId) → ¬ IsNamedRow name.now self.now.rows id) (IsNamedRow name.now self.now.rows)) }
+        ensures named { IfOk result (λ found.
+            MatchOption found ((id : BundleId) → ¬ IsNamedRow name.now self.now.rows id)
+            (IsNamedRow name.now self.now.rows)) }
     {
         self.directory.highest(name)
     }
@@ -154,10 +156,17 @@ impl Table {
         row: u32,
     ) -> Result<Result<BundleId, Refusal>, AllocError>
         requires ids_left { self.old.issued < u32.MAX }
-        ensures answer { IfOk result (λ answer. Gives (install_refusals name version self.old.rows) (λ id. id.0 ≡ self.old.issued + 1) (verdict_of answer)) }
-        ensures rows { IfOk result (λ answer. IfOk answer (λ id. self.new.rows ≡ self.old.rows ++ new_row id location name version fragment row ∷ [])) }
-        ensures issued { IfOk result (λ answer. OnOk answer (self.new.issued ≡ self.old.issued + 1)) }
-        ensures stands { IfOk result (λ answer. IfOk answer (λ id. StandsAfter location name version fragment row id self.old self.new)) }
+        ensures answer { IfOk result (λ answer.
+            Gives (install_refusals name version self.old.rows) (λ id. id.0 ≡ self.old.issued + 1)
+            (verdict_of answer)) }
+        ensures rows { IfOk result (λ answer.
+            IfOk answer (λ id.
+            self.new.rows ≡ self.old.rows ++ new_row id location name version fragment row ∷ [])) }
+        ensures issued { IfOk result (λ answer.
+            OnOk answer (self.new.issued ≡ self.old.issued + 1)) }
+        ensures stands { IfOk result (λ answer.
+            IfOk answer (λ id.
+            StandsAfter location name version fragment row id self.old self.new)) }
         ensures refused { IfOk result (λ answer. OnErr answer (self.new ≡ self.old)) }
         ensures unchanged { OnErr result (self.new ≡ self.old) }
     {
@@ -181,7 +190,12 @@ impl Table {
         row: u32,
     ) -> Result<Result<BundleKept, Refusal>, AllocError>
         requires ids_left { self.now.issued < u32.MAX }
-        ensures answer { IfOk result (λ answer. Gives (install_refusals name version self.now.rows) (λ made. made ≡ new_row (record { 0 = self.now.issued + 1 }) location name version fragment row) (verdict_of answer)) }
+        ensures answer { IfOk result (λ answer.
+            Gives (install_refusals name version self.now.rows)
+            (λ made.
+            made
+            ≡ new_row (record { 0 = self.now.issued + 1 }) location name version fragment row)
+            (verdict_of answer)) }
     {
         let key = BundleName::of(self.alloc, &name, &version)?;
         if let Some(bundle) = self.directory.of_name(&key) {
@@ -207,11 +221,15 @@ impl Table {
     /// Inserts a bundle that was made, under the next id.
     pub fn insert(&mut self, made: BundleKept) -> Result<(), AllocError>
         requires next { made.bundle.0 ≡ self.old.issued + 1 }
-        requires is_new { made ≡ new_row made.bundle made.location made.name made.version made.fragment made.row }
-        requires apart { (refusal : Refusal) → ¬ IsTwin made.name made.version self.old.rows refusal }
+        requires is_new { made
+            ≡ new_row made.bundle made.location made.name made.version made.fragment made.row }
+        requires apart { (refusal : Refusal)
+            → ¬ IsTwin made.name made.version self.old.rows refusal }
         ensures rows { OnOk result (self.new.rows ≡ self.old.rows ++ made ∷ []) }
         ensures issued { OnOk result (self.new.issued ≡ self.old.issued + 1) }
-        ensures stands { OnOk result (StandsAfter made.location made.name made.version made.fragment made.row made.bundle self.old self.new) }
+        ensures stands { OnOk result
+            (StandsAfter made.location made.name made.version made.fragment made.row made.bundle
+            self.old self.new) }
         ensures unchanged { OnErr result (self.new ≡ self.old) }
     {
         let key = BundleName::of(self.alloc, &made.name, &made.version)?;

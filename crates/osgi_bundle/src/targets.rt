@@ -12,7 +12,9 @@ use std::alloc::AllocError;
 impl Table {
     /// The live bundle that the target names.
     pub fn target(&self, target: &Target) -> Result<Option<BundleId>, AllocError>
-        ensures target { IfOk result (λ found. MatchOption found ((id : BundleId) → ¬ IsTargetRow target.now self.now.rows id) (IsTargetRow target.now self.now.rows)) }
+        ensures target { IfOk result (λ found.
+            MatchOption found ((id : BundleId) → ¬ IsTargetRow target.now self.now.rows id)
+            (IsTargetRow target.now self.now.rows)) }
     {
         match target {
             Target::Id(bundle) => Ok(self.row(*bundle).is_some().then_some(*bundle)),

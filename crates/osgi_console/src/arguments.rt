@@ -58,7 +58,8 @@ fn first_space(text: &[u8]) -> Option<usize>
 
 /// The one argument, which is a location; none where it is none. Quotes mean nothing in it.
 pub fn location(text: &[u8]) -> Option<&[u8]>
-    ensures location { MatchOption result (location_of text.now ≡ None) (λ word. location_of text.now ≡ Some word.now) }
+    ensures location { MatchOption result (location_of text.now ≡ None) (λ word.
+        location_of text.now ≡ Some word.now) }
 {
     let text = skip_spaces(text);
     let end = first_space(text).unwrap_or(text.len());

@@ -185,7 +185,8 @@ fn load(alloc: Global, text: &[u8]) -> Result<Option<Command>, AllocError>
 
 /// `install LOCATION`, from what follows its first word.
 fn install(alloc: Global, text: &[u8]) -> Result<Option<Command>, AllocError>
-    ensures command { IfOk result (λ command. command ≡ option_map Command.Install (location_of text.now)) }
+    ensures command { IfOk result (λ command.
+        command ≡ option_map Command.Install (location_of text.now)) }
 {
     let Some(location) = location(text) else {
         return Ok(None);

@@ -16,7 +16,8 @@ use std::alloc::{AllocError, Global};
 
 /// Adds the line of an operation that was done, where this is the active start level.
 fn add_done(out: &mut Vec<u8>, depth: usize, level: u8, op: &Op) -> Result<(), AllocError>
-    ensures added { OnOk result (out.new.items ≡ out.old.items ++ lines_at depth (done_lines level op.now)) }
+    ensures added { OnOk result
+        (out.new.items ≡ out.old.items ++ lines_at depth (done_lines level op.now)) }
 {
     match op {
         Op::Modify { service, .. } => add_id_line(out, depth, b"modified", service.0),
@@ -43,7 +44,9 @@ pub fn add_entry(
     level: u8,
     entry: &Entry,
 ) -> Result<(), AllocError>
-    ensures added { OnOk result (out.new.items ≡ out.old.items ++ lines_at depth (entry_lines level entry.now.op entry.now.reply)) }
+    ensures added { OnOk result
+        (out.new.items
+        ≡ out.old.items ++ lines_at depth (entry_lines level entry.now.op entry.now.reply)) }
 {
     match (&entry.op, &entry.reply) {
         (_, Reply::Service { service }) => add_id_line(out, depth, b"service", service.0),

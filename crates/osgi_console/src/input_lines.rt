@@ -26,7 +26,8 @@ fn content(alloc: Global, text: &[u8]) -> Result<Content, AllocError>
 }
 
 fn line(alloc: Global, number: u32, text: &[u8]) -> Result<Line, AllocError>
-    ensures line { IfOk result (λ line. line ≡ record { number = number; lane = 0; content = content_of text.now }) }
+    ensures line { IfOk result (λ line.
+        line ≡ record { number = number; lane = 0; content = content_of text.now }) }
 {
     Ok(Line {
         number,
@@ -41,7 +42,9 @@ fn line(alloc: Global, number: u32, text: &[u8]) -> Result<Line, AllocError>
 pub fn parse(alloc: Global, bytes: &[u8]) -> Result<List<Line>, AllocError>
     requires few { length bytes.now < u32.MAX }
     ensures reads { IfOk result (AreLinesOf bytes.now) }
-    ensures only { (others : List Line) → AreLinesOf bytes.now others → IfOk result (λ all. all ≡ others) }
+    ensures only { (others : List Line)
+        → AreLinesOf bytes.now others
+        → IfOk result (λ all. all ≡ others) }
 {
     read_lines(alloc, bytes)
 }

@@ -23,7 +23,8 @@ pub fn add_text_line(out: &mut Vec<u8>, depth: usize, text: &[u8]) -> Result<(),
 
 /// Adds a line of a word and an id.
 pub fn add_id_line(out: &mut Vec<u8>, depth: usize, word: &[u8], id: u64) -> Result<(), AllocError>
-    ensures added { OnOk result (out.new.items ≡ out.old.items ++ line_at depth (word.now ++ spaced (decimal id))) }
+    ensures added { OnOk result
+        (out.new.items ≡ out.old.items ++ line_at depth (word.now ++ spaced (decimal id))) }
 {
     add_indent(out, depth)?;
     out.extend_from_slice(word)?;
@@ -39,7 +40,8 @@ pub fn add_bundle_line(
     word: &[u8],
     bundle: BundleId,
 ) -> Result<(), AllocError>
-    ensures added { OnOk result (out.new.items ≡ out.old.items ++ line_at depth (word.now ++ spaced (decimal bundle.0))) }
+    ensures added { OnOk result
+        (out.new.items ≡ out.old.items ++ line_at depth (word.now ++ spaced (decimal bundle.0))) }
 {
     add_id_line(out, depth, word, u64::from(bundle.0))
 }
@@ -52,7 +54,10 @@ pub fn add_numbers_line(
     first: u64,
     second: u64,
 ) -> Result<(), AllocError>
-    ensures added { OnOk result (out.new.items ≡ out.old.items ++ line_at depth (word.now ++ (spaced (decimal first) ++ spaced (decimal second)))) }
+    ensures added { OnOk result
+        (out.new.items
+        ≡ out.old.items ++ line_at depth
+        (word.now ++ (spaced (decimal first) ++ spaced (decimal second)))) }
 {
     add_indent(out, depth)?;
     out.extend_from_slice(word)?;
@@ -64,7 +69,8 @@ pub fn add_numbers_line(
 
 /// Adds the line that says which services were found.
 pub fn add_found(out: &mut Vec<u8>, depth: usize, ids: &[ServiceId]) -> Result<(), AllocError>
-    ensures added { OnOk result (out.new.items ≡ out.old.items ++ line_at depth (codes "found" ++ services_text ids.now)) }
+    ensures added { OnOk result
+        (out.new.items ≡ out.old.items ++ line_at depth (codes "found" ++ services_text ids.now)) }
 {
     add_indent(out, depth)?;
     out.extend_from_slice(b"found")?;
@@ -80,7 +86,8 @@ pub fn add_bundles_line(
     word: &[u8],
     ids: &[BundleId],
 ) -> Result<(), AllocError>
-    ensures added { OnOk result (out.new.items ≡ out.old.items ++ line_at depth (word.now ++ bundles_text ids.now)) }
+    ensures added { OnOk result
+        (out.new.items ≡ out.old.items ++ line_at depth (word.now ++ bundles_text ids.now)) }
 {
     add_indent(out, depth)?;
     out.extend_from_slice(word)?;
@@ -96,7 +103,8 @@ pub fn add_quoted_line(
     word: &[u8],
     text: &[u8],
 ) -> Result<(), AllocError>
-    ensures added { OnOk result (out.new.items ≡ out.old.items ++ line_at depth (word.now ++ spaced (quoted text.now))) }
+    ensures added { OnOk result
+        (out.new.items ≡ out.old.items ++ line_at depth (word.now ++ spaced (quoted text.now))) }
 {
     add_indent(out, depth)?;
     out.extend_from_slice(word)?;
@@ -120,7 +128,8 @@ pub fn add_flag_line(
     word: &[u8],
     value: bool,
 ) -> Result<(), AllocError>
-    ensures added { OnOk result (out.new.items ≡ out.old.items ++ line_at depth (word.now ++ spaced (truth value))) }
+    ensures added { OnOk result
+        (out.new.items ≡ out.old.items ++ line_at depth (word.now ++ spaced (truth value))) }
 {
     add_indent(out, depth)?;
     out.extend_from_slice(word)?;
@@ -137,7 +146,10 @@ pub fn add_section_line(
     owner: BundleId,
     name: &[u8],
 ) -> Result<(), AllocError>
-    ensures added { OnOk result (out.new.items ≡ out.old.items ++ line_at depth (word.now ++ (spaced (decimal owner.0) ++ spaced name.now))) }
+    ensures added { OnOk result
+        (out.new.items
+        ≡ out.old.items ++ line_at depth
+        (word.now ++ (spaced (decimal owner.0) ++ spaced name.now))) }
 {
     add_indent(out, depth)?;
     out.extend_from_slice(word)?;
@@ -149,7 +161,8 @@ pub fn add_section_line(
 
 /// Adds the number of an object that a factory made, after a space.
 fn add_object_id(out: &mut Vec<u8>, object: ObjectId) -> Result<(), AllocError>
-    ensures added { OnOk result (out.new.items ≡ out.old.items ++ spaced (codes "o" ++ decimal object.0)) }
+    ensures added { OnOk result
+        (out.new.items ≡ out.old.items ++ spaced (codes "o" ++ decimal object.0)) }
 {
     out.extend_from_slice(b" o")?;
     add_number(out, object.0)
@@ -162,7 +175,8 @@ pub fn add_held(
     object: ObjectId,
     text: &[u8],
 ) -> Result<(), AllocError>
-    ensures added { OnOk result (out.new.items ≡ out.old.items ++ line_at depth (held_text object text.now)) }
+    ensures added { OnOk result
+        (out.new.items ≡ out.old.items ++ line_at depth (held_text object text.now)) }
 {
     add_indent(out, depth)?;
     out.extend_from_slice(b"object")?;
@@ -175,7 +189,10 @@ pub fn add_held(
 
 /// Adds the line of an object that was given back.
 pub fn add_given_back(out: &mut Vec<u8>, depth: usize, object: ObjectId) -> Result<(), AllocError>
-    ensures added { OnOk result (out.new.items ≡ out.old.items ++ line_at depth (codes "ungetown" ++ spaced (codes "o" ++ decimal object.0))) }
+    ensures added { OnOk result
+        (out.new.items
+        ≡ out.old.items ++ line_at depth
+        (codes "ungetown" ++ spaced (codes "o" ++ decimal object.0))) }
 {
     add_indent(out, depth)?;
     out.extend_from_slice(b"ungetown")?;
@@ -204,7 +221,9 @@ fn add_event(out: &mut Vec<u8>, event: Event) -> Result<(), AllocError>
 
 /// Adds what an event is about, its code, and whose it is.
 fn add_kind_of_event(out: &mut Vec<u8>, word: &[u8], code: u64, id: u64) -> Result<(), AllocError>
-    ensures added { OnOk result (out.new.items ≡ out.old.items ++ (word.now ++ (spaced (decimal code) ++ spaced (decimal id)))) }
+    ensures added { OnOk result
+        (out.new.items
+        ≡ out.old.items ++ (word.now ++ (spaced (decimal code) ++ spaced (decimal id)))) }
 {
     out.extend_from_slice(word)?;
     add_spaced_number(out, code)?;
@@ -218,7 +237,10 @@ pub fn add_handed(
     listener: ListenerId,
     event: Event,
 ) -> Result<(), AllocError>
-    ensures added { OnOk result (out.new.items ≡ out.old.items ++ line_at depth (codes "event" ++ (spaced (decimal listener.0) ++ spaced (event_text event)))) }
+    ensures added { OnOk result
+        (out.new.items
+        ≡ out.old.items ++ line_at depth
+        (codes "event" ++ (spaced (decimal listener.0) ++ spaced (event_text event)))) }
 {
     add_indent(out, depth)?;
     out.extend_from_slice(b"event")?;
@@ -243,7 +265,9 @@ fn add_loaded_from(out: &mut Vec<u8>, by: Option<RevisionId>) -> Result<(), Allo
 
 /// Adds the line that says which revision a class was loaded from.
 pub fn add_loaded(out: &mut Vec<u8>, depth: usize, by: Option<RevisionId>) -> Result<(), AllocError>
-    ensures added { OnOk result (out.new.items ≡ out.old.items ++ line_at depth (codes "loaded" ++ spaced (loaded_text by))) }
+    ensures added { OnOk result
+        (out.new.items
+        ≡ out.old.items ++ line_at depth (codes "loaded" ++ spaced (loaded_text by))) }
 {
     add_indent(out, depth)?;
     out.extend_from_slice(b"loaded")?;

@@ -66,7 +66,8 @@ fn add_tag(out: &mut Vec<u8>, by: Tag) -> Result<(), AllocError>
 
 /// Adds which requirement has no candidate.
 fn add_no_candidate(out: &mut Vec<u8>, namespace: &[u8], name: &[u8]) -> Result<(), AllocError>
-    ensures added { OnOk result (out.new.items ≡ out.old.items ++ unmet_text (Unmet.NoCandidate namespace.now name.now)) }
+    ensures added { OnOk result
+        (out.new.items ≡ out.old.items ++ unmet_text (Unmet.NoCandidate namespace.now name.now)) }
 {
     add_spaced(out, b"NoCandidate")?;
     add_spaced(out, namespace)?;
@@ -103,7 +104,8 @@ fn add_details(out: &mut Vec<u8>, refusal: &Refusal) -> Result<(), AllocError>
 
 /// Adds the line of a refusal.
 pub fn add_refusal(out: &mut Vec<u8>, depth: usize, refusal: &Refusal) -> Result<(), AllocError>
-    ensures added { OnOk result (out.new.items ≡ out.old.items ++ line_at depth (refusal_text refusal.now)) }
+    ensures added { OnOk result
+        (out.new.items ≡ out.old.items ++ line_at depth (refusal_text refusal.now)) }
 {
     add_indent(out, depth)?;
     out.extend_from_slice(b"refused")?;

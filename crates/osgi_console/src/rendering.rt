@@ -28,8 +28,12 @@ struct LineText {
 
 /// How deep an entry stands: how many brackets of its caller are open before it, or after it where these are fewer.
 fn depth_of(brackets: &mut Brackets, entry: &Entry) -> Result<usize, AllocError>
-    ensures depth { (history : List Entry) → StandsFor history brackets.old → IfOk result (λ d. d ≡ depth history entry.now) }
-    ensures follows { (history : List Entry) → StandsFor history brackets.old → OnOk result (StandsFor (history ++ entry.now ∷ []) brackets.new) }
+    ensures depth { (history : List Entry)
+        → StandsFor history brackets.old
+        → IfOk result (λ d. d ≡ depth history entry.now) }
+    ensures follows { (history : List Entry)
+        → StandsFor history brackets.old
+        → OnOk result (StandsFor (history ++ entry.now ∷ []) brackets.new) }
 {
     let caller = entry.tag.caller;
     let before = brackets.depth(caller);
@@ -63,8 +67,11 @@ fn with_entry(
     level: u8,
     entry: &Entry,
 ) -> Result<LineText, AllocError>
-    ensures text { IfOk result (λ more. more.text.items ≡ written line ++ lines_at depth (entry_lines level entry.now.op entry.now.reply)) }
-    ensures ended { IfOk result (λ more. more.has_ended ≡ takes_no_job entry.now.op entry.now.reply) }
+    ensures text { IfOk result (λ more.
+        more.text.items
+        ≡ written line ++ lines_at depth (entry_lines level entry.now.op entry.now.reply)) }
+    ensures ended { IfOk result (λ more.
+        more.has_ended ≡ takes_no_job entry.now.op entry.now.reply) }
 {
     let mut text = match line {
         Some(LineText { text, .. }) => text,
@@ -97,7 +104,10 @@ fn texts(alloc: Global, entries: &[Entry]) -> Result<BTreeMap<u32, LineText>, Al
 
 /// Adds what a line with a command writes.
 fn add_run(out: &mut Vec<u8>, text: Option<&LineText>) -> Result<(), AllocError>
-    ensures added { OnOk result (out.new.items ≡ out.old.items ++ run_text (written (option_copied text.entry)) (has_ended (option_copied text.entry))) }
+    ensures added { OnOk result
+        (out.new.items
+        ≡ out.old.items ++ run_text (written (option_copied text.entry))
+        (has_ended (option_copied text.entry))) }
 {
     let Some(line) = text else {
         return out.extend_from_slice(b"full\n");
@@ -115,7 +125,9 @@ fn add_line(
     line: &Line,
     texts: &BTreeMap<u32, LineText>,
 ) -> Result<(), AllocError>
-    ensures added { OnOk result (out.new.items ≡ out.old.items ++ line_text_by line.now.content (text_at texts.now line.now.number)) }
+    ensures added { OnOk result
+        (out.new.items
+        ≡ out.old.items ++ line_text_by line.now.content (text_at texts.now line.now.number)) }
 {
     match &line.content {
         Content::Empty | Content::Join => Ok(()),

@@ -41,7 +41,8 @@ fn add_service(out: &mut Vec<u8>, row: &ServiceRow) -> Result<(), AllocError>
 
 /// Adds the line of a service in a list.
 fn add_service_row(out: &mut Vec<u8>, depth: usize, row: &ServiceRow) -> Result<(), AllocError>
-    ensures added { OnOk result (out.new.items ≡ out.old.items ++ line_at depth (service_row_text row.now)) }
+    ensures added { OnOk result
+        (out.new.items ≡ out.old.items ++ line_at depth (service_row_text row.now)) }
 {
     add_indent(out, depth)?;
     add_service(out, row)?;
@@ -51,7 +52,8 @@ fn add_service_row(out: &mut Vec<u8>, depth: usize, row: &ServiceRow) -> Result<
 
 /// Adds the lines of a list of services.
 pub fn add_services(out: &mut Vec<u8>, depth: usize, rows: &[ServiceRow]) -> Result<(), AllocError>
-    ensures added { OnOk result (out.new.items ≡ out.old.items ++ lines_at depth (service_lines rows.now)) }
+    ensures added { OnOk result
+        (out.new.items ≡ out.old.items ++ lines_at depth (service_lines rows.now)) }
 {
     if rows.is_empty() {
         add_indent(out, depth)?;
@@ -82,7 +84,8 @@ fn add_bundle_row(
     depth: usize,
     row: &BundleRow,
 ) -> Result<(), AllocError>
-    ensures added { OnOk result (out.new.items ≡ out.old.items ++ line_at depth (bundle_row_text row.now)) }
+    ensures added { OnOk result
+        (out.new.items ≡ out.old.items ++ line_at depth (bundle_row_text row.now)) }
 {
     add_indent(out, depth)?;
     add_bundle(alloc, out, row)?;
@@ -97,7 +100,8 @@ pub fn add_bundles(
     depth: usize,
     rows: &[BundleRow],
 ) -> Result<(), AllocError>
-    ensures added { OnOk result (out.new.items ≡ out.old.items ++ lines_at depth (map bundle_row_text rows.now)) }
+    ensures added { OnOk result
+        (out.new.items ≡ out.old.items ++ lines_at depth (map bundle_row_text rows.now)) }
 {
     for row in rows {
         add_bundle_row(alloc, out, depth, row)?;

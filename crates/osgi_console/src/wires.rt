@@ -28,7 +28,11 @@ fn add_wire_line(
     word: &[u8],
     row: &WireRow,
 ) -> Result<(), AllocError>
-    ensures added { OnOk result (out.new.items ≡ out.old.items ++ line_at depth (word.now ++ (spaced row.now.namespace ++ (spaced row.now.name ++ revision_text row.now)))) }
+    ensures added { OnOk result
+        (out.new.items
+        ≡ out.old.items ++ line_at depth
+        (word.now ++
+        (spaced row.now.namespace ++ (spaced row.now.name ++ revision_text row.now)))) }
 {
     add_indent(out, depth)?;
     out.extend_from_slice(word)?;
@@ -46,7 +50,8 @@ fn add_wire_row(
     depth: usize,
     row: &WireRow,
 ) -> Result<(), AllocError>
-    ensures added { OnOk result (out.new.items ≡ out.old.items ++ line_at depth (wire_row_text row.now)) }
+    ensures added { OnOk result
+        (out.new.items ≡ out.old.items ++ line_at depth (wire_row_text row.now)) }
 {
     add_wire_line(alloc, out, depth, b"wire", row)
 }
@@ -58,7 +63,8 @@ fn add_added(
     depth: usize,
     wire: &Option<WireRow>,
 ) -> Result<(), AllocError>
-    ensures added { OnOk result (out.new.items ≡ out.old.items ++ lines_at depth (added_lines wire.now)) }
+    ensures added { OnOk result
+        (out.new.items ≡ out.old.items ++ lines_at depth (added_lines wire.now)) }
 {
     match wire {
         Some(row) => add_wire_line(alloc, out, depth, b"wired", row),
@@ -74,7 +80,10 @@ pub fn add_loaded_more(
     by: Option<RevisionId>,
     wire: &Option<WireRow>,
 ) -> Result<(), AllocError>
-    ensures added { OnOk result (out.new.items ≡ out.old.items ++ lines_at depth (added_lines wire.now ++ (codes "loaded" ++ spaced (loaded_text by)) ∷ [])) }
+    ensures added { OnOk result
+        (out.new.items
+        ≡ out.old.items ++ lines_at depth
+        (added_lines wire.now ++ (codes "loaded" ++ spaced (loaded_text by)) ∷ [])) }
 {
     add_added(alloc, out, depth, wire)?;
     add_loaded(out, depth, by)
@@ -87,7 +96,8 @@ fn add_fragment_row(
     depth: usize,
     row: &WireRow,
 ) -> Result<(), AllocError>
-    ensures added { OnOk result (out.new.items ≡ out.old.items ++ line_at depth (fragment_row_text row.now)) }
+    ensures added { OnOk result
+        (out.new.items ≡ out.old.items ++ line_at depth (fragment_row_text row.now)) }
 {
     add_indent(out, depth)?;
     out.extend_from_slice(b"fragment")?;
@@ -103,7 +113,8 @@ fn add_wire_rows(
     depth: usize,
     rows: &[WireRow],
 ) -> Result<(), AllocError>
-    ensures added { OnOk result (out.new.items ≡ out.old.items ++ lines_at depth (map wire_row_text rows.now)) }
+    ensures added { OnOk result
+        (out.new.items ≡ out.old.items ++ lines_at depth (map wire_row_text rows.now)) }
 {
     for row in rows {
         add_wire_row(alloc, out, depth, row)?;
@@ -118,7 +129,8 @@ fn add_fragment_rows(
     depth: usize,
     rows: &[WireRow],
 ) -> Result<(), AllocError>
-    ensures added { OnOk result (out.new.items ≡ out.old.items ++ lines_at depth (map fragment_row_text rows.now)) }
+    ensures added { OnOk result
+        (out.new.items ≡ out.old.items ++ lines_at depth (map fragment_row_text rows.now)) }
 {
     for row in rows {
         add_fragment_row(alloc, out, depth, row)?;
@@ -134,7 +146,8 @@ pub fn add_wires(
     rows: &[WireRow],
     fragments: &[WireRow],
 ) -> Result<(), AllocError>
-    ensures added { OnOk result (out.new.items ≡ out.old.items ++ lines_at depth (wire_lines rows.now fragments.now)) }
+    ensures added { OnOk result
+        (out.new.items ≡ out.old.items ++ lines_at depth (wire_lines rows.now fragments.now)) }
 {
     if rows.is_empty() && fragments.is_empty() {
         add_indent(out, depth)?;

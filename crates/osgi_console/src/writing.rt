@@ -52,7 +52,10 @@ pub fn add_ranking(out: &mut Vec<u8>, ranking: i32) -> Result<(), AllocError>
 
 /// Adds a byte as it stands between quotes.
 fn add_escaped(out: &mut Vec<u8>, byte: u8) -> Result<(), AllocError>
-    ensures added { OnOk result (out.new.items ≡ out.old.items ++ (if (byte == 34) || (byte == 92) then 92 ∷ byte ∷ [] else byte ∷ [])) }
+    ensures added { OnOk result
+        (out.new.items
+        ≡ out.old.items ++
+        (if (byte == 34) || (byte == 92) then 92 ∷ byte ∷ [] else byte ∷ [])) }
 {
     if byte == b'"' || byte == b'\\' {
         return out.extend_from_slice(&[b'\\', byte]);

@@ -19,7 +19,8 @@ fn add_seen(
     sights: &[Sight],
     listener: ListenerId,
 ) -> Result<(), AllocError>
-    ensures added { IfOk result (λ done. events.new ≡ events.old ++ map (λ s. s.event) (sights_by listener (sights_of sights.now))) }
+    ensures added { IfOk result (λ done.
+        events.new ≡ events.old ++ map (λ s. s.event) (sights_by listener (sights_of sights.now))) }
 {
     for sight in sights {
         if sight.listener == listener {
@@ -38,7 +39,11 @@ pub fn due(
     listener: ListenerId,
 ) -> Result<List<Event>, AllocError>
     requires legal { Legal (setting_of limits depot) entries.now }
-    ensures due { IfOk result (λ events. (told : List Told) → entries_in told ≡ entries.now → AreAllowed (setting_of limits depot) told → events ≡ due listener told) }
+    ensures due { IfOk result (λ events.
+        (told : List Told)
+        → entries_in told ≡ entries.now
+        → AreAllowed (setting_of limits depot) told
+        → events ≡ due listener told) }
 {
     let mut machine = Core::new(alloc, limits, depot)?;
     let mut events = List::new(alloc)?;

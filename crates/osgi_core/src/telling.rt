@@ -8,5 +8,7 @@ ghost use Rattle.osgi_world.specs.declared.world.World.{World};
 
 /// A history can be told in one way only, so what a telling of it says holds of each.
 pub fn told_once()
-    ensures once { (setting : Setting) (history : List Entry) (w v : World) (one : IsReplayed setting history w) (other : IsReplayed setting history v) → one.told ≡ other.told }
+    ensures once { (setting : Setting) (history : List Entry) (w v : World)
+        (one : IsReplayed setting history w) (other : IsReplayed setting history v)
+        → one.told ≡ other.told }
 {}

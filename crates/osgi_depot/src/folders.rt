@@ -51,8 +51,11 @@ fn store<F: Shelf>(
     location: &Text,
     number: usize,
 ) -> Result<Kept, AllocError>
-    ensures stored { IfOk result (λ kept. IsStoredAt MAX_LOCATIONS (F.told shelf.old) location.now number (F.faults shelf.old) (F.faults shelf.new) kept.stored) }
-    ensures script { IfOk result (λ kept. IsScriptAt (F.told shelf.old) location.now kept.stored kept.script) }
+    ensures stored { IfOk result (λ kept.
+        IsStoredAt MAX_LOCATIONS (F.told shelf.old) location.now number (F.faults shelf.old)
+        (F.faults shelf.new) kept.stored) }
+    ensures script { IfOk result (λ kept.
+        IsScriptAt (F.told shelf.old) location.now kept.stored kept.script) }
     ensures told { F.told shelf.new ≡ F.told shelf.old }
     ensures later { F.faults shelf.old ≤ F.faults shelf.new }
 {
@@ -71,7 +74,9 @@ fn read_rows<F: Shelf>(
     shelf: &mut F,
     locations: &[Text],
 ) -> Result<(List<DepotRow>, List<Script>), AllocError>
-    ensures rows { IfOk result (λ read. AreRowsOf MAX_LOCATIONS (F.told shelf.old) locations.now (F.faults shelf.old) (F.faults shelf.new) read.0) }
+    ensures rows { IfOk result (λ read.
+        AreRowsOf MAX_LOCATIONS (F.told shelf.old) locations.now (F.faults shelf.old)
+        (F.faults shelf.new) read.0) }
     ensures scripts { IfOk result (λ read. AreScriptsOf (F.told shelf.old) read.0 read.1) }
     ensures told { F.told shelf.new ≡ F.told shelf.old }
     ensures later { F.faults shelf.old ≤ F.faults shelf.new }
@@ -98,8 +103,11 @@ pub fn read_depot<F: Shelf>(
     lines: &[Line],
     shelf: &mut F,
 ) -> Result<Folders, AllocError>
-    ensures depot { IfOk result (λ folders. IsDepotOf lines.now (F.told shelf.old) (F.faults shelf.old) (F.faults shelf.new) folders.depot.rows) }
-    ensures scripts { IfOk result (λ folders. AreScriptsOf (F.told shelf.old) folders.depot.rows folders.scripts.rows) }
+    ensures depot { IfOk result (λ folders.
+        IsDepotOf lines.now (F.told shelf.old) (F.faults shelf.old) (F.faults shelf.new)
+        folders.depot.rows) }
+    ensures scripts { IfOk result (λ folders.
+        AreScriptsOf (F.told shelf.old) folders.depot.rows folders.scripts.rows) }
     ensures told { F.told shelf.new ≡ F.told shelf.old }
     ensures later { F.faults shelf.old ≤ F.faults shelf.new }
 {

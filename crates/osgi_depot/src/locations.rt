@@ -30,7 +30,9 @@ fn add(
     locations: &mut Vec<Text>,
     location: &Text,
 ) -> Result<(), AllocError>
-    ensures seen { (named : List (List ℕ)) → AreSeen seen.old locations.old.items named → OnOk result (AreSeen seen.new locations.new.items (named ++ location.now ∷ [])) }
+    ensures seen { (named : List (List ℕ))
+        → AreSeen seen.old locations.old.items named
+        → OnOk result (AreSeen seen.new locations.new.items (named ++ location.now ∷ [])) }
 {
     if seen.insert(location.copy(alloc)?)? {
         locations.push(location.copy(alloc)?)?;

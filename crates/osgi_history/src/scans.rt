@@ -70,7 +70,9 @@ fn is_registration(entry: &Entry) -> bool
 /// The service that the entry registered after so many earlier ones, where the entries since leave it live.
 fn registered(earlier: u64, entry: &Entry, since: &[Entry]) -> Option<ServiceId>
     requires countable { earlier < u64.MAX }
-    ensures registered { option_to_list result ≡ map (λ r. r.service) (filter is_live (registered_by earlier entry.now.op entry.now.reply since.now)) }
+    ensures registered { option_to_list result
+        ≡ map (λ r. r.service)
+        (filter is_live (registered_by earlier entry.now.op entry.now.reply since.now)) }
 {
     let Op::Register { owner, .. } = &entry.op else {
         return None;
@@ -168,7 +170,9 @@ fn ungets(entries: &[Entry], user: BundleId, service: ServiceId) -> usize
 
 /// The entries since the Register of the service, where it is live.
 fn since_registered(entries: &[Entry], service: ServiceId) -> Option<&[Entry]>
-    ensures since { (user : BundleId) → uses_shared user service entries.now ≡ option_map_or (λ since. held user service since.now) result 0 }
+    ensures since { (user : BundleId)
+        → uses_shared user service entries.now
+        ≡ option_map_or (λ since. held user service since.now) result 0 }
 {
     let mut earlier = 0;
     for (place, entry) in entries.iter().enumerate() {

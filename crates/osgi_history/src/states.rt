@@ -147,7 +147,9 @@ fn is_resolved(entries: &[Entry], bundle: BundleId) -> bool
 /// The state of the bundle after these entries, by OSGi's number. What was never given counts as uninstalled.
 pub fn state(entries: &[Entry], bundle: BundleId) -> u8
     ensures state { result ≡ number_of (state_at entries.now bundle) }
-    ensures replayed { (setting : Setting) (world : World) → IsReplayed setting entries.now world → result ≡ number_of (state world entries.now bundle) }
+    ensures replayed { (setting : Setting) (world : World)
+        → IsReplayed setting entries.now world
+        → result ≡ number_of (state world entries.now bundle) }
 {
     if bundle == BundleId(0) {
         return ACTIVE;

@@ -48,7 +48,8 @@ impl Kept {
 
     /// The next of the bundles, from the first on.
     pub fn next_bundle(&mut self) -> Option<BundleId>
-        ensures bundle { MatchOption result (ahead self.old ≡ []) (λ bundle. ahead self.old ≡ bundle ∷ ahead self.new) }
+        ensures bundle { MatchOption result (ahead self.old ≡ []) (λ bundle.
+            ahead self.old ≡ bundle ∷ ahead self.new) }
         ensures bundles { self.new.bundles.items ≡ self.old.bundles.items }
     {
         let bundle = *self.bundles.get(self.place)?;

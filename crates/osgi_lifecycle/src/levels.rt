@@ -49,7 +49,9 @@ impl Rest {
     }
 
     pub fn after_move_up(&mut self, level: u8, to: u8, reply: Reply) -> Head
-        ensures left { left_of result self.new ≡ plans.unless_stuck reply (plans.start_all (plans.to_start reply) (plans.climb (to - level) level)) }
+        ensures left { left_of result self.new
+            ≡ plans.unless_stuck reply
+            (plans.start_all (plans.to_start reply) (plans.climb (to - level) level)) }
     {
         if reply.is_refusal() {
             return self.end_level();
@@ -83,7 +85,10 @@ impl Rest {
     }
 
     pub fn after_list_level(&mut self, level: u8, to: u8, reply: Reply) -> Head
-        ensures left { left_of result self.new ≡ plans.unless_refused reply (plans.halt_all (plans.to_stop reply) (plans.ask (Op.MoveLevel level) (after_move_down level to))) }
+        ensures left { left_of result self.new
+            ≡ plans.unless_refused reply
+            (plans.halt_all (plans.to_stop reply)
+            (plans.ask (Op.MoveLevel level) (after_move_down level to))) }
     {
         if reply.is_refusal() {
             return Head::Stop { end: End::Refused };

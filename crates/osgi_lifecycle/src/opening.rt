@@ -21,7 +21,11 @@ impl At {
     /// Where the plan of the command waits after its first operation, where the owner runs it.
     pub fn first(command: &Command, owner: BundleId) -> At
         requires asks { is_peek command.now ≡ false }
-        ensures plan { (kept : Kept) → plans.plan owner command.now ≡ plans.ask (op_of owner command.now) (after_reply result (record kept { text = unwrap_or (later_text owner command.now) [] })) }
+        ensures plan { (kept : Kept)
+            → plans.plan owner command.now
+            ≡ plans.ask (op_of owner command.now)
+            (after_reply result
+            (record kept { text = unwrap_or (later_text owner command.now) [] })) }
     {
         match command {
             Command::Register { .. } | Command::Factory { .. } => At::Register,

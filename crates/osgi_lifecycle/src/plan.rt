@@ -110,7 +110,8 @@ impl Plan {
     pub fn next(&mut self, last: Last) -> Next
         requires answers { IsAnswer (pending_of self.old) (last_of last) }
         ensures next { IsNext result (resume (pending_of self.old) (last_of last)).next }
-        ensures pending { pending_of self.new ≡ (resume (pending_of self.old) (last_of last)).pending }
+        ensures pending { pending_of self.new
+            ≡ (resume (pending_of self.old) (last_of last)).pending }
         ensures awaits { Awaits result (pending_of self.new) }
     {
         match last {
@@ -126,7 +127,8 @@ impl Plan {
     /// The step that was held back.
     fn give_ready(&mut self) -> Next
         ensures next { IsNext result (first_step (left_of self.old.ready self.old.rest)).next }
-        ensures pending { pending_of self.new ≡ (first_step (left_of self.old.ready self.old.rest)).pending }
+        ensures pending { pending_of self.new
+            ≡ (first_step (left_of self.old.ready self.old.rest)).pending }
     {
         let head = mem::replace(&mut self.ready, Head::Stop { end: End::Refused });
         self.give(head)
@@ -134,8 +136,11 @@ impl Plan {
 
     /// The step after a reply, or the events before it.
     fn after_reply(&mut self, reply: Reply) -> Next
-        ensures next { IsNext result (drained_first (drained_by self.old.stirring reply) (after_reply self.old.rest.at self.old.rest.kept reply)).next }
-        ensures pending { pending_of self.new ≡ (drained_first (drained_by self.old.stirring reply) (after_reply self.old.rest.at self.old.rest.kept reply)).pending }
+        ensures next { IsNext result
+            (drained_first (drained_by self.old.stirring reply) (after_reply self.old.rest.at self.old.rest.kept reply)).next }
+        ensures pending { pending_of self.new
+            ≡
+            (drained_first (drained_by self.old.stirring reply) (after_reply self.old.rest.at self.old.rest.kept reply)).pending }
     {
         let drains = self.stirring.is_drained(&reply);
         let head = self.rest.after_reply(reply);

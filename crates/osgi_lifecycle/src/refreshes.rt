@@ -25,7 +25,8 @@ impl Rest {
 
     /// The next member is stopped, unless the stop before it was refused.
     pub fn stop_member_after(&mut self, how: Stop) -> Head
-        ensures left { left_of result self.new ≡ plans.past_failure (stopping_members self.old.kept) (stop_in how) }
+        ensures left { left_of result self.new
+            ≡ plans.past_failure (stopping_members self.old.kept) (stop_in how) }
     {
         match how {
             Stop::NotStopped => Head::Stop { end: End::Refused },

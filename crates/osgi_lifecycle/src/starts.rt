@@ -12,7 +12,8 @@ use osgi_ops::{Op, Reply, Section, Target};
 
 impl Rest {
     pub fn start(&mut self, target: Target, transient: bool, after: AfterStart) -> Head
-        ensures left { left_of result self.new ≡ plans.start target transient (after_start after self.old.kept) }
+        ensures left { left_of result self.new
+            ≡ plans.start target transient (after_start after self.old.kept) }
     {
         self.at = At::WishStart { transient, after };
         Head::Ask {
@@ -21,7 +22,8 @@ impl Rest {
     }
 
     pub fn after_wish(&mut self, transient: bool, after: AfterStart, reply: &Reply) -> Head
-        ensures left { left_of result self.new ≡ plans.after_wish transient (after_start after self.old.kept) reply.now }
+        ensures left { left_of result self.new
+            ≡ plans.after_wish transient (after_start after self.old.kept) reply.now }
     {
         match reply {
             &Reply::Go { bundle } => {
@@ -45,7 +47,8 @@ impl Rest {
         after: AfterStart,
         reply: &Reply,
     ) -> Head
-        ensures left { left_of result self.new ≡ plans.after_resolve bundle transient (after_start after self.old.kept) reply.now }
+        ensures left { left_of result self.new
+            ≡ plans.after_resolve bundle transient (after_start after self.old.kept) reply.now }
     {
         if reply.is_refusal() {
             return self.after_start(after, true);
@@ -58,7 +61,8 @@ impl Rest {
 
     /// What comes after the wish to start a bundle that may wait.
     pub fn after_wish_lazy(&mut self, reply: &Reply) -> Head
-        ensures left { left_of result self.new ≡ plans.after_wish_lazy (after_start (AfterStart.End false) self.old.kept) reply.now }
+        ensures left { left_of result self.new
+            ≡ plans.after_wish_lazy (after_start (AfterStart.End false) self.old.kept) reply.now }
     {
         let &Reply::Go { bundle } = reply else {
             return self.after_start(AfterStart::End { refused: false }, reply.is_refusal());
@@ -70,7 +74,9 @@ impl Rest {
     }
 
     pub fn after_resolve_lazy(&mut self, bundle: BundleId, reply: &Reply) -> Head
-        ensures left { left_of result self.new ≡ plans.after_resolve_lazy bundle (after_start (AfterStart.End false) self.old.kept) reply.now }
+        ensures left { left_of result self.new
+            ≡ plans.after_resolve_lazy bundle (after_start (AfterStart.End false) self.old.kept)
+            reply.now }
     {
         if let Reply::Refused { .. } = reply {
             return self.after_start(AfterStart::End { refused: false }, true);
@@ -83,7 +89,9 @@ impl Rest {
 
     /// Where the bundle does not wait, it is started.
     pub fn after_await(&mut self, bundle: BundleId, reply: &Reply) -> Head
-        ensures left { left_of result self.new ≡ plans.after_await bundle (after_start (AfterStart.End false) self.old.kept) reply.now }
+        ensures left { left_of result self.new
+            ≡ plans.after_await bundle (after_start (AfterStart.End false) self.old.kept)
+            reply.now }
     {
         let after = AfterStart::End { refused: false };
         match reply {
@@ -101,7 +109,8 @@ impl Rest {
     }
 
     pub fn after_begin_start(&mut self, bundle: BundleId, after: AfterStart, reply: &Reply) -> Head
-        ensures left { left_of result self.new ≡ plans.after_begin_start bundle (after_start after self.old.kept) reply.now }
+        ensures left { left_of result self.new
+            ≡ plans.after_begin_start bundle (after_start after self.old.kept) reply.now }
     {
         match reply {
             &Reply::Begun { bundle: _, row } => {

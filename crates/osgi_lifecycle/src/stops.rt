@@ -32,7 +32,8 @@ impl Stop {
 
 impl Rest {
     pub fn halt(&mut self, target: Target, transient: bool, after: AfterStop) -> Head
-        ensures left { left_of result self.new ≡ plans.halt target transient (after_stop after self.old.kept) }
+        ensures left { left_of result self.new
+            ≡ plans.halt target transient (after_stop after self.old.kept) }
     {
         self.at = At::BeginStop { after };
         Head::Ask {
@@ -41,7 +42,8 @@ impl Rest {
     }
 
     pub fn after_begin_stop(&mut self, after: AfterStop, reply: &Reply) -> Head
-        ensures left { left_of result self.new ≡ plans.after_begin_stop (after_stop after self.old.kept) reply.now }
+        ensures left { left_of result self.new
+            ≡ plans.after_begin_stop (after_stop after self.old.kept) reply.now }
     {
         match reply {
             &Reply::Begun { bundle, row } => {
@@ -77,7 +79,8 @@ impl Rest {
 impl End {
     /// The end of a plan that is a stop.
     fn past_stop(how: Stop) -> End
-        ensures end { plans.stop (end_in result) ≡ plans.past_stop (plans.stop plans.done) (stop_in how) }
+        ensures end { plans.stop (end_in result)
+            ≡ plans.past_stop (plans.stop plans.done) (stop_in how) }
     {
         match how {
             Stop::Stopped { .. } => End::Done,

@@ -13,7 +13,8 @@ use osgi_ops::{Op, Reply, Section, Target};
 impl Rest {
     /// The update, where the stop before it was not refused.
     pub fn update(&mut self, bundle: BundleId, how: Stop) -> Head
-        ensures left { left_of result self.new ≡ plans.after_stop_to_update bundle self.old.kept.text (stop_in how) }
+        ensures left { left_of result self.new
+            ≡ plans.after_stop_to_update bundle self.old.kept.text (stop_in how) }
     {
         let restart = match how {
             Stop::Stopped { begun } => begun,
@@ -41,7 +42,8 @@ impl Rest {
 
     /// The uninstall, where the stop before it was not refused.
     pub fn uninstall(&mut self, bundle: BundleId, how: Stop) -> Head
-        ensures left { left_of result self.new ≡ plans.past_failure (plans.one (Op.Uninstall bundle)) (stop_in how) }
+        ensures left { left_of result self.new
+            ≡ plans.past_failure (plans.one (Op.Uninstall bundle)) (stop_in how) }
     {
         match how {
             Stop::NotStopped => Head::Stop { end: End::Refused },
@@ -56,7 +58,9 @@ impl Rest {
 
     /// The load, where the bundle could be resolved.
     pub fn load(&mut self, bundle: BundleId, reply: &Reply) -> Head
-        ensures left { left_of result self.new ≡ plans.unless_refused reply.now (plans.ask (Op.Load bundle self.old.kept.text) plans.after_load) }
+        ensures left { left_of result self.new
+            ≡ plans.unless_refused reply.now
+            (plans.ask (Op.Load bundle self.old.kept.text) plans.after_load) }
     {
         if reply.is_refusal() {
             return Head::Stop { end: End::Refused };
@@ -119,7 +123,10 @@ impl Rest {
 
     /// The level is set again, where the stop before it was not refused.
     pub fn set_level_again(&mut self, bundle: BundleId, level: u8, how: Stop) -> Head
-        ensures left { left_of result self.new ≡ plans.past_stop (plans.ask (Op.SetBundleLevel bundle level) (plans.after_last_set bundle)) (stop_in how) }
+        ensures left { left_of result self.new
+            ≡ plans.past_stop
+            (plans.ask (Op.SetBundleLevel bundle level) (plans.after_last_set bundle))
+            (stop_in how) }
     {
         match how {
             Stop::Stopped { .. } => {

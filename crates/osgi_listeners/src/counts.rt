@@ -16,7 +16,10 @@ use std::collections::BTreeMap;
 
 /// How many of the sights are of each listener, by the number of its id.
 pub fn counts_of(alloc: Global, sights: &[Sight]) -> Result<BTreeMap<u32, usize>, AllocError>
-    ensures counts { IfOk result (λ counts. (id : ℕ) → count_at (get nat_cmp counts) id ≡ count_by (λ sight. sight.listener.0 == id) sights.now) }
+    ensures counts { IfOk result (λ counts.
+        (id : ℕ)
+        → count_at (get nat_cmp counts) id
+        ≡ count_by (λ sight. sight.listener.0 == id) sights.now) }
 {
     let mut counts = BTreeMap::new(alloc);
     for sight in sights {
@@ -29,7 +32,8 @@ pub fn counts_of(alloc: Global, sights: &[Sight]) -> Result<BTreeMap<u32, usize>
 pub fn reserve_counts(slots: &mut [Slot], counts: &BTreeMap<u32, usize>) -> Result<(), AllocError>
     requires rising { IsStrictlyIncreasing (map number_of (listeners_in slots.old)) }
     ensures roomier { AreRoomierRows slots.old slots.new }
-    ensures room { OnOk result (All (λ row. count_at (get nat_cmp counts.now) (id_of row) ≤ row.room) slots.new) }
+    ensures room { OnOk result
+        (All (λ row. count_at (get nat_cmp counts.now) (id_of row) ≤ row.room) slots.new) }
 {
     for (id, count) in counts {
         reserve_at(slots, ListenerId(*id), *count)?;

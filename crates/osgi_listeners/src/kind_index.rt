@@ -47,7 +47,10 @@ impl KindIndex {
 
     /// Adds a listener of a kind behind those that are there.
     pub fn add(&mut self, kind: Kind, listener: ListenerId) -> Result<(), AllocError>
-        ensures added { OnOk result ((k : Kind) → ids_in k self.new ≡ ids_in k self.old ++ (if same_kind kind k then listener ∷ [] else [])) }
+        ensures added { OnOk result
+            ((k : Kind)
+            → ids_in k self.new
+            ≡ ids_in k self.old ++ (if same_kind kind k then listener ∷ [] else [])) }
         ensures unchanged { OnErr result ((k : Kind) → ids_in k self.new ≡ ids_in k self.old) }
     {
         match kind {
@@ -62,7 +65,8 @@ impl KindIndex {
     /// Takes out the listeners that are not live.
     pub fn keep_live(&mut self, slots: &[Slot])
         requires rising { IsStrictlyIncreasing (map number_of (listeners_in slots.now)) }
-        ensures kept { (k : Kind) → ids_in k self.new ≡ filter (is_live slots.now) (ids_in k self.old) }
+        ensures kept { (k : Kind)
+            → ids_in k self.new ≡ filter (is_live slots.now) (ids_in k self.old) }
     {
         keep_live_of(&mut self.service, slots);
         keep_live_of(&mut self.all, slots);

@@ -99,7 +99,8 @@ impl Listeners {
 
     /// The listener of this id, if it is live.
     pub fn row(&self, listener: ListenerId) -> Option<&ListenerRow>
-        ensures row { option_copied result ≡ option_map listener_of (row_at listener self.now.rows) }
+        ensures row { option_copied result
+            ≡ option_map listener_of (row_at listener self.now.rows) }
         ensures in_order { AreInOrder self.now }
     {
         match slot_of(&self.slots, listener) {
@@ -163,11 +164,18 @@ impl Listeners {
         filter: Option<Filter>,
     ) -> Result<Result<ListenerId, Refusal>, AllocError>
         requires ids_left { self.old.issued < 4294967295 }
-        ensures refusal { IfOk result (λ answer. result_err answer ≡ add_refusal owner name self.old.rows) }
+        ensures refusal { IfOk result (λ answer.
+            result_err answer ≡ add_refusal owner name self.old.rows) }
         ensures id { IfOk result (λ answer. IfOk answer (λ id. id.0 ≡ self.old.issued + 1)) }
-        ensures rows { IfOk result (λ answer. IfOk answer (λ id. self.new.rows ≡ self.old.rows ++ new_row (record { listener = id; owner = owner; name = name; kind = kind; filter = filter }) ∷ [])) }
+        ensures rows { IfOk result (λ answer.
+            IfOk answer (λ id.
+            self.new.rows
+            ≡ self.old.rows ++ new_row
+            (record { listener = id; owner = owner; name = name; kind = kind; filter = filter })
+            ∷ [])) }
         ensures turns { self.new.turns ≡ self.old.turns }
-        ensures issued { IfOk result (λ answer. OnOk answer (self.new.issued ≡ self.old.issued + 1)) }
+        ensures issued { IfOk result (λ answer.
+            OnOk answer (self.new.issued ≡ self.old.issued + 1)) }
         ensures refused { IfOk result (λ answer. OnErr answer (self.new ≡ self.old)) }
         ensures unchanged { OnErr result (self.new ≡ self.old) }
     {
@@ -207,7 +215,8 @@ impl Listeners {
     /// Takes out the owner's listener of this name, and answers whether there was one. Its turn stays open.
     pub fn remove(&mut self, owner: BundleId, name: &Text) -> bool
         ensures found { result ≡ list_any (is_named owner name.now) self.old.rows }
-        ensures rows { self.new.rows ≡ filter (λ row. not (is_named owner name.now row)) self.old.rows }
+        ensures rows { self.new.rows
+            ≡ filter (λ row. not (is_named owner name.now row)) self.old.rows }
         ensures turns { self.new.turns ≡ self.old.turns }
         ensures issued { self.new.issued ≡ self.old.issued }
     {
@@ -287,7 +296,8 @@ impl Listeners {
     fn deliver(&mut self, listener: ListenerId, place: u64, event: Event)
         requires accepts { IfSome (row_at listener self.old.rows) (Accepts place) }
         requires fits { place < 18446744073709551615 }
-        ensures rows { self.new.rows ≡ change listener (told (record { place = place; event = event })) self.old.rows }
+        ensures rows { self.new.rows
+            ≡ change listener (told (record { place = place; event = event })) self.old.rows }
         ensures turns { self.new.turns ≡ self.old.turns }
         ensures issued { self.new.issued ≡ self.old.issued }
     {
@@ -311,10 +321,13 @@ impl Listeners {
         requires callable { F.IsAlwaysCallable sees }
         requires later { All (IsLater place) self.old.rows }
         requires fits { place < 18446744073709551615 }
-        ensures posted { OnOk result (ArePosted place (λ listener answer. F.post sees listener answer) self.old.rows self.new.rows) }
+        ensures posted { OnOk result
+            (ArePosted place (λ listener answer. F.post sees listener answer) self.old.rows
+            self.new.rows) }
         ensures turns { self.new.turns ≡ self.old.turns }
         ensures issued { self.new.issued ≡ self.old.issued }
-        ensures room { OnOk result ((events : ℕ) → HasRoom (events + 1) self.old.rows → HasRoom events self.new.rows) }
+        ensures room { OnOk result
+            ((events : ℕ) → HasRoom (events + 1) self.old.rows → HasRoom events self.new.rows) }
         ensures enough { HasRoom 1 self.old.rows → IsOk result }
         ensures unchanged { OnErr result (AreRoomier self.old self.new) }
     {
@@ -347,7 +360,9 @@ impl Listeners {
 
     /// What a hand would hand, and to whom.
     pub fn next(&self) -> Option<(ListenerId, Event)>
-        ensures next { MatchOption result (All (λ row. is_open self.now.turns row ≡ false) self.now.rows) (λ next. IsHanded self.now next.0 next.1) }
+        ensures next { MatchOption result
+            (All (λ row. is_open self.now.turns row ≡ false) self.now.rows)
+            (λ next. IsHanded self.now next.0 next.1) }
         ensures in_order { AreInOrder self.now }
     {
         let at = match self.firsts.first() {
@@ -367,7 +382,8 @@ impl Listeners {
         ensures answer { IfOk result (AnswersHand self.old) }
         ensures in_order { AreInOrder self.old }
         ensures rows { IfOk result (λ answer. self.new.rows ≡ rows_after answer self.old.rows) }
-        ensures turns { IfOk result (λ answer. self.new.turns ≡ turns_after tag answer self.old.turns) }
+        ensures turns { IfOk result (λ answer.
+            self.new.turns ≡ turns_after tag answer self.old.turns) }
         ensures issued { self.new.issued ≡ self.old.issued }
         ensures unchanged { OnErr result (self.new ≡ self.old) }
     {

@@ -17,7 +17,8 @@ use std::collections::BTreeMap;
 /// The place of a live listener by rising id.
 pub fn place_of(slots: &[Slot], listener: ListenerId) -> Option<usize>
     requires rising { IsStrictlyIncreasing (map number_of (listeners_in slots.now)) }
-    ensures place { MatchOption result (IsAbsent listener slots.now) (IsPlaceOf listener slots.now) }
+    ensures place { MatchOption result (IsAbsent listener slots.now)
+        (IsPlaceOf listener slots.now) }
 {
     slots
         .binary_search_by_key(&listener.0, |slot| slot.listener().listener.0)
@@ -61,7 +62,8 @@ pub fn busy_of(
     turns: &BTreeMap<u32, Tag>,
 ) -> Result<Vec<Busy>, AllocError>
     requires rising { IsStrictlyIncreasing (map number_of (listeners_in slots.now)) }
-    ensures busy { IfOk result (λ busy. busy.items ≡ map busy_of (filter (is_busy slots.now) turns.now.entries)) }
+    ensures busy { IfOk result (λ busy.
+        busy.items ≡ map busy_of (filter (is_busy slots.now) turns.now.entries)) }
 {
     turns
         .iter()
@@ -120,7 +122,9 @@ pub fn set_firsts(
 
 /// What `open_place` gives of the slot at this place, or `NO_NUMBER` where there is none.
 fn open_place_at(slots: &[Slot], turns: &BTreeMap<u32, Tag>, at: usize) -> u64
-    ensures within { (d : Row) → at < length slots.now → result ≡ open_place turns.now.entries (slice_index_or slots.now at d) }
+    ensures within { (d : Row)
+        → at < length slots.now
+        → result ≡ open_place turns.now.entries (slice_index_or slots.now at d) }
     ensures past { length slots.now ≤ at → result ≡ none }
 {
     if at < slots.len() {

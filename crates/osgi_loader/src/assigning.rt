@@ -18,7 +18,8 @@ pub fn assignable(
     asker: RevisionId,
     class: &Text,
 ) -> Result<bool, AllocError>
-    ensures assignable { IfOk result (λ is. IsTrue is ↔ AreAssignable wirings.now.world registrant asker (package_of class.now)) }
+    ensures assignable { IfOk result (λ is.
+        IsTrue is ↔ AreAssignable wirings.now.world registrant asker (package_of class.now)) }
 {
     // What holds of the world at all times is said where it is asked for.
     let _ = wirings.world();
@@ -39,7 +40,8 @@ pub fn is_assignable(
     asker: BundleId,
     class: &Text,
 ) -> Result<bool, AllocError>
-    ensures assignable { IfOk result (λ is. IsTrue is ↔ IsAssignable wirings.now.world registrant asker class.now) }
+    ensures assignable { IfOk result (λ is.
+        IsTrue is ↔ IsAssignable wirings.now.world registrant asker class.now) }
 {
     let Some(ours) = wirings.current(registrant) else {
         return Ok(false);

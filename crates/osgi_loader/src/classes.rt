@@ -27,7 +27,8 @@ fn slashed(byte: u8) -> u8
 
 /// A name with `/` for `.`.
 fn slashes(alloc: Global, name: &[u8]) -> Result<Vec<u8>, AllocError>
-    ensures slashes { IfOk result (λ path. path.items ≡ map (λ b. if b == 46 then 47 else b) name.now) }
+    ensures slashes { IfOk result (λ path.
+        path.items ≡ map (λ b. if b == 46 then 47 else b) name.now) }
 {
     name.iter().map(|byte| slashed(*byte)).collect(alloc)
 }

@@ -39,7 +39,8 @@ fn first_among(wirings: &Wirings, path: &[u8], revisions: &[RevisionId]) -> Opti
 
 /// The first that has it: the host, or one of its fragments.
 fn first_of(wirings: &Wirings, path: &[u8], host: RevisionId) -> Option<RevisionId>
-    ensures first { result ≡ find (has_file wirings.now.world path.now) (with_fragments wirings.now.world host) }
+    ensures first { result
+        ≡ find (has_file wirings.now.world path.now) (with_fragments wirings.now.world host) }
 {
     if has_file(wirings, path, host) {
         return Some(host);
@@ -49,7 +50,9 @@ fn first_of(wirings: &Wirings, path: &[u8], host: RevisionId) -> Option<Revision
 
 /// The first that has it, of these hosts, each with its fragments.
 pub fn first_with(wirings: &Wirings, path: &[u8], hosts: &[RevisionId]) -> Option<RevisionId>
-    ensures first { result ≡ find (has_file wirings.now.world path.now) (all_with_fragments wirings.now.world hosts.now) }
+    ensures first { result
+        ≡ find (has_file wirings.now.world path.now)
+        (all_with_fragments wirings.now.world hosts.now) }
 {
     for host in hosts {
         if let Some(found) = first_of(wirings, path, *host) {

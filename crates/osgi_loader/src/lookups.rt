@@ -38,7 +38,8 @@ pub fn revision_at(wirings: &Wirings, id: RevisionId) -> Option<&Revision>
 
 /// The capability at a place of its owner.
 pub fn capability_at(wirings: &Wirings, place: CapRef) -> Option<&Capability>
-    ensures capability { option_copied result ≡ capability_at wirings.now.world.known place.owner place.index }
+    ensures capability { option_copied result
+        ≡ capability_at wirings.now.world.known place.owner place.index }
 {
     let revision = revision_at(wirings, place.owner)?;
     revision.capabilities.items().get(place.index as usize)
@@ -46,7 +47,8 @@ pub fn capability_at(wirings: &Wirings, place: CapRef) -> Option<&Capability>
 
 /// The requirement of a revision at a place. The places of dynamic imports are those after all requirements.
 fn requirement_of(revision: &Revision, index: usize) -> Option<&Requirement>
-    ensures requirement { option_copied result ≡ slice_get (revision.now.requirements ++ revision.now.dynamics) index }
+    ensures requirement { option_copied result
+        ≡ slice_get (revision.now.requirements ++ revision.now.dynamics) index }
 {
     let requirements = revision.requirements.items();
     let count = requirements.len();

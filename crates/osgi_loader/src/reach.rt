@@ -30,7 +30,8 @@ fn add_reexported(
     wirings: &Wirings,
     bundle: u32,
 ) -> Result<(), AllocError>
-    ensures added { OnOk result (found.new.keys ≡ insert_all nat_eq found.old.keys (reexports wirings.now.world bundle)) }
+    ensures added { OnOk result
+        (found.new.keys ≡ insert_all nat_eq found.old.keys (reexports wirings.now.world bundle)) }
 {
     for wire in wires_of(wirings, RevisionId(bundle)) {
         if is_required(wirings, wire) && is_reexport(wirings, wire.requirement) {
@@ -42,7 +43,8 @@ fn add_reexported(
 
 /// These bundles, those that they reexport, and so on.
 fn reached(alloc: Global, wirings: &Wirings, starts: &[u32]) -> Result<IndexSet<u32>, AllocError>
-    ensures reached { IfOk result (λ found. (x : ℕ) → Contains found.keys x ↔ IsReached wirings.now.world starts.now x) }
+    ensures reached { IfOk result (λ found.
+        (x : ℕ) → Contains found.keys x ↔ IsReached wirings.now.world starts.now x) }
 {
     let mut found = IndexSet::new(alloc);
     add_all(&mut found, starts)?;
@@ -65,7 +67,10 @@ fn given_by_these(
     package: &[u8],
     bundles: &[u32],
 ) -> Result<Vec<u32>, AllocError>
-    ensures given { IfOk result (λ numbers. numbers.items ≡ map (λ (x : RevisionId). x.0) (filter_map (λ b. given_by wirings.now.world «package».now (numbered b)) bundles.now)) }
+    ensures given { IfOk result (λ numbers.
+        numbers.items
+        ≡ map (λ (x : RevisionId). x.0)
+        (filter_map (λ b. given_by wirings.now.world «package».now (numbered b)) bundles.now)) }
 {
     bundles
         .iter()
@@ -82,7 +87,8 @@ pub fn given(
     package: &[u8],
     starts: &[u32],
 ) -> Result<Vec<u32>, AllocError>
-    ensures given { IfOk result (λ numbers. (n : ℕ) → Contains numbers.items n ↔ IsGiven wirings.now.world «package».now starts.now n) }
+    ensures given { IfOk result (λ numbers.
+        (n : ℕ) → Contains numbers.items n ↔ IsGiven wirings.now.world «package».now starts.now n) }
 {
     let bundles = reached(alloc, wirings, starts)?;
     let numbers = given_by_these(alloc, wirings, package, bundles.as_slice())?;

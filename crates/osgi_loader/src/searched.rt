@@ -34,7 +34,8 @@ fn add_given(
     bundle: RevisionId,
 ) -> Result<(), AllocError>
     requires holds { IsKeptWorld wirings.now.world wirings.now.issued }
-    ensures added { OnOk result (AddsGiven wirings.now.world «package».now bundle hosts.old.items hosts.new.items) }
+    ensures added { OnOk result
+        (AddsGiven wirings.now.world «package».now bundle hosts.old.items hosts.new.items) }
 {
     let numbers = rising(given(alloc, wirings, package, &[bundle.0])?);
     add_numbered(hosts, numbers.as_slice())?;
@@ -49,7 +50,9 @@ fn required(
     wires: &[Wire],
 ) -> Result<Vec<RevisionId>, AllocError>
     requires holds { IsKeptWorld wirings.now.world wirings.now.issued }
-    ensures required { IfOk result (λ hosts. AreRequired wirings.now.world «package».now wires.now (all_with_fragments wirings.now.world hosts.items)) }
+    ensures required { IfOk result (λ hosts.
+        AreRequired wirings.now.world «package».now wires.now
+        (all_with_fragments wirings.now.world hosts.items)) }
 {
     let mut hosts = Vec::new(alloc);
     for wire in wires {
@@ -75,7 +78,9 @@ pub fn searched(
     revision: RevisionId,
 ) -> Result<Vec<RevisionId>, AllocError>
     requires holds { IsKeptWorld wirings.now.world wirings.now.issued }
-    ensures searched { IfOk result (λ hosts. AreSearched wirings.now.world revision «package».now (all_with_fragments wirings.now.world hosts.items)) }
+    ensures searched { IfOk result (λ hosts.
+        AreSearched wirings.now.world revision «package».now
+        (all_with_fragments wirings.now.world hosts.items)) }
 {
     let provider = provider_of(wirings, package, revision).unwrap_or(revision);
     if provider != revision {

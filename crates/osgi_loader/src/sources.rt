@@ -22,7 +22,9 @@ fn unwired(
     package: &[u8],
     revision: RevisionId,
 ) -> Result<Vec<u32>, AllocError>
-    ensures sources { IfOk result (λ numbers. (n : ℕ) → Contains numbers.items n ↔ IsUnwiredSource wirings.now.world «package».now revision n) }
+    ensures sources { IfOk result (λ numbers.
+        (n : ℕ)
+        → Contains numbers.items n ↔ IsUnwiredSource wirings.now.world «package».now revision n) }
 {
     let starts = required_by(alloc, wirings, revision)?;
     let mut numbers = given(alloc, wirings, package, starts.as_slice())?;
@@ -41,7 +43,11 @@ pub fn sources(
 ) -> Result<Vec<u32>, AllocError>
     requires holds { IsKeptWorld wirings.now.world wirings.now.issued }
     ensures rising { IfOk result (λ numbers. IsStrictlyIncreasing numbers.items) }
-    ensures sources { IfOk result (λ numbers. (n : ℕ) → Contains numbers.items n ↔ Sources wirings.now.world.known wirings.now.world.wirings revision «package».now (numbered n)) }
+    ensures sources { IfOk result (λ numbers.
+        (n : ℕ)
+        → Contains numbers.items n
+        ↔ Sources wirings.now.world.known wirings.now.world.wirings revision «package».now
+        (numbered n)) }
 {
     match provider_of(wirings, package, revision) {
         Some(provider) => Ok(Vec::from_array(alloc, [provider.0])?),

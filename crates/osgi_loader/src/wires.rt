@@ -53,7 +53,8 @@ pub fn required_by(
     wirings: &Wirings,
     revision: RevisionId,
 ) -> Result<Vec<u32>, AllocError>
-    ensures required { IfOk result (λ numbers. numbers.items ≡ required_by wirings.now.world revision) }
+    ensures required { IfOk result (λ numbers.
+        numbers.items ≡ required_by wirings.now.world revision) }
 {
     wires_of(wirings, revision)
         .iter()

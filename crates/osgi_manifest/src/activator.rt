@@ -62,7 +62,8 @@ pub fn bundle_activator(
     folder: &Folder,
     headers: &[Header],
 ) -> Result<(Option<Text>, Script), Stop<ManifestFault>>
-    ensures step { IsStep (activator_conditions folder.now headers.now) (IsActivator folder.now headers.now) result }
+    ensures step { IsStep (activator_conditions folder.now headers.now)
+        (IsActivator folder.now headers.now) result }
 {
     let Some(class) = activator(headers) else {
         let sections = List::new(alloc)?;

@@ -29,7 +29,9 @@ fn stop(alloc: Global, kind: ManifestKind, at: u64) -> Stop<ManifestFault>
 
 /// The revision that the headers mean and its script, or the first of their faults.
 fn meant(alloc: Global, folder: &Folder, headers: &[Header]) -> Result<Meaning, Stop<ManifestFault>>
-    ensures only { AnswersOnly folder.now (Gives (manifest_faults folder.now headers.now) (IsRevisionOf folder.now headers.now)) result }
+    ensures only { AnswersOnly folder.now
+        (Gives (manifest_faults folder.now headers.now) (IsRevisionOf folder.now headers.now))
+        result }
 {
     let said = Said::read(alloc, folder, headers)?;
     let meaning = said.meaning(alloc, folder)?;
@@ -64,9 +66,14 @@ fn read_folder(alloc: Global, folder: &Folder) -> Result<Meaning, Stop<ManifestF
 /// stands at the byte of the header's value where the first faulty clause begins, or at 0 where the header is missing or has no
 /// clauses.
 pub fn read(alloc: Global, folder: &Folder) -> Result<Result<Revision, ManifestFault>, AllocError>
-    ensures reads { IfOk result (λ r. MatchResult r (Means folder.now) (IsManifestFault folder.now)) }
-    ensures only { (revision : Revision) → Means folder.now revision → IfOk result (λ r. r ≡ Ok revision) }
-    ensures fault { (fault : ManifestFault) → IsManifestFault folder.now fault → IfOk result (λ r. r ≡ Err fault) }
+    ensures reads { IfOk result (λ r.
+        MatchResult r (Means folder.now) (IsManifestFault folder.now)) }
+    ensures only { (revision : Revision)
+        → Means folder.now revision
+        → IfOk result (λ r. r ≡ Ok revision) }
+    ensures fault { (fault : ManifestFault)
+        → IsManifestFault folder.now fault
+        → IfOk result (λ r. r ≡ Err fault) }
 {
     match read_folder(alloc, folder) {
         Ok(meaning) => Ok(Ok(meaning.into_parts().0)),
@@ -81,9 +88,14 @@ pub fn read_meaning(
     alloc: Global,
     folder: &Folder,
 ) -> Result<Result<Meaning, ManifestFault>, AllocError>
-    ensures reads { IfOk result (λ r. MatchResult r (IsMeaning folder.now) (IsManifestFault folder.now)) }
-    ensures only { (meaning : Meaning) → IsMeaning folder.now meaning → IfOk result (λ r. r ≡ Ok meaning) }
-    ensures fault { (fault : ManifestFault) → IsManifestFault folder.now fault → IfOk result (λ r. r ≡ Err fault) }
+    ensures reads { IfOk result (λ r.
+        MatchResult r (IsMeaning folder.now) (IsManifestFault folder.now)) }
+    ensures only { (meaning : Meaning)
+        → IsMeaning folder.now meaning
+        → IfOk result (λ r. r ≡ Ok meaning) }
+    ensures fault { (fault : ManifestFault)
+        → IsManifestFault folder.now fault
+        → IfOk result (λ r. r ≡ Err fault) }
 {
     match read_folder(alloc, folder) {
         Ok(meaning) => Ok(Ok(meaning)),

@@ -19,7 +19,8 @@ fn host_header(
     alloc: Global,
     headers: &[Header],
 ) -> Result<Option<Requirement>, Stop<ManifestFault>>
-    ensures answer { AnswersHeader host_faults fault.BadClause (IsLone SaysHost) headers.now (codes "Fragment-Host") result }
+    ensures answer { AnswersHeader host_faults fault.BadClause (IsLone SaysHost) headers.now
+        (codes "Fragment-Host") result }
 {
     let read = read_header(alloc, b"Fragment-Host", headers)?;
     let made = hosted(alloc, read.clauses.items())?;

@@ -66,8 +66,10 @@ impl Members {
         own: List<Capability>,
     ) -> Result<(List<Capability>, List<Requirement>), AllocError>
         ensures capabilities { IfOk result (λ all. all.0 ≡ own ++ (self.exports ++ self.provided)) }
-        ensures requirements { IfOk result (λ all. all.1 ≡ self.bundles ++ (self.imports ++ self.required)) }
-        ensures few { IfOk result (λ all. (length all.0 ≤ MAX_MEMBERS) × (length all.1 ≤ MAX_MEMBERS)) }
+        ensures requirements { IfOk result (λ all.
+            all.1 ≡ self.bundles ++ (self.imports ++ self.required)) }
+        ensures few { IfOk result (λ all.
+            (length all.0 ≤ MAX_MEMBERS) × (length all.1 ≤ MAX_MEMBERS)) }
     {
         let Members {
             bundles,

@@ -16,7 +16,8 @@ use osgi_world::{ManifestFault, ManifestKind};
 use std::alloc::Global;
 
 fn name_header(alloc: Global, headers: &[Header]) -> Result<Option<Naming>, Stop<ManifestFault>>
-    ensures answer { AnswersHeader name_faults fault.BadName (IsLone SaysNaming) headers.now (codes "Bundle-SymbolicName") result }
+    ensures answer { AnswersHeader name_faults fault.BadName (IsLone SaysNaming) headers.now
+        (codes "Bundle-SymbolicName") result }
 {
     let read = read_header(alloc, b"Bundle-SymbolicName", headers)?;
     let made = named(alloc, read.clauses.items())?;

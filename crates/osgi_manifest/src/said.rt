@@ -55,7 +55,8 @@ impl Said {
         folder: &Folder,
         headers: &[Header],
     ) -> Result<Said, Stop<ManifestFault>>
-        ensures step { IsStep (manifest_faults folder.now headers.now) (IsSaid folder.now headers.now) result }
+        ensures step { IsStep (manifest_faults folder.now headers.now)
+            (IsSaid folder.now headers.now) result }
     {
         manifest_version(alloc, headers)?;
         let naming = bundle_naming(alloc, headers)?;

@@ -49,7 +49,8 @@ pub fn read_section<S: Section>(
     alloc: Global,
     headers: &[Header],
 ) -> Result<S::Made, Stop<ManifestFault>>
-    ensures step { IsStep (section_conditions headers.now S.name S.faults) (IsOnly (IsMadeIn S.makes headers.now S.name)) result }
+    ensures step { IsStep (section_conditions headers.now S.name S.faults)
+        (IsOnly (IsMadeIn S.makes headers.now S.name)) result }
 {
     let name = S::name();
     let read = read_header(alloc, name, headers)?;

@@ -14,7 +14,9 @@ use osgi_world::{ManifestFault, ManifestKind};
 use std::alloc::Global;
 
 fn is_two(headers: &[Header]) -> bool
-    ensures two { MatchBool result (values.header_value (codes "Bundle-ManifestVersion") headers.now ≡ Some (codes "2")) (values.header_value (codes "Bundle-ManifestVersion") headers.now ≢ Some (codes "2")) }
+    ensures two { MatchBool result
+        (values.header_value (codes "Bundle-ManifestVersion") headers.now ≡ Some (codes "2"))
+        (values.header_value (codes "Bundle-ManifestVersion") headers.now ≢ Some (codes "2")) }
 {
     match header_value(b"Bundle-ManifestVersion", headers) {
         Some(version) => version.bytes() == b"2".as_slice(),

@@ -55,7 +55,11 @@ fn run_input<F: Shelf>(
     requires few { length input.now < u32.MAX }
     ensures told { F.told shelf.new ≡ F.told shelf.old }
     ensures later { F.faults shelf.old ≤ F.faults shelf.new }
-    ensures run { IfOk result (λ r. IsRun (bounds_of limits) input.now (record { told = F.told shelf.old; before = F.faults shelf.old; after = F.faults shelf.new }) r.0 r.1) }
+    ensures run { IfOk result (λ r.
+        IsRun (bounds_of limits) input.now
+        (record
+        { told = F.told shelf.old; before = F.faults shelf.old; after = F.faults shelf.new })
+        r.0 r.1) }
 {
     let lines = parse(alloc, input)?;
     let folders = read_depot(alloc, lines.items(), shelf)?;
@@ -107,7 +111,8 @@ fn write_session<K: Sink>(alloc: Global, ran: Ran, session: &Session, sink: &mut
     ensures starved { ran ≡ Ran.Starved → result ≡ NO_MEMORY }
     ensures unwritten { result ≡ NO_MEMORY → sink.new ≡ sink.old }
     ensures failed { result ≡ WRITE_FAILED → Rose (K.faults sink.old) (K.faults sink.new) }
-    ensures part { result ≡ WRITE_FAILED → IsPartlyWritten (K.written sink.old) (K.written sink.new) session.now }
+    ensures part { result ≡ WRITE_FAILED
+        → IsPartlyWritten (K.written sink.old) (K.written sink.new) session.now }
     ensures status { IsWrittenStatus result → result ≡ status_by ran session.now }
     ensures whole { IsWrittenStatus result →
         IsWritten (K.written sink.old) (K.written sink.new) (K.flushed sink.new) session.now }
@@ -141,9 +146,12 @@ pub fn framework_main<R, S: Source, K: Sink, F: Shelf, G: Gate>(
     gate: &G,
 ) -> Finished
     ensures range { result.status ≤ CUT }
-    ensures faulty_words { (result.status ≡ FAULTY_WORDS) ↔ ¬ ((bounds : Bounds) × AsksRun words.now bounds) }
-    ensures good_words { (result.status ≡ FAULTY_WORDS) ⊎ ((bounds : Bounds) × AsksRun words.now bounds) }
-    ensures untouched { result.status ≡ FAULTY_WORDS → (source.new ≡ source.old) × (sink.new ≡ sink.old) }
+    ensures faulty_words { (result.status ≡ FAULTY_WORDS)
+        ↔ ¬ ((bounds : Bounds) × AsksRun words.now bounds) }
+    ensures good_words { (result.status ≡ FAULTY_WORDS)
+        ⊎ ((bounds : Bounds) × AsksRun words.now bounds) }
+    ensures untouched { result.status ≡ FAULTY_WORDS
+        → (source.new ≡ source.old) × (sink.new ≡ sink.old) }
     ensures unread { IsBareStatus result.status → shelf.new ≡ shelf.old }
 
     // What was read, run and recorded, whatever came of the writing.
@@ -152,28 +160,38 @@ pub fn framework_main<R, S: Source, K: Sink, F: Shelf, G: Gate>(
         (record { told = F.told shelf.old; before = F.faults shelf.old; after = F.faults shelf.new })) }
     ensures told { F.told shelf.new ≡ F.told shelf.old }
     ensures shelf_faults { F.faults shelf.old ≤ F.faults shelf.new }
-    ensures all_read { OnSome result.session (OnSome (S.left source.old) (S.left source.new ≡ Some [])) }
-    ensures no_session { result.session ≡ None → IsBareStatus result.status ⊎ (result.status ≡ NO_MEMORY) }
+    ensures all_read { OnSome result.session
+        (OnSome (S.left source.old) (S.left source.new ≡ Some [])) }
+    ensures no_session { result.session ≡ None
+        → IsBareStatus result.status ⊎ (result.status ≡ NO_MEMORY) }
     ensures bare { IsBareStatus result.status → result.session ≡ None }
 
     // Why nothing, or not all, was written.
     ensures source_faults { S.faults source.old ≤ S.faults source.new }
-    ensures read_failed { result.status ≡ READ_FAILED → Rose (S.faults source.old) (S.faults source.new) }
-    ensures too_much { result.status ≡ INPUT_TOO_LONG → IfSome (S.left source.old) (λ bytes. MAX_INPUT < length bytes) }
+    ensures read_failed { result.status ≡ READ_FAILED
+        → Rose (S.faults source.old) (S.faults source.new) }
+    ensures too_much { result.status ≡ INPUT_TOO_LONG
+        → IfSome (S.left source.old) (λ bytes. MAX_INPUT < length bytes) }
     ensures above_limit { IsSomeAnd (S.left source.old) (λ bytes. MAX_INPUT < length bytes) →
         IsBareStatus result.status ⊎ (result.status ≡ NO_MEMORY) }
     ensures sink_faults { K.faults sink.old ≤ K.faults sink.new }
-    ensures write_failed { result.status ≡ WRITE_FAILED → Rose (K.faults sink.old) (K.faults sink.new) }
+    ensures write_failed { result.status ≡ WRITE_FAILED
+        → Rose (K.faults sink.old) (K.faults sink.new) }
     ensures part_written { result.status ≡ WRITE_FAILED →
         IsSomeAnd result.session (IsPartlyWritten (K.written sink.old) (K.written sink.new)) }
-    ensures unwritten { IsBareStatus result.status ⊎ (result.status ≡ NO_MEMORY) → sink.new ≡ sink.old }
+    ensures unwritten { IsBareStatus result.status ⊎ (result.status ≡ NO_MEMORY)
+        → sink.new ≡ sink.old }
 
     // The text, and the status that says what is in it.
-    ensures written { IsWrittenStatus result.status →
-        IsSomeAnd result.session (IsWritten (K.written sink.old) (K.written sink.new) (K.flushed sink.new)) }
+    ensures written { IsWrittenStatus result.status
+        → IsSomeAnd result.session
+        (IsWritten (K.written sink.old) (K.written sink.new) (K.flushed sink.new)) }
     ensures status_by_session { IsWrittenStatus result.status →
         IsSomeAnd result.session (λ session. result.status ≡ status_of session) }
-    ensures cut { (bounds : Bounds) → AsksRun words.now bounds → result.status ≡ CUT → IsSomeAnd result.session (IsAtLimit bounds) }
+    ensures cut { (bounds : Bounds)
+        → AsksRun words.now bounds
+        → result.status ≡ CUT
+        → IsSomeAnd result.session (IsAtLimit bounds) }
     ensures complete { (bounds : Bounds) → AsksRun words.now bounds →
         ¬ Rose (S.faults source.old) (S.faults source.new) →
         ¬ Rose (K.faults sink.old) (K.faults sink.new) →

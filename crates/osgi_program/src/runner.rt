@@ -33,10 +33,18 @@ fn run_alone<U: Under>(
     line: &Line,
 ) -> Result<Ended, AllocError>
     requires command { has_command line.now.content ≡ true }
-    ensures done { IfOk result (λ how. how ≡ ended.Done → Adds (IsRunOf (sections_of scripts.now) 0 line.now) alone.old.core.entries alone.new.core.entries) }
-    ensures cut { IfOk result (λ how. how ≡ ended.Cut →
-        IsCutShort (sections_of scripts.now) 0 line.now (length alone.new.core.entries == U.setting.bounds.entries) alone.old.core.entries alone.new.core.entries) }
-    ensures wanting { OnErr result (Adds (IsCutRunOf (sections_of scripts.now) 0 line.now false) alone.old.core.entries alone.new.core.entries) }
+    ensures done { IfOk result (λ how.
+        how ≡ ended.Done
+        → Adds (IsRunOf (sections_of scripts.now) 0 line.now) alone.old.core.entries
+        alone.new.core.entries) }
+    ensures cut { IfOk result (λ how.
+        how ≡ ended.Cut
+        → IsCutShort (sections_of scripts.now) 0 line.now
+        (length alone.new.core.entries == U.setting.bounds.entries) alone.old.core.entries
+        alone.new.core.entries) }
+    ensures wanting { OnErr result
+        (Adds (IsCutRunOf (sections_of scripts.now) 0 line.now false) alone.old.core.entries
+        alone.new.core.entries) }
 {
     Runner::alone(alloc, alone, scripts).command(line)
 }
@@ -44,7 +52,8 @@ fn run_alone<U: Under>(
 /// Runs the command of a line.
 fn run_command<U: Under>(alloc: Global, alone: &mut Alone<U>, scripts: &Scripts, line: &Line) -> Ran
     requires command { has_command line.now.content ≡ true }
-    ensures command { RunsCommand result (sections_of scripts.now) U.setting.bounds.entries line.now alone.old.core.entries alone.new.core.entries }
+    ensures command { RunsCommand result (sections_of scripts.now) U.setting.bounds.entries line.now
+        alone.old.core.entries alone.new.core.entries }
 {
     match run_alone(alloc, alone, scripts, line) {
         Ok(Ended::Done) => Ran::All,
@@ -55,7 +64,8 @@ fn run_command<U: Under>(alloc: Global, alone: &mut Alone<U>, scripts: &Scripts,
 
 /// Runs a line, which does nothing where it has no command.
 fn run_line<U: Under>(alloc: Global, alone: &mut Alone<U>, scripts: &Scripts, line: &Line) -> Ran
-    ensures line { RunsLine result (sections_of scripts.now) U.setting.bounds.entries line.now alone.old.core.entries alone.new.core.entries }
+    ensures line { RunsLine result (sections_of scripts.now) U.setting.bounds.entries line.now
+        alone.old.core.entries alone.new.core.entries }
 {
     match &line.content {
         Content::Run(_) => run_command(alloc, alone, scripts, line),
@@ -65,7 +75,8 @@ fn run_line<U: Under>(alloc: Global, alone: &mut Alone<U>, scripts: &Scripts, li
 
 /// Runs the lines in order, up to one that could not run to its end.
 fn run_each<U: Under>(alloc: Global, alone: &mut Alone<U>, scripts: &Scripts, lines: &[Line]) -> Ran
-    ensures lines { RunsLines result (sections_of scripts.now) U.setting.bounds.entries lines.now alone.old.core.entries alone.new.core.entries }
+    ensures lines { RunsLines result (sections_of scripts.now) U.setting.bounds.entries lines.now
+        alone.old.core.entries alone.new.core.entries }
 {
     for line in lines {
         match run_line(alloc, alone, scripts, line) {
@@ -85,7 +96,8 @@ pub fn run_lines<U: Under>(
 ) -> (Ran, Core)
     requires under { core.setting ≡ U.setting }
     ensures setting { result.1.setting ≡ core.setting }
-    ensures lines { RunsLines result.0 (sections_of scripts.now) core.setting.bounds.entries lines.now core.entries result.1.entries }
+    ensures lines { RunsLines result.0 (sections_of scripts.now) core.setting.bounds.entries
+        lines.now core.entries result.1.entries }
 {
     let mut alone = Alone::<U>::new(core);
     let ran = run_each(alloc, &mut alone, scripts, lines);

@@ -30,7 +30,8 @@ fn number(word: &[u8], most: u64) -> Option<u64>
 
 /// What stands behind these bytes in a word that begins with them.
 fn behind<'a>(word: &'a [u8], first: &[u8]) -> Option<&'a [u8]>
-    ensures behind { MatchOption result ((rest : List ℕ) → word.now ≢ first.now ++ rest) (λ rest. word.now ≡ first.now ++ rest.now) }
+    ensures behind { MatchOption result ((rest : List ℕ) → word.now ≢ first.now ++ rest) (λ rest.
+        word.now ≡ first.now ++ rest.now) }
 {
     word.strip_prefix(first)
 }
@@ -83,9 +84,13 @@ impl Given {
 
     /// With the option that the words begin with, and the words after it. None where they begin with none, or it was given before.
     fn more(self, words: &[Text]) -> Option<(Given, &[Text])>
-        ensures reads { IfSome result (λ r. (bounds : Bounds) → AsksMore r.0.budget r.0.handings r.1.now bounds → AsksMore self.budget self.handings words.now bounds) }
-        ensures only { words.now ≢ [] → (bounds : Bounds) → AsksMore self.budget self.handings words.now bounds →
-            IsSomeAnd result (λ r. AsksMore r.0.budget r.0.handings r.1.now bounds) }
+        ensures reads { IfSome result (λ r.
+            (bounds : Bounds)
+            → AsksMore r.0.budget r.0.handings r.1.now bounds
+            → AsksMore self.budget self.handings words.now bounds) }
+        ensures only { words.now ≢ [] → (bounds : Bounds)
+            → AsksMore self.budget self.handings words.now bounds
+            → IsSomeAnd result (λ r. AsksMore r.0.budget r.0.handings r.1.now bounds) }
         ensures fewer { IfSome result (λ r. length r.1.now < length words.now) }
     {
         match numbered(words, BUDGET, MAX_BUDGET) {
@@ -149,7 +154,9 @@ fn options(words: &[Text]) -> Option<Limits>
 /// The limits of a run, if the words ask for one.
 pub fn run_limits(words: &[Text]) -> Option<Limits>
     ensures reads { IfSome result (λ limits. AsksRun words.now (bounds_of limits)) }
-    ensures only { (bounds : Bounds) → AsksRun words.now bounds → IsSomeAnd result (λ limits. bounds_of limits ≡ bounds) }
+    ensures only { (bounds : Bounds)
+        → AsksRun words.now bounds
+        → IsSomeAnd result (λ limits. bounds_of limits ≡ bounds) }
 {
     let (first, rest) = words.split_first()?;
     if first.bytes() == b"run".as_slice() {

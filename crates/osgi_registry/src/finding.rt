@@ -38,8 +38,12 @@ pub fn does_fit(filter: Option<&Filter>, service: &Service) -> bool
 /// Whether the service is assignable for each of its classes.
 fn is_assignable<F: Fn(BundleId, &Text) -> bool + Drop>(service: &Service, assignable: &F) -> bool
     requires callable { F.IsAlwaysCallable assignable.now }
-    ensures assignable { (test : BundleId → List ℕ → Bool) → ((owner : BundleId) (class : _) (answer : Bool) → F.post assignable.now owner class answer → answer ≡ test owner class.now) →
-        result ≡ list_all (test service.now.owner) service.now.classes }
+    ensures assignable { (test : BundleId → List ℕ → Bool)
+        →
+        ((owner : BundleId) (class : _) (answer : Bool)
+        → F.post assignable.now owner class answer
+        → answer ≡ test owner class.now)
+        → result ≡ list_all (test service.now.owner) service.now.classes }
 {
     for class in service.classes.items() {
         if !assignable(service.owner, class) {
@@ -56,8 +60,12 @@ fn is_open<F: Fn(BundleId, &Text) -> bool + Drop>(
     assignable: &F,
 ) -> bool
     requires callable { F.IsAlwaysCallable assignable.now }
-    ensures open { (test : BundleId → List ℕ → Bool) → ((owner : BundleId) (class : _) (answer : Bool) → F.post assignable.now owner class answer → answer ≡ test owner class.now) →
-        result ≡ spec.is_open test (option_copied filter.entry) service.now }
+    ensures open { (test : BundleId → List ℕ → Bool)
+        →
+        ((owner : BundleId) (class : _) (answer : Bool)
+        → F.post assignable.now owner class answer
+        → answer ≡ test owner class.now)
+        → result ≡ spec.is_open test (option_copied filter.entry) service.now }
     ensures fits { OnTrue result (spec.does_fit (option_copied filter.entry) service.now ≡ true) }
 {
     does_fit(filter, service) && is_assignable(service, assignable)
@@ -88,7 +96,10 @@ fn is_assignable_to<A: Assignability>(
     asker: BundleId,
     assignability: &A,
 ) -> Result<bool, AllocError>
-    ensures assignable { IfOk result (λ is. Decides is (All (λ c. IsAssignable (A.world assignability.now) service.now.owner asker c) service.now.classes)) }
+    ensures assignable { IfOk result (λ is.
+        Decides is
+        (All (λ c. IsAssignable (A.world assignability.now) service.now.owner asker c)
+        service.now.classes)) }
 {
     for class in service.classes.items() {
         if !assignability.is_assignable(service.owner, asker, class)? {
@@ -141,7 +152,11 @@ pub fn all_fit(
     asked: &Filter,
 ) -> Result<List<ServiceId>, AllocError>
     requires current { AreCurrent (slots_in live.slots.now) live.rows.now.entries }
-    ensures all { IfOk result (λ all. all ≡ ids_of (filter (spec.does_fit (Some asked.now)) (services_at live.entry.rows.now.entries places.now.keys))) }
+    ensures all { IfOk result (λ all.
+        all
+        ≡ ids_of
+        (filter (spec.does_fit (Some asked.now))
+        (services_at live.entry.rows.now.entries places.now.keys))) }
     ensures ordered { OnOk result (IsStrictlySortedBy place_cmp places.now.keys) }
 {
     let mut all = List::new(alloc)?;

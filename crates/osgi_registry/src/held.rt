@@ -42,7 +42,8 @@ impl Model for Held {
 impl Held {
     /// A service that nobody uses yet.
     pub fn new(alloc: Global, service: Service, scope: Scope) -> Result<Held, AllocError>
-        ensures service { IfOk result (λ held. held ≡ record { service = service; scope = scope; uses = [] }) }
+        ensures service { IfOk result (λ held.
+            held ≡ record { service = service; scope = scope; uses = [] }) }
     {
         let service = Shared::new(alloc, service)?;
         let uses = Uses::new();
@@ -128,7 +129,10 @@ pub fn modified(
     given: Attributes,
 ) -> Result<Service, AllocError>
     requires fits { service.now.service.0 ≤ u32.MAX }
-    ensures modified { IfOk result (λ modified. modified ≡ record service.now { properties = with_framework given service.now.classes scope service.now.service service.now.owner }) }
+    ensures modified { IfOk result (λ modified.
+        modified
+        ≡ record service.now
+        { properties = with_framework given service.now.classes scope service.now.service service.now.owner }) }
 {
     let properties = texts.with_framework(
         alloc,

@@ -128,11 +128,19 @@ impl Registry {
         properties: Attributes,
     ) -> Result<Result<ServiceId, Refusal>, AllocError>
         requires ids_left { self.old.issued < u32.MAX }
-        ensures refusal { IfOk result (λ answer. result_err answer ≡ register_refusal properties self.old.rows) }
+        ensures refusal { IfOk result (λ answer.
+            result_err answer ≡ register_refusal properties self.old.rows) }
         ensures id { IfOk result (λ answer. IfOk answer (λ id. id.0 ≡ self.old.issued + 1)) }
-        ensures rows { IfOk result (λ answer. IfOk answer (λ id. self.new.rows ≡ self.old.rows ++ new_row id owner classes object scope properties ∷ [])) }
-        ensures issued { IfOk result (λ answer. OnOk answer (self.new.issued ≡ self.old.issued + 1)) }
-        ensures stands { IfOk result (λ answer. IfOk answer (λ id. StandsAfter (op.Register owner classes object scope properties) (answers.Service id) self.old self.new)) }
+        ensures rows { IfOk result (λ answer.
+            IfOk answer (λ id.
+            self.new.rows
+            ≡ self.old.rows ++ new_row id owner classes object scope properties ∷ [])) }
+        ensures issued { IfOk result (λ answer.
+            OnOk answer (self.new.issued ≡ self.old.issued + 1)) }
+        ensures stands { IfOk result (λ answer.
+            IfOk answer (λ id.
+            StandsAfter (op.Register owner classes object scope properties) (answers.Service id)
+            self.old self.new)) }
         ensures refused { IfOk result (λ answer. OnErr answer (self.new ≡ self.old)) }
         ensures unchanged { OnErr result (self.new ≡ self.old) }
     {
@@ -156,8 +164,13 @@ impl Registry {
         properties: Attributes,
     ) -> Result<Result<Service, Refusal>, AllocError>
         requires ids_left { self.now.issued < u32.MAX }
-        ensures refusal { IfOk result (λ answer. result_err answer ≡ register_refusal properties self.now.rows) }
-        ensures made { IfOk result (λ answer. IfOk answer (λ made. made ≡ (new_row (record { 0 = self.now.issued + 1 }) owner classes object scope properties).service)) }
+        ensures refusal { IfOk result (λ answer.
+            result_err answer ≡ register_refusal properties self.now.rows) }
+        ensures made { IfOk result (λ answer.
+            IfOk answer (λ made.
+            made
+            ≡
+            (new_row (record { 0 = self.now.issued + 1 }) owner classes object scope properties).service)) }
         ensures room { IfOk result (λ answer. OnOk answer (length self.now.rows < MAX_SERVICES)) }
         ensures in_order { OnOk result (AreInOrder self.now) }
     {
@@ -192,7 +205,9 @@ impl Registry {
         requires next { service.service.0 ≡ self.old.issued + 1 }
         requires fits { self.old.issued < u32.MAX }
         requires room { length self.old.rows < MAX_SERVICES }
-        ensures rows { OnOk result (self.new.rows ≡ self.old.rows ++ record { service = service; scope = scope; uses = [] } ∷ []) }
+        ensures rows { OnOk result
+            (self.new.rows
+            ≡ self.old.rows ++ record { service = service; scope = scope; uses = [] } ∷ []) }
         ensures issued { OnOk result (self.new.issued ≡ self.old.issued + 1) }
         ensures unchanged { OnErr result (self.new ≡ self.old) }
     {
@@ -234,10 +249,15 @@ impl Registry {
         service: ServiceId,
         properties: Attributes,
     ) -> Result<Result<(), Refusal>, AllocError>
-        ensures refusal { IfOk result (λ answer. result_err answer ≡ modify_refusal owner service properties self.old.rows) }
-        ensures rows { IfOk result (λ answer. OnOk answer (self.new.rows ≡ change service (with_properties properties) self.old.rows)) }
+        ensures refusal { IfOk result (λ answer.
+            result_err answer ≡ modify_refusal owner service properties self.old.rows) }
+        ensures rows { IfOk result (λ answer.
+            OnOk answer
+            (self.new.rows ≡ change service (with_properties properties) self.old.rows)) }
         ensures issued { self.new.issued ≡ self.old.issued }
-        ensures stands { IfOk result (λ answer. OnOk answer (StandsAfter (op.Modify owner service properties) answers.Done self.old self.new)) }
+        ensures stands { IfOk result (λ answer.
+            OnOk answer
+            (StandsAfter (op.Modify owner service properties) answers.Done self.old self.new)) }
         ensures refused { IfOk result (λ answer. OnErr answer (self.new ≡ self.old)) }
         ensures unchanged { OnErr result (self.new ≡ self.old) }
     {
@@ -258,7 +278,8 @@ impl Registry {
         service: ServiceId,
         properties: &Attributes,
     ) -> Result<Option<Refusal>, AllocError>
-        ensures refusal { IfOk result (λ refusal. refusal ≡ modify_refusal owner service properties.now self.now.rows) }
+        ensures refusal { IfOk result (λ refusal.
+            refusal ≡ modify_refusal owner service properties.now self.now.rows) }
     {
         if let Some(refusal) = self.refusal_of(owner, service) {
             return Ok(Some(refusal));
@@ -275,7 +296,10 @@ impl Registry {
         service: ServiceId,
         properties: Attributes,
     ) -> Result<Option<Service>, AllocError>
-        ensures made { IfOk result (λ made. made ≡ option_map (λ row. (with_properties properties row).service) (row_at service self.now.rows)) }
+        ensures made { IfOk result (λ made.
+            made
+            ≡ option_map (λ row. (with_properties properties row).service)
+            (row_at service self.now.rows)) }
         ensures in_order { OnOk result (AreInOrder self.now) }
     {
         let Some(held) = self.services.get(&service.0) else {
@@ -289,7 +313,8 @@ impl Registry {
     /// Puts a service in place of the live one of its id, from which it differs in its properties alone.
     pub fn replace(&mut self, service: Service) -> Result<(), AllocError>
         requires differs { DiffersAtMostInProperties service self.old.rows }
-        ensures rows { OnOk result (self.new.rows ≡ change service.service (with_service service) self.old.rows) }
+        ensures rows { OnOk result
+            (self.new.rows ≡ change service.service (with_service service) self.old.rows) }
         ensures issued { self.new.issued ≡ self.old.issued }
         ensures unchanged { OnErr result (self.new ≡ self.old) }
     {
@@ -314,7 +339,8 @@ impl Registry {
         ensures refusal { result_err result ≡ change_refusal owner service self.old.rows }
         ensures rows { OnOk result (self.new.rows ≡ without service self.old.rows) }
         ensures issued { self.new.issued ≡ self.old.issued }
-        ensures stands { OnOk result (StandsAfter (op.Unregister owner service) answers.Done self.old self.new) }
+        ensures stands { OnOk result
+            (StandsAfter (op.Unregister owner service) answers.Done self.old self.new) }
         ensures refused { OnErr result (self.new ≡ self.old) }
     {
         if let Some(refusal) = self.refusal_of(owner, service) {
@@ -346,9 +372,12 @@ impl Registry {
     ) -> Result<Result<Text, Refusal>, AllocError>
         requires countable { use_count user service self.old.rows < u64.MAX }
         ensures object { IfOk result (λ answer. answer ≡ object_at (row_at service self.old.rows)) }
-        ensures rows { IfOk result (λ answer. OnOk answer (self.new.rows ≡ change service (used_more user) self.old.rows)) }
+        ensures rows { IfOk result (λ answer.
+            OnOk answer (self.new.rows ≡ change service (used_more user) self.old.rows)) }
         ensures issued { self.new.issued ≡ self.old.issued }
-        ensures stands { IfOk result (λ answer. IfOk answer (λ text. StandsAfter (op.Get user service) (answers.Object text) self.old self.new)) }
+        ensures stands { IfOk result (λ answer.
+            IfOk answer (λ text.
+            StandsAfter (op.Get user service) (answers.Object text) self.old self.new)) }
         ensures refused { IfOk result (λ answer. OnErr answer (self.new ≡ self.old)) }
         ensures unchanged { OnErr result (self.new ≡ self.old) }
     {
@@ -364,7 +393,8 @@ impl Registry {
 
     /// The live service of this id.
     pub fn service(&self, service: ServiceId) -> Option<&Service>
-        ensures service { option_copied result ≡ option_map (λ row. row.service) (row_at service self.now.rows) }
+        ensures service { option_copied result
+            ≡ option_map (λ row. row.service) (row_at service self.now.rows) }
     {
         let held = self.services.get(&service.0)?;
         Some(held.service())
@@ -372,7 +402,8 @@ impl Registry {
 
     /// The object of a live service.
     pub fn object(&self, service: ServiceId) -> Option<&Text>
-        ensures object { option_copied result ≡ option_map (λ row. row.service.object) (row_at service self.now.rows) }
+        ensures object { option_copied result
+            ≡ option_map (λ row. row.service.object) (row_at service self.now.rows) }
     {
         let held = self.services.get(&service.0)?;
         Some(&held.service().object)
@@ -382,7 +413,8 @@ impl Registry {
     pub fn add_use(&mut self, user: BundleId, service: ServiceId) -> Result<bool, AllocError>
         requires countable { use_count user service self.old.rows < u64.MAX }
         ensures absent { IfOk result (λ live. OnFalse live (row_at service self.old.rows ≡ None)) }
-        ensures rows { IfOk result (λ live. OnTrue live (self.new.rows ≡ change service (used_more user) self.old.rows)) }
+        ensures rows { IfOk result (λ live.
+            OnTrue live (self.new.rows ≡ change service (used_more user) self.old.rows)) }
         ensures issued { self.new.issued ≡ self.old.issued }
         ensures refused { IfOk result (λ live. OnFalse live (self.new ≡ self.old)) }
         ensures unchanged { OnErr result (self.new ≡ self.old) }
@@ -408,9 +440,11 @@ impl Registry {
     /// Counts one use of the service less by the user, and answers whether there was one.
     pub fn unget(&mut self, user: BundleId, service: ServiceId) -> bool
         ensures answer { result ≡ nat_lt 0 (use_count user service self.old.rows) }
-        ensures rows { OnTrue result (self.new.rows ≡ change service (used_less user) self.old.rows) }
+        ensures rows { OnTrue result
+            (self.new.rows ≡ change service (used_less user) self.old.rows) }
         ensures issued { self.new.issued ≡ self.old.issued }
-        ensures stands { StandsAfter (op.Unget user service) (answers.Flag result) self.old self.new }
+        ensures stands { StandsAfter (op.Unget user service) (answers.Flag result) self.old
+            self.new }
         ensures unchanged { OnFalse result (self.new ≡ self.old) }
     {
         let Some(held) = self.services.get_mut(&service.0) else {
@@ -429,9 +463,15 @@ impl Registry {
         assignable: F,
     ) -> Option<ServiceId>
         requires callable { F.IsAlwaysCallable assignable }
-        ensures found { (test : BundleId → List ℕ → Bool) → ((registrant : BundleId) (class : _) (answer : Bool) → F.post assignable registrant class answer → answer ≡ test registrant class.now) →
-            IsFound (IsOpenBy test class.now (option_copied filter.entry)) (services_in self.now.rows) result }
-        ensures fits { IfSome result (IsAskedFor (IsOf class.now (option_copied filter.entry)) (services_in self.now.rows)) }
+        ensures found { (test : BundleId → List ℕ → Bool)
+            →
+            ((registrant : BundleId) (class : _) (answer : Bool)
+            → F.post assignable registrant class answer
+            → answer ≡ test registrant class.now)
+            → IsFound (IsOpenBy test class.now (option_copied filter.entry))
+            (services_in self.now.rows) result }
+        ensures fits { IfSome result
+            (IsAskedFor (IsOf class.now (option_copied filter.entry)) (services_in self.now.rows)) }
     {
         let places = self.index.places(class)?;
         let live = Live {
@@ -452,7 +492,10 @@ impl Registry {
         asker: BundleId,
         assignability: &A,
     ) -> Result<Option<ServiceId>, AllocError>
-        ensures found { IfOk result (IsFound (IsOpenTo (A.world assignability.now) asker class.now (option_copied filter.entry)) (services_in self.now.rows)) }
+        ensures found { IfOk result
+            (IsFound
+            (IsOpenTo (A.world assignability.now) asker class.now (option_copied filter.entry))
+            (services_in self.now.rows)) }
     {
         let Some(places) = self.index.places(class) else {
             return Ok(None);
@@ -478,7 +521,8 @@ impl Registry {
         class: &Text,
         filter: Option<&Filter>,
     ) -> Result<List<ServiceId>, AllocError>
-        ensures ranked { IfOk result (AreRanked (IsOf class.now (option_copied filter.entry)) (services_in self.now.rows)) }
+        ensures ranked { IfOk result
+            (AreRanked (IsOf class.now (option_copied filter.entry)) (services_in self.now.rows)) }
     {
         let Some(places) = self.index.places(class) else {
             return List::new(self.alloc);
@@ -495,7 +539,8 @@ impl Registry {
 
     /// The services of the owner by rising id. It looks at no service that the owner neither owns nor used.
     pub fn owned(&self, owner: BundleId) -> Result<Vec<&Service>, AllocError>
-        ensures services { IfOk result (λ owned. map (λ s. s.now) owned.items ≡ services_in (filter (is_owned owner) self.now.rows)) }
+        ensures services { IfOk result (λ owned.
+            map (λ s. s.now) owned.items ≡ services_in (filter (is_owned owner) self.now.rows)) }
     {
         let concerned = self.concerned(owner)?;
         let ids = self.owned_among(owner, concerned.items())?;
@@ -504,7 +549,8 @@ impl Registry {
 
     /// The services of these ids that are live.
     fn services_of(&self, ids: &[ServiceId]) -> Result<Vec<&Service>, AllocError>
-        ensures services { IfOk result (λ services. map (λ s. s.now) services.items ≡ live_among self.now.rows ids.now) }
+        ensures services { IfOk result (λ services.
+            map (λ s. s.now) services.items ≡ live_among self.now.rows ids.now) }
     {
         let mut services = Vec::with_capacity(self.alloc, ids.len())?;
         for id in ids {
@@ -519,7 +565,8 @@ impl Registry {
     /// Takes out all services of the bundle and all its uses, and gives the ids of these services, rising. It looks at no
     /// service that the bundle neither owned nor used.
     pub fn release(&mut self, bundle: BundleId) -> Result<List<ServiceId>, AllocError>
-        ensures services { IfOk result (λ services. services ≡ ids_of (filter (is_owned bundle) self.old.rows)) }
+        ensures services { IfOk result (λ services.
+            services ≡ ids_of (filter (is_owned bundle) self.old.rows)) }
         ensures rows { OnOk result (self.new.rows ≡ released bundle self.old.rows) }
         ensures issued { self.new.issued ≡ self.old.issued }
         ensures stands { OnOk result (StandsCleaned bundle self.old self.new) }
@@ -535,7 +582,8 @@ impl Registry {
     /// The services that the bundle owns or uses, rising. There may be others, and services that are not live, among them.
     fn concerned(&self, bundle: BundleId) -> Result<List<ServiceId>, AllocError>
         ensures all { IfOk result (λ services. AreAmong bundle services self.now.rows) }
-        ensures rising { IfOk result (λ services. IsStrictlySortedBy nat_cmp (map (λ (service : ServiceId). service.0) services)) }
+        ensures rising { IfOk result (λ services.
+            IsStrictlySortedBy nat_cmp (map (λ (service : ServiceId). service.0) services)) }
         ensures in_order { AreInOrder self.now }
     {
         self.bundles.services(self.alloc, bundle)
@@ -544,7 +592,8 @@ impl Registry {
     /// Whether the bundle owns the service, and it is live.
     fn is_owned(&self, bundle: BundleId, service: ServiceId) -> bool
         ensures owned { result ≡ owns bundle self.now.rows service }
-        ensures each { All (λ row. is_service service row ≡ true → is_owned bundle row ≡ result) self.now.rows }
+        ensures each { All (λ row. is_service service row ≡ true → is_owned bundle row ≡ result)
+            self.now.rows }
     {
         match self.services.get(&service.0) {
             Some(held) => held.service().owner.0 == bundle.0,
@@ -559,8 +608,10 @@ impl Registry {
         services: &[ServiceId],
     ) -> Result<List<ServiceId>, AllocError>
         requires all { AreAmong bundle services.now self.now.rows }
-        requires rising { IsStrictlySortedBy nat_cmp (map (λ (service : ServiceId). service.0) services.now) }
-        ensures owned { IfOk result (λ owned. owned ≡ ids_of (filter (is_owned bundle) self.now.rows)) }
+        requires rising { IsStrictlySortedBy nat_cmp
+            (map (λ (service : ServiceId). service.0) services.now) }
+        ensures owned { IfOk result (λ owned.
+            owned ≡ ids_of (filter (is_owned bundle) self.now.rows)) }
     {
         let mut owned = List::new(self.alloc)?;
         for service in services {
@@ -586,7 +637,9 @@ impl Registry {
     /// Takes the service out where the bundle owns it, and else forgets the bundle's uses of it.
     fn let_go(&mut self, bundle: BundleId, service: ServiceId)
         ensures rest { released bundle self.new.rows ≡ released bundle self.old.rows }
-        ensures among { (others : List ServiceId) → AreAmong bundle (service ∷ others) self.old.rows → AreAmong bundle others self.new.rows }
+        ensures among { (others : List ServiceId)
+            → AreAmong bundle (service ∷ others) self.old.rows
+            → AreAmong bundle others self.new.rows }
         ensures issued { self.new.issued ≡ self.old.issued }
     {
         if self.is_owned(bundle, service) {

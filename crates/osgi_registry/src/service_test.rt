@@ -37,7 +37,9 @@ pub fn first_passing<T: ServiceTest>(
 ) -> Result<Option<ServiceId>, T::Error>
     requires current { AreCurrent (slots_in live.slots.now) live.rows.now.entries }
     requires can { T.can_ask test.now }
-    ensures first { IfOk result (spec.IsFirstFound (T.answers test.now) (services_at live.entry.rows.now.entries places.now.keys)) }
+    ensures first { IfOk result
+        (spec.IsFirstFound (T.answers test.now)
+        (services_at live.entry.rows.now.entries places.now.keys)) }
     ensures ordered { OnOk result (IsStrictlySortedBy place_cmp places.now.keys) }
 {
     for place in places {

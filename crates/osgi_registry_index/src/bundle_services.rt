@@ -32,7 +32,8 @@ impl BundleServices {
 
     /// Adds the service to the bundle's.
     pub fn add(&mut self, bundle: BundleId, service: ServiceId) -> Result<(), AllocError>
-        ensures added { OnOk result (Sets (bundles_in self.old) (bundles_in self.new) bundle service true) }
+        ensures added { OnOk result
+            (Sets (bundles_in self.old) (bundles_in self.new) bundle service true) }
         ensures unchanged { OnErr result (BelongsSame (bundles_in self.old) (bundles_in self.new)) }
     {
         if let Some(services) = self.bundles.get_mut(&bundle.0) {
@@ -67,8 +68,11 @@ impl BundleServices {
 
     /// The services of the bundle, rising.
     pub fn services(&self, alloc: Global, bundle: BundleId) -> Result<List<ServiceId>, AllocError>
-        ensures services { IfOk result (λ services. map (λ (service : ServiceId). service.0) services ≡ services_of (bundles_in self.now) bundle.0) }
-        ensures rising { OnOk result (IsStrictlySortedBy nat_cmp (services_of (bundles_in self.now) bundle.0)) }
+        ensures services { IfOk result (λ services.
+            map (λ (service : ServiceId). service.0) services
+            ≡ services_of (bundles_in self.now) bundle.0) }
+        ensures rising { OnOk result
+            (IsStrictlySortedBy nat_cmp (services_of (bundles_in self.now) bundle.0)) }
     {
         match self.bundles.get(&bundle.0) {
             Some(services) => listed(alloc, services),
@@ -79,7 +83,8 @@ impl BundleServices {
 
 /// The services of these numbers.
 fn listed(alloc: Global, services: &BTreeSet<u64>) -> Result<List<ServiceId>, AllocError>
-    ensures listed { IfOk result (λ list. map (λ (service : ServiceId). service.0) list ≡ services.now.keys) }
+    ensures listed { IfOk result (λ list.
+        map (λ (service : ServiceId). service.0) list ≡ services.now.keys) }
     ensures rising { OnOk result (IsStrictlySortedBy nat_cmp services.now.keys) }
 {
     let mut list = List::new(alloc)?;

@@ -33,7 +33,8 @@ impl ClassIndex {
 
     /// Adds the place under the class.
     fn add(&mut self, class: &Text, place: Place) -> Result<(), AllocError>
-        ensures added { OnOk result (Puts (classes_in self.old) (classes_in self.new) (class.now ∷ []) place true) }
+        ensures added { OnOk result
+            (Puts (classes_in self.old) (classes_in self.new) (class.now ∷ []) place true) }
         ensures unchanged { OnErr result (HoldsSame (classes_in self.old) (classes_in self.new)) }
     {
         if let Some(places) = self.classes.get_mut(class) {
@@ -48,7 +49,8 @@ impl ClassIndex {
 
     /// Takes out the place under the class.
     fn take(&mut self, class: &Text, place: Place)
-        ensures taken { Puts (classes_in self.old) (classes_in self.new) (class.now ∷ []) place false }
+        ensures taken { Puts (classes_in self.old) (classes_in self.new) (class.now ∷ []) place
+            false }
     {
         let Some(places) = self.classes.get_mut(class) else {
             return;
@@ -71,7 +73,8 @@ impl ClassIndex {
     /// Adds the place under the classes. If memory runs out, it stands under none of them.
     pub fn add_all(&mut self, classes: &[Text], place: Place) -> Result<(), AllocError>
         requires { IsFresh (classes_in self.old) place }
-        ensures added { OnOk result (Puts (classes_in self.old) (classes_in self.new) classes.now place true) }
+        ensures added { OnOk result
+            (Puts (classes_in self.old) (classes_in self.new) classes.now place true) }
         ensures unchanged { OnErr result (HoldsSame (classes_in self.old) (classes_in self.new)) }
     {
         for class in classes {
@@ -87,7 +90,8 @@ impl ClassIndex {
     pub fn move_all(&mut self, classes: &[Text], from: Place, to: Place) -> Result<(), AllocError>
         requires stands { StandsUnder (classes_in self.old) classes.now from }
         requires fresh { same_place from to ≡ false → IsFresh (classes_in self.old) to }
-        ensures moved { OnOk result (Moves (classes_in self.old) (classes_in self.new) classes.now from to) }
+        ensures moved { OnOk result
+            (Moves (classes_in self.old) (classes_in self.new) classes.now from to) }
         ensures unchanged { OnErr result (HoldsSame (classes_in self.old) (classes_in self.new)) }
     {
         if from == to {
@@ -100,7 +104,8 @@ impl ClassIndex {
 
     /// The places of the class, in their order.
     pub fn places(&self, class: &Text) -> Option<&BTreeSet<Place>>
-        ensures places { option_map_or (λ places. places.now.keys) result [] ≡ places_at (classes_in self.now) class.now }
+        ensures places { option_map_or (λ places. places.now.keys) result []
+            ≡ places_at (classes_in self.now) class.now }
     {
         self.classes.get(class)
     }

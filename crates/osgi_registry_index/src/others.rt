@@ -44,7 +44,8 @@ impl Others {
     /// Counts one more use by the user.
     pub fn add(&mut self, alloc: Global, user: BundleId) -> Result<(), AllocError>
         requires room { count_of user self.old < u64.MAX }
-        ensures added { OnOk result (self.new ≡ with_count user (count_of user self.old + 1) self.old) }
+        ensures added { OnOk result
+            (self.new ≡ with_count user (count_of user self.old + 1) self.old) }
         ensures unchanged { OnErr result (self.new ≡ self.old) }
     {
         if let Some(counts) = &mut self.counts {
@@ -69,7 +70,8 @@ impl Others {
     /// Counts one use less by the user, and answers whether there was one.
     pub fn take(&mut self, user: BundleId) -> bool
         ensures answer { result ≡ nat_lt 0 (count_of user self.old) }
-        ensures taken { OnTrue result (self.new ≡ with_count user (count_of user self.old - 1) self.old) }
+        ensures taken { OnTrue result
+            (self.new ≡ with_count user (count_of user self.old - 1) self.old) }
         ensures unchanged { OnFalse result (self.new ≡ self.old) }
     {
         let Some(counts) = &mut self.counts else {
@@ -103,7 +105,8 @@ pub fn take_one(count: &mut u64) -> bool
 
 fn add_to(uses: &mut IndexMap<u32, u64>, user: BundleId) -> Result<(), AllocError>
     requires room { count_of user uses.old.entries < u64.MAX }
-    ensures added { OnOk result (uses.new.entries ≡ with_count user (count_of user uses.old.entries + 1) uses.old.entries) }
+    ensures added { OnOk result
+        (uses.new.entries ≡ with_count user (count_of user uses.old.entries + 1) uses.old.entries) }
     ensures unchanged { OnErr result (uses.new.entries ≡ uses.old.entries) }
 {
     let count = uses.get(&user.0).copied().unwrap_or(0);
@@ -122,7 +125,8 @@ fn is_in(uses: &IndexMap<u32, u64>, user: BundleId) -> bool
 
 fn take_from(uses: &mut IndexMap<u32, u64>, user: BundleId) -> bool
     ensures answer { result ≡ nat_lt 0 (count_of user uses.old.entries) }
-    ensures taken { OnTrue result (uses.new.entries ≡ with_count user (count_of user uses.old.entries - 1) uses.old.entries) }
+    ensures taken { OnTrue result
+        (uses.new.entries ≡ with_count user (count_of user uses.old.entries - 1) uses.old.entries) }
     ensures unchanged { OnFalse result (uses.new.entries ≡ uses.old.entries) }
 {
     let Some(count) = uses.get_mut(&user.0) else {
@@ -132,7 +136,8 @@ fn take_from(uses: &mut IndexMap<u32, u64>, user: BundleId) -> bool
 }
 
 fn forget_from(uses: &mut IndexMap<u32, u64>, user: BundleId)
-    ensures forgotten { uses.new.entries ≡ filter (λ other. not (user.0 == other.0)) uses.old.entries }
+    ensures forgotten { uses.new.entries
+        ≡ filter (λ other. not (user.0 == other.0)) uses.old.entries }
 {
     uses.shift_remove(&user.0);
 }

@@ -191,7 +191,8 @@ impl FrameworkTexts {
         owner: BundleId,
     ) -> Result<Attributes, AllocError>
         requires fits { service.0 ≤ u32.MAX }
-        ensures all { IfOk result (λ all. all ≡ spec.with_framework given classes.now scope service owner) }
+        ensures all { IfOk result (λ all.
+            all ≡ spec.with_framework given classes.now scope service owner) }
     {
         let mut all = others(given)?;
         let names = class_names(alloc, classes)?;
@@ -224,7 +225,8 @@ fn add(all: &mut Attributes, alloc: Global, name: &Text, value: Value) -> Result
 
 /// The properties whose names are not the framework's, with room for those that are.
 fn others(given: Attributes) -> Result<Attributes, AllocError>
-    ensures others { IfOk result (λ others. others ≡ filter (λ p. not (spec.is_the_frameworks p)) given) }
+    ensures others { IfOk result (λ others.
+        others ≡ filter (λ p. not (spec.is_the_frameworks p)) given) }
 {
     let mut others = given.into_items();
     others.retain(|property| !is_the_frameworks(property));

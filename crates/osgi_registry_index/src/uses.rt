@@ -42,7 +42,8 @@ impl Uses {
     /// Counts one more use by the user.
     pub fn add(&mut self, alloc: Global, user: BundleId) -> Result<(), AllocError>
         requires room { count_of user self.old < u64.MAX }
-        ensures added { OnOk result (self.new ≡ with_count user (count_of user self.old + 1) self.old) }
+        ensures added { OnOk result
+            (self.new ≡ with_count user (count_of user self.old + 1) self.old) }
         ensures unchanged { OnErr result (self.new ≡ self.old) }
     {
         if let Some((first, count)) = &mut self.first {
@@ -70,7 +71,8 @@ impl Uses {
     /// Counts one use less by the user, and answers whether there was one.
     pub fn take(&mut self, user: BundleId) -> bool
         ensures answer { result ≡ nat_lt 0 (count_of user self.old) }
-        ensures taken { OnTrue result (self.new ≡ with_count user (count_of user self.old - 1) self.old) }
+        ensures taken { OnTrue result
+            (self.new ≡ with_count user (count_of user self.old - 1) self.old) }
         ensures unchanged { OnFalse result (self.new ≡ self.old) }
     {
         if let Some((first, count)) = &mut self.first
@@ -92,7 +94,8 @@ impl Uses {
 
 /// The count, if it is of another user.
 fn other_than(user: BundleId, first: Option<(u32, u64)>) -> Option<(u32, u64)>
-    ensures other { all_uses result [] ≡ filter (λ other. not (user.0 == other.0)) (all_uses first []) }
+    ensures other { all_uses result []
+        ≡ filter (λ other. not (user.0 == other.0)) (all_uses first []) }
 {
     let (other, _) = first?;
     if other == user.0 {

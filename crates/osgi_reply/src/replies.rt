@@ -179,7 +179,8 @@ fn change_by(
     requires earlier { All (IsOfEarlier entries) tables.old.listeners.rows }
     requires no_end { ends_hand asked.now.op ≡ false }
     ensures copied { IfOk result (λ r. r.kept ≡ r.reply) }
-    ensures replied { IfOk result (λ r. IsReplied entries asked.now tables.old tables.new r.reply (sights_of r.told.items)) }
+    ensures replied { IfOk result (λ r.
+        IsReplied entries asked.now tables.old tables.new r.reply (sights_of r.told.items)) }
     ensures unchanged { OnErr result (StandsStill tables.old tables.new) }
 {
     let (reply, change) = decide(alloc, tables, asked)?;
@@ -202,7 +203,9 @@ fn end_reply(ended: bool) -> Reply
 /// Carries out the end of a hand. It takes no memory.
 fn end_by(alloc: Global, tables: &mut Tables, tag: Tag, listener: ListenerId) -> Replied
     ensures copied { result.kept ≡ result.reply }
-    ensures replied { (entries : ℕ) → IsReplied entries (record { tag = tag; op = op.EndHand listener }) tables.old tables.new result.reply (sights_of result.told.items) }
+    ensures replied { (entries : ℕ)
+        → IsReplied entries (record { tag = tag; op = op.EndHand listener }) tables.old tables.new
+        result.reply (sights_of result.told.items) }
 {
     let ended = end_hand(tables, tag, listener);
     Replied {
@@ -224,7 +227,8 @@ pub fn reply_to(
     requires countable { entries < 4294967295 }
     requires earlier { All (IsOfEarlier entries) tables.old.listeners.rows }
     ensures copied { IfOk result (λ r. r.kept ≡ r.reply) }
-    ensures replied { IfOk result (λ r. IsReplied entries asked.now tables.old tables.new r.reply (sights_of r.told.items)) }
+    ensures replied { IfOk result (λ r.
+        IsReplied entries asked.now tables.old tables.new r.reply (sights_of r.told.items)) }
     ensures no_memory { ends_hand asked.now.op ≡ true → IsOk result }
     ensures unchanged { OnErr result (StandsStill tables.old tables.new) }
 {

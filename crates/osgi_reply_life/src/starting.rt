@@ -39,7 +39,8 @@ pub fn wish_start(tables: &Tables, target: &Target, transient: bool) -> Result<R
 
 /// Decides the begin of a start. It begins where the bundle is resolved, and no fragment.
 pub fn begin_start(tables: &Tables, tag: Tag, bundle: BundleId, transient: bool) -> (Reply, Change)
-    ensures decided { IsReplyAndChange (record { tag = tag; op = op.BeginStart bundle transient }) tables.now result.0 result.1 }
+    ensures decided { IsReplyAndChange (record { tag = tag; op = op.BeginStart bundle transient })
+        tables.now result.0 result.1 }
 {
     let Some(row) = tables.bundles.row(bundle) else {
         let refusal = Refusal::NoSuchBundle;
@@ -73,7 +74,8 @@ pub fn begin_start(tables: &Tables, tag: Tag, bundle: BundleId, transient: bool)
 
 /// Decides the end of a start. The start has to be the innermost bracket of its caller, opened by the line of the tag.
 pub fn end_start(tables: &Tables, tag: Tag, bundle: BundleId, failed: bool) -> (Reply, Change)
-    ensures decided { IsReplyAndChange (record { tag = tag; op = op.EndStart bundle failed }) tables.now result.0 result.1 }
+    ensures decided { IsReplyAndChange (record { tag = tag; op = op.EndStart bundle failed })
+        tables.now result.0 result.1 }
 {
     let end = Op::EndStart { bundle, failed };
     // Where the bracket is open the bundle is starting, by the same line.

@@ -17,7 +17,9 @@ pub fn begin_stop(
     target: &Target,
     transient: bool,
 ) -> Result<(Reply, Change), AllocError>
-    ensures decided { IfOk result (λ r. IsReplyAndChange (record { tag = tag; op = op.BeginStop target.now transient }) tables.now r.0 r.1) }
+    ensures decided { IfOk result (λ r.
+        IsReplyAndChange (record { tag = tag; op = op.BeginStop target.now transient }) tables.now
+        r.0 r.1) }
 {
     let Some(bundle) = tables.bundles.target(target)? else {
         let refusal = Refusal::NoSuchBundle;
@@ -50,7 +52,8 @@ pub fn begin_stop(
 
 /// Decides the end of a stop. The stop has to be the innermost bracket of its caller, opened by the line of the tag.
 pub fn end_stop(tables: &Tables, tag: Tag, bundle: BundleId, failed: bool) -> (Reply, Change)
-    ensures decided { IsReplyAndChange (record { tag = tag; op = op.EndStop bundle failed }) tables.now result.0 result.1 }
+    ensures decided { IsReplyAndChange (record { tag = tag; op = op.EndStop bundle failed })
+        tables.now result.0 result.1 }
 {
     let end = Op::EndStop { bundle, failed };
     // Where the bracket is open the bundle is stopping, by the same line.

@@ -18,7 +18,8 @@ use std::alloc::{AllocError, Global};
 
 /// The row of the depot that a live bundle comes from; 0 where there is no such bundle.
 fn depot_row(bundles: &Table, bundle: BundleId) -> u32
-    ensures row { result ≡ option_map_or (λ (row : BundleKept). row.row) (row_at bundle bundles.now.rows) 0 }
+    ensures row { result
+        ≡ option_map_or (λ (row : BundleKept). row.row) (row_at bundle bundles.now.rows) 0 }
 {
     match bundles.row(bundle) {
         Some(row) => row.row,
@@ -33,7 +34,8 @@ fn handed(
     listener: &ListenerRow,
     event: Event,
 ) -> Result<Reply, AllocError>
-    ensures handed { IfOk result (λ reply. reply ≡ handed_reply bundles.now.rows listener.now event) }
+    ensures handed { IfOk result (λ reply.
+        reply ≡ handed_reply bundles.now.rows listener.now event) }
 {
     Ok(Reply::Handed {
         listener: listener.listener,
@@ -48,7 +50,8 @@ fn handed(
 /// Decides a hand: the earliest event that waits for a listener in no turn is handed, unless the caller has as many brackets open as
 /// it may, or enough was handed. Where none waits, those that are busy are named.
 pub fn hand(alloc: Global, tables: &Tables, tag: Tag) -> Result<(Reply, Change), AllocError>
-    ensures decided { IfOk result (λ r. IsReplyAndChange (record { tag = tag; op = op.Hand }) tables.now r.0 r.1) }
+    ensures decided { IfOk result (λ r.
+        IsReplyAndChange (record { tag = tag; op = op.Hand }) tables.now r.0 r.1) }
 {
     let Some((listener, event)) = tables.listeners.next() else {
         let busy = tables.listeners.busy()?;
@@ -72,7 +75,9 @@ pub fn hand(alloc: Global, tables: &Tables, tag: Tag) -> Result<(Reply, Change),
 /// Ends a hand, which has to be the innermost bracket of its caller, opened by the line of the tag, and answers whether it was. It
 /// takes no memory. No listener sees anything of it.
 pub fn end_hand(tables: &mut Tables, tag: Tag, listener: ListenerId) -> bool
-    ensures replied { (entries : ℕ) → IsReplied entries (record { tag = tag; op = op.EndHand listener }) tables.old tables.new (end_reply result) [] }
+    ensures replied { (entries : ℕ)
+        → IsReplied entries (record { tag = tag; op = op.EndHand listener }) tables.old tables.new
+        (end_reply result) [] }
 {
     let end = Op::EndHand { listener };
     if !tables.brackets.is_end(tag, &end) {

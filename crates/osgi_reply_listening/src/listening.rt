@@ -24,7 +24,8 @@ pub fn add_listener(
 ) -> Result<(Reply, Change), AllocError>
     requires room { HasRoom tables.now }
     requires asker { asker_refusal tables.now.bundles (Some owner) ≡ None }
-    ensures decided { IfOk result (λ r. IsReplyAndChangeToAll (op.AddListener owner name.now kind filter.now) tables.now r.0 r.1) }
+    ensures decided { IfOk result (λ r.
+        IsReplyAndChangeToAll (op.AddListener owner name.now kind filter.now) tables.now r.0 r.1) }
 {
     if let Some(refusal) = tables.listeners.add_refusal(owner, name) {
         return Ok((Reply::Refused { refusal }, Change::Nothing));
@@ -48,7 +49,8 @@ pub fn remove_listener(
     name: &Text,
 ) -> Result<(Reply, Change), AllocError>
     requires asker { asker_refusal tables.now.bundles (Some owner) ≡ None }
-    ensures decided { IfOk result (λ r. IsReplyAndChangeToAll (op.RemoveListener owner name.now) tables.now r.0 r.1) }
+    ensures decided { IfOk result (λ r.
+        IsReplyAndChangeToAll (op.RemoveListener owner name.now) tables.now r.0 r.1) }
 {
     let value = tables.listeners.has(owner, name);
     let change = Change::Unlisten {

@@ -44,7 +44,8 @@ pub fn find(
     filter: &Option<Filter>,
 ) -> Result<Reply, AllocError>
     requires asker { asker_refusal tables.now.bundles (Some asker) ≡ None }
-    ensures replied { IfOk result (IsAnsweredToAll (op.Find asker class.now filter.now) tables.now) }
+    ensures replied { IfOk result
+        (IsAnsweredToAll (op.Find asker class.now filter.now) tables.now) }
 {
     let wirings = tables.wirings.wirings();
     let in_force = InForce { alloc, wirings };

@@ -22,7 +22,10 @@ fn is_java_class(class: &Text) -> bool
 
 /// Whether no class of this name is loaded for a revision: it is a fragment, or not in force, or the name begins with `java.`.
 fn is_barred(wirings: &Wirings, known: &Known, class: &Text) -> bool
-    ensures barred { result ≡ (is_some known.now.revision.host || is_none (wiring_at wirings.now.world.wirings known.now.id) || is_java_class class.now) }
+    ensures barred { result
+        ≡
+        (is_some known.now.revision.host || is_none
+        (wiring_at wirings.now.world.wirings known.now.id) || is_java_class class.now) }
 {
     known.revision.get().host.is_some()
         || wirings.wiring(known.id).is_none()

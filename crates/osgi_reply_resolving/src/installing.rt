@@ -41,7 +41,12 @@ fn make(
     revision: &Shared<Revision>,
 ) -> Result<Result<BundleKept, Refusal>, AllocError>
     requires ids { bundles.now.issued < u32.MAX }
-    ensures answer { IfOk result (λ answer. Gives (install_refusals revision.now.name revision.now.version bundles.now.rows) (λ made. made ≡ new_row (record { 0 = bundles.now.issued + 1 }) location.now revision.now.name revision.now.version (is_some revision.now.host) row) (verdict_of answer)) }
+    ensures answer { IfOk result (λ answer.
+        Gives (install_refusals revision.now.name revision.now.version bundles.now.rows)
+        (λ made.
+        made
+        ≡ new_row (record { 0 = bundles.now.issued + 1 }) location.now revision.now.name
+        revision.now.version (is_some revision.now.host) row) (verdict_of answer)) }
 {
     let name = revision.get().name.copy(alloc)?;
     let version = revision.get().version.copy(alloc)?;
@@ -57,7 +62,8 @@ pub fn install(
     location: &Text,
 ) -> Result<(Reply, Change), AllocError>
     requires room { HasRoom tables.now }
-    ensures decided { IfOk result (λ r. IsReplyAndChangeToAll (op.Install location.now) tables.now r.0 r.1) }
+    ensures decided { IfOk result (λ r.
+        IsReplyAndChangeToAll (op.Install location.now) tables.now r.0 r.1) }
 {
     if let Some(bundle) = tables.bundles.from_location(location) {
         let known = true;

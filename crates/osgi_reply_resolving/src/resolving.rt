@@ -93,7 +93,12 @@ fn note_revision(
     revision: RevisionId,
     numbers: &mut BTreeSet<u32>,
 ) -> Result<(), AllocError>
-    ensures noted { OnOk result ((n : ℕ) → contains nat_cmp numbers.new n ≡ (contains nat_cmp numbers.old n || is_by wirings.now.world bundles.now n revision)) }
+    ensures noted { OnOk result
+        ((n : ℕ)
+        → contains nat_cmp numbers.new n
+        ≡
+        (contains nat_cmp numbers.old n || is_by wirings.now.world bundles.now n
+        revision)) }
 {
     if let Some(bundle) = bundle_by(wirings, bundles, revision) {
         numbers.insert(bundle.0)?;
@@ -108,7 +113,12 @@ fn note_fragments(
     fragments: &[RevisionId],
     numbers: &mut BTreeSet<u32>,
 ) -> Result<(), AllocError>
-    ensures noted { OnOk result ((n : ℕ) → contains nat_cmp numbers.new n ≡ (contains nat_cmp numbers.old n || list_any (is_by wirings.now.world bundles.now n) fragments.now)) }
+    ensures noted { OnOk result
+        ((n : ℕ)
+        → contains nat_cmp numbers.new n
+        ≡
+        (contains nat_cmp numbers.old n || list_any
+        (is_by wirings.now.world bundles.now n) fragments.now)) }
 {
     for fragment in fragments {
         note_revision(wirings, bundles, *fragment, numbers)?;
@@ -123,7 +133,12 @@ fn note_wiring(
     wiring: &Wiring,
     numbers: &mut BTreeSet<u32>,
 ) -> Result<(), AllocError>
-    ensures noted { OnOk result ((n : ℕ) → contains nat_cmp numbers.new n ≡ (contains nat_cmp numbers.old n || is_by_wiring wirings.now.world bundles.now n wiring.now)) }
+    ensures noted { OnOk result
+        ((n : ℕ)
+        → contains nat_cmp numbers.new n
+        ≡
+        (contains nat_cmp numbers.old n || is_by_wiring wirings.now.world bundles.now n
+        wiring.now)) }
 {
     note_revision(wirings, bundles, wiring.revision, numbers)?;
     note_fragments(wirings, bundles, wiring.fragments.items(), numbers)
@@ -136,7 +151,10 @@ fn numbers_by(
     bundles: &Table,
     added: &[Wiring],
 ) -> Result<BTreeSet<u32>, AllocError>
-    ensures numbers { IfOk result (λ numbers. (n : ℕ) → contains nat_cmp numbers n ≡ list_any (is_by_wiring wirings.now.world bundles.now n) added.now) }
+    ensures numbers { IfOk result (λ numbers.
+        (n : ℕ)
+        → contains nat_cmp numbers n
+        ≡ list_any (is_by_wiring wirings.now.world bundles.now n) added.now) }
 {
     let mut numbers = BTreeSet::new(alloc);
     for wiring in added {
@@ -173,7 +191,8 @@ fn newly_resolved(
     added: &[Wiring],
 ) -> Result<List<BundleId>, AllocError>
     requires holds { IsKeptWorld wirings.now.world wirings.now.issued }
-    ensures listed { IfOk result (λ list. list ≡ listed wirings.now.world added.now bundles.now.rows) }
+    ensures listed { IfOk result (λ list.
+        list ≡ listed wirings.now.world added.now bundles.now.rows) }
     ensures settable { IfOk result (All (λ b. IsSettable b bundles.now.rows)) }
     ensures in_order { AreInOrder bundles.now }
 {
@@ -191,9 +210,13 @@ fn accept(
     added: List<Wiring>,
 ) -> Result<(Reply, Change), AllocError>
     requires holds { IsKeptWorld wirings.now.world wirings.now.issued }
-    ensures reply { IfOk result (λ r. r.0 ≡ answer.Resolved (listed wirings.now.world added bundles.now.rows)) }
-    ensures change { IfOk result (λ r. r.1 ≡ Change.Resolve added (listed wirings.now.world added bundles.now.rows)) }
-    ensures settable { OnOk result (All (λ b. IsSettable b bundles.now.rows) (listed wirings.now.world added bundles.now.rows)) }
+    ensures reply { IfOk result (λ r.
+        r.0 ≡ answer.Resolved (listed wirings.now.world added bundles.now.rows)) }
+    ensures change { IfOk result (λ r.
+        r.1 ≡ Change.Resolve added (listed wirings.now.world added bundles.now.rows)) }
+    ensures settable { OnOk result
+        (All (λ b. IsSettable b bundles.now.rows)
+        (listed wirings.now.world added bundles.now.rows)) }
     ensures in_order { OnOk result (AreInOrder bundles.now) }
 {
     let resolved = newly_resolved(alloc, wirings, bundles, added.items())?;
@@ -248,7 +271,8 @@ fn search(
     requires asked { IsAsked tables.old.wirings.world bundle root }
     requires holds { IsKeptWorld tables.old.wirings.world tables.old.wirings.issued }
     requires budget { tables.old.budget < 2 ^ 64 - 1 }
-    ensures decided { IfOk result (λ r. IsReplyAndChangeToAll (op.Resolve bundle) tables.old r.0 r.1) }
+    ensures decided { IfOk result (λ r.
+        IsReplyAndChangeToAll (op.Resolve bundle) tables.old r.0 r.1) }
     ensures unchanged { tables.new ≡ tables.old }
 {
     match tables.wirings.resolve(root, tables.budget)? {
@@ -274,7 +298,8 @@ pub fn resolve(
     bundle: BundleId,
 ) -> Result<(Reply, Change), AllocError>
     requires room { HasRoom tables.old }
-    ensures decided { IfOk result (λ r. IsReplyAndChangeToAll (op.Resolve bundle) tables.old r.0 r.1) }
+    ensures decided { IfOk result (λ r.
+        IsReplyAndChangeToAll (op.Resolve bundle) tables.old r.0 r.1) }
     ensures unchanged { tables.new ≡ tables.old }
 {
     match target_of(tables.wirings.wirings(), bundle) {

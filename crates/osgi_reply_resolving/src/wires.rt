@@ -18,7 +18,8 @@ use std::alloc::{AllocError, Global};
 
 /// The capability at a place of its owner.
 fn capability(wirings: &Wirings, place: CapRef) -> Option<&Capability>
-    ensures capability { option_copied result ≡ capability_at wirings.now.world.known place.owner place.index }
+    ensures capability { option_copied result
+        ≡ capability_at wirings.now.world.known place.owner place.index }
 {
     let known = wirings.known(place.owner)?;
     known
@@ -51,7 +52,8 @@ fn wire_row(alloc: Global, wirings: &Wirings, wire: &Wire) -> Result<WireRow, Al
 
 fn wire_rows(alloc: Global, wirings: &Wirings, wires: &[Wire]) -> Result<List<WireRow>, AllocError>
     requires known { All (λ w. IsSome (wire_row wirings.now.world.known w)) wires.now }
-    ensures rows { IfOk result (λ rows. map Some rows ≡ map (wire_row wirings.now.world.known) wires.now) }
+    ensures rows { IfOk result (λ rows.
+        map Some rows ≡ map (wire_row wirings.now.world.known) wires.now) }
 {
     let mut rows = List::with_capacity(alloc, wires.len())?;
     for wire in wires {
@@ -87,7 +89,8 @@ fn fragment_rows(
     fragments: &[RevisionId],
 ) -> Result<List<WireRow>, AllocError>
     requires known { All (λ f. IsSome (fragment_row wirings.now.world.known f)) fragments.now }
-    ensures rows { IfOk result (λ rows. map Some rows ≡ map (fragment_row wirings.now.world.known) fragments.now) }
+    ensures rows { IfOk result (λ rows.
+        map Some rows ≡ map (fragment_row wirings.now.world.known) fragments.now) }
 {
     let mut rows = List::with_capacity(alloc, fragments.len())?;
     for fragment in fragments {

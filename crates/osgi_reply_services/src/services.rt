@@ -25,7 +25,9 @@ pub fn register(
     properties: &Attributes,
 ) -> Result<(Reply, ServiceChange), AllocError>
     requires ids { registry.now.issued < u32.MAX }
-    ensures decided { IfOk result (λ r. IsReplyAndChange (op.Register owner classes.now object.now scope properties.now) registry.now r.0 r.1) }
+    ensures decided { IfOk result (λ r.
+        IsReplyAndChange (op.Register owner classes.now object.now scope properties.now)
+        registry.now r.0 r.1) }
 {
     let Scope::Singleton = scope else {
         let refusal = Refusal::InvalidOperation;
@@ -60,7 +62,8 @@ pub fn modify(
     service: ServiceId,
     properties: &Attributes,
 ) -> Result<(Reply, ServiceChange), AllocError>
-    ensures decided { IfOk result (λ r. IsReplyAndChange (op.Modify owner service properties.now) registry.now r.0 r.1) }
+    ensures decided { IfOk result (λ r.
+        IsReplyAndChange (op.Modify owner service properties.now) registry.now r.0 r.1) }
 {
     if let Some(refusal) = registry.modify_refusal(owner, service, properties)? {
         return Ok((Reply::Refused { refusal }, ServiceChange::Nothing));
@@ -76,7 +79,8 @@ pub fn unregister(
     owner: BundleId,
     service: ServiceId,
 ) -> (Reply, ServiceChange)
-    ensures decided { IsReplyAndChange (op.Unregister owner service) registry.now result.0 result.1 }
+    ensures decided { IsReplyAndChange (op.Unregister owner service) registry.now result.0
+        result.1 }
 {
     match registry.refusal_of(owner, service) {
         Some(refusal) => (Reply::Refused { refusal }, ServiceChange::Nothing),
@@ -90,7 +94,8 @@ pub fn find_all(
     class: &Text,
     filter: &Option<Filter>,
 ) -> Result<Reply, AllocError>
-    ensures served { IfOk result (IsServedToAll (op.FindAll asker class.now filter.now) registry.now registry.now) }
+    ensures served { IfOk result
+        (IsServedToAll (op.FindAll asker class.now filter.now) registry.now registry.now) }
 {
     let services = registry.find_all(class, filter.as_ref())?;
     Ok(Reply::Services { services })
@@ -103,7 +108,8 @@ pub fn get(
     service: ServiceId,
 ) -> Result<(Reply, ServiceChange), AllocError>
     requires countable { use_count user service registry.now.rows < u64.MAX }
-    ensures decided { IfOk result (λ r. IsReplyAndChange (op.Get user service) registry.now r.0 r.1) }
+    ensures decided { IfOk result (λ r.
+        IsReplyAndChange (op.Get user service) registry.now r.0 r.1) }
     ensures unopened { IfOk result (λ r. opens (op.Get user service) r.0 ≡ None) }
 {
     let Some(object) = registry.object(service) else {

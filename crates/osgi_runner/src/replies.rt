@@ -51,8 +51,11 @@ fn handed<'s>(stack: &mut Vec<Frame<'s>>, reply: Reply) -> Step<'s>
     requires fit { AllFit (reverse stack.old.items) }
     ensures fit { AllFit (reverse stack.new.items) }
     ensures can { CanStep result (reverse stack.new.items) }
-    ensures on { (script : Sections) (calls : List Call) → After script result (frames_of stack.new.items) calls → says_spent reply ≡ false →
-        Waited script op.Hand wait.Drain (frames_of stack.old.items) (call op.Hand reply ∷ calls) }
+    ensures on { (script : Sections) (calls : List Call)
+        → After script result (frames_of stack.new.items) calls
+        → says_spent reply ≡ false
+        → Waited script op.Hand wait.Drain (frames_of stack.old.items)
+        (call op.Hand reply ∷ calls) }
 {
     let Some(listener) = handed_to(&reply) else {
         return Step::Go(Now::Back(DONE));
@@ -67,8 +70,10 @@ fn taken<'s>(stack: &mut Vec<Frame<'s>>, reply: Reply) -> Step<'s>
     requires fit { AllFit (reverse stack.old.items) }
     ensures fit { AllFit (reverse stack.new.items) }
     ensures can { CanStep result (reverse stack.new.items) }
-    ensures on { (script : Sections) (calls : List Call) → After script result (frames_of stack.new.items) calls →
-        Waited script op.TakeJob wait.Jobs (frames_of stack.old.items) (call op.TakeJob reply ∷ calls) }
+    ensures on { (script : Sections) (calls : List Call)
+        → After script result (frames_of stack.new.items) calls
+        → Waited script op.TakeJob wait.Jobs (frames_of stack.old.items)
+        (call op.TakeJob reply ∷ calls) }
 {
     if !is_job(&reply) {
         return Step::Go(Now::Back(DONE));
@@ -85,8 +90,11 @@ impl Wait {
         requires asked { (asks : Op) × IsAsked asks self (reverse stack.old.items) }
         ensures fit { AllFit (reverse stack.new.items) }
         ensures can { CanStep result (reverse stack.new.items) }
-        ensures on { (script : Sections) (asks : Op) (calls : List Call) → IsAsked asks self (reverse stack.old.items) →
-            After script result (frames_of stack.new.items) calls → says_spent reply ≡ false → Waited script asks self (frames_of stack.old.items) (call asks reply ∷ calls) }
+        ensures on { (script : Sections) (asks : Op) (calls : List Call)
+            → IsAsked asks self (reverse stack.old.items)
+            → After script result (frames_of stack.new.items) calls
+            → says_spent reply ≡ false
+            → Waited script asks self (frames_of stack.old.items) (call asks reply ∷ calls) }
     {
         match self {
             Wait::Plan(plan) => follow(stack, plan, Last::Reply { reply }),

@@ -47,10 +47,17 @@ fn finish<'s, C: Caller>(
     requires can { CanStep step (reverse stack.old.items) }
     ensures number { C.number caller.new ≡ C.number caller.old }
     ensures limit { C.limit caller.new ≡ C.limit caller.old }
-    ensures ended { IfOk result (λ how. Ends (λ calls. After (sections_of scripts.now) step.entry (frames_of stack.old.items) calls) how
-        (record { caller = C.number caller.old; command = number }) (C.full caller.new) (C.made caller.old) (C.made caller.new)) }
-    ensures wanting { OnErr result (Made (IsCutOf (λ calls. After (sections_of scripts.now) step.entry (frames_of stack.old.items) calls))
-        (record { caller = C.number caller.old; command = number }) (C.made caller.old) (C.made caller.new)) }
+    ensures ended { IfOk result (λ how.
+        Ends (λ calls. After (sections_of scripts.now) step.entry (frames_of stack.old.items) calls)
+        how (record { caller = C.number caller.old; command = number }) (C.full caller.new)
+        (C.made caller.old) (C.made caller.new)) }
+    ensures wanting { OnErr result
+        (Made
+        (IsCutOf
+        (λ calls.
+        After (sections_of scripts.now) step.entry (frames_of stack.old.items) calls))
+        (record { caller = C.number caller.old; command = number }) (C.made caller.old)
+        (C.made caller.new)) }
 {
     let mut step = step;
     loop {
@@ -75,7 +82,10 @@ fn first<'s>(
     requires empty { stack.old.items ≡ [] }
     ensures fit { IfOk result (λ step. AllFit (reverse stack.new.items)) }
     ensures can { IfOk result (λ step. CanStep step (reverse stack.new.items)) }
-    ensures follows { IfOk result (λ step. (script : Sections) (calls : List Call) → After script step (frames_of stack.new.items) calls → Follows script command.now calls) }
+    ensures follows { IfOk result (λ step.
+        (script : Sections) (calls : List Call)
+        → After script step (frames_of stack.new.items) calls
+        → Follows script command.now calls) }
 {
     let command = command.copy(alloc)?;
     let plan = Plan::of(alloc, command, SYSTEM)?;
@@ -94,10 +104,14 @@ fn run<C: Caller>(
 ) -> Result<Ended, AllocError>
     ensures number { C.number caller.new ≡ C.number caller.old }
     ensures limit { C.limit caller.new ≡ C.limit caller.old }
-    ensures ended { IfOk result (λ how. Ends (Follows (sections_of scripts.now) command.now) how
-        (record { caller = C.number caller.old; command = number }) (C.full caller.new) (C.made caller.old) (C.made caller.new)) }
-    ensures wanting { OnErr result (Made (IsCutOf (Follows (sections_of scripts.now) command.now))
-        (record { caller = C.number caller.old; command = number }) (C.made caller.old) (C.made caller.new)) }
+    ensures ended { IfOk result (λ how.
+        Ends (Follows (sections_of scripts.now) command.now) how
+        (record { caller = C.number caller.old; command = number }) (C.full caller.new)
+        (C.made caller.old) (C.made caller.new)) }
+    ensures wanting { OnErr result
+        (Made (IsCutOf (Follows (sections_of scripts.now) command.now))
+        (record { caller = C.number caller.old; command = number }) (C.made caller.old)
+        (C.made caller.new)) }
 {
     let mut stack = Vec::new(alloc);
     let step = first(alloc, &mut stack, command)?;
@@ -114,10 +128,17 @@ fn run_line<C: Caller>(
     requires command { has_command line.now.content ≡ true }
     ensures number { C.number caller.new ≡ C.number caller.old }
     ensures limit { C.limit caller.new ≡ C.limit caller.old }
-    ensures done { IfOk result (λ how. how ≡ ended.Done → Adds (IsRunOf (sections_of scripts.now) (C.number caller.old) line.now) (C.made caller.old) (C.made caller.new)) }
-    ensures cut { IfOk result (λ how. how ≡ ended.Cut →
-        IsCutShort (sections_of scripts.now) (C.number caller.old) line.now (C.full caller.new) (C.made caller.old) (C.made caller.new)) }
-    ensures wanting { OnErr result (Adds (IsCutRunOf (sections_of scripts.now) (C.number caller.old) line.now false) (C.made caller.old) (C.made caller.new)) }
+    ensures done { IfOk result (λ how.
+        how ≡ ended.Done
+        → Adds (IsRunOf (sections_of scripts.now) (C.number caller.old) line.now)
+        (C.made caller.old) (C.made caller.new)) }
+    ensures cut { IfOk result (λ how.
+        how ≡ ended.Cut
+        → IsCutShort (sections_of scripts.now) (C.number caller.old) line.now (C.full caller.new)
+        (C.made caller.old) (C.made caller.new)) }
+    ensures wanting { OnErr result
+        (Adds (IsCutRunOf (sections_of scripts.now) (C.number caller.old) line.now false)
+        (C.made caller.old) (C.made caller.new)) }
 {
     let Content::Run(command) = &line.content else {
         unreachable!()
@@ -134,10 +155,17 @@ fn drain<C: Caller>(
 ) -> Result<Ended, AllocError>
     ensures number { C.number caller.new ≡ C.number caller.old }
     ensures limit { C.limit caller.new ≡ C.limit caller.old }
-    ensures done { IfOk result (λ how. how ≡ ended.Done → Adds (IsDrainOf (sections_of scripts.now) (C.number caller.old) line.now) (C.made caller.old) (C.made caller.new)) }
-    ensures cut { IfOk result (λ how. how ≡ ended.Cut →
-        IsDrainCutShort (sections_of scripts.now) (C.number caller.old) line.now (C.full caller.new) (C.made caller.old) (C.made caller.new)) }
-    ensures wanting { OnErr result (Adds (IsCutDrainOf (sections_of scripts.now) (C.number caller.old) line.now false) (C.made caller.old) (C.made caller.new)) }
+    ensures done { IfOk result (λ how.
+        how ≡ ended.Done
+        → Adds (IsDrainOf (sections_of scripts.now) (C.number caller.old) line.now)
+        (C.made caller.old) (C.made caller.new)) }
+    ensures cut { IfOk result (λ how.
+        how ≡ ended.Cut
+        → IsDrainCutShort (sections_of scripts.now) (C.number caller.old) line.now
+        (C.full caller.new) (C.made caller.old) (C.made caller.new)) }
+    ensures wanting { OnErr result
+        (Adds (IsCutDrainOf (sections_of scripts.now) (C.number caller.old) line.now false)
+        (C.made caller.old) (C.made caller.new)) }
 {
     let mut stack = Vec::new(alloc);
     let step = Step::Ask(Op::Hand, Wait::Drain);
@@ -177,11 +205,20 @@ impl<'a, C: Caller> Runner<'a, C> {
         ensures scripts { self.new.scripts.now ≡ self.old.scripts.now }
         ensures number { C.number self.new.caller.now ≡ C.number self.old.caller.now }
         ensures limit { C.limit self.new.caller.now ≡ C.limit self.old.caller.now }
-        ensures done { IfOk result (λ how. how ≡ ended.Done →
-            Adds (IsRunOf (sections_of self.old.scripts.now) (C.number self.old.caller.now) line.now) (C.made self.old.caller.now) (C.made self.new.caller.now)) }
-        ensures cut { IfOk result (λ how. how ≡ ended.Cut →
-            IsCutShort (sections_of self.old.scripts.now) (C.number self.old.caller.now) line.now (C.full self.new.caller.now) (C.made self.old.caller.now) (C.made self.new.caller.now)) }
-        ensures wanting { OnErr result (Adds (IsCutRunOf (sections_of self.old.scripts.now) (C.number self.old.caller.now) line.now false) (C.made self.old.caller.now) (C.made self.new.caller.now)) }
+        ensures done { IfOk result (λ how.
+            how ≡ ended.Done
+            → Adds
+            (IsRunOf (sections_of self.old.scripts.now) (C.number self.old.caller.now) line.now)
+            (C.made self.old.caller.now) (C.made self.new.caller.now)) }
+        ensures cut { IfOk result (λ how.
+            how ≡ ended.Cut
+            → IsCutShort (sections_of self.old.scripts.now) (C.number self.old.caller.now) line.now
+            (C.full self.new.caller.now) (C.made self.old.caller.now)
+            (C.made self.new.caller.now)) }
+        ensures wanting { OnErr result
+            (Adds
+            (IsCutRunOf (sections_of self.old.scripts.now) (C.number self.old.caller.now)
+            line.now false) (C.made self.old.caller.now) (C.made self.new.caller.now)) }
     {
         run_line(self.alloc, self.caller, self.scripts, line)
     }
@@ -197,11 +234,20 @@ impl<'a, C: Caller> Runner<'a, C> {
         ensures scripts { self.new.scripts.now ≡ self.old.scripts.now }
         ensures number { C.number self.new.caller.now ≡ C.number self.old.caller.now }
         ensures limit { C.limit self.new.caller.now ≡ C.limit self.old.caller.now }
-        ensures done { IfOk result (λ how. how ≡ ended.Done →
-            Adds (IsDrainOf (sections_of self.old.scripts.now) (C.number self.old.caller.now) line.now) (C.made self.old.caller.now) (C.made self.new.caller.now)) }
-        ensures cut { IfOk result (λ how. how ≡ ended.Cut →
-            IsDrainCutShort (sections_of self.old.scripts.now) (C.number self.old.caller.now) line.now (C.full self.new.caller.now) (C.made self.old.caller.now) (C.made self.new.caller.now)) }
-        ensures wanting { OnErr result (Adds (IsCutDrainOf (sections_of self.old.scripts.now) (C.number self.old.caller.now) line.now false) (C.made self.old.caller.now) (C.made self.new.caller.now)) }
+        ensures done { IfOk result (λ how.
+            how ≡ ended.Done
+            → Adds
+            (IsDrainOf (sections_of self.old.scripts.now) (C.number self.old.caller.now)
+            line.now) (C.made self.old.caller.now) (C.made self.new.caller.now)) }
+        ensures cut { IfOk result (λ how.
+            how ≡ ended.Cut
+            → IsDrainCutShort (sections_of self.old.scripts.now) (C.number self.old.caller.now)
+            line.now (C.full self.new.caller.now) (C.made self.old.caller.now)
+            (C.made self.new.caller.now)) }
+        ensures wanting { OnErr result
+            (Adds
+            (IsCutDrainOf (sections_of self.old.scripts.now) (C.number self.old.caller.now)
+            line.now false) (C.made self.old.caller.now) (C.made self.new.caller.now)) }
     {
         drain(self.alloc, self.caller, self.scripts, line)
     }

@@ -32,7 +32,8 @@ fn is_section(which: &Section, other: &Section) -> bool
 
 /// The parts of the row's script: none where the row has no script.
 fn parts_of(scripts: &Scripts, row: u32) -> &[Part]
-    ensures parts { result.now ≡ option_map_or (λ (script : Script). script.sections) (slice_get scripts.now.rows row) [] }
+    ensures parts { result.now
+        ≡ option_map_or (λ (script : Script). script.sections) (slice_get scripts.now.rows row) [] }
 {
     match scripts.rows.items().get(row as usize) {
         Some(script) => script.sections.items(),
@@ -42,7 +43,8 @@ fn parts_of(scripts: &Scripts, row: u32) -> &[Part]
 
 /// The part that is of this section, if there is one.
 fn part_of<'s>(parts: &'s [Part], which: &Section) -> Option<&'s Part>
-    ensures found { option_map (λ (part : Bor Part). part.now) result ≡ find (λ (part : Part). is_section which.now part.section) parts.now }
+    ensures found { option_map (λ (part : Bor Part). part.now) result
+        ≡ find (λ (part : Part). is_section which.now part.section) parts.now }
 {
     parts.iter().find(|part| is_section(which, &part.section))
 }
@@ -72,7 +74,8 @@ fn service_of(event: Event) -> Option<ServiceId>
 
 /// The bindings with which a section begins that is run for an event of this service, if it is of one.
 fn first_bindings(alloc: Global, service: Option<ServiceId>) -> Result<Vec<Binding>, AllocError>
-    ensures bindings { IfOk result (λ bindings. bindings_of bindings.items ≡ first_bindings service) }
+    ensures bindings { IfOk result (λ bindings.
+        bindings_of bindings.items ≡ first_bindings service) }
 {
     let mut bindings = Vec::new(alloc);
     if let Some(service) = service {
@@ -93,7 +96,9 @@ fn began<'s>(
     section: &Section,
     service: Option<ServiceId>,
 ) -> Result<Running<'s>, AllocError>
-    ensures running { IfOk result (λ running. IsRunning running owner (first_bindings service) (sections_of scripts.now row section.now)) }
+    ensures running { IfOk result (λ running.
+        IsRunning running owner (first_bindings service)
+        (sections_of scripts.now row section.now)) }
 {
     Ok(Running {
         owner,
@@ -134,7 +139,8 @@ impl Opening {
     /// The section as it begins.
     pub fn opened<'s>(&self, alloc: Global, scripts: &'s Scripts) -> Result<Running<'s>, AllocError>
         requires can { CanOpen self.now }
-        ensures running { IfOk result (λ running. Opens (sections_of scripts.now) self.now running) }
+        ensures running { IfOk result (λ running.
+            Opens (sections_of scripts.now) self.now running) }
     {
         match self {
             Opening::ByPlan {

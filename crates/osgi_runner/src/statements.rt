@@ -33,7 +33,9 @@ const NO_SERVICE: ServiceId = ServiceId(0);
 
 /// The service of the latest binding of a variable.
 fn latest(bindings: &[Binding], var: &Text) -> Option<ServiceId>
-    ensures latest { result ≡ option_map (λ (b : Binding). b.service) (find (λ (b : Binding). bytes_eq b.var var.now) (reverse bindings.now)) }
+    ensures latest { result
+        ≡ option_map (λ (b : Binding). b.service)
+        (find (λ (b : Binding). bytes_eq b.var var.now) (reverse bindings.now)) }
 {
     bindings
         .iter()
@@ -55,7 +57,8 @@ fn register(
     object: &Text,
     properties: &Attributes,
 ) -> Result<Command, AllocError>
-    ensures made { IfOk result (λ made. made ≡ Command.Register classes.now object.now properties.now) }
+    ensures made { IfOk result (λ made.
+        made ≡ Command.Register classes.now object.now properties.now) }
 {
     let (classes, object, properties) = copy_three(classes, object, properties, alloc)?;
     Ok(Command::Register {
@@ -72,7 +75,8 @@ fn factory(
     name: &Text,
     properties: &Attributes,
 ) -> Result<Command, AllocError>
-    ensures made { IfOk result (λ made. made ≡ Command.Factory classes.now scope name.now properties.now) }
+    ensures made { IfOk result (λ made.
+        made ≡ Command.Factory classes.now scope name.now properties.now) }
 {
     let (classes, name, properties) = copy_three(classes, name, properties, alloc)?;
     Ok(Command::Factory {
@@ -109,7 +113,8 @@ pub fn command_of(
     bindings: &[Binding],
     statement: &Statement,
 ) -> Result<Command, AllocError>
-    ensures command { IfOk result (λ made. made ≡ command_of owner (bindings_of bindings.now) statement.now) }
+    ensures command { IfOk result (λ made.
+        made ≡ command_of owner (bindings_of bindings.now) statement.now) }
 {
     match statement {
         Statement::Register {
@@ -196,7 +201,9 @@ pub fn bind(
     statement: &Statement,
     found: Option<ServiceId>,
 ) -> Result<(), AllocError>
-    ensures bound { OnOk result (bindings_of bindings.new.items ≡ bind (bound_by statement.now) (end_by false found) (bindings_of bindings.old.items)) }
+    ensures bound { OnOk result
+        (bindings_of bindings.new.items
+        ≡ bind (bound_by statement.now) (end_by false found) (bindings_of bindings.old.items)) }
 {
     if let (Some(var), Some(service)) = (bound_by(statement), found) {
         bindings.push(Binding {

@@ -44,9 +44,11 @@ pub fn follow<'s>(stack: &mut Vec<Frame<'s>>, plan: Plan, last: Last) -> Step<'s
     requires some { HasSome (reverse stack.old.items) }
     ensures fit { AllFit (reverse stack.new.items) }
     ensures can { CanStep result (reverse stack.new.items) }
-    ensures lighter { IsLighter result stack.new.items (step_weight (resume (pending_of plan) (last_of last)) + stack_weight stack.old.items) }
-    ensures on { (script : Sections) (calls : List Call) → After script result (frames_of stack.new.items) calls →
-        Comes script (resume (pending_of plan) (last_of last)) (frames_of stack.old.items) calls }
+    ensures lighter { IsLighter result stack.new.items
+        (step_weight (resume (pending_of plan) (last_of last)) + stack_weight stack.old.items) }
+    ensures on { (script : Sections) (calls : List Call)
+        → After script result (frames_of stack.new.items) calls
+        → Comes script (resume (pending_of plan) (last_of last)) (frames_of stack.old.items) calls }
 {
     let mut plan = plan;
     match plan.next(last) {
@@ -83,10 +85,16 @@ impl<'s> Running<'s> {
         statement: &Statement,
         outcome: Outcome,
     ) -> Result<Step<'s>, AllocError>
-        ensures can { IfOk result (λ step. (outer : List Frame) → HasSome outer → CanStep step outer) }
-        ensures lighter { IfOk result (λ step. (stack : List Frame) → IsLighter step stack (3 + stack_weight stack)) }
-        ensures on { IfOk result (λ step. (script : Sections) (outer : List course.Frame) (calls : List Call) → After script step outer calls →
-            Left script (to_section self.entry.owner (bindings_of self.entry.bindings.items) statement.now self.entry.left.now ∷ outer) (end_of outcome) calls) }
+        ensures can { IfOk result (λ step.
+            (outer : List Frame) → HasSome outer → CanStep step outer) }
+        ensures lighter { IfOk result (λ step.
+            (stack : List Frame) → IsLighter step stack (3 + stack_weight stack)) }
+        ensures on { IfOk result (λ step.
+            (script : Sections) (outer : List course.Frame) (calls : List Call)
+            → After script step outer calls
+            → Left script
+            (to_section self.entry.owner (bindings_of self.entry.bindings.items) statement.now
+            self.entry.left.now ∷ outer) (end_of outcome) calls) }
     {
         if outcome.failed {
             return Ok(Step::Go(Now::Back(FAILED)));
@@ -110,9 +118,14 @@ impl<'s> Frame<'s> {
         requires fit { AllFit (reverse stack.old.items) }
         ensures fit { IfOk result (λ step. AllFit (reverse stack.new.items)) }
         ensures can { IfOk result (λ step. CanStep step (reverse stack.new.items)) }
-        ensures lighter { IfOk result (λ step. IsLighter step stack.new.items (1 + frame_weight self.entry + stack_weight stack.old.items)) }
-        ensures on { IfOk result (λ step. (script : Sections) (calls : List Call) → After script step (frames_of stack.new.items) calls →
-            Left script (frame_of self.entry ∷ frames_of stack.old.items) (end_of outcome) calls) }
+        ensures lighter { IfOk result (λ step.
+            IsLighter step stack.new.items
+            (1 + frame_weight self.entry + stack_weight stack.old.items)) }
+        ensures on { IfOk result (λ step.
+            (script : Sections) (calls : List Call)
+            → After script step (frames_of stack.new.items) calls
+            → Left script (frame_of self.entry ∷ frames_of stack.old.items) (end_of outcome)
+            calls) }
     {
         match self {
             Frame::Drained(plan) => Ok(follow(stack, plan, Last::Drained)),
@@ -140,9 +153,12 @@ fn back<'s>(
     requires fit { AllFit (reverse stack.old.items) }
     ensures fit { IfOk result (λ step. AllFit (reverse stack.new.items)) }
     ensures can { IfOk result (λ step. CanStep step (reverse stack.new.items)) }
-    ensures lighter { IfOk result (λ step. IsLighter step stack.new.items (1 + stack_weight stack.old.items)) }
-    ensures on { IfOk result (λ step. (script : Sections) (calls : List Call) → After script step (frames_of stack.new.items) calls →
-        Left script (frames_of stack.old.items) (end_of outcome) calls) }
+    ensures lighter { IfOk result (λ step.
+        IsLighter step stack.new.items (1 + stack_weight stack.old.items)) }
+    ensures on { IfOk result (λ step.
+        (script : Sections) (calls : List Call)
+        → After script step (frames_of stack.new.items) calls
+        → Left script (frames_of stack.old.items) (end_of outcome) calls) }
     ensures some { OnErr result (HasSome (reverse stack.old.items)) }
 {
     match stack.pop() {
@@ -158,9 +174,12 @@ impl<'s> Running<'s> {
         requires some { HasSome (reverse stack.old.items) }
         ensures fit { IfOk result (λ step. AllFit (reverse stack.new.items)) }
         ensures can { IfOk result (λ step. CanStep step (reverse stack.new.items)) }
-        ensures lighter { IfOk result (λ step. IsLighter step stack.new.items (2 + stack_weight stack.old.items)) }
-        ensures on { IfOk result (λ step. (script : Sections) (calls : List Call) → After script step (frames_of stack.new.items) calls →
-            Rest script (now.Run self.entry) (frames_of stack.old.items) calls) }
+        ensures lighter { IfOk result (λ step.
+            IsLighter step stack.new.items (2 + stack_weight stack.old.items)) }
+        ensures on { IfOk result (λ step.
+            (script : Sections) (calls : List Call)
+            → After script step (frames_of stack.new.items) calls
+            → Rest script (now.Run self.entry) (frames_of stack.old.items) calls) }
     {
         let Some((statement, left)) = self.left.split_first() else {
             return Ok(Step::Go(Now::Back(DONE)));
@@ -201,9 +220,12 @@ impl<'s> Now<'s> {
         ensures made { C.made caller.new ≡ C.made caller.old }
         ensures fit { IfOk result (λ step. AllFit (reverse stack.new.items)) }
         ensures can { IfOk result (λ step. CanStep step (reverse stack.new.items)) }
-        ensures lighter { IfOk result (λ step. IsLighter step stack.new.items (now_weight self.entry + stack_weight stack.old.items)) }
-        ensures on { IfOk result (λ step. (calls : List Call) → After (sections_of scripts.now) step (frames_of stack.new.items) calls →
-            Rest (sections_of scripts.now) self.entry (frames_of stack.old.items) calls) }
+        ensures lighter { IfOk result (λ step.
+            IsLighter step stack.new.items (now_weight self.entry + stack_weight stack.old.items)) }
+        ensures on { IfOk result (λ step.
+            (calls : List Call)
+            → After (sections_of scripts.now) step (frames_of stack.new.items) calls
+            → Rest (sections_of scripts.now) self.entry (frames_of stack.old.items) calls) }
         ensures some { OnErr result (HasSome (reverse stack.old.items)) }
     {
         match self {
@@ -233,8 +255,11 @@ impl<'s> Step<'s> {
         ensures made { C.made caller.new ≡ C.made caller.old }
         ensures fit { IfOk result (λ asked. AllFit (reverse stack.new.items)) }
         ensures asked { IfOk result (λ asked. IsAskedIn asked (reverse stack.new.items)) }
-        ensures on { IfOk result (λ asked. Reaches (sections_of scripts.now) asked (frames_of stack.new.items) self.entry (frames_of stack.old.items)) }
-        ensures unfinished { OnErr result (IsUnfinished (sections_of scripts.now) self.entry (frames_of stack.old.items)) }
+        ensures on { IfOk result (λ asked.
+            Reaches (sections_of scripts.now) asked (frames_of stack.new.items) self.entry
+            (frames_of stack.old.items)) }
+        ensures unfinished { OnErr result
+            (IsUnfinished (sections_of scripts.now) self.entry (frames_of stack.old.items)) }
     {
         let mut step = self;
         loop {

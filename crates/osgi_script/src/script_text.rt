@@ -34,7 +34,11 @@ fn add_section(alloc: Global, parts: &mut Vec<Part>, section: Section) -> Result
 /// Adds a statement; false where there are as many as there may be. It may be any value: so no exit has to drop a statement,
 /// whose many variants are dear to prove.
 fn push_statement<T: Drop>(statements: &mut List<T>, statement: T) -> Result<bool, AllocError>
-    ensures added { IfOk result (λ added. MatchBool added ((length statements.old < MAX_STATEMENTS) × (statements.new ≡ statements.old ++ statement ∷ [])) (MAX_STATEMENTS ≤ length statements.old)) }
+    ensures added { IfOk result (λ added.
+        MatchBool added
+        ((length statements.old < MAX_STATEMENTS)
+        × (statements.new ≡ statements.old ++ statement ∷ []))
+        (MAX_STATEMENTS ≤ length statements.old)) }
 {
     if statements.items().len() >= MAX_STATEMENTS {
         return Ok(false);
@@ -45,7 +49,9 @@ fn push_statement<T: Drop>(statements: &mut List<T>, statement: T) -> Result<boo
 
 /// Adds a statement to the last section; false where there is none, or it has as many as it may have.
 fn add_statement(parts: &mut [Part], statement: Statement) -> Result<bool, AllocError>
-    ensures added { IfOk result (λ added. MatchBool added (spec.add_statement statement parts.old ≡ Some parts.new) (spec.add_statement statement parts.old ≡ None)) }
+    ensures added { IfOk result (λ added.
+        MatchBool added (spec.add_statement statement parts.old ≡ Some parts.new)
+        (spec.add_statement statement parts.old ≡ None)) }
 {
     match parts.last_mut() {
         Some(part) => push_statement(&mut part.statements, statement),
@@ -67,7 +73,8 @@ fn add_head(
     parts: &mut Vec<Part>,
     section: Section,
 ) -> Result<bool, AllocError>
-    ensures added { AreTaken taken.old parts.old.items → IfOk result (IsAdded taken.new parts.old.items parts.new.items (line.Head section)) }
+    ensures added { AreTaken taken.old parts.old.items
+        → IfOk result (IsAdded taken.new parts.old.items parts.new.items (line.Head section)) }
 {
     if !taken.take(alloc, &section)? {
         return Ok(false);
@@ -83,7 +90,8 @@ fn add_line(
     parts: &mut Vec<Part>,
     text: &[u8],
 ) -> Result<bool, AllocError>
-    ensures added { AreTaken taken.old parts.old.items → IfOk result (IsAdded taken.new parts.old.items parts.new.items (line_of text.now)) }
+    ensures added { AreTaken taken.old parts.old.items
+        → IfOk result (IsAdded taken.new parts.old.items parts.new.items (line_of text.now)) }
 {
     match script_line(alloc, text)? {
         ScriptLine::Empty => Ok(true),
@@ -118,9 +126,14 @@ fn read(alloc: Global, bytes: &[u8]) -> Result<Result<Script, ScriptFault>, Allo
 /// statements, a line each. Lines of spaces, and lines whose first byte besides spaces is `#`, may stand anywhere. A line ends
 /// by LF or CRLF; the last one need not. Lines are counted from 1.
 pub fn parse(alloc: Global, bytes: &[u8]) -> Result<Result<Script, ScriptFault>, AllocError>
-    ensures reads { IfOk result (λ r. MatchResult r (ReadsScript bytes.now) (IsScriptFault bytes.now)) }
-    ensures only { (other : Script) → ReadsScript bytes.now other → IfOk result (λ r. r ≡ Ok other) }
-    ensures fault { (other : ScriptFault) → IsScriptFault bytes.now other → IfOk result (λ r. r ≡ Err other) }
+    ensures reads { IfOk result (λ r.
+        MatchResult r (ReadsScript bytes.now) (IsScriptFault bytes.now)) }
+    ensures only { (other : Script)
+        → ReadsScript bytes.now other
+        → IfOk result (λ r. r ≡ Ok other) }
+    ensures fault { (other : ScriptFault)
+        → IsScriptFault bytes.now other
+        → IfOk result (λ r. r ≡ Err other) }
 {
     read(alloc, bytes)
 }

@@ -148,7 +148,9 @@ fn only_quoted(alloc: Global, text: &[u8]) -> Result<Option<Text>, AllocError>
 /// Splits off the first word, which is the name of a variable or a listener: the name, and what is left after it. None where
 /// it is no name.
 fn split_name<'a>(alloc: Global, text: &'a [u8]) -> Result<Option<(Text, &'a [u8])>, AllocError>
-    ensures name { IfOk result (λ read. MatchOption read (name_of (first_word text.now) ≡ None) (λ split. IsSplitName text.now split.0 split.1.now)) }
+    ensures name { IfOk result (λ read.
+        MatchOption read (name_of (first_word text.now) ≡ None) (λ split.
+        IsSplitName text.now split.0 split.1.now)) }
 {
     let Some((word, rest)) = split_word(text) else {
         return Ok(None);
@@ -158,7 +160,8 @@ fn split_name<'a>(alloc: Global, text: &'a [u8]) -> Result<Option<(Text, &'a [u8
 
 /// `CLASS[,CLASS].. "TEXT" [PROP]..`, which the variable of `register` stands before.
 fn registration(alloc: Global, var: Text, text: &[u8]) -> Result<Option<Statement>, AllocError>
-    ensures statement { IfOk result (λ statement. statement ≡ registration_of var (words_of text.now)) }
+    ensures statement { IfOk result (λ statement.
+        statement ≡ registration_of var (words_of text.now)) }
 {
     let Some((names, rest)) = split_word(text) else {
         return Ok(None);

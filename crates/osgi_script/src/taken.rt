@@ -39,7 +39,10 @@ impl Taken {
     /// Takes a section; false where it was taken before.
     pub fn take(&mut self, alloc: Global, section: &Section) -> Result<bool, AllocError>
         ensures first { IfOk result (λ first. first ≡ not (is_taken self.old section.now)) }
-        ensures taken { IfOk result (λ first. (other : Section) → is_taken self.new other ≡ (same_section other section.now || is_taken self.old other)) }
+        ensures taken { IfOk result (λ first.
+            (other : Section)
+            → is_taken self.new other
+            ≡ (same_section other section.now || is_taken self.old other)) }
     {
         match section {
             Section::Start => {

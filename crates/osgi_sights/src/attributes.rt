@@ -36,7 +36,8 @@ fn number(alloc: Global, name: &[u8], held: u32) -> Result<Attribute, AllocError
 
 /// The code of a happening and the id of its bundle.
 fn numbers(alloc: Global, code: u16, bundle: BundleId) -> Result<Attributes, AllocError>
-    ensures numbers { IfOk result (λ attributes. attributes ≡ number (codes "event.type") code ∷ number (codes "bundle.id") bundle.0 ∷ []) }
+    ensures numbers { IfOk result (λ attributes.
+        attributes ≡ number (codes "event.type") code ∷ number (codes "bundle.id") bundle.0 ∷ []) }
 {
     let mut attributes = List::new(alloc)?;
     attributes.push(number(alloc, b"event.type", u32::from(code))?)?;
@@ -52,7 +53,8 @@ fn bundle_attributes(
     name: &Text,
     version: &Version,
 ) -> Result<Attributes, AllocError>
-    ensures attributes { IfOk result (λ attributes. attributes ≡ bundle_attributes code bundle name.now version.now) }
+    ensures attributes { IfOk result (λ attributes.
+        attributes ≡ bundle_attributes code bundle name.now version.now) }
 {
     let mut attributes = numbers(alloc, code, bundle)?;
     attributes.push(Attribute {
@@ -68,7 +70,8 @@ fn bundle_attributes(
 
 /// What filters read of a happening. Nothing is made of one of a service: there they read its properties.
 fn attributes_of(alloc: Global, happening: &Happening<'_>) -> Result<Attributes, AllocError>
-    ensures attributes { IfOk result (λ attributes. attributes ≡ attributes_of (shown happening.now)) }
+    ensures attributes { IfOk result (λ attributes.
+        attributes ≡ attributes_of (shown happening.now)) }
 {
     match *happening {
         Happening::Bundle {
@@ -90,7 +93,8 @@ pub fn passes_made(
     made: &mut Option<Attributes>,
 ) -> Result<bool, AllocError>
     requires made { AreMade (shown happening.now) made.old }
-    ensures passes { IfOk result (λ passes. IsTrue passes ↔ Passes filter.now (attributes_of (shown happening.now))) }
+    ensures passes { IfOk result (λ passes.
+        IsTrue passes ↔ Passes filter.now (attributes_of (shown happening.now))) }
     ensures made { AreMade (shown happening.now) made.new }
 {
     if filter.is_none() {

@@ -30,7 +30,10 @@ pub struct Onlookers<'a> {
 impl Onlookers<'_> {
     /// Whether the service is assignable to the bundle for each of its classes.
     fn are_assignable(&self, asker: BundleId, service: &Service) -> Result<bool, AllocError>
-        ensures assignable { IfOk result (λ are. IsTrue are ↔ All (λ class. IsAssignable self.now.wirings.now.world service.now.owner asker class) service.now.classes) }
+        ensures assignable { IfOk result (λ are.
+            IsTrue are
+            ↔ All (λ class. IsAssignable self.now.wirings.now.world service.now.owner asker class)
+            service.now.classes) }
     {
         for class in service.classes.items() {
             if !is_assignable(self.alloc, self.wirings, service.owner, asker, class)? {
@@ -42,7 +45,8 @@ impl Onlookers<'_> {
 
     /// Whether the listener asks for events of services, and of this service's classes.
     fn asks_for(&self, row: &ListenerRow, service: &Service) -> Result<bool, AllocError>
-        ensures asks { IfOk result (λ asks. IsTrue asks ↔ AsksFor self.now.wirings.now.world (added_of row.now) service.now) }
+        ensures asks { IfOk result (λ asks.
+            IsTrue asks ↔ AsksFor self.now.wirings.now.world (added_of row.now) service.now) }
     {
         match row.kind {
             Kind::All => Ok(true),
@@ -58,7 +62,8 @@ impl Onlookers<'_> {
         code: u8,
         service: &Service,
     ) -> Result<Option<Event>, AllocError>
-        ensures event { IfOk result (IsEventAsked self.now.wirings.now.world (added_of row.now) code service.now) }
+        ensures event { IfOk result
+            (IsEventAsked self.now.wirings.now.world (added_of row.now) code service.now) }
     {
         if self.asks_for(row, service)? {
             let service = service.service;
@@ -74,7 +79,9 @@ impl Onlookers<'_> {
         code: u8,
         service: &Service,
     ) -> Result<Option<Event>, AllocError>
-        ensures answer { IfOk result (IsAnswer self.now.wirings.now.world (added_of row.now) (Shown.service code service.now)) }
+        ensures answer { IfOk result
+            (IsAnswer self.now.wirings.now.world (added_of row.now)
+            (Shown.service code service.now)) }
     {
         if passes(&row.filter, &service.properties) {
             return self.event_asked(row, code, service);
@@ -89,7 +96,9 @@ impl Onlookers<'_> {
         old: &Service,
         new: &Service,
     ) -> Result<Option<Event>, AllocError>
-        ensures answer { IfOk result (IsAnswer self.now.wirings.now.world (added_of row.now) (Shown.modified old.now new.now)) }
+        ensures answer { IfOk result
+            (IsAnswer self.now.wirings.now.world (added_of row.now)
+            (Shown.modified old.now new.now)) }
     {
         if passes(&row.filter, &new.properties) {
             return self.event_asked(row, SERVICE_MODIFIED, new);
@@ -110,7 +119,8 @@ impl Onlookers<'_> {
         made: &mut Option<Attributes>,
     ) -> Result<Option<Event>, AllocError>
         requires made { AreMade (shown happening.now) made.old }
-        ensures event { IfOk result (IsEventPassed (added_of row.now) kind (attributes_of (shown happening.now)) event) }
+        ensures event { IfOk result
+            (IsEventPassed (added_of row.now) kind (attributes_of (shown happening.now)) event) }
         ensures made { AreMade (shown happening.now) made.new }
     {
         if row.kind != kind {
@@ -130,7 +140,8 @@ impl Onlookers<'_> {
         made: &mut Option<Attributes>,
     ) -> Result<Option<Event>, AllocError>
         requires made { AreMade (shown happening.now) made.old }
-        ensures answer { IfOk result (IsAnswer self.now.wirings.now.world (added_of row.now) (shown happening.now)) }
+        ensures answer { IfOk result
+            (IsAnswer self.now.wirings.now.world (added_of row.now) (shown happening.now)) }
         ensures made { AreMade (shown happening.now) made.new }
     {
         match *happening {
@@ -165,7 +176,9 @@ impl Onlookers<'_> {
         made: &mut Option<Attributes>,
     ) -> Result<Option<Event>, AllocError>
         requires made { AreMade (shown happening.now) made.old }
-        ensures answer { IfOk result (IsAnswerOf self.now.listeners.now self.now.removed self.now.wirings.now.world (shown happening.now) listener) }
+        ensures answer { IfOk result
+            (IsAnswerOf self.now.listeners.now self.now.removed self.now.wirings.now.world
+            (shown happening.now) listener) }
         ensures made { AreMade (shown happening.now) made.new }
     {
         let Some(row) = self.listeners.row(listener) else {

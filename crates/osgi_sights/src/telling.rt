@@ -23,7 +23,11 @@ fn tell(
     happening: &Happening<'_>,
     told: &mut Vec<Sight>,
 ) -> Result<(), AllocError>
-    ensures told { OnOk result (AddsSights (TellsOf onlookers.now.listeners.now onlookers.now.removed onlookers.now.wirings.now.world (shown happening.now) place) (sights_of told.old.items) (sights_of told.new.items)) }
+    ensures told { OnOk result
+        (AddsSights
+        (TellsOf onlookers.now.listeners.now onlookers.now.removed
+        onlookers.now.wirings.now.world (shown happening.now) place)
+        (sights_of told.old.items) (sights_of told.new.items)) }
     ensures in_order { AreInOrder onlookers.now.listeners.now }
 {
     let mut made = None;
@@ -49,7 +53,8 @@ pub fn sights(
     happened: &Happened<'_>,
     removed: Option<BundleId>,
 ) -> Result<Vec<Sight>, AllocError>
-    ensures sights { IfOk result (λ told. AreSightsOf listeners.now removed wirings.now.world happened.now (sights_of told.items)) }
+    ensures sights { IfOk result (λ told.
+        AreSightsOf listeners.now removed wirings.now.world happened.now (sights_of told.items)) }
     ensures small { IfOk result (λ told. All (λ s. s.place < 2 ^ 32) (sights_of told.items)) }
 {
     let onlookers = Onlookers {

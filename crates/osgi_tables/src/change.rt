@@ -173,9 +173,12 @@ fn install(
     revision: Shared<Revision>,
 ) -> Result<(), AllocError>
     requires can { CanBeAdded made bundles.old wirings.old }
-    ensures stands { OnOk result (StandsAfter made.location made.name made.version made.fragment made.row made.bundle bundles.old bundles.new) }
+    ensures stands { OnOk result
+        (StandsAfter made.location made.name made.version made.fragment made.row made.bundle
+        bundles.old bundles.new) }
     ensures known { OnOk result (IsBrought made.bundle revision wirings.old wirings.new) }
-    ensures unchanged { OnErr result ((bundles.new ≡ bundles.old) × IsSame wirings.old wirings.new) }
+    ensures unchanged { OnErr result
+        ((bundles.new ≡ bundles.old) × IsSame wirings.old wirings.new) }
 {
     // The room is taken first: once the table has changed nothing may fail.
     wirings.reserve()?;

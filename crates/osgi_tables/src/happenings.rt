@@ -37,7 +37,8 @@ fn add_bundles<'t>(
     bundles: &'t Table,
     happened: &mut Happened<'t>,
 ) -> Result<(), AllocError>
-    ensures added { OnOk result (happened.new ≡ happened.old ++ bundles_shown code ids.now bundles.now.rows) }
+    ensures added { OnOk result
+        (happened.new ≡ happened.old ++ bundles_shown code ids.now bundles.now.rows) }
 {
     for bundle in ids {
         if let Some(happening) = of_bundle(code, *bundle, bundles) {
@@ -67,7 +68,8 @@ fn add_leaving<'t>(
 
 /// What happens to a service as a change of the registry is made.
 fn of_service<'t>(change: &'t ServiceChange, registry: &'t Registry) -> Option<Happening<'t>>
-    ensures shown { option_to_list (option_map shown result) ≡ services_shown change.now registry.now }
+    ensures shown { option_to_list (option_map shown result)
+        ≡ services_shown change.now registry.now }
 {
     match change {
         ServiceChange::Insert { service, .. } => Some(Happening::Service {

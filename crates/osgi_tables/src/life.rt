@@ -20,7 +20,8 @@ impl Tables {
     /// The start of the bundle begins, for the line of the tag. If memory runs out, the tables stand for what they did.
     pub(crate) fn begin_start(&mut self, tag: Tag, bundle: BundleId) -> Result<(), AllocError>
         requires possible { IsStartable bundle self.old.bundles.rows }
-        ensures begun { OnOk result (Begins starting (start_of bundle) tag bundle self.old self.new) }
+        ensures begun { OnOk result
+            (Begins starting (start_of bundle) tag bundle self.old self.new) }
         ensures unchanged { OnErr result (StandsStill self.old self.new) }
     {
         self.brackets.push(tag, BracketKind::Start(bundle))?;
@@ -36,7 +37,8 @@ impl Tables {
         failed: bool,
     ) -> Result<(), AllocError>
         requires possible { IsInChange STARTING tag bundle self.old.bundles.rows }
-        ensures ended { OnOk result (Ends (started_phase failed) failed tag bundle self.old self.new) }
+        ensures ended { OnOk result
+            (Ends (started_phase failed) failed tag bundle self.old self.new) }
         ensures unchanged { OnErr result (StandsStill self.old self.new) }
     {
         clean(&mut self.registry, &mut self.listeners, bundle, failed)?;
@@ -48,7 +50,8 @@ impl Tables {
     /// The stop of the bundle begins, for the line of the tag. If memory runs out, the tables stand for what they did.
     pub(crate) fn begin_stop(&mut self, tag: Tag, bundle: BundleId) -> Result<(), AllocError>
         requires possible { IsStoppable bundle self.old.bundles.rows }
-        ensures begun { OnOk result (Begins stopping (stop_of bundle) tag bundle self.old self.new) }
+        ensures begun { OnOk result
+            (Begins stopping (stop_of bundle) tag bundle self.old self.new) }
         ensures unchanged { OnErr result (StandsStill self.old self.new) }
     {
         self.brackets.push(tag, BracketKind::Stop(bundle))?;
@@ -82,8 +85,10 @@ fn clean(
     cleaned: bool,
 ) -> Result<(), AllocError>
     ensures cleans { OnOk result (Cleans cleaned bundle registry.old registry.new) }
-    ensures listeners { OnOk result (listeners.new ≡ without_listeners cleaned bundle listeners.old) }
-    ensures unchanged { OnErr result ((registry.new ≡ registry.old) × (listeners.new ≡ listeners.old)) }
+    ensures listeners { OnOk result
+        (listeners.new ≡ without_listeners cleaned bundle listeners.old) }
+    ensures unchanged { OnErr result
+        ((registry.new ≡ registry.old) × (listeners.new ≡ listeners.old)) }
 {
     if cleaned {
         registry.release(bundle)?;

@@ -35,7 +35,9 @@ impl Change {
     /// What the listeners see of what happens as the change is made.
     fn sights(&self, alloc: Global, tables: &Tables) -> Result<Vec<Sight>, AllocError>
         ensures small { IfOk result (λ told. All (λ s. s.place < 2 ^ 32) (sights_of told.items)) }
-        ensures sights { IfOk result (λ told. AreSightsOf tables.now.listeners (cleaned_in self.now) tables.now.wirings.world (happened self.now tables.now.registry tables.now.bundles) (sights_of told.items)) }
+        ensures sights { IfOk result (λ told.
+            AreSightsOf tables.now.listeners (cleaned_in self.now) tables.now.wirings.world
+            (happened self.now tables.now.registry tables.now.bundles) (sights_of told.items)) }
     {
         let happened = happenings(alloc, &tables.registry, &tables.bundles, self)?;
         sights(
@@ -60,7 +62,10 @@ impl Change {
         requires possible { CanBeMade self tables.old }
         requires countable { entries < 4294967295 }
         requires earlier { All (IsOfEarlier entries) tables.old.listeners.rows }
-        ensures replied { IfOk result (λ told. (asked : Asked) (reply : Reply) → IsReplyAndChange asked tables.old reply self → IsReplied entries asked tables.old tables.new reply (sights_of told.items)) }
+        ensures replied { IfOk result (λ told.
+            (asked : Asked) (reply : Reply)
+            → IsReplyAndChange asked tables.old reply self
+            → IsReplied entries asked tables.old tables.new reply (sights_of told.items)) }
         ensures unchanged { OnErr result (StandsStill tables.old tables.new) }
     {
         let told = self.sights(alloc, tables)?;
