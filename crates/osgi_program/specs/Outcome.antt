@@ -35,7 +35,7 @@ abbrev pub is_spent : Op → Reply → Bool
 is_spent Hand (Refused HandingsSpent) = true
 is_spent _ _ = false
 
--- statuses of a run in which no line was cut
+-- the statuses 0 and 1
 abbrev pub IsDoneStatus : ℕ → Type 0
 IsDoneStatus status = (status ≡ DONE) ⊎ (status ≡ TROUBLED)
 
@@ -45,11 +45,11 @@ pub record Shelved : Type 0 where
   pub before : ℕ
   pub after : ℕ
 
--- `input` is what the source had left, if the source exposes it, and within the limit. The session's lines are all lines of the
--- input; its depot is what these lines name, as the shelf told it, and its scripts are those of the depot's rows; its history replays from the empty framework, and is what these
--- lines make under the limits; after every step of it, as it replays, the wirings in force are consistent, and each bundle that it
--- refuses as unresolvable is so; what each listener was handed is a beginning of what is due to it, and on the statuses 0 and 1 it
--- is all of that for each listener that is live in the end
+-- `input` is what the source had left, if the source exposes it, and within the limit. The session's lines are all lines of the input.
+-- Its depot is what these lines name, as the shelf told it, and its scripts are those of the depot's rows. Its history replays from the
+-- empty framework, and is what these lines make under the limits. After every step of it, as it replays, the wirings in force are
+-- consistent, and each bundle that it refuses as unresolvable is so. What each listener was handed is a beginning of what is due to it;
+-- on the statuses 0 and 1 it is all of that, for each listener that is live in the end
 pub record IsSession (bounds : Bounds) (status : ℕ) (left : Option (List ℕ)) (shelf : Shelved) (session : Session) : Type 0 where
   pub input : List ℕ
   pub all : IfSome left (λ bytes. input ≡ bytes)
@@ -102,7 +102,7 @@ IsAtLimit bounds session =
     (length session.entries ≡ bounds.entries) ⊎
     ((list_any (λ e. is_spent e.op e.reply) session.entries ≡ true) × (session.handings ≡ bounds.handings))
 
--- no line was cut
+-- no line says `full`
 abbrev pub IsUncut : Session → Type 0
 IsUncut session = list_any (is_full session.entries) session.lines ≡ false
 
