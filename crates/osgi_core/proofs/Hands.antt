@@ -9,7 +9,7 @@ use Rattle.osgi_brackets.specs.Open.{open_of}
 use Rattle.osgi_brackets.specs.declared.brackets.Brackets.{Brackets}
 use Rattle.osgi_core.specs.Machine.{IsOwnHandEnd}
 use Rattle.osgi_core.specs.computed.Hands.{HasEnds, hands_in, is_hand, is_hand_bracket, number_if, opens_any, opens_hand}
-use Rattle.osgi_legal.proofs.Owned.{brackets-last, closes-own}
+use Rattle.osgi_legal.proofs.Owned.{closes-own}
 use Rattle.osgi_ops.specs.Along.{carry}
 use Rattle.osgi_ops.specs.Brackets as cause
 use Rattle.osgi_ops.specs.Brackets.{Bracket, bracket, brackets, Cause, closes, ends, is_ended, opens, own_closes, turned, with_entry, without_innermost}
@@ -18,6 +18,7 @@ use Rattle.osgi_ops.specs.declared.op.Op.{Op}
 use Rattle.osgi_ops.specs.declared.op.Op.TheVariants as op
 use Rattle.osgi_ops.specs.declared.reply.Reply.{Reply}
 use Rattle.osgi_ops.specs.declared.reply.Reply.TheVariants as answer
+use Rattle.osgi_ops.specs.laws.Brackets.{brackets-last}
 use Rattle.osgi_tables.specs.Asked.{ends_hand}
 
 -- ---- what an end leaves

@@ -5,7 +5,6 @@ use Rattle.std.proofs.lemmas.List.Sums.{count_by-le-length, length-filter}
 use Rattle.osgi_legal.proofs.Current.{fresh-at}
 use Rattle.osgi_listeners.specs.Sights.{IsOfEarlier}
 use Rattle.osgi_listeners.specs.laws.Handing.{waits-of-earlier}
-use Rattle.osgi_listeners.specs.laws.Premises.{past-at}
 use Rattle.osgi_ops.specs.Bundles.{brings_revision, installed, installed_after, installed_by, revisions}
 use Rattle.osgi_ops.specs.Along.{carry}
 use Rattle.osgi_legal.specs.Legal.{IsTold}
@@ -22,6 +21,7 @@ use Rattle.osgi_ops.specs.laws.Services.{length-registered, uses-le-length}
 use Rattle.osgi_world.specs.declared.world.World.{World}
 use Rattle.osgi_legal.proofs.Stage.{no-made-uses}
 use Rattle.osgi_reply_services.proofs.Serving.{uses_now}
+use Rattle.osgi_tables.proofs.Premises.{past-at}
 use Rattle.osgi_tables.specs.Replied.{HasRoom, StandsFor}
 use Rattle.osgi_tables.specs.declared.tables.Tables.{Tables}
 

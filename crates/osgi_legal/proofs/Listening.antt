@@ -7,7 +7,7 @@ use Rattle.osgi_base.specs.declared.ids.BundleId.{BundleId}
 use Rattle.osgi_base.specs.declared.ids.ListenerId.{ListenerId}
 use Rattle.osgi_base.specs.declared.ids.Tag.{Tag}
 use Rattle.osgi_ops.specs.Along.{carry, AllAlong}
-use Rattle.osgi_ops.specs.Brackets.{Bracket, brackets, Cause, closes, ends, handing, is_end, job, making, starting, stopping, opens, own_closes, turned, with_entry, without_innermost}
+use Rattle.osgi_ops.specs.Brackets.{Bracket, brackets, Cause, closes, ends, is_end, opens, own_closes, turned, with_entry, without_innermost}
 use Rattle.osgi_legal.specs.Legal.{IsAllowed}
 use Rattle.osgi_ops.specs.Listening.{Added, adds, clears, heard_by, Hearing, hearing, HearingChange, is_in_turn, is_listener, is_turn_of, lets_go, listener_at, takes_off, with_heard}
 use Rattle.osgi_legal.specs.Operations.{IsReply}
@@ -26,7 +26,8 @@ use Rattle.osgi_ops.specs.declared.refusal.Refusal.TheVariants.{InvalidOperation
 use Rattle.osgi_ops.specs.declared.reply.Reply.{Reply}
 use Rattle.osgi_ops.specs.declared.reply.Reply.TheVariants.{Refused}
 use Rattle.osgi_ops.specs.laws.Along.{carry-append}
-use Rattle.osgi_legal.proofs.Owned.{brackets-last, closes-own, entries-last, refused-of, of}
+use Rattle.osgi_ops.specs.laws.Brackets.{brackets-last, ends_turn, ends-no-turn}
+use Rattle.osgi_legal.proofs.Owned.{closes-own, entries-last, refused-of, of}
 
 -- what holds of a state and is kept by each item holds in the end
 pub carry-holds : {S A : Type 0} (step : S → A → S) (Holds : S → Type 0) → ((s : S) (a : A) → Holds s → Holds (step s a)) → (s : S) (xs : List A) → Holds s → Holds (carry step s xs)
@@ -155,40 +156,9 @@ live-between listener u p q a b first last = go (found-or-none (listener_at list
 
 -- ---- turns
 
--- the operation is the end of a hand of this listener
-abbrev pub ends_turn : ListenerId → Op → Bool
-ends_turn listener (EndHand held) = held.0 == listener.0
-ends_turn listener op = false
-
 -- the bracket is that of a hand of the listener
 abbrev pub is_turn : ListenerId → Bracket → Bool
 is_turn listener b = is_turn_of listener b.cause
-
--- what another operation ends is no turn of the listener
-pub ends-no-turn : (listener : ListenerId) (op : Op) (cause : Cause) → ends op cause ≡ true → ends_turn listener op ≡ false → is_turn_of listener cause ≡ false
-ends-no-turn listener (EndHand held) (handing h) e f = subst (λ n. (n == listener.0) ≡ false) (eqb-true held.0 h.0 e) f
-ends-no-turn listener (EndHand held) job e f = refl
-ends-no-turn listener (EndHand held) (starting b) e f = refl
-ends-no-turn listener (EndHand held) (stopping b) e f = refl
-ends-no-turn listener EndJob (handing h) e f = absurd (cc e)
-ends-no-turn listener EndJob job e f = refl
-ends-no-turn listener EndJob (starting b) e f = refl
-ends-no-turn listener EndJob (stopping b) e f = refl
-ends-no-turn listener (EndStart n bad) (handing h) e f = absurd (cc e)
-ends-no-turn listener (EndStart n bad) job e f = refl
-ends-no-turn listener (EndStart n bad) (starting b) e f = refl
-ends-no-turn listener (EndStart n bad) (stopping b) e f = refl
-ends-no-turn listener (EndStop n bad) (handing h) e f = absurd (cc e)
-ends-no-turn listener (EndStop n bad) job e f = refl
-ends-no-turn listener (EndStop n bad) (starting b) e f = refl
-ends-no-turn listener (EndStop n bad) (stopping b) e f = refl
-ends-no-turn listener (EndHand held) (making t) e f = refl
-ends-no-turn listener EndJob (making t) e f = refl
-ends-no-turn listener (EndStart n bad) (making t) e f = refl
-ends-no-turn listener (EndStop n bad) (making t) e f = refl
-ends-no-turn listener (EndMake bad) (handing h) e f = absurd (cc e)
-ends-no-turn listener (EndMake bad) cause e f = refl
-ends-no-turn listener op cause e f = absurd (cc e)
 
 -- where an operation is the end of the innermost bracket of its caller there is one
 pub record HasEnded (tag : Tag) (op : Op) (opened : List Bracket) : Type 0 where

@@ -27,6 +27,7 @@ use Rattle.osgi_ops.specs.declared.scope.Scope.{Scope}
 use Rattle.osgi_ops.specs.declared.scope.Scope.TheVariants.{Singleton}
 use Rattle.osgi_ops.specs.declared.target.Target.{Target}
 use Rattle.osgi_ops.specs.laws.Along.{holds}
+use Rattle.osgi_ops.specs.laws.Brackets.{brackets-last}
 use Rattle.osgi_ops.specs.laws.Services.{MakesNone}
 use Rattle.osgi_ops.specs.rows.Jobs.{taken}
 use Rattle.osgi_ops.specs.rows.Services.{got, got_as, got_reply}
@@ -34,7 +35,7 @@ use Rattle.osgi_legal.specs.laws.Stages.{late-refused}
 use Rattle.osgi_legal.proofs.Accepted.{accepted}
 use Rattle.osgi_legal.proofs.Early.{none-queued}
 use Rattle.osgi_legal.proofs.Singletons.{all-single, AreSingle, live-single}
-use Rattle.osgi_legal.proofs.Owned.{brackets-last, entries-last}
+use Rattle.osgi_legal.proofs.Owned.{entries-last}
 use Rattle.osgi_legal.proofs.Quiet.{opens-refused}
 use Rattle.osgi_legal.proofs.Windows.{refused-is}
 

@@ -4,7 +4,7 @@ use Rattle.std.specs.Prelude.{◌==◌, ◌&&◌, cond, filter, is_some, Option,
 use Rattle.std.proofs.lemmas.Bool.{eq-eqb, eqb-true}
 use Rattle.std.proofs.lemmas.List.{map-append}
 use Rattle.osgi_base.specs.declared.ids.Tag.{Tag}
-use Rattle.osgi_ops.specs.Brackets.{Bracket, bracket, brackets, Cause, closes, ends, is_end, is_ended, opens, own_closes, own_turned, turned, with_entry, without_first, without_innermost}
+use Rattle.osgi_ops.specs.Brackets.{Bracket, bracket, brackets, Cause, closes, ends, is_end, is_ended, opens, own_closes, own_turned, turned, without_first, without_innermost}
 use Rattle.osgi_ops.specs.Conditions.{IsDeep}
 use Rattle.osgi_legal.specs.Operations.{Answers, IsReply, IsRow}
 use Rattle.osgi_legal.specs.laws.Stages.{ends-here, here-row}
@@ -12,14 +12,12 @@ use Rattle.osgi_ops.specs.rows.Events.{IsHanding, IsNothing}
 use Rattle.osgi_ops.specs.Replies.{is_effective, verdict}
 use Rattle.osgi_ops.specs.Moments.{entries_in, Moment, Told}
 use Rattle.osgi_base.specs.Verdict.{Gives, Verdict, refuses, answers}
-use Rattle.osgi_ops.specs.declared.entry.Entry.{Entry}
 use Rattle.osgi_ops.specs.declared.op.Op.{Op}
 use Rattle.osgi_ops.specs.declared.op.Op.TheVariants.{Hand, EndHand, EndJob, EndMake, EndStart, EndStop}
 use Rattle.osgi_ops.specs.declared.refusal.Refusal.{Refusal}
 use Rattle.osgi_ops.specs.declared.refusal.Refusal.TheVariants.{ActivatorError, HandingsSpent, InvalidOperation, TooDeep}
 use Rattle.osgi_ops.specs.declared.reply.Reply.{Reply}
 use Rattle.osgi_ops.specs.declared.reply.Reply.TheVariants.{Refused, Done}
-use Rattle.osgi_ops.specs.laws.Along.{carry-last}
 
 abbrev pub of : ℕ → List Bracket → List Bracket
 of caller opened = filter (λ (b : Bracket). b.tag.caller == caller) opened
@@ -66,10 +64,6 @@ pub of-turned-other : (caller : ℕ) (tag : Tag) (o : Option Cause) (closed : Bo
 of-turned-other caller tag (Some cause) closed opened e = skip (λ (x : Bracket). x.tag.caller == caller) (bracket tag cause) opened e
 of-turned-other caller tag None true opened e = of-without-other caller tag.caller opened e
 of-turned-other caller tag None false opened e = refl
-
--- the brackets after one more entry
-pub brackets-last : (history : List Entry) (e : Entry) → brackets (history ++ e ∷ []) ≡ with_entry (brackets history) e
-brackets-last history e = carry-last with_entry [] history e
 
 pub entries-last : (told : List Told) (x : Told) → entries_in (told ++ x ∷ []) ≡ entries_in told ++ x.entry ∷ []
 entries-last told x = map-append (λ (y : Told). y.entry) told (x ∷ [])

@@ -27,9 +27,10 @@ use Rattle.osgi_ops.specs.declared.reply.Reply.{Reply}
 use Rattle.osgi_ops.specs.declared.reply.Reply.TheVariants as answer
 use Rattle.osgi_legal.proofs.Owned.{ends-open-none}
 use Rattle.osgi_ops.specs.laws.Along.{holds, latest-quiet, latest-set}
+use Rattle.osgi_ops.specs.laws.Brackets.{brackets-last}
 use Rattle.osgi_legal.proofs.Innermost.{AreFew, closed-one, left-alone, opened-one}
 use Rattle.osgi_legal.proofs.Listening.{effective-closes, has-ended}
-use Rattle.osgi_legal.proofs.Owned.{brackets-last, closes-not, ended-by, entries-last, of}
+use Rattle.osgi_legal.proofs.Owned.{closes-not, ended-by, entries-last, of}
 
 -- the bracket is for a start or a stop of this bundle
 abbrev pub is_for : BundleId → Cause → Bool

@@ -37,8 +37,9 @@ use Rattle.osgi_ops.specs.declared.reply.Reply.{Reply}
 use Rattle.osgi_ops.specs.declared.reply.Reply.TheVariants as answer
 use Rattle.osgi_world.specs.declared.world.World.{World}
 use Rattle.osgi_ops.specs.laws.Along.{along-last, carry-last, latest-quiet}
+use Rattle.osgi_ops.specs.laws.Brackets.{brackets-last}
 use Rattle.osgi_ops.specs.laws.Bundles as installs
-use Rattle.osgi_legal.proofs.Owned.{brackets-last, closes-not, ended-by}
+use Rattle.osgi_legal.proofs.Owned.{closes-not, ended-by}
 use Rattle.osgi_ops.specs.laws.Services as kept
 
 -- ---- lists

@@ -19,11 +19,12 @@ use Rattle.osgi_ops.specs.declared.reply.Reply.TheVariants as answer
 use Rattle.osgi_ops.specs.rows.Events.{IsHanding, IsNothing}
 use Rattle.osgi_world.specs.Lists.{In}
 use Rattle.osgi_ops.specs.laws.Along.{holds}
+use Rattle.osgi_ops.specs.laws.Brackets.{brackets-last, ends_turn, ends-no-turn}
 use Rattle.osgi_ops.specs.laws.Items.{In-filter, In-kept}
 use Rattle.osgi_legal.proofs.Accepted.{accepted}
 use Rattle.osgi_legal.proofs.Innermost.{AreFew, few-turned, left-alone}
-use Rattle.osgi_legal.proofs.Listening.{ends_turn, ends-no-turn, has-ended, is_turn}
-use Rattle.osgi_legal.proofs.Owned.{brackets-last, entries-last, of}
+use Rattle.osgi_legal.proofs.Listening.{has-ended, is_turn}
+use Rattle.osgi_legal.proofs.Owned.{entries-last, of}
 
 -- the open brackets of the listener's hands
 abbrev pub turns_of : ListenerId → List Bracket → List Bracket

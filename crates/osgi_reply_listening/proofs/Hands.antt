@@ -16,7 +16,6 @@ use Rattle.osgi_listeners.specs.declared.row.ListenerRow.{ListenerRow}
 use Rattle.osgi_listeners.specs.laws.Busy.{answers-nothing}
 use Rattle.osgi_listeners.specs.laws.Conditions.{is-end-accepted}
 use Rattle.osgi_listeners.specs.laws.Handing.{answers-next, row-handed}
-use Rattle.osgi_listeners.specs.laws.Premises.{handed-first, turns-apart}
 use Rattle.osgi_ops.specs.Brackets.{closes, brackets, is_own_end, own_closes}
 use Rattle.osgi_ops.specs.Bundles.{row_of}
 use Rattle.osgi_ops.specs.Conditions.{IsDeep}
@@ -44,6 +43,7 @@ use Rattle.osgi_tables.proofs.DepotRows.{shown_row}
 use Rattle.osgi_sights.specs.laws.Standing.{nothing_seen}
 use Rattle.osgi_tables.proofs.Heard.{ended_stands, handed_stands, nothing_stands, with_end}
 use Rattle.osgi_tables.proofs.Living.{depth_at, own_end_at}
+use Rattle.osgi_tables.proofs.Premises.{handed-first, turns-apart}
 use Rattle.osgi_tables.proofs.Replying.{decided_refused, decided_same, replied_refused, unseen}
 use Rattle.osgi_tables.specs.Changes.{CanBeHanded, IsReplyAndChange}
 use Rattle.osgi_tables.specs.Replied.{EachTime, EachTimeAt, IsAnswered, IsReplied, StandsFor}

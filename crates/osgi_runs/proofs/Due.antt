@@ -26,7 +26,8 @@ use Rattle.osgi_ops.specs.declared.op.Op.TheVariants.{EndMake, Hand, TakeJob}
 use Rattle.osgi_ops.specs.declared.refusal.Refusal.TheVariants.{HandingsSpent, TooDeep}
 use Rattle.osgi_ops.specs.declared.reply.Reply.{Reply}
 use Rattle.osgi_ops.specs.declared.reply.Reply.TheVariants.{Refused}
-use Rattle.osgi_legal.proofs.Owned.{answer-of, answered-of, brackets-last, closes-own, ended-by, entries-last, hand-row, of, of-turned, of-turned-other}
+use Rattle.osgi_ops.specs.laws.Brackets.{brackets-last}
+use Rattle.osgi_legal.proofs.Owned.{answer-of, answered-of, closes-own, ended-by, entries-last, hand-row, of, of-turned, of-turned-other}
 
 -- a TakeJob that takes no job found none, or its caller is as deep as it may be
 taken-by : (m : Moment) (op : Op) (reply : Reply) → IsReply m op reply → is_take op ≡ true → ends_jobs reply ≡ true → (takes_no_job op reply ≡ true) ⊎ (MAX_BRACKETS ≤ length (brackets_of m.tag.caller m.before))

@@ -25,6 +25,7 @@ use Rattle.osgi_ops.specs.declared.refusal.Refusal.TheVariants.{HandingsSpent, T
 use Rattle.osgi_ops.specs.declared.reply.Reply.{Reply}
 use Rattle.osgi_ops.specs.declared.reply.Reply.TheVariants as answer
 use Rattle.osgi_ops.specs.laws.Along.{AllAlong-split}
+use Rattle.osgi_ops.specs.laws.Brackets.{ends_turn}
 use Rattle.osgi_legal.specs.laws.Stages.{hand-here, here-row}
 use Rattle.osgi_ops.specs.rows.Events.{IsAnyReady, IsHanding, IsNothing}
 use Rattle.osgi_runs.specs.Bound.{finds_nothing}
@@ -41,7 +42,7 @@ use Rattle.osgi_ops.specs.laws.Waiting.{not-waiting}
 use Rattle.osgi_legal.proofs.Early.{nobody-waits}
 use Rattle.osgi_legal.proofs.Hands.{all-handed}
 use Rattle.osgi_legal.proofs.Legal.{due-spots, handed-flat, handed-is-prefix, split-map, spots-flat}
-use Rattle.osgi_legal.proofs.Listening.{ends_turn, live-between, turn-lasts}
+use Rattle.osgi_legal.proofs.Listening.{live-between, turn-lasts}
 use Rattle.osgi_legal.proofs.Owned.{entries-last, hand-row, of, some-of}
 use Rattle.osgi_runs.proofs.Calm.{runs-settled}
 use Rattle.osgi_runs.proofs.Due.{owned}

@@ -17,7 +17,6 @@ use Rattle.osgi_legal.proofs.Quiet.{bundles-quiet}
 use Rattle.osgi_listeners.specs.Rows.{is_named, Listening, without_turn}
 use Rattle.osgi_listeners.specs.Stands as hearing
 use Rattle.osgi_listeners.specs.Stands.{AreSmall}
-use Rattle.osgi_listeners.specs.laws.Premises.{of-added, turns-apart}
 use Rattle.osgi_listeners.specs.laws.Standing.{stands-with-added, stands-with-ended, stands-with-handed, stands-with-removed}
 use Rattle.osgi_model.specs.declared.filter.Filter.{Filter}
 use Rattle.osgi_ops.specs.Brackets.{handing, own_closes}
@@ -36,6 +35,7 @@ use Rattle.osgi_ops.specs.declared.reply.Reply.TheVariants as answer
 use Rattle.osgi_registry.specs.laws.Standing as registry
 use Rattle.osgi_world.specs.declared.world.World.{World}
 use Rattle.osgi_tables.proofs.Hearing.{heard_still, HearsAfter}
+use Rattle.osgi_tables.proofs.Premises.{of-added, turns-apart}
 use Rattle.osgi_tables.proofs.Replying.{brackets_left, bundles_unsaid, kept_closes, unsaid}
 use Rattle.osgi_tables.specs.Changes.{Hands, Listens, with_listener, with_turn, without_listener}
 use Rattle.osgi_tables.specs.Replied.{StandsFor}

@@ -5,7 +5,6 @@ use Rattle.std.proofs.lemmas.List.Elements.{filter-append}
 use Rattle.osgi_base.specs.declared.ids.BundleId.{BundleId}
 use Rattle.osgi_base.specs.declared.ids.ListenerId.{ListenerId}
 use Rattle.osgi_legal.specs.Quiet.{QuietListeners}
-use Rattle.osgi_legal.proofs.Listening.{ends_turn}
 use Rattle.osgi_legal.proofs.Owned.{closes-not}
 use Rattle.osgi_listeners.specs.Rows.{Listening}
 use Rattle.osgi_listeners.specs.Stands as hearing
@@ -20,6 +19,7 @@ use Rattle.osgi_ops.specs.Moments.{Moment, Seen, seen_after}
 use Rattle.osgi_ops.specs.declared.entry.Entry.{Entry}
 use Rattle.osgi_ops.specs.declared.op.Op.{Op}
 use Rattle.osgi_ops.specs.declared.reply.Reply.{Reply}
+use Rattle.osgi_ops.specs.laws.Brackets.{ends_turn}
 use Rattle.osgi_tables.specs.Changes.{without_listeners}
 use Rattle.osgi_tables.specs.Replied.{StandsFor}
 use Rattle.osgi_tables.specs.declared.tables.Tables.{Tables}

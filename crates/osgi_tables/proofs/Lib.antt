@@ -6,6 +6,7 @@ pub mod Happening
 pub mod Heard
 pub mod Hearing
 pub mod Living
+pub mod Premises
 mod Putting
 mod Roomier
 pub mod Shown

@@ -12,7 +12,6 @@ use Rattle.osgi_bundle.specs.Rows.{TableRows}
 use Rattle.osgi_bundle.specs.Stands.{Puts, StandsPut}
 use Rattle.osgi_bundle.specs.Stands as bundle
 use Rattle.osgi_legal.specs.Quiet.{QuietBundles, QuietServices}
-use Rattle.osgi_legal.proofs.Listening.{ends_turn}
 use Rattle.osgi_legal.proofs.Owned.{closes-not}
 use Rattle.osgi_legal.proofs.Quiet.{bundles-quiet}
 use Rattle.osgi_ops.specs.Brackets.{brackets, brackets_of, Cause, is_end, is_own_end, opens, own_closes}
@@ -29,6 +28,7 @@ use Rattle.osgi_ops.specs.declared.asked.Asked.{Asked}
 use Rattle.osgi_ops.specs.declared.entry.Entry.{Entry}
 use Rattle.osgi_ops.specs.declared.op.Op.{Op}
 use Rattle.osgi_ops.specs.declared.reply.Reply.{Reply}
+use Rattle.osgi_ops.specs.laws.Brackets.{ends_turn}
 use Rattle.osgi_registry.specs.Rows.{RegistryRows}
 use Rattle.osgi_registry.specs.Stands as registries
 use Rattle.osgi_registry.specs.laws.Standing as registry

@@ -13,7 +13,7 @@ use Rattle.osgi_listeners.specs.declared.sight.Sight as declared
 use Rattle.osgi_listeners.specs.Stands as hearing
 use Rattle.osgi_listeners.specs.Stands.{AreSmall}
 use Rattle.osgi_legal.proofs.Sights.{sights-once}
-use Rattle.osgi_listeners.specs.laws.Premises.{handed-first, handed-first-same, small-more}
+use Rattle.osgi_listeners.specs.laws.Premises.{handed-first-same, small-more}
 use Rattle.osgi_listeners.specs.laws.Standing.{stands-with-all-seen}
 use Rattle.osgi_legal.specs.Legal.{entry_of, IsAskedAt, IsTold}
 use Rattle.osgi_ops.specs.Listening.{AreSights, handed_by, happenings, IsAt}
@@ -31,6 +31,7 @@ use Rattle.osgi_sights.specs.Shown as shown
 use Rattle.osgi_sights.specs.Sights.{AreSightsOf, IsSightOf}
 use Rattle.osgi_sights.specs.laws.Standing.{nothing_seen, rows_of_standing, sights_of_history}
 use Rattle.osgi_listeners.specs.laws.Room.{same_but_room}
+use Rattle.osgi_tables.proofs.Premises.{handed-first}
 use Rattle.osgi_tables.proofs.Roomier.{all_alike, HearsAlike, IsChangedSo, tables_alike, with_listeners}
 use Rattle.osgi_tables.proofs.Shown.{each}
 use Rattle.osgi_tables.specs.Changes.{bundles_shown, Changes, cleaned_in, happened, IsReplyAndChange}

@@ -28,15 +28,13 @@ use Rattle.osgi_ops.specs.Moments.{Seen, later, Moment, seen_after, Sight}
 use Rattle.osgi_ops.specs.declared.entry.Entry.{Entry}
 use Rattle.osgi_ops.specs.declared.op.Op.{Op}
 use Rattle.osgi_ops.specs.declared.reply.Reply.{Reply}
-use Rattle.osgi_legal.proofs.Listening.{ends_turn}
-use Rattle.osgi_legal.proofs.Owned.{brackets-last}
+use Rattle.osgi_ops.specs.laws.Brackets.{brackets-last, ends_turn}
 use Rattle.osgi_listeners.specs.Stands.{is_turn, listener_row, row_of, StandsFor, tag_in, turn_of, waiting_for, AreHandedFirst, AreOfAdded, AreTurnsApart, IsQuietEntry}
-use Rattle.osgi_legal.specs.Legal.{entry_of, IsTold}
 use Rattle.osgi_world.specs.declared.world.World.{World}
 use Rattle.osgi_listeners.specs.laws.Items.{bytes-turn, eq-turn, in-all, map-twice, none-taken}
 use Rattle.osgi_listeners.specs.laws.Waiting.{handed-same, hearing-last, none-waits, rows-changed, rows-filtered, rows-same, waits-fewer, waits-same, waits-seen}
 use Rattle.osgi_listeners.specs.laws.Turns.{lookup-inserted, lookup-removed, opens-none, own-turn, rising-inserted, rising-removed, turn-ended, turn-stays, at-is}
-use Rattle.osgi_listeners.specs.laws.Premises.{handed-first, handed-first-same}
+use Rattle.osgi_listeners.specs.laws.Premises.{handed-first-same}
 use Rattle.osgi_listeners.specs.laws.Room.{same_but_room}
 use Rattle.osgi_listeners.specs.Sights.{sights_by, told_all, waiting_at}
 use Rattle.osgi_ops.specs.declared.event.Event.{Event}
@@ -242,12 +240,12 @@ has-own-turn sights history l tag listener apart own stands = stands.turns liste
 -- ---- a whole call
 
 -- an entry that hands nothing: once its own law is applied, the sights are delivered, and the rows stand for the moment after it
-pub stands-later : (now : Moment) (o : Op) (reply : Reply) (world : World) (sights : List Sight) (l : Listening) → IsTold now → ((listener : ListenerId) → handed_by listener o reply ≡ []) →
-    StandsFor now.sights (now.before ++ entry_of now o reply ∷ []) l →
+pub stands-later : (now : Moment) (o : Op) (reply : Reply) (world : World) (sights : List Sight) (l : Listening) → AreHandedFirst now.sights now.before → ((listener : ListenerId) → handed_by listener o reply ≡ []) →
+    StandsFor now.sights (now.before ++ entry_by now.tag o reply ∷ []) l →
     StandsFor (later now o reply world sights).sights (later now o reply world sights).before (record { rows = map (told_all (length now.before) sights) l.rows; turns = l.turns; issued = l.issued })
-stands-later now o reply world sights l told none stands =
-    stands-with-all-seen now.sights (now.before ++ entry_of now o reply ∷ []) l (length now.before) sights
-    (handed-first-same now.sights now.before (entry_of now o reply) none (handed-first now told)) stands
+stands-later now o reply world sights l first none stands =
+    stands-with-all-seen now.sights (now.before ++ entry_by now.tag o reply ∷ []) l (length now.before) sights
+    (handed-first-same now.sights now.before (entry_by now.tag o reply) none first) stands
 
 some-at : {A : Type 0} {place : ℕ} {xs : List A} {x : A} → IsAt place xs x → xs ≡ [] → ⊥
 some-at here e = absurd (cc e)
@@ -258,9 +256,9 @@ none-seen past before after e [] a none = refl
 none-seen past before after e (s ∷ rest) a none = absurd (some-at (in-all (IsSight past before after e) (s ∷ rest) s a.only (inl refl)).at none)
 
 -- an entry at which nothing happens, such as a Hand: nothing is to be delivered
-pub stands-later-still : (now : Moment) (o : Op) (reply : Reply) (world : World) (sights : List Sight) (l : Listening) → AreSights now.before now.world world (entry_of now o reply) sights →
-    happenings now.before now.world world (entry_of now o reply) o reply ≡ [] → StandsFor now.sights (now.before ++ entry_of now o reply ∷ []) l →
+pub stands-later-still : (now : Moment) (o : Op) (reply : Reply) (world : World) (sights : List Sight) (l : Listening) → AreSights now.before now.world world (entry_by now.tag o reply) sights →
+    happenings now.before now.world world (entry_by now.tag o reply) o reply ≡ [] → StandsFor now.sights (now.before ++ entry_by now.tag o reply ∷ []) l →
     StandsFor (later now o reply world sights).sights (later now o reply world sights).before l
 stands-later-still now o reply world sights l are none stands =
-    subst (λ all. StandsFor all (now.before ++ entry_of now o reply ∷ []) l)
-    (sym (ap (λ more. now.sights ++ seen_after (length now.before) more) (none-seen now.before now.world world (entry_of now o reply) sights are none) ∙ append-nil now.sights)) stands
+    subst (λ all. StandsFor all (now.before ++ entry_by now.tag o reply ∷ []) l)
+    (sym (ap (λ more. now.sights ++ seen_after (length now.before) more) (none-seen now.before now.world world (entry_by now.tag o reply) sights are none) ∙ append-nil now.sights)) stands

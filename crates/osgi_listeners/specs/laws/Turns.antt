@@ -16,34 +16,12 @@ use Rattle.osgi_ops.specs.Brackets.{Bracket, bracket, brackets, Cause, handing, 
 use Rattle.osgi_ops.specs.Listening.{is_turn_of}
 use Rattle.osgi_ops.specs.declared.entry.Entry.{Entry}
 use Rattle.osgi_ops.specs.declared.op.Op.{Op}
-use Rattle.osgi_ops.specs.declared.op.Op.TheVariants.{EndHand, EndJob, EndMake, EndStart, EndStop}
-use Rattle.osgi_legal.proofs.Listening.{ends_turn}
-use Rattle.osgi_legal.proofs.Owned.{brackets-last}
+use Rattle.osgi_ops.specs.declared.op.Op.TheVariants.{EndHand}
+use Rattle.osgi_ops.specs.laws.Brackets.{brackets-last, ends_turn, ends-no-turn}
 use Rattle.osgi_listeners.specs.Rows.{AreRising, RiseFrom}
 use Rattle.osgi_listeners.specs.Stands.{AreTurnsApart, is_turn, tag_in, turn_of}
 
 -- ---- brackets
-
--- what another operation ends is no turn of the listener
-ends-no-turn : (listener : ListenerId) (op : Op) (cause : Cause) → ends_turn listener op ≡ false → ends op cause ≡ true → is_turn_of listener cause ≡ false
-ends-no-turn listener (EndHand held) (handing h) f e = subst (λ n. (n == listener.0) ≡ false) (eqb-true held.0 h.0 e) f
-ends-no-turn listener (EndHand held) job f e = refl
-ends-no-turn listener (EndHand held) (starting b) f e = refl
-ends-no-turn listener (EndHand held) (stopping b) f e = refl
-ends-no-turn listener EndJob (handing h) f e = absurd (cc e)
-ends-no-turn listener EndJob job f e = refl
-ends-no-turn listener EndJob (starting b) f e = refl
-ends-no-turn listener EndJob (stopping b) f e = refl
-ends-no-turn listener (EndStart n bad) (handing h) f e = absurd (cc e)
-ends-no-turn listener (EndStart n bad) job f e = refl
-ends-no-turn listener (EndStart n bad) (starting b) f e = refl
-ends-no-turn listener (EndStart n bad) (stopping b) f e = refl
-ends-no-turn listener (EndStop n bad) (handing h) f e = absurd (cc e)
-ends-no-turn listener (EndStop n bad) job f e = refl
-ends-no-turn listener (EndStop n bad) (starting b) f e = refl
-ends-no-turn listener (EndStop n bad) (stopping b) f e = refl
-ends-no-turn listener (EndMake bad) (making m) f e = refl
-ends-no-turn listener op cause f e = absurd (cc e)
 
 -- a bracket that is no turn of the listener goes
 kept-without : (listener : ListenerId) (tag : Tag) (op : Op) → ((cause : Cause) → ends op cause ≡ true → is_turn_of listener cause ≡ false) → (opened : List Bracket) → closes tag op opened ≡ true →
@@ -59,7 +37,7 @@ kept-without listener tag op none (b ∷ outer) e = go (b.tag.caller == tag.call
 turn-turned : (n : ℕ) (tag : Tag) (op : Op) (o : Option Cause) (closed : Bool) (opened : List Bracket) → ((cause : Cause) → o ≡ Some cause → is_turn_of (record { 0 = n }) cause ≡ false) →
     (closed ≡ true → ends_turn (record { 0 = n }) op ≡ false) → closes tag op opened ≡ closed → turn_of n (turned tag o closed opened) ≡ turn_of n opened
 turn-turned n tag op (Some cause) closed opened out f e = ap (λ t. option_map tag_in (cond t (Some (bracket tag cause)) (find (is_turn (record { 0 = n })) opened))) (out cause refl)
-turn-turned n tag op None true opened out f e = ap (option_map tag_in) (kept-without (record { 0 = n }) tag op (λ cause q. ends-no-turn (record { 0 = n }) op cause (f refl) q) opened e)
+turn-turned n tag op None true opened out f e = ap (option_map tag_in) (kept-without (record { 0 = n }) tag op (λ cause q. ends-no-turn (record { 0 = n }) op cause q (f refl)) opened e)
 turn-turned n tag op None false opened out f e = refl
 
 -- an entry that hands nothing and ends no turn of the listener leaves its turn
