@@ -57,8 +57,7 @@ fn run_input<F: Shelf>(
     ensures later { F.faults shelf.old ≤ F.faults shelf.new }
     ensures run { IfOk result (λ r.
         IsRun (bounds_of limits) input.now
-        (record
-        { told = F.told shelf.old; before = F.faults shelf.old; after = F.faults shelf.new })
+        (record { told = F.told shelf.old; before = F.faults shelf.old; after = F.faults shelf.new })
         r.0 r.1) }
 {
     let lines = parse(alloc, input)?;
