@@ -1,6 +1,5 @@
 -- The machine as contracts see it.
 use Rattle.std.specs.Prelude.{◌≡◌, true, List}
-use Rattle.osgi_base.specs.declared.ids.ListenerId.{ListenerId}
 use Rattle.osgi_base.specs.declared.ids.Tag.{Tag}
 use Rattle.osgi_ops.specs.Brackets.{is_own_end}
 use Rattle.osgi_legal.specs.Legal.{IsReplayed}
@@ -8,7 +7,7 @@ use Rattle.osgi_ops.specs.Moments.{Moment, Seen, sights_in}
 use Rattle.osgi_ops.specs.Settings.{Setting}
 use Rattle.osgi_ops.specs.declared.entry.Entry.{Entry}
 use Rattle.osgi_ops.specs.declared.op.Op.{Op}
-use Rattle.osgi_ops.specs.declared.op.Op.TheVariants.{EndHand}
+use Rattle.osgi_tables.specs.Asked.{takes_no_memory}
 use Rattle.osgi_world.specs.declared.world.World.{World}
 
 -- what it runs under, which never changes, its history, and the world after it
@@ -25,6 +24,6 @@ AreSightsOf machine sights = (t : IsReplayed machine.setting machine.entries mac
 abbrev pub moment_of : Machine → Tag → List Seen → Moment
 moment_of machine tag sights = record { setting = machine.setting; before = machine.entries; world = machine.world; sights = sights; tag = tag }
 
--- the operation is the end of a hand that the tag's line began, while that is its caller's innermost bracket
-abbrev pub IsOwnHandEnd : Tag → Op → List Entry → Type 0
-IsOwnHandEnd tag op history = (listener : ListenerId) × (op ≡ EndHand listener) × (is_own_end tag op history ≡ true)
+-- the operation is the end of a hand or of a job that the tag's line began, while that is its caller's innermost bracket
+abbrev pub IsOwnEnd : Tag → Op → List Entry → Type 0
+IsOwnEnd tag op history = (takes_no_memory op ≡ true) × (is_own_end tag op history ≡ true)

@@ -1,5 +1,6 @@
 -- Lemmas on the one match of all operations.
 pub mod BundlesListed
+pub mod JobEnds
 pub mod JobsTaken
 pub mod Matching
 pub mod TextsWritten

@@ -90,7 +90,7 @@ decided_unasked asked tables refusal is =
     decided_refused asked tables refusal (plain_refusal tables.bundles (asker_here asked.op) refusal is) (λ now told stood. unasked now tables.bundles asked.op refusal told.told stood.bundles is)
 
 -- an operation that is not decided has not come, or is the end of a job or of a make, of which none is open
-undecided_due : (now : Moment) → IsTold now → (o : Op) → is_decided o ≡ false → IsReply now o (answer.Refused InvalidOperation)
+pub undecided_due : (now : Moment) → IsTold now → (o : Op) → is_decided o ≡ false → IsReply now o (answer.Refused InvalidOperation)
 undecided_due now told op.EndJob undecided = job-end-due now told
 undecided_due now told (op.EndMake failed) undecided = make-end-due now told failed
 undecided_due now told o undecided = late-due now o undecided

@@ -7,7 +7,7 @@ ghost use Rattle.std.specs.Prelude.{◌≡◌, ◌<◌, ℕ, false, true, All, N
 ghost use Rattle.osgi_listeners.specs.Sights.{IsOfEarlier, sights_of};
 ghost use Rattle.osgi_ops.specs.declared.op.Op.TheVariants as op;
 ghost use Rattle.osgi_reply_listening.specs.Hands.{end_reply};
-ghost use Rattle.osgi_tables.specs.Asked.{asker_here, asker_refusal, ends_hand, is_decided};
+ghost use Rattle.osgi_tables.specs.Asked.{asker_here, asker_refusal, takes_no_memory, is_decided};
 ghost use Rattle.osgi_tables.specs.Changes.{IsReplyAndChange};
 ghost use Rattle.osgi_tables.specs.Replied.{HasRoom, IsReplied, StandsStill};
 
@@ -55,7 +55,7 @@ fn decide_by(
 ) -> Result<(Reply, Change), AllocError>
     requires room { HasRoom tables.old }
     requires asker { asker_refusal tables.old.bundles (asker_here asked.now.op) ≡ None }
-    requires no_end { ends_hand asked.now.op ≡ false }
+    requires no_end { takes_no_memory asked.now.op ≡ false }
     ensures decided { IfOk result (λ r. IsReplyAndChange asked.now tables.old r.0 r.1) }
     ensures unchanged { tables.new ≡ tables.old }
 {
@@ -121,6 +121,7 @@ fn decide_by(
         Op::RemoveListener { owner, name } => remove_listener(alloc, tables, *owner, name),
         Op::Hand => hand(alloc, tables, asked.tag),
         Op::EndHand { .. } => unreachable!(),
+        Op::EndJob => unreachable!(),
         // No job can be queued yet.
         Op::TakeJob => Ok(unchanging(Reply::NoJob)),
         Op::Print { .. } => Ok(unchanging(Reply::Done)),
@@ -144,10 +145,10 @@ fn decide_by(
     }
 }
 
-/// Decides an operation that ends no hand: its reply, and what it changes.
+/// Decides an operation that ends no hand and no job: its reply, and what it changes.
 fn decide(alloc: Global, tables: &mut Tables, asked: &Asked) -> Result<(Reply, Change), AllocError>
     requires room { HasRoom tables.old }
-    requires no_end { ends_hand asked.now.op ≡ false }
+    requires no_end { takes_no_memory asked.now.op ≡ false }
     ensures decided { IfOk result (λ r. IsReplyAndChange asked.now tables.old r.0 r.1) }
     ensures unchanged { tables.new ≡ tables.old }
 {
@@ -166,8 +167,8 @@ pub struct Replied {
     pub told: Vec<Sight>,
 }
 
-/// Carries out an operation that ends no hand, by the entry before which there are so many. If memory runs out, the tables stand for
-/// what they did.
+/// Carries out an operation that ends no hand and no job, by the entry before which there are so many. If memory runs out, the tables
+/// stand for what they did.
 fn change_by(
     alloc: Global,
     tables: &mut Tables,
@@ -177,7 +178,7 @@ fn change_by(
     requires room { HasRoom tables.old }
     requires countable { entries < 4294967295 }
     requires earlier { All (IsOfEarlier entries) tables.old.listeners.rows }
-    requires no_end { ends_hand asked.now.op ≡ false }
+    requires no_end { takes_no_memory asked.now.op ≡ false }
     ensures copied { IfOk result (λ r. r.kept ≡ r.reply) }
     ensures replied { IfOk result (λ r.
         IsReplied entries asked.now tables.old tables.new r.reply (sights_of r.told.items)) }
@@ -189,7 +190,7 @@ fn change_by(
     Ok(Replied { reply, kept, told })
 }
 
-/// The reply to the end of a hand, which is refused if it ended none.
+/// The reply to the end of a hand or of a job, which is refused if it ended none.
 fn end_reply(ended: bool) -> Reply
     ensures reply { result ≡ end_reply ended }
 {
@@ -215,8 +216,22 @@ fn end_by(alloc: Global, tables: &mut Tables, tag: Tag, listener: ListenerId) ->
     }
 }
 
+/// The end of a job. It is refused, since none has begun, and takes no memory.
+fn end_job(alloc: Global, tables: &Tables, tag: Tag) -> Replied
+    ensures copied { result.kept ≡ result.reply }
+    ensures replied { (entries : ℕ)
+        → IsReplied entries (record { tag = tag; op = op.EndJob }) tables.now tables.now result.reply
+        (sights_of result.told.items) }
+{
+    Replied {
+        reply: end_reply(false),
+        kept: end_reply(false),
+        told: Vec::new(alloc),
+    }
+}
+
 /// Carries an operation out, by the entry before which there are so many. If memory runs out, the tables stand for what they did.
-/// The end of a hand takes no memory.
+/// The end of a hand and that of a job take no memory.
 pub fn reply_to(
     alloc: Global,
     tables: &mut Tables,
@@ -229,11 +244,12 @@ pub fn reply_to(
     ensures copied { IfOk result (λ r. r.kept ≡ r.reply) }
     ensures replied { IfOk result (λ r.
         IsReplied entries asked.now tables.old tables.new r.reply (sights_of r.told.items)) }
-    ensures no_memory { ends_hand asked.now.op ≡ true → IsOk result }
+    ensures no_memory { takes_no_memory asked.now.op ≡ true → IsOk result }
     ensures unchanged { OnErr result (StandsStill tables.old tables.new) }
 {
     match &asked.op {
         Op::EndHand { listener } => Ok(end_by(alloc, tables, asked.tag, *listener)),
+        Op::EndJob => Ok(end_job(alloc, tables, asked.tag)),
         _ => change_by(alloc, tables, asked, entries),
     }
 }

@@ -154,7 +154,7 @@ abbrev pub end_by : Tag → ListenerId → Asked
 end_by tag listener = record { tag = tag; op = op.EndHand listener }
 
 -- what is answered, where nothing happens, is replied where nobody is told
-replied_unseen : (entries : ℕ) (asked : Asked) (old new : Tables) (reply : Reply) → ((past : List Entry) (before after : World) (e : Entry) → e.op ≡ asked.op → e.reply ≡ reply → happenings past before after e e.op e.reply ≡ []) → IsAnswered asked old new reply [] → IsReplied entries asked old new reply []
+pub replied_unseen : (entries : ℕ) (asked : Asked) (old new : Tables) (reply : Reply) → ((past : List Entry) (before after : World) (e : Entry) → e.op ≡ asked.op → e.reply ≡ reply → happenings past before after e e.op e.reply ≡ []) → IsAnswered asked old new reply [] → IsReplied entries asked old new reply []
 replied_unseen entries asked old new reply none answered = record {
   due = λ now at number stood. answered.due now at stood;
   left = λ now at number stood. answered.left now at stood;

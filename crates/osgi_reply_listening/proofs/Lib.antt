@@ -1,3 +1,3 @@
 -- Lemmas on listeners and hands.
-mod Hands
+pub mod Hands
 mod Listeners

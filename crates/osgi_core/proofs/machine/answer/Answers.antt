@@ -1,33 +1,32 @@
--- There is room for the entry and, behind it, for the ends of the hands that are open then.
+-- There is room for the entry and, behind it, for the ends of the hands and jobs that are open then.
 use Rattle.std.proofs.Common.{◌≡◌, ◌<◌, ◌≤◌, ◌+◌, ◌-◌, ◌++◌, ◌∷◌, [], Bool, true, false, ap, arith, length, sym, subst, ◌∙◌}
-use Rattle.osgi_core.specs.Machine.{IsOwnHandEnd}
-use Rattle.osgi_core.proofs.Hands.{ends_then, hands_few, kept_ends, own_ends, some_open}
-use Rattle.osgi_tables.specs.Asked.{ends_hand}
+use Rattle.osgi_core.specs.Machine.{IsOwnEnd}
+use Rattle.osgi_core.proofs.Hands.{ends_then, ends_few, kept_ends, own_ends, some_open}
 use Rattle.osgi_core.proofs.machine.answer.Goals as goal
 use Rattle.osgi_core.proofs.machine.answer.Goals.{then-ends, else-ends}
 
 pub returns-in_err-reserve-clause-no_memory : goal.returns-in_err-reserve-clause-no_memory
 returns-in_err-reserve-clause-no_memory c own =
     let entries = c.args.entries.now.items in
-    let ends : c.ends_hand-ends.result ≡ true = c.ends_hand-ends.ensures.ends ∙ kept_ends entries c.args.tables.now.brackets c.args.asked.tag c.args.asked.op c.requires.brackets ∙ own_ends entries c.args.asked.tag c.args.asked.op own in
+    let ends : c.is_own_end-ends.result ≡ true = c.is_own_end-ends.ensures.ends ∙ kept_ends entries c.args.tables.now.brackets c.args.asked.tag c.args.asked.op c.requires.brackets ∙ own_ends entries c.args.asked.tag c.args.asked.op own in
     let enough = c.requires.ends.room in
-    let room : c.if-ends.room ≡ c.args.hands.now = elim c.if-ends.branch [
+    let room : c.if-ends.room ≡ c.args.begun.now = elim c.if-ends.branch [
       | then-ends w ↦ w.room-is
       | else-ends w ↦ absurd (let bad : true ≡ false = sym ends ∙ w.if-ends.false in cc bad)
     ] in
     absurd (let bad : false ≡ true = c.in_err-reserve.ensures.succeeds (omega (arith, enough, room)) in cc bad)
 
 pub returns-in_err-replied-clause-no_memory : goal.returns-in_err-replied-clause-no_memory
-returns-in_err-replied-clause-no_memory c own = absurd (let bad : false ≡ true = c.in_err-replied.ensures.no_memory (ap ends_hand own.1) in cc bad)
+returns-in_err-replied-clause-no_memory c own = absurd (let bad : false ≡ true = c.in_err-replied.ensures.no_memory own.0 in cc bad)
 
-pub hands_after-requires-clause-some : goal.hands_after-requires-clause-some
-hands_after-requires-clause-some c ends =
+pub begun_after-requires-clause-some : goal.begun_after-requires-clause-some
+begun_after-requires-clause-some c ends =
     let entries = c.args.entries.now.items in
-    let some = some_open c.args.asked.tag c.args.asked.op _ (sym (kept_ends entries c.args.tables.now.brackets c.args.asked.tag c.args.asked.op c.requires.brackets) ∙ sym c.ends_hand-ends.ensures.ends ∙ ends) in
-    omega (arith, some, c.requires.ends.open_hands)
+    let some = some_open c.args.asked.tag c.args.asked.op _ (sym (kept_ends entries c.args.tables.now.brackets c.args.asked.tag c.args.asked.op c.requires.brackets) ∙ sym c.is_own_end-ends.ensures.ends ∙ ends) in
+    omega (arith, some, c.requires.ends.open_ends)
 
-pub hands_after-requires-clause-countable : goal.hands_after-requires-clause-countable
-hands_after-requires-clause-countable c = omega (arith, c.requires.countable, c.requires.ends.open_hands, hands_few c.args.entries.now.items)
+pub begun_after-requires-clause-countable : goal.begun_after-requires-clause-countable
+begun_after-requires-clause-countable c = omega (arith, c.requires.countable, c.requires.ends.open_ends, ends_few c.args.entries.now.items)
 
 pub added-requires : goal.added-requires
 added-requires c =
@@ -35,9 +34,9 @@ added-requires c =
     record {
       room = elim c.if-ends.branch [
         | then-ends w ↦ (
-            let some = some_open c.args.asked.tag c.args.asked.op _ (sym (kept_ends entries c.args.tables.now.brackets c.args.asked.tag c.args.asked.op c.requires.brackets) ∙ sym c.ends_hand-ends.ensures.ends ∙ w.if-ends.true) in
+            let some = some_open c.args.asked.tag c.args.asked.op _ (sym (kept_ends entries c.args.tables.now.brackets c.args.asked.tag c.args.asked.op c.requires.brackets) ∙ sym c.is_own_end-ends.ensures.ends ∙ w.if-ends.true) in
             let room = w.room-is in
-            omega (arith, some, room, c.requires.ends.open_hands, c.in_ok-reserve.ensures.ok))
+            omega (arith, some, room, c.requires.ends.open_ends, c.in_ok-reserve.ensures.ok))
         | else-ends w ↦ (let room = w.room-is in omega (arith, room, c.in_ok-reserve.ensures.ok))
       ];
     }
@@ -47,9 +46,9 @@ returns-clause-ends c =
     let entries = c.args.entries.now.items in
     let fits = c.in_ok-reserve.ensures.ok in
     let more = c.added.ensures.capacity in
-    ends_then entries c.added.new.items.items c.args.asked.tag c.args.asked.op c.in_ok-replied.replied.reply c.in_ok-replied.replied.kept c.args.tables.now.brackets c.args.hands.now c.hands_after.result c.if-ends.room _ c.ends_hand-ends.result
-    c.requires.brackets c.requires.ends.open_hands c.ends_hand-ends.ensures.ends c.in_ok-replied.ensures.copied
+    ends_then entries c.added.new.items.items c.args.asked.tag c.args.asked.op c.in_ok-replied.replied.reply c.in_ok-replied.replied.kept c.args.tables.now.brackets c.args.begun.now c.begun_after.result c.if-ends.room _ c.is_own_end-ends.result
+    c.requires.brackets c.requires.ends.open_ends c.is_own_end-ends.ensures.ends c.in_ok-replied.ensures.copied
     (c.added.ensures.added ∙ (λ i. c.reserve.ensures.items i ++ c.answered.ensures.entry i ∷ []))
-    c.hands_after.ensures.hands (omega (arith, fits, more))
+    c.begun_after.ensures.begun (omega (arith, fits, more))
     (λ ends. elim c.if-ends.branch [ then-ends w ↦ w.room-is | else-ends w ↦ absurd (let bad : true ≡ false = sym ends ∙ w.if-ends.false in cc bad) ])
     (λ other. elim c.if-ends.branch [ then-ends w ↦ absurd (let bad : true ≡ false = sym w.if-ends.true ∙ other in cc bad) | else-ends w ↦ w.room-is ])

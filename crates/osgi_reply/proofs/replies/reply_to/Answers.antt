@@ -1,4 +1,4 @@
--- The end of a hand is replied to as what it is.
+-- The ends of a hand and of a job are replied to as what they are.
 use Rattle.std.proofs.Common.{subst, sym}
 use Rattle.osgi_listeners.specs.Sights.{sights_of}
 use Rattle.osgi_ops.specs.declared.op.Op.{Op}
@@ -9,3 +9,8 @@ pub returns-in-EndHand-clause-replied : goal.returns-in-EndHand-clause-replied
 returns-in-EndHand-clause-replied c =
     subst (λ (o : Op). IsReplied c.args.entries (record { tag = c.args.asked.now.tag; op = o }) c.args.tables.now c.end_by.new.tables c.end_by.result.reply (sights_of c.end_by.result.told.items)) (sym c.in-EndHand.is)
     (c.end_by.ensures.replied c.args.entries)
+
+pub returns-in-EndJob-clause-replied : goal.returns-in-EndJob-clause-replied
+returns-in-EndJob-clause-replied c =
+    subst (λ (o : Op). IsReplied c.args.entries (record { tag = c.args.asked.now.tag; op = o }) c.args.tables.now c.args.tables.now c.end_job.result.reply (sights_of c.end_job.result.told.items)) (sym c.in-EndJob.is)
+    (c.end_job.ensures.replied c.args.entries)

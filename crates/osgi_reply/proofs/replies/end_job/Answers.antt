@@ -1,0 +1,17 @@
+-- Nobody is told of the end of a job.
+use Rattle.std.proofs.Common.{List, subst, sym}
+use Rattle.std.specs.Prelude.{false}
+use Rattle.osgi_listeners.specs.Sights.{sights_of}
+use Rattle.osgi_listeners.specs.declared.sight.Sight.{Sight}
+use Rattle.osgi_ops.specs.declared.op.Op.TheVariants as op
+use Rattle.osgi_ops.specs.declared.reply.Reply.{Reply}
+use Rattle.osgi_reply.proofs.JobEnds.{job_end_refused}
+use Rattle.osgi_reply_listening.specs.Hands.{end_reply}
+use Rattle.osgi_tables.specs.Replied.{IsReplied}
+use Rattle.osgi_reply.proofs.replies.end_job.Goals as goal
+
+pub returns-clause-replied : goal.returns-clause-replied
+returns-clause-replied c entries =
+    subst (λ (y : Reply). IsReplied entries (record { tag = c.args.tag; op = op.EndJob }) c.args.tables.now c.args.tables.now y (sights_of c.new.result.items)) (sym c.end_reply.ensures.reply)
+    (subst (λ (told : List Sight). IsReplied entries (record { tag = c.args.tag; op = op.EndJob }) c.args.tables.now c.args.tables.now (end_reply false) (sights_of told)) (sym c.new.ensures.items)
+    (job_end_refused entries c.args.tables.now c.args.tag))
