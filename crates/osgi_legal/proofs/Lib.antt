@@ -17,6 +17,7 @@ pub mod Levels
 pub mod Listening
 pub mod Loads
 pub mod Names
+pub mod Objects
 pub mod Opened
 pub mod Owned
 pub mod Owners

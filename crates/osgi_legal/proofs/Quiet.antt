@@ -1,20 +1,20 @@
 -- An entry that says nothing of a part leaves it as it was: one law for each part; and which operations say nothing.
 use Rattle.std.proofs.Common.{◌≡◌, ◌+◌, ◌-◌, ℕ, List, [], ◌∷◌, ◌++◌, length, map, append-nil, Bool, true, false, refl, sym, ap, ◌∙◌, arith}
-use Rattle.std.specs.Prelude.{◌==◌, count_by, ◌&&◌, ◌||◌, not, cond, Option, None, Some, filter, find, unwrap_or}
+use Rattle.std.specs.Prelude.{◌==◌, All, count_by, ◌&&◌, ◌||◌, nat_lt, not, cond, Option, None, Some, filter, find, is_some, unwrap_or}
 use Rattle.std.specs.List.{cons_option, filter_map, list_any}
 use Rattle.std.specs.Option.{option_map, option_map_or}
 use Rattle.std.proofs.lemmas.Bool.{false_from_ne_true}
 use Rattle.std.proofs.lemmas.List.{length-map}
-use Rattle.std.proofs.lemmas.List.Elements.{filter-append}
+use Rattle.std.proofs.lemmas.List.Elements.{All-head, All-tail, All-weaker, filter-append}
 use Rattle.osgi_base.specs.declared.ids.BundleId.{BundleId}
 use Rattle.osgi_base.specs.declared.ids.ListenerId.{ListenerId}
 use Rattle.osgi_base.specs.declared.ids.ServiceId.{ServiceId}
 use Rattle.osgi_base.specs.declared.ids.Tag.{Tag}
-use Rattle.osgi_legal.specs.Quiet.{IsQuiet, QuietBundles, QuietJobs, QuietLevels, QuietListeners, QuietPhases, QuietRefresh, QuietServices, ReadAlike, SameBundles, SameLevels, SameListeners, SamePhases, SameServices}
+use Rattle.osgi_legal.specs.Quiet.{IsQuiet, QuietBundles, QuietJobs, QuietLevels, QuietListeners, QuietMakes, QuietObjects, QuietPhases, QuietRefresh, QuietServices, QuietWaiting, ReadAlike, SameBundles, SameLevels, SameListeners, SameObjects, SamePhases, SameServices}
 use Rattle.osgi_model.specs.declared.value.Attribute.{Attribute}
 use Rattle.osgi_ops.specs.Brackets.{Bracket, brackets, closes, is_end, opens, turned}
 use Rattle.osgi_ops.specs.Bundles as bundles
-use Rattle.osgi_ops.specs.Bundles.{begun_by, brings_revision, Installed, installed, installed_by, is_uninstall, last_begin, live_at, phase, put_into, revisions, row_from, source, updated_to}
+use Rattle.osgi_ops.specs.Bundles.{begun_by, brings_revision, Installed, installed, installed_by, is_uninstall, last_begin, phase, put_into, revisions, row_from, source, updated_to}
 use Rattle.osgi_ops.specs.Cleaning.{cleaned_by, cleans}
 use Rattle.osgi_ops.specs.Depots.{row_number}
 use Rattle.osgi_ops.specs.Jobs as queue
@@ -22,11 +22,14 @@ use Rattle.osgi_ops.specs.Jobs.{jobs, Queued, queued_by, with_jobs}
 use Rattle.osgi_ops.specs.Levels.{leveled, moved_to, refresh, refresh_by, Walk, walk, walk_by, wishes}
 use Rattle.osgi_legal.specs.Legal.{entry_of}
 use Rattle.osgi_ops.specs.Listening.{clears, handed_by, handed_in, happenings, leaving, of_bundle, heard_by, Hearing, hearing, is_handed, with_heard}
+use Rattle.osgi_ops.specs.Makes.{is_made, made_count, make_change, open_makes}
 use Rattle.osgi_ops.specs.Moments.{Moment}
+use Rattle.osgi_ops.specs.Objects.{HeldObject, is_given_back, object_by, objects, stays}
 use Rattle.osgi_legal.specs.Operations.{IsReply}
 use Rattle.osgi_ops.specs.Properties.{with_framework}
 use Rattle.osgi_ops.specs.Replies.{is_effective}
-use Rattle.osgi_ops.specs.Services.{gets, given_by, given_last, gets_object, is_service, is_unget, is_use_of, live, made_of, made_uses, Registered, registered, registered_by, service_now, takes_out, ungets, use_by, uses_with, without_user}
+use Rattle.osgi_ops.specs.Services.{gets, given_by, given_last, gets_object, is_service, is_unget, is_use_of, live, live_at, made_of, made_uses, Registered, registered, registered_by, scope_of, service_now, takes_out, ungets, use_by, uses, uses_with, without_user}
+use Rattle.osgi_ops.specs.Waiting.{waited_by, waiting}
 use Rattle.osgi_ops.specs.declared.depot.DepotRow.{DepotRow}
 use Rattle.osgi_ops.specs.declared.entry.Entry.{Entry}
 use Rattle.osgi_ops.specs.declared.op.Op.{Op}
@@ -35,10 +38,14 @@ use Rattle.osgi_ops.specs.declared.refusal.Refusal.{Refusal}
 use Rattle.osgi_ops.specs.declared.refusal.Refusal.TheVariants as no
 use Rattle.osgi_ops.specs.declared.reply.Reply.{Reply}
 use Rattle.osgi_ops.specs.declared.reply.Reply.TheVariants as answer
+use Rattle.osgi_ops.specs.declared.scope.Scope.TheVariants.{Singleton}
 use Rattle.osgi_world.specs.declared.world.World.{World}
 use Rattle.osgi_ops.specs.laws.Along.{along-last, carry-last, latest-quiet}
 use Rattle.osgi_ops.specs.laws.Brackets.{brackets-last}
 use Rattle.osgi_ops.specs.laws.Bundles as installs
+use Rattle.osgi_ops.specs.laws.Makes.{objects-push, open_makes-quiet}
+use Rattle.osgi_ops.specs.laws.Waiting.{waiting-quiet}
+use Rattle.osgi_legal.proofs.Objects.{are-held, IsHeldIn}
 use Rattle.osgi_legal.proofs.Owned.{closes-not, ended-by}
 use Rattle.osgi_ops.specs.laws.Services as kept
 
@@ -67,6 +74,20 @@ find-read {X} {Y} p g f none (x ∷ xs) same reads = go (p x) refl (find-read p 
     go true e ih = ap (λ k. option_map_or f (cond k (Some (g x)) (find p (map g xs))) none) (same x ∙ e) ∙ reads x ∙ sym (ap (λ k. option_map_or f (cond k (Some x) (find p xs)) none) e)
     go false e ih = ap (λ k. option_map_or f (cond k (Some (g x)) (find p (map g xs))) none) (same x ∙ e) ∙ ih ∙ sym (ap (λ k. option_map_or f (cond k (Some x) (find p xs)) none) e)
 
+-- whether anything is found
+find-some : {X : Type 0} (p : X → Bool) (g : X → X) (xs : List X) → ((x : X) → p (g x) ≡ p x) → is_some (find p (map g xs)) ≡ is_some (find p xs)
+find-some p g [] same = refl
+find-some {X} p g (x ∷ xs) same = ap (λ k. is_some (cond k (Some (g x)) (find p (map g xs)))) (same x) ∙ go (p x) (find-some p g xs same)
+  where
+    go : (k : Bool) → is_some (find p (map g xs)) ≡ is_some (find p xs) → is_some (cond k (Some (g x)) (find p (map g xs))) ≡ is_some (cond k (Some x) (find p xs))
+    go true rest = refl
+    go false rest = rest
+
+filter-held : {X : Type 0} (p : X → Bool) (xs : List X) → All (λ x. p x ≡ true) xs → filter p xs ≡ xs
+filter-held p [] all = refl
+filter-held p (x ∷ xs) all =
+    ap (λ k. cond k (x ∷ filter p xs) (filter p xs)) (All-head (λ y. p y ≡ true) x xs all) ∙ ap (λ l. x ∷ l) (filter-held p xs (All-tail (λ y. p y ≡ true) x xs all))
+
 -- ---- the laws, part by part
 
 not-cleaned : (o : Op) (y : Reply) → cleaned_by o y ≡ None → (b : BundleId) → cleans b o y ≡ false
@@ -91,6 +112,11 @@ services-quiet h e q = record {
   }) (q.given r.service));
   registered = ap (λ (l : List Registered). length l) (kept.registered-push h e ∙ ap (λ l. map (kept.later e) (registered h) ++ l) (q.registered (length (registered h)) []) ∙ append-nil (map (kept.later e) (registered h)))
       ∙ length-map (registered h) (kept.later e);
+  scopes = ap (map (λ (r : Registered). r.scope)) (live-quiet h e q) ∙ map-map (λ (r : Registered). r.scope) (kept.later e) (live h) (λ r. refl);
+  scope = λ s.
+      ap (λ l. option_map_or (λ (r : Registered). r.scope) (find (is_service s) l) Singleton)
+      (kept.registered-push h e ∙ ap (λ l. map (kept.later e) (registered h) ++ l) (q.registered (length (registered h)) []) ∙ append-nil (map (kept.later e) (registered h)))
+      ∙ find-read (is_service s) (kept.later e) (λ (r : Registered). r.scope) Singleton (registered h) (λ r. refl) (λ r. refl);
   uses = λ u s.
       ap (λ l. option_map_or (uses_with (count_by (is_use_of u s) (made_uses (h ++ e ∷ []))) u) (find (is_service s) l) 0) (live-quiet h e q)
       ∙ ap (λ n. option_map_or (uses_with n u) (find (is_service s) (map (kept.later e) (live h))) 0) (ap (λ l. count_by (is_use_of u s) l) (made-same h e q))
@@ -174,6 +200,33 @@ listeners-quiet h e q = record {
 pub jobs-quiet : (h : List Entry) (e : Entry) → QuietJobs e.op e.reply → jobs (h ++ e ∷ []) ≡ jobs h
 jobs-quiet h e q = carry-last (λ (s : List Queued) (x : Entry). with_jobs (queued_by x.op x.reply) s) [] h e ∙ ap (λ c. with_jobs c (jobs h)) q
 
+-- an entry that closes no bracket ends no make
+pub makes-quiet : (h : List Entry) (e : Entry) → QuietMakes e.op e.reply → closes e.tag e.op (brackets h) ≡ false → open_makes (h ++ e ∷ []) ≡ open_makes h
+makes-quiet h e q c = open_makes-quiet h e (ap (λ k. make_change k e.op e.reply) c ∙ q)
+
+-- an object that was held is held on: its service is live still, its user was not cleaned and did not give it back, and has as many uses
+objects-quiet : (h : List Entry) (e : Entry) → QuietServices e.op e.reply → QuietObjects e.op e.reply → SameObjects (h ++ e ∷ []) h
+objects-quiet h e s q = record {
+  objects =
+      objects-push h e
+      ∙ ap (λ m. filter (stays (h ++ e ∷ []) e) (objects h ++ object_by h e m)) (s.made e.tag (brackets h))
+      ∙ ap (filter (stays (h ++ e ∷ []) e)) (append-nil (objects h))
+      ∙ filter-held (stays (h ++ e ∷ []) e) (objects h) (All-weaker (IsHeldIn h) (λ o. stays (h ++ e ∷ []) e o ≡ true) still (objects h) (are-held h));
+  made = ap (λ (l : List Entry). length l) (filter-append (λ (x : Entry). is_made x.op x.reply) h (e ∷ []) ∙ ap (λ k. filter (λ (x : Entry). is_made x.op x.reply) h ++ cond k (e ∷ []) []) q.made ∙ append-nil _);
+}
+  where
+    there : (o : HeldObject) → is_some (live_at o.service (h ++ e ∷ [])) ≡ is_some (live_at o.service h)
+    there o = ap (λ l. is_some (find (is_service o.service) l)) (live-quiet h e s) ∙ find-some (is_service o.service) (kept.later e) (live h) (λ r. refl)
+
+    passed : (a d : Bool) → (a && true && true && d) ≡ (a && d)
+    passed true d = refl
+    passed false d = refl
+
+    still : (o : HeldObject) → IsHeldIn h o → stays (h ++ e ∷ []) e o ≡ true
+    still o held =
+        (λ i. there o i && not (not-cleaned e.op e.reply s.cleaned o.user i) && not (q.given_back o i) && (o.own || nat_lt 0 ((services-quiet h e s).uses o.user o.service i)))
+        ∙ passed (is_some (live_at o.service h)) (o.own || nat_lt 0 (uses o.user o.service h)) ∙ held
+
 pub brackets-quiet : (h : List Entry) (e : Entry) → opens e.op e.reply ≡ None → closes e.tag e.op (brackets h) ≡ false → brackets (h ++ e ∷ []) ≡ brackets h
 brackets-quiet h e q c = brackets-last h e ∙ (λ i. turned e.tag (q i) (c i) (brackets h))
 
@@ -188,6 +241,9 @@ reads-alike depot h e q c = record {
   refresh = refresh-quiet h e q.refresh;
   listeners = listeners-quiet h e q.listeners;
   jobs = jobs-quiet h e q.jobs;
+  open_makes = makes-quiet h e q.makes c;
+  objects = objects-quiet h e q.services q.objects;
+  waiting = waiting-quiet h e q.waiting;
 }
 
 -- ---- what says nothing
@@ -216,6 +272,9 @@ asking-quiet (op.Find asker class filter) y e = record {
   refresh = λ before e. refl;
   listeners = record { heard = refl; handed = λ l. refl; counted = refl; happens = λ past v w e. refl };
   jobs = refl;
+  makes = refl;
+  objects = record { made = refl; given_back = λ held. refl };
+  waiting = refl;
 }
 asking-quiet (op.FindAll asker class filter) y e = record {
   opened = refl;
@@ -226,6 +285,9 @@ asking-quiet (op.FindAll asker class filter) y e = record {
   refresh = λ before e. refl;
   listeners = record { heard = refl; handed = λ l. refl; counted = refl; happens = λ past v w e. refl };
   jobs = refl;
+  makes = refl;
+  objects = record { made = refl; given_back = λ held. refl };
+  waiting = refl;
 }
 asking-quiet (op.ListLevel level) y e = record {
   opened = refl;
@@ -236,6 +298,9 @@ asking-quiet (op.ListLevel level) y e = record {
   refresh = λ before e. refl;
   listeners = record { heard = refl; handed = λ l. refl; counted = refl; happens = λ past v w e. refl };
   jobs = refl;
+  makes = refl;
+  objects = record { made = refl; given_back = λ held. refl };
+  waiting = refl;
 }
 asking-quiet (op.Load bundle class) y e = record {
   opened = refl;
@@ -246,6 +311,9 @@ asking-quiet (op.Load bundle class) y e = record {
   refresh = λ before e. refl;
   listeners = record { heard = refl; handed = λ l. refl; counted = refl; happens = λ past v w e. refl };
   jobs = refl;
+  makes = refl;
+  objects = record { made = refl; given_back = λ held. refl };
+  waiting = refl;
 }
 asking-quiet (op.Print owner text) y e = record {
   opened = refl;
@@ -256,6 +324,9 @@ asking-quiet (op.Print owner text) y e = record {
   refresh = λ before e. refl;
   listeners = record { heard = refl; handed = λ l. refl; counted = refl; happens = λ past v w e. refl };
   jobs = refl;
+  makes = refl;
+  objects = record { made = refl; given_back = λ held. refl };
+  waiting = refl;
 }
 asking-quiet (op.Fail owner text) y e = record {
   opened = refl;
@@ -266,6 +337,9 @@ asking-quiet (op.Fail owner text) y e = record {
   refresh = λ before e. refl;
   listeners = record { heard = refl; handed = λ l. refl; counted = refl; happens = λ past v w e. refl };
   jobs = refl;
+  makes = refl;
+  objects = record { made = refl; given_back = λ held. refl };
+  waiting = refl;
 }
 asking-quiet op.ListBundles y e = record {
   opened = refl;
@@ -276,6 +350,9 @@ asking-quiet op.ListBundles y e = record {
   refresh = λ before e. refl;
   listeners = record { heard = refl; handed = λ l. refl; counted = refl; happens = λ past v w e. refl };
   jobs = refl;
+  makes = refl;
+  objects = record { made = refl; given_back = λ held. refl };
+  waiting = refl;
 }
 asking-quiet op.ListServices y e = record {
   opened = refl;
@@ -286,6 +363,9 @@ asking-quiet op.ListServices y e = record {
   refresh = λ before e. refl;
   listeners = record { heard = refl; handed = λ l. refl; counted = refl; happens = λ past v w e. refl };
   jobs = refl;
+  makes = refl;
+  objects = record { made = refl; given_back = λ held. refl };
+  waiting = refl;
 }
 asking-quiet (op.ListWires bundle) y e = record {
   opened = refl;
@@ -296,6 +376,9 @@ asking-quiet (op.ListWires bundle) y e = record {
   refresh = λ before e. refl;
   listeners = record { heard = refl; handed = λ l. refl; counted = refl; happens = λ past v w e. refl };
   jobs = refl;
+  makes = refl;
+  objects = record { made = refl; given_back = λ held. refl };
+  waiting = refl;
 }
 asking-quiet o y e = absurd (cc e)
 
@@ -450,6 +533,37 @@ listeners-refused o f e = record { heard = heard o; handed = λ l. handed o l; c
     happens op.EndLevel past v w x = refl
     happens o past v w x = refl
 
+makes-refused : (o : Op) (f : Refusal) → QuietMakes o (answer.Refused f)
+makes-refused op.Hand f = refl
+makes-refused op.TakeJob f = refl
+makes-refused (op.BeginStart b transient) f = refl
+makes-refused (op.BeginStop target transient) f = refl
+makes-refused (op.Get user service) f = refl
+makes-refused (op.GetOwn user service) f = refl
+makes-refused (op.EndMake failed) f = refl
+makes-refused (op.Give owner text) f = refl
+makes-refused o f = refl
+
+objects-refused : (o : Op) (f : Refusal) → QuietObjects o (answer.Refused f)
+objects-refused o f = record { made = makes o; given_back = λ held. back o held }
+  where
+    makes : (o : Op) → is_made o (answer.Refused f) ≡ false
+    makes (op.EndMake failed) = refl
+    makes o = refl
+
+    back : (o : Op) (held : HeldObject) → is_given_back held o (answer.Refused f) ≡ false
+    back (op.UngetOwn user service object) held = refl
+    back o held = refl
+
+waiting-refused : (o : Op) (f : Refusal) → QuietWaiting o (answer.Refused f)
+waiting-refused (op.Await asked) f = refl
+waiting-refused (op.BeginStart asked transient) f = refl
+waiting-refused (op.BeginStop target transient) f = refl
+waiting-refused (op.Update bundle location) f = refl
+waiting-refused (op.Uninstall bundle) f = refl
+waiting-refused op.DropWirings f = refl
+waiting-refused o f = refl
+
 pub refused-quiet : (o : Op) (f : Refusal) → is_effective (answer.Refused f) ≡ false → IsQuiet o (answer.Refused f)
 refused-quiet o f e = record {
   opened = opens-refused o f;
@@ -460,6 +574,9 @@ refused-quiet o f e = record {
   refresh = refresh-refused o f;
   listeners = listeners-refused o f e;
   jobs = jobs-refused o f e;
+  makes = makes-refused o f;
+  objects = objects-refused o f;
+  waiting = waiting-refused o f;
 }
 
 -- and what is refused so is no end of its caller's innermost bracket, where the end of a make is none
