@@ -12,7 +12,7 @@ use Rattle.osgi_bundle.specs.Stands.{StandsForNone}
 use Rattle.osgi_core.specs.Sound.{IsSoundlyTold, IsTrulyUnresolvable}
 use Rattle.osgi_legal.proofs.Legal.{handed-is-prefix, sights-last, world-last}
 use Rattle.osgi_legal.proofs.Owned.{entries-last}
-use Rattle.osgi_legal.proofs.ToldOnce.{told-once}
+use Rattle.osgi_stage.proofs.ToldOnce.{told-once}
 use Rattle.osgi_legal.specs.Legal.{IsAllowed, IsAllowedNow, IsAskedAt, IsStep, IsTold}
 use Rattle.osgi_ops.specs.Levels.{Refresh, refresh}
 use Rattle.osgi_listeners.specs.Rows.{no_listeners}

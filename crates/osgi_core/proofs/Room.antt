@@ -2,7 +2,7 @@
 use Rattle.std.proofs.Common.{◌<◌, ◌≤◌, ◌+◌, ℕ, List, [], ◌∷◌, length, length-append, ap, arith, ◌∙◌}
 use Rattle.std.specs.Prelude.{All, false, None, Option, Some}
 use Rattle.std.proofs.lemmas.List.Sums.{count_by-le-length, length-filter}
-use Rattle.osgi_legal.proofs.Current.{fresh-at}
+use Rattle.osgi_stage.proofs.Current.{fresh-at}
 use Rattle.osgi_listeners.specs.Sights.{IsOfEarlier}
 use Rattle.osgi_listeners.specs.laws.Handing.{waits-of-earlier}
 use Rattle.osgi_ops.specs.Bundles.{brings_revision, installed, installed_after, installed_by, revisions}
@@ -19,7 +19,7 @@ use Rattle.osgi_ops.specs.declared.reply.Reply.{Reply}
 use Rattle.osgi_ops.specs.declared.reply.Reply.TheVariants as answer
 use Rattle.osgi_ops.specs.laws.Services.{length-registered, uses-le-length}
 use Rattle.osgi_world.specs.declared.world.World.{World}
-use Rattle.osgi_legal.proofs.Stage.{no-made-uses}
+use Rattle.osgi_stage.proofs.Stage.{no-made-uses}
 use Rattle.osgi_reply_services.proofs.Serving.{uses_now}
 use Rattle.osgi_tables.proofs.Premises.{past-at}
 use Rattle.osgi_tables.specs.Replied.{HasRoom, StandsFor}

@@ -8,7 +8,7 @@ use Rattle.std.proofs.lemmas.List.{length-map, take_all, take_more}
 use Rattle.std.proofs.lemmas.List.Folds.{list_any-append}
 use Rattle.osgi_base.specs.declared.ids.BundleId.{BundleId}
 use Rattle.osgi_history.specs.computed.States.{installs, is_live_after, number_in}
-use Rattle.osgi_legal.proofs.States.{state-agrees}
+use Rattle.osgi_stage.proofs.States.{state-agrees}
 use Rattle.osgi_legal.specs.States.{state_at}
 use Rattle.osgi_ops.specs.Along.{latest}
 use Rattle.osgi_ops.specs.Bundles.{idle, Installed, installed, installed_by, is_live, is_uninstall, live, number_of, Phase, phase, put_into, state}

@@ -1,36 +1,27 @@
--- The facts of legal histories at the moment at which an operation is asked for: what the operations' proofs cite.
+-- The facts of legal histories that last, at the moment at which an operation is asked for: what the operations' proofs cite.
 use Rattle.std.proofs.Common.{◌≡◌, ◌≤◌, true, false, sym, ap, ◌∙◌, subst}
-use Rattle.std.specs.Prelude.{◌==◌, ℕ, List, map, Some, All, Contains, count_by}
+use Rattle.std.specs.Prelude.{◌==◌, map, All}
 use mathlib.Core.List.{IsPrefix}
 use Rattle.osgi_base.specs.declared.ids.BundleId.{BundleId}
 use Rattle.osgi_base.specs.declared.ids.ListenerId.{ListenerId}
-use Rattle.osgi_legal.specs.States.{state_at}
-use Rattle.osgi_ops.specs.Closures.{IsClosed}
-use Rattle.osgi_ops.specs.Assignable.{IsAssignable}
 use Rattle.osgi_ops.specs.Brackets.{Bracket, brackets}
-use Rattle.osgi_ops.specs.Bundles.{Bundle, bundles, is_live, is_up, revisions, system}
+use Rattle.osgi_ops.specs.Bundles.{bundles, is_up}
 use Rattle.osgi_ops.specs.Conditions.{state_change, state_of}
 use Rattle.osgi_ops.specs.Jobs.{jobs, Queued}
 use Rattle.osgi_legal.specs.Legal.{IsTold}
-use Rattle.osgi_ops.specs.Levels.{Refresh, refresh}
 use Rattle.osgi_ops.specs.Listening.{Added, event_at, handed, handed_in, handings, is_in_turn, listeners, spots_of}
 use Rattle.osgi_ops.specs.Moments.{Moment, sights_in}
 use Rattle.osgi_ops.specs.Services.{live, Registered}
-use Rattle.osgi_ops.specs.declared.entry.Entry.{Entry}
 use Rattle.osgi_ops.specs.declared.refusal.Refusal.{Refusal}
 use Rattle.osgi_world.specs.Lists.{In}
-use Rattle.osgi_legal.proofs.Handings.{handings-told, handings-within, is_handing}
+use Rattle.osgi_legal.proofs.Handings.{handings-within}
 use Rattle.osgi_legal.proofs.Legal.{at-told, due-spots, handed-flat, handed-is-prefix, spots-flat}
 use Rattle.osgi_legal.proofs.Listening.{is_turn}
 use Rattle.osgi_legal.proofs.Names.{AreNamedApart, names-apart}
 use Rattle.osgi_legal.proofs.Owners.{jobs-up, listeners-up, services-up}
 use Rattle.osgi_legal.proofs.Phases.{IsFit, phases-fit}
-use Rattle.osgi_legal.proofs.Running.{all-run, IsRunning}
-use Rattle.osgi_legal.proofs.States.{live-row, state-agrees}
-use Rattle.osgi_legal.proofs.SystemSources.{own-assignable}
 use Rattle.osgi_legal.proofs.Turns.{AreTurns, same-turn, turns_of, turns-fit}
 use Rattle.osgi_legal.proofs.Up.{up-refused}
-use Rattle.osgi_legal.proofs.Windows.{always-kept, IsKept, IsWindow, members-closed, members-stay}
 
 -- a bundle is starting or stopping exactly with one open bracket, of the tag of its last begin
 pub fit-at : (now : Moment) → IsTold now → (b : BundleId) → IsFit b now.before
@@ -46,38 +37,13 @@ listeners-up-at now t = at-told (λ m. All (λ (a : Added). is_up (state_of m a.
 pub jobs-up-at : (now : Moment) → IsTold now → All (λ (q : Queued). is_up (state_of now q.owner) ≡ true) (jobs now.before)
 jobs-up-at now t = at-told (λ m. All (λ (q : Queued). is_up (state_of m q.owner) ≡ true) (jobs m.before)) (λ setting told tag legal. jobs-up setting told legal) now t
 
--- names and versions of live bundles are apart, and each live bundle has its row
+-- names and versions of live bundles are apart
 pub named-apart-at : (now : Moment) → IsTold now → AreNamedApart (bundles now.setting.depot now.before)
 named-apart-at now t = at-told (λ m. AreNamedApart (bundles m.setting.depot m.before)) (λ setting told tag legal. names-apart setting told legal) now t
-
-pub row-at : (now : Moment) → IsTold now → (b : BundleId) → is_live b now.before ≡ true → (c : Bundle) × Contains (bundles now.setting.depot now.before) c × (c.bundle ≡ b)
-row-at now t b = at-told (λ m. is_live b m.before ≡ true → (c : Bundle) × Contains (bundles m.setting.depot m.before) c × (c.bundle ≡ b)) (λ setting told tag legal. live-row setting told legal b) now t
-
--- the world is tidy; the members of an open refresh that has not dropped are a closure in it, and bundle 0 is none of them
-pub kept-at : (now : Moment) → IsTold now → IsKept now.before now.world
-kept-at now t = at-told (λ m. IsKept m.before m.world) (λ setting told tag legal. always-kept setting told legal) now t
-
-pub window-at : (now : Moment) → IsTold now → (r : Refresh) → refresh now.before ≡ Some r → r.dropped ≡ false → IsWindow now.world r
-window-at now t r = at-told (λ m. refresh m.before ≡ Some r → r.dropped ≡ false → IsWindow m.world r) (λ setting told tag legal. members-stay setting told legal r) now t
-
-pub closed-at : (now : Moment) → IsTold now → (r : Refresh) → refresh now.before ≡ Some r → r.dropped ≡ false → IsClosed now.world r.members
-closed-at now t r = at-told (λ m. refresh m.before ≡ Some r → r.dropped ≡ false → IsClosed m.world r.members) (λ setting told tag legal. members-closed setting told legal r) now t
-
--- the current revision of a bundle that is up is in force
-pub running-at : (now : Moment) → IsTold now → (b : BundleId) → is_up (state_of now b) ≡ true → IsRunning now.world b
-running-at now t b = at-told (λ m. is_up (state_of m b) ≡ true → IsRunning m.world b) (λ setting told tag legal. all-run setting told legal b) now t
-
--- the system bundle's services of every class are assignable to itself
-pub system-assignable-at : (now : Moment) → IsTold now → (class : List ℕ) → IsAssignable now.world system system class
-system-assignable-at now t class = own-assignable (revisions now.before) now.world (kept-at now t).tidy class
 
 -- a state change of a bundle that is up, and not bundle 0, is refused
 pub up-refused-at : (now : Moment) → IsTold now → (b : BundleId) → (b.0 == 0) ≡ false → is_up (state_of now b) ≡ true → (f : Refusal) × state_change is_up now b f
 up-refused-at now t b = at-told (λ m. (b.0 == 0) ≡ false → is_up (state_of m b) ≡ true → (f : Refusal) × state_change is_up m b f) (λ setting told tag legal. up-refused setting told legal tag b) now t
-
--- a bundle's state is read off the entries alone
-pub state-at : (now : Moment) → IsTold now → (b : BundleId) → state_of now b ≡ state_at now.before b
-state-at now t b = at-told (λ m. state_of m b ≡ state_at m.before b) (λ setting told tag legal. state-agrees setting told legal b) now t
 
 -- what a listener was handed is a beginning of what it saw
 pub handed-at : (now : Moment) → IsTold now → (listener : ListenerId) → IsPrefix (handed_in listener now.before) (map event_at (spots_of listener now.sights))
@@ -88,10 +54,7 @@ handed-at now t listener =
     (subst (IsPrefix (handed listener told)) (due-spots listener told ∙ ap (map event_at) (sym (spots-flat listener told))) (handed-is-prefix setting told legal listener)))
     now t
 
--- as many events were handed as replies say so, and no more than may be
-pub handings-told-at : (now : Moment) → IsTold now → count_by (λ (e : Entry). is_handing e.reply) now.before ≡ handings now.before
-handings-told-at now t = at-told (λ m. count_by (λ (e : Entry). is_handing e.reply) m.before ≡ handings m.before) (λ setting told tag legal. handings-told setting told legal) now t
-
+-- no more events are handed than may be
 pub handings-within-at : (now : Moment) → IsTold now → handings now.before ≤ now.setting.bounds.handings
 handings-within-at now t = at-told (λ m. handings m.before ≤ m.setting.bounds.handings) (λ setting told tag legal. handings-within setting told legal) now t
 

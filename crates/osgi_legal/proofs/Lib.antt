@@ -1,13 +1,9 @@
--- Facts of legal histories.
+-- Facts of legal histories that last.
 pub mod Accepted
 pub mod Askers
+pub mod Busy
 pub mod Cleanings
-pub mod Current
-pub mod Drops
-pub mod Early
-pub mod Ends
 pub mod Facts
-pub mod Fresh
 pub mod Handing
 pub mod Handings
 pub mod Hands
@@ -15,27 +11,17 @@ pub mod Innermost
 pub mod Legal
 pub mod Levels
 pub mod Listening
-pub mod Loads
 pub mod Names
 pub mod Objects
-pub mod Opened
 pub mod Owned
 pub mod Owners
 pub mod Phases
 pub mod Quiet
-pub mod Rows
-pub mod Running
 pub mod Sights
-pub mod Singletons
-pub mod Stage
-pub mod StateReadings
-pub mod States
 pub mod SystemIdle
 pub mod SystemSources
 pub mod Targets
 pub mod Tidy
-pub mod ToldOnce
 pub mod Turns
 pub mod Up
 pub mod Verdicts
-pub mod Windows

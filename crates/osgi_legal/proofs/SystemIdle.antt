@@ -11,7 +11,7 @@ use Rattle.osgi_ops.specs.laws.Along.{holds}
 use Rattle.osgi_legal.proofs.Legal.{at-told}
 use Rattle.osgi_legal.proofs.Owned.{entries-last}
 use Rattle.osgi_legal.proofs.Phases.{ends_it, leaves, phase-quiet, start-row, starts, stop-row, stops, Turn, turn-of}
-use Rattle.osgi_legal.proofs.Running.{end-busy}
+use Rattle.osgi_legal.proofs.Busy.{end-busy}
 use Rattle.osgi_legal.proofs.Up.{is_idle}
 
 idle-step : (setting : Setting) (front : List Told) (x : Told) → AreAllowed setting front → IsAllowed setting front x → is_idle (phase system (entries_in front)) ≡ true →

@@ -19,8 +19,7 @@ use Rattle.osgi_world.specs.declared.revision.Revision.{Revision}
 use Rattle.osgi_world.specs.declared.wiring.Wire.{Wire}
 use Rattle.osgi_world.specs.declared.world.Known.{Known}
 use Rattle.osgi_world.specs.declared.world.World.{World}
-use Rattle.osgi_legal.proofs.Running.{system-current}
-use Rattle.osgi_legal.proofs.Tidy.{IsTidy, known-bundle}
+use Rattle.osgi_legal.proofs.Tidy.{IsTidy, known-bundle, system-current}
 
 abbrev revision_0 : RevisionId
 revision_0 = record { 0 = 0 }

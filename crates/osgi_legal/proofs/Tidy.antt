@@ -3,13 +3,13 @@ use Rattle.std.proofs.Common.{◌≡◌, ◌⊎◌, inl, inr, ◌+◌, ◌≤◌
 use Rattle.std.specs.Prelude.{◌==◌, ◌||◌, not, cond, is_some, IsSome, Option, None, Some, filter, Contains}
 use Rattle.std.specs.List.{list_any}
 use Rattle.std.specs.Option.{option_map, option_map_or}
-use Rattle.std.proofs.lemmas.Bool.{eq-eqb, eqb-true, false_from_ne_true, ne_eqb, not-true, or_cases, or_left, or_right}
+use Rattle.std.proofs.lemmas.Bool.{and_parts, eq-eqb, eqb-true, false_from_ne_true, ne_eqb, not-true, or_cases, or_left, or_right}
 use Rattle.osgi_base.specs.declared.ids.BundleId.{BundleId}
 use Rattle.osgi_base.specs.declared.ids.RevisionId.{RevisionId}
 use Rattle.osgi_ops.specs.Bundles.{is_member, system}
-use Rattle.osgi_ops.specs.Closures.{DependsOn, hosting, IsClosed, LeansOn, wired}
+use Rattle.osgi_ops.specs.Closures.{hosting, IsClosed, LeansOn, wired}
 use Rattle.osgi_ops.specs.Moments.{first_world}
-use Rattle.osgi_ops.specs.Resolved.{is_current_of, is_in_use}
+use Rattle.osgi_ops.specs.Resolved.{current_revision, is_current_of, is_in_use}
 use Rattle.osgi_ops.specs.Resolving.{IsResolvedTo}
 use Rattle.osgi_ops.specs.Worlds.{dropped, stays_known, passed, pended, with_revision}
 use Rattle.osgi_ops.specs.laws.Resolved.{in_use-from}
@@ -320,3 +320,11 @@ dropped-tidy n world members closed apart t = record {
     stood g i k j e out =
         In-kept (stays world.known members) world.wirings g i
         (ap not (ap (λ (o : Option Known). is_member members (option_map_or (λ (l : Known). l.bundle.0) o 0)) (known-bundle world.known t.once k j g.revision e) ∙ out))
+
+-- the current revision of the system bundle is its first
+pub system-current : (n : ℕ) (world : World) → IsTidy n world → current_revision world system ≡ Some known_system
+system-current n world t =
+    let f = find-some (is_current_of system) world.known known_system t.known refl in
+    let i = found-in (is_current_of system) world.known f.0 f.1 in
+    let c = and_parts f.0.current (f.0.bundle.0 == 0) i.1 in
+    f.1 ∙ ap Some (t.system f.0 i.0 (let q : f.0.bundle.0 ≡ 0 = eqb-true f.0.bundle.0 0 c.1 in λ j. record { 0 = q j }))

@@ -5,6 +5,7 @@ use Rattle.std.specs.List.{list_any}
 use Rattle.std.proofs.lemmas.Bool.{or_left, or_right}
 use Rattle.std.proofs.lemmas.List.Elements.{filter-append}
 use Rattle.osgi_legal.proofs.Handings as legal
+use Rattle.osgi_stage.proofs.Handings as stage
 use Rattle.osgi_legal.proofs.Legal.{split-map}
 use Rattle.osgi_legal.specs.Legal.{AreAllowed, IsAllowed, Legal}
 use Rattle.osgi_ops.specs.Listening.{handings, is_handed}
@@ -93,11 +94,11 @@ reached setting told front (x ∷ rest) last legal is same hand refused =
     (subst (λ y. IsReply now Hand y) (ap (λ (e : Entry). e.reply) here ∙ refused)
     (subst (λ o. IsReply now o x.entry.reply) (ap (λ (e : Entry). e.op) here ∙ hand) parts.1.0.replied))
 
-same_test : (y : Reply) → is_handing y ≡ legal.is_handing y
+same_test : (y : Reply) → is_handing y ≡ stage.is_handing y
 same_test (Handed listener kind owner row name event) = refl
 same_test y = refl
 
-counted : (history : List Entry) → count_by (λ (e : Entry). is_handing e.reply) history ≡ count_by (λ (e : Entry). legal.is_handing e.reply) history
+counted : (history : List Entry) → count_by (λ (e : Entry). is_handing e.reply) history ≡ count_by (λ (e : Entry). stage.is_handing e.reply) history
 counted history = λ i. count_by (λ (e : Entry). same_test e.reply i) history
 
 pub hands_are : (history : List Entry) → count_by hands history ≡ count_by (λ (e : Entry). is_handing e.reply) history
@@ -111,7 +112,7 @@ handed_all setting history l ends =
     let tells : entries_in told ≡ history = l.1.tells in
     let s = split-map (λ (x : Told). x.entry) told ends.front (ends.last ∷ []) (tells ∙ ends.is) in
     let count : count_by (λ (e : Entry). is_handing e.reply) history ≡ handings (entries_in told)
-    = counted history ∙ ap (λ (h : List Entry). count_by (λ (e : Entry). legal.is_handing e.reply) h) (sym tells) ∙ legal.handings-told setting told l.1.allowed in
+    = counted history ∙ ap (λ (h : List Entry). count_by (λ (e : Entry). stage.is_handing e.reply) h) (sym tells) ∙ stage.handings-told setting told l.1.allowed in
     let within : handings (entries_in told) ≤ setting.bounds.handings = legal.handings-within setting told l.1.allowed in
     let least : setting.bounds.handings ≤ handings ends.front
     = subst (λ (h : List Entry). setting.bounds.handings ≤ handings h) s.3 (reached setting told s.0 s.1 ends.last l.1.allowed s.2 s.4 ends.hand ends.refused) in

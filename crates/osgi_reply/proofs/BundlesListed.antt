@@ -3,7 +3,7 @@ use Rattle.std.proofs.Common.{List, map, ap, refl}
 use Rattle.osgi_bundle.specs.Rows.{row_of}
 use Rattle.osgi_bundle.specs.laws.Standing as table
 use Rattle.osgi_legal.specs.Quiet.{QuietServices}
-use Rattle.osgi_legal.proofs.Stage.{first-levels, never-waits}
+use Rattle.osgi_stage.proofs.Stage.{first-levels, never-waits}
 use Rattle.osgi_ops.specs.declared.op.Op.TheVariants as op
 use Rattle.osgi_ops.specs.declared.reply.Reply.TheVariants as answer
 use Rattle.osgi_ops.specs.declared.rows.BundleRow.{BundleRow}

@@ -1,7 +1,7 @@
 -- No job is taken, since none can be queued yet.
 use Rattle.std.proofs.Common.{ap, inr, refl, sym}
 use Rattle.osgi_legal.specs.Quiet.{QuietServices}
-use Rattle.osgi_legal.proofs.Stage.{no-jobs}
+use Rattle.osgi_stage.proofs.Stage.{no-jobs}
 use Rattle.osgi_ops.specs.declared.op.Op.TheVariants as op
 use Rattle.osgi_ops.specs.declared.reply.Reply.TheVariants as answer
 use Rattle.osgi_ops.specs.rows.Jobs.{taken}

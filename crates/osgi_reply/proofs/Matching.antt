@@ -1,7 +1,7 @@
 -- What is decided of each operation is decided for who asks.
 use Rattle.std.proofs.Common.{◌≡◌, ap, map, sym, subst, ◌∙◌, refl}
 use Rattle.std.specs.Prelude.{true, false, List, [], ◌∷◌, None, Option, option_to_list, Some}
-use Rattle.osgi_legal.proofs.Stage.{job-end-due, late-due, make-end-due}
+use Rattle.osgi_stage.proofs.Stage.{job-end-due, late-due, make-end-due}
 use Rattle.osgi_ops.specs.Cleaning.{cleaned_by}
 use Rattle.osgi_legal.specs.Legal.{entry_of, IsTold}
 use Rattle.osgi_ops.specs.Listening as happening

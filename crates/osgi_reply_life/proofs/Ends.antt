@@ -8,9 +8,9 @@ use Rattle.osgi_brackets.specs.Open.{open_of}
 use Rattle.osgi_bundle.specs.Rows.{IsInChange, row_at}
 use Rattle.osgi_bundle.specs.declared.kept.BundleKept.{BundleKept}
 use Rattle.osgi_legal.specs.Quiet.{QuietBundles}
-use Rattle.osgi_legal.proofs.Current.{up-resolved}
-use Rattle.osgi_legal.proofs.Ends.{own-start, own-start-live, own-stop, own-stop-live}
-use Rattle.osgi_legal.proofs.StateReadings.{state-in}
+use Rattle.osgi_stage.proofs.Current.{up-resolved}
+use Rattle.osgi_stage.proofs.Ends.{own-start, own-start-live, own-stop, own-stop-live}
+use Rattle.osgi_stage.proofs.StateReadings.{state-in}
 use Rattle.osgi_ops.specs.Brackets.{is_own_end, own_closes}
 use Rattle.osgi_ops.specs.Bundles as phases
 use Rattle.osgi_ops.specs.Bundles.{is_up, last_begin, number_of, Starting, State, Stopping}

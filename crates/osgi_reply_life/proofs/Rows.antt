@@ -8,8 +8,8 @@ use Rattle.osgi_bundle.specs.Stands.{StandsFor}
 use Rattle.osgi_bundle.specs.Targets.{IsTargetRow}
 use Rattle.osgi_bundle.specs.laws.OneBundle.{found_row, gone, row_by, row_fragment, row_live, row_number_of, row_state, says_row, SaysRow}
 use Rattle.osgi_bundle.specs.declared.kept.BundleKept.{BundleKept}
-use Rattle.osgi_legal.proofs.Facts.{row-at}
-use Rattle.osgi_legal.proofs.Rows.{fragment-at}
+use Rattle.osgi_stage.proofs.Facts.{row-at}
+use Rattle.osgi_stage.proofs.Rows.{fragment-at}
 use Rattle.osgi_ops.specs.Bundles as phases
 use Rattle.osgi_ops.specs.Bundles.{Active, is_active, is_changing, is_live, last_begin, number_of, Phase, phase, Resolved, row_of, running, Starting, State, Stopping, Uninstalled, Unresolved}
 use Rattle.osgi_ops.specs.Conditions.{state_of}

@@ -10,9 +10,9 @@ use Rattle.osgi_bundle.specs.Targets.{IsTargetRow}
 use Rattle.osgi_bundle.specs.declared.kept.BundleKept.{BundleKept}
 use Rattle.osgi_bundle.specs.laws.OneBundle.{rows_of_target, target_of_rows}
 use Rattle.osgi_legal.specs.Quiet.{QuietServices}
-use Rattle.osgi_legal.proofs.Facts.{row-at}
-use Rattle.osgi_legal.proofs.Stage.{never-above, never-kept, never-refreshing}
-use Rattle.osgi_legal.proofs.StateReadings.{when-resolved}
+use Rattle.osgi_stage.proofs.Facts.{row-at}
+use Rattle.osgi_stage.proofs.Stage.{never-above, never-kept, never-refreshing}
+use Rattle.osgi_stage.proofs.StateReadings.{when-resolved}
 use Rattle.osgi_legal.proofs.Targets.{no-target}
 use Rattle.osgi_ops.specs.Brackets.{starting as start_of}
 use Rattle.osgi_ops.specs.Bundles.{Active, is_active, is_changing, is_live, Resolved, row_of, starting, Unresolved}

@@ -11,9 +11,9 @@ use Rattle.osgi_bundle.specs.Targets.{IsTargetRow}
 use Rattle.osgi_bundle.specs.declared.kept.BundleKept.{BundleKept}
 use Rattle.osgi_bundle.specs.laws.OneBundle.{rows_of_target, target_of_rows}
 use Rattle.osgi_legal.specs.Quiet.{QuietServices}
-use Rattle.osgi_legal.proofs.Current.{up-resolved}
-use Rattle.osgi_legal.proofs.Facts.{row-at}
-use Rattle.osgi_legal.proofs.Stage.{never-refreshing, never-waits}
+use Rattle.osgi_stage.proofs.Current.{up-resolved}
+use Rattle.osgi_stage.proofs.Facts.{row-at}
+use Rattle.osgi_stage.proofs.Stage.{never-refreshing, never-waits}
 use Rattle.osgi_legal.proofs.Targets.{no-target}
 use Rattle.osgi_ops.specs.Brackets.{stopping as stop_of}
 use Rattle.osgi_ops.specs.Bundles.{Active, is_active, is_changing, is_up, row_of, stopping, system}

@@ -5,7 +5,7 @@ use Rattle.std.specs.Option.{option_map_or}
 use Rattle.osgi_base.specs.declared.ids.BundleId.{BundleId}
 use Rattle.osgi_base.specs.declared.ids.RevisionId.{RevisionId}
 use Rattle.osgi_legal.specs.Quiet.{QuietServices}
-use Rattle.osgi_legal.proofs.Current.{dead-at, live-at}
+use Rattle.osgi_stage.proofs.Current.{dead-at, live-at}
 use Rattle.osgi_ops.specs.Loading.{IsLoadedBy}
 use Rattle.osgi_legal.specs.Operations.{IsReply}
 use Rattle.osgi_ops.specs.Resolved.{current_revision, is_fragment_bundle, is_resolved}
@@ -14,7 +14,7 @@ use Rattle.osgi_ops.specs.declared.op.Op.TheVariants as op
 use Rattle.osgi_ops.specs.declared.refusal.Refusal.TheVariants.{InvalidOperation, NoSuchBundle}
 use Rattle.osgi_ops.specs.declared.reply.Reply.TheVariants as answer
 use Rattle.osgi_ops.specs.rows.Bundles.{is_java_class, loaded_with}
-use Rattle.osgi_legal.proofs.Stage.{none-woken}
+use Rattle.osgi_stage.proofs.Stage.{none-woken}
 use Rattle.osgi_tables.proofs.Replying.{at, from_own, of_services, replied_refused, still_tables, unseen}
 use Rattle.osgi_tables.proofs.Wired.{target_open, target_resolved}
 use Rattle.osgi_tables.specs.Replied.{IsAnsweredToAll}

@@ -13,9 +13,9 @@ use Rattle.osgi_bundle.specs.Stands.{IsNewBundle, kept_of, StandsAfter}
 use Rattle.osgi_bundle.specs.declared.kept.BundleKept.{BundleKept}
 use Rattle.osgi_bundle.specs.laws.Standing as table
 use Rattle.osgi_legal.specs.Quiet.{QuietServices}
-use Rattle.osgi_legal.proofs.Current.{fresh-at}
-use Rattle.osgi_legal.proofs.Fresh.{never-given}
-use Rattle.osgi_legal.proofs.Windows.{revisions-more}
+use Rattle.osgi_stage.proofs.Current.{fresh-at}
+use Rattle.osgi_stage.proofs.Fresh.{never-given}
+use Rattle.osgi_stage.proofs.Windows.{revisions-more}
 use Rattle.osgi_ops.specs.Bundles.{Bundle, bundle_from, bundles, installed, revisions}
 use Rattle.osgi_ops.specs.Conditions.{depot_refusal, IsDuplicate}
 use Rattle.osgi_ops.specs.Depots.{stored_revision, revision_in, row_number, stored_at}

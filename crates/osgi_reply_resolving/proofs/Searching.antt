@@ -11,9 +11,9 @@ use Rattle.osgi_bundle.specs.Stands as bundle
 use Rattle.osgi_bundle.specs.Stands.{kept_of}
 use Rattle.osgi_bundle.specs.laws.Standing as table
 use Rattle.osgi_legal.specs.Quiet.{QuietBundles, QuietServices}
-use Rattle.osgi_legal.proofs.Current.{dead-at, live-at, up-resolved}
+use Rattle.osgi_stage.proofs.Current.{dead-at, live-at, up-resolved}
 use Rattle.osgi_legal.proofs.Quiet.{bundles-quiet}
-use Rattle.osgi_legal.proofs.Stage.{never-refreshing}
+use Rattle.osgi_stage.proofs.Stage.{never-refreshing}
 use Rattle.osgi_resolver_theory.proofs.Once.{effort_within-once, first-extends_world, none-extends_world}
 use Rattle.osgi_resolver_theory.proofs.Ordered.{partial-ordered}
 use Rattle.osgi_resolver_theory.proofs.Search.{within-not_above}

@@ -24,7 +24,7 @@ use Rattle.osgi_world.specs.declared.wiring.Wiring.{Wiring}
 use Rattle.osgi_world.specs.declared.world.Known.{Known}
 use Rattle.osgi_world.specs.declared.world.World.{World}
 use Rattle.osgi_legal.specs.Quiet.{QuietServices}
-use Rattle.osgi_legal.proofs.Current.{dead-at, live-at}
+use Rattle.osgi_stage.proofs.Current.{dead-at, live-at}
 use Rattle.osgi_tables.proofs.Replying.{at, from_own, of_services, replied_refused, still_tables, unseen}
 use Rattle.osgi_tables.specs.Replied.{IsAnsweredToAll}
 use Rattle.osgi_reply_resolving.specs.computed.Searched.{IsCurrent}

@@ -32,7 +32,7 @@ use Rattle.osgi_ops.specs.declared.service.Service.{Service}
 use Rattle.osgi_ops.specs.declared.service.ServiceRow.{ServiceRow}
 use Rattle.osgi_ops.specs.laws.Services.{uses-plain}
 use Rattle.osgi_ops.specs.rows.Services.{got, got_as, got_reply, making_change, IsToMake, shared, to_make}
-use Rattle.osgi_legal.proofs.Stage.{live-single-at, no-made-uses}
+use Rattle.osgi_stage.proofs.Stage.{live-single-at, no-made-uses}
 use Rattle.osgi_registry.specs.laws.Standing.{Found, nowhere, quiet_find_all, quiet_list, quiet_refused, rows_found, rows_length, rows_services, stands_quiet, there}
 use Rattle.osgi_registry.specs.Rows.{count_of, modify_refusal, object_at, refusal_at, register_refusal, RegistryRows, LiveService, row_at, services_in, twins_refusal, use_count}
 use Rattle.osgi_registry.specs.Stands.{IsRowOf, StandsAfter, StandsFor}

@@ -39,7 +39,7 @@ use Rattle.osgi_session.specs.declared.line.Line.{Line}
 use Rattle.osgi_world.specs.declared.world.World.{World}
 use Rattle.osgi_ops.specs.Waiting.{is_waiting, waiting}
 use Rattle.osgi_ops.specs.laws.Waiting.{not-waiting}
-use Rattle.osgi_legal.proofs.Early.{nobody-waits}
+use Rattle.osgi_stage.proofs.Early.{nobody-waits}
 use Rattle.osgi_legal.proofs.Hands.{all-handed}
 use Rattle.osgi_legal.proofs.Legal.{due-spots, handed-flat, handed-is-prefix, split-map, spots-flat}
 use Rattle.osgi_legal.proofs.Listening.{live-between, turn-lasts}

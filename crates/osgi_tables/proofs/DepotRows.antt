@@ -9,7 +9,7 @@ use Rattle.osgi_bundle.specs.Rows.{row_at, TableRows}
 use Rattle.osgi_bundle.specs.Stands.{StandsFor}
 use Rattle.osgi_bundle.specs.declared.kept.BundleKept.{BundleKept}
 use Rattle.osgi_bundle.specs.laws.OneBundle.{found_row, gone, row_number_of, says_row, SaysRow}
-use Rattle.osgi_legal.proofs.Facts.{row-at}
+use Rattle.osgi_stage.proofs.Facts.{row-at}
 use Rattle.osgi_legal.specs.Legal.{IsTold}
 use Rattle.osgi_ops.specs.Moments.{Moment}
 use Rattle.osgi_ops.specs.Bundles.{Bundle, bundles, Installed, installed, installed_after, installed_by, is_there, live, live_at, row_from, row_of, source, the_system_bundle}

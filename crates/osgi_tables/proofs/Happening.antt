@@ -8,7 +8,7 @@ use Rattle.osgi_bundle.specs.Stands.{kept_of, StandsFor}
 use Rattle.osgi_bundle.specs.declared.kept.BundleKept.{BundleKept}
 use Rattle.osgi_bundle.specs.laws.OneBundle.{found_row}
 use Rattle.osgi_bundle.specs.laws.Worlds.{current_new}
-use Rattle.osgi_legal.proofs.Rows.{current-at}
+use Rattle.osgi_stage.proofs.Rows.{current-at}
 use Rattle.osgi_ops.specs.Bundles.{Bundle, bundles}
 use Rattle.osgi_legal.specs.Legal.{IsTold}
 use Rattle.osgi_ops.specs.Listening.{bundle, Happening, happenings, leaving, of_bundle}

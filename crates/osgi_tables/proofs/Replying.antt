@@ -16,7 +16,7 @@ use Rattle.osgi_legal.specs.Quiet.{QuietBundles, QuietPhases, QuietServices}
 use Rattle.osgi_legal.proofs.Askers.{asker-passes}
 use Rattle.osgi_legal.proofs.Owned.{closes-not, closes-own}
 use Rattle.osgi_legal.proofs.Quiet.{bundles-quiet, refused-quiet, refused_end_quiet}
-use Rattle.osgi_legal.proofs.Stage.{no-make-ends}
+use Rattle.osgi_stage.proofs.Stage.{no-make-ends}
 use Rattle.osgi_listeners.specs.Rows.{Listening}
 use Rattle.osgi_ops.specs.Brackets.{brackets, closes, is_end, opens, own_closes}
 use Rattle.osgi_ops.specs.Bundles.{brings_revision, installed_by, is_uninstall, put_into, updated_to}

@@ -2,7 +2,7 @@
 use Rattle.std.proofs.Common.{◌≡◌, List, [], ◌∷◌, ◌++◌, refl, sym, ap, ◌∙◌, subst}
 use Rattle.osgi_base.specs.declared.ids.Tag.{Tag}
 use Rattle.osgi_legal.proofs.Owned.{entries-last}
-use Rattle.osgi_legal.proofs.ToldOnce.{told-once}
+use Rattle.osgi_stage.proofs.ToldOnce.{told-once}
 use Rattle.osgi_ops.specs.Along.{AllAlong}
 use Rattle.osgi_legal.specs.Legal.{AreAllowed, IsAllowed, IsTold, Legal}
 use Rattle.osgi_ops.specs.Moments.{entries_in, Moment, moment, Told, world_after}

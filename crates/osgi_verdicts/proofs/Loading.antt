@@ -13,7 +13,7 @@ use Rattle.osgi_ops.specs.laws.Members.{AreAmong, ordered-once}
 use Rattle.osgi_ops.specs.rows.Bundles.{loaded_with, LoadAnswers, woken}
 use Rattle.osgi_ops.specs.Dynamic.{with_added}
 use Rattle.osgi_ops.specs.laws.Dynamic.{none-added}
-use Rattle.osgi_legal.proofs.Loads.{load-shown}
+use Rattle.osgi_stage.proofs.Loads.{load-shown}
 use Rattle.osgi_verdicts.proofs.Providers.{one-provider}
 use Rattle.osgi_world.specs.Sources.{GivesPackage}
 use Rattle.osgi_world.specs.declared.wiring.Wire.{Wire}

@@ -8,7 +8,7 @@ use Rattle.osgi_base.specs.declared.ids.RevisionId.{RevisionId}
 use Rattle.osgi_legal.proofs.Legal.{at-told, world-last}
 use Rattle.osgi_legal.proofs.Owned.{entries-last}
 use Rattle.osgi_legal.proofs.Tidy.{extends-of, IsTidy, known-bundle, passed-id}
-use Rattle.osgi_legal.proofs.Windows.{always-kept, revisions-more, revisions-same}
+use Rattle.osgi_stage.proofs.Windows.{always-kept, revisions-more, revisions-same}
 use Rattle.osgi_ops.specs.Bundles.{brings_revision, revisions}
 use Rattle.osgi_legal.specs.Legal.{AreAllowed, entry_of, IsAllowed, IsTold}
 use Rattle.osgi_ops.specs.Levels.{Refresh, refresh}
@@ -35,7 +35,7 @@ use Rattle.osgi_world.specs.declared.wiring.Wire.{Wire}
 use Rattle.osgi_world.specs.declared.wiring.Wiring.{Wiring}
 use Rattle.osgi_world.specs.declared.world.Known.{Known}
 use Rattle.osgi_world.specs.declared.world.World.{World}
-use Rattle.osgi_legal.proofs.Loads.{load-stays}
+use Rattle.osgi_stage.proofs.Loads.{load-stays}
 use Rattle.osgi_legal.specs.Operations.{IsReply}
 
 -- a world in which so many revisions were brought: one provider for each package of each revision, and capabilities of given revisions alone

@@ -15,8 +15,8 @@ use Rattle.osgi_ops.specs.laws.Bundles.{installed-push, last_begin-kept, later}
 use Rattle.osgi_legal.proofs.Legal.{at-told}
 use Rattle.osgi_legal.proofs.Owned.{entries-last}
 use Rattle.osgi_legal.proofs.Phases.{ends_it, leaves, start-row, starts, stops, Turn, turn-of}
-use Rattle.osgi_legal.proofs.Running.{busy-live, live-by, stop-up}
-use Rattle.osgi_legal.proofs.States.{always-agrees}
+use Rattle.osgi_legal.proofs.Busy.{busy-live, live-by, stop-up}
+use Rattle.osgi_stage.proofs.States.{always-agrees}
 use Rattle.osgi_legal.proofs.Up.{begun-quiet, idle-is, is_idle}
 
 -- ids stay given

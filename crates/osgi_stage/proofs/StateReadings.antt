@@ -11,7 +11,7 @@ use Rattle.osgi_ops.specs.Moments.{entries_in, Moment}
 use Rattle.osgi_ops.specs.Resolved.{is_resolved}
 use Rattle.osgi_ops.specs.declared.refusal.Refusal.{Refusal}
 use Rattle.osgi_ops.specs.declared.refusal.Refusal.TheVariants as no
-use Rattle.osgi_legal.proofs.Current.{up-resolved}
+use Rattle.osgi_stage.proofs.Current.{up-resolved}
 use Rattle.osgi_legal.proofs.Legal.{at-told}
 use Rattle.osgi_legal.proofs.Owned.{some-of}
 use Rattle.osgi_legal.proofs.Phases.{state-by}

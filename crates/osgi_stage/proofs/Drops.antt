@@ -18,7 +18,7 @@ use Rattle.osgi_world.specs.declared.wiring.Wire.{Wire}
 use Rattle.osgi_world.specs.declared.world.Known.{Known}
 use Rattle.osgi_world.specs.declared.world.World.{World}
 use Rattle.osgi_base.specs.declared.ids.BundleId.{BundleId}
-use Rattle.osgi_legal.proofs.Facts.{closed-at, kept-at}
+use Rattle.osgi_stage.proofs.Facts.{closed-at, kept-at}
 use Rattle.osgi_legal.proofs.Tidy.{contains-member, IsTidy, known-bundle, member-contains}
 
 -- the revisions that stay: those of no member

@@ -39,11 +39,11 @@ use Rattle.osgi_legal.proofs.Names.{IsBrought, row-cases, row-made}
 use Rattle.osgi_legal.proofs.Owned.{entries-last}
 use Rattle.osgi_legal.proofs.Phases.{same-id}
 use Rattle.osgi_legal.proofs.Quiet.{bundles-quiet, bundles-refused}
-use Rattle.osgi_legal.proofs.Running.{current-pended}
-use Rattle.osgi_legal.proofs.States.{Agrees, always-agrees, find-new, find-none, find-other, none-current}
+use Rattle.osgi_stage.proofs.Running.{current-pended}
+use Rattle.osgi_stage.proofs.States.{Agrees, always-agrees, find-new, find-none, find-other, none-current}
 use Rattle.osgi_legal.proofs.Tidy.{extends-of}
-use Rattle.osgi_legal.proofs.Windows.{leaves-refused, refused-is}
-use Rattle.osgi_legal.proofs.Loads.{load-stays}
+use Rattle.osgi_stage.proofs.Windows.{leaves-refused, refused-is}
+use Rattle.osgi_stage.proofs.Loads.{load-stays}
 
 -- the bundle has a current revision, which is this one
 pub record IsCurrent (world : World) (b : BundleId) (v : Revision) : Type 0 where

@@ -44,10 +44,10 @@ use Rattle.osgi_world.specs.declared.wiring.Wire.{Wire}
 use Rattle.osgi_world.specs.declared.world.Known.{Known}
 use Rattle.osgi_world.specs.declared.world.World.{World}
 use Rattle.osgi_legal.specs.laws.Stages.{row-here}
-use Rattle.osgi_legal.proofs.Early.{all-early, carry-still, early-calm, IsCalm, IsEarly, latest-none, none-queued, since-all}
+use Rattle.osgi_stage.proofs.Early.{all-early, carry-still, early-calm, IsCalm, IsEarly, latest-none, none-queued, since-all}
 use Rattle.osgi_legal.proofs.Legal.{at-told}
-use Rattle.osgi_legal.proofs.Singletons.{all-single, AreSingle, live-single}
-use Rattle.osgi_legal.proofs.Opened.{AreNotLate, job-ends-none, make-ends-none, makes-none, opened-so}
+use Rattle.osgi_stage.proofs.Singletons.{all-single, AreSingle, live-single}
+use Rattle.osgi_stage.proofs.Opened.{AreNotLate, job-ends-none, make-ends-none, makes-none, opened-so}
 
 -- ---- entries
 

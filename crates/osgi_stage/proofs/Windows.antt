@@ -38,7 +38,7 @@ use Rattle.osgi_legal.proofs.Accepted.{accepted, NoneHolds}
 use Rattle.osgi_legal.proofs.Legal.{world-last}
 use Rattle.osgi_legal.proofs.Owned.{entries-last}
 use Rattle.osgi_legal.proofs.Tidy.{any-in, brought-tidy, dropped-tidy, first-tidy, IsTidy, pended-tidy, resolved-tidy}
-use Rattle.osgi_legal.proofs.Loads.{load-stays}
+use Rattle.osgi_stage.proofs.Loads.{load-stays}
 
 -- ---- the closure, with one more revision known
 

@@ -20,7 +20,7 @@ use Rattle.osgi_ops.specs.declared.reply.Reply.{Reply}
 use Rattle.osgi_ops.specs.declared.reply.Reply.TheVariants as answer
 use Rattle.osgi_world.specs.declared.world.World.{World}
 use Rattle.osgi_legal.proofs.Sights.{sights-once}
-use Rattle.osgi_legal.proofs.Loads.{load-stays}
+use Rattle.osgi_stage.proofs.Loads.{load-stays}
 
 -- ---- what one entry leaves
 

@@ -33,11 +33,11 @@ use Rattle.osgi_ops.specs.rows.Jobs.{taken}
 use Rattle.osgi_ops.specs.rows.Services.{got, got_as, got_reply}
 use Rattle.osgi_legal.specs.laws.Stages.{late-refused}
 use Rattle.osgi_legal.proofs.Accepted.{accepted}
-use Rattle.osgi_legal.proofs.Early.{none-queued}
-use Rattle.osgi_legal.proofs.Singletons.{all-single, AreSingle, live-single}
+use Rattle.osgi_stage.proofs.Early.{none-queued}
+use Rattle.osgi_stage.proofs.Singletons.{all-single, AreSingle, live-single}
 use Rattle.osgi_legal.proofs.Owned.{entries-last}
 use Rattle.osgi_legal.proofs.Quiet.{opens-refused}
-use Rattle.osgi_legal.proofs.Windows.{refused-is}
+use Rattle.osgi_stage.proofs.Windows.{refused-is}
 
 -- it is for a job or for a make
 abbrev pub is_late : Cause → Bool

@@ -20,15 +20,15 @@ use Rattle.osgi_ops.specs.declared.reply.Reply.{Reply}
 use Rattle.osgi_world.specs.Lists.{In}
 use Rattle.osgi_ops.specs.laws.Brackets.{brackets-last}
 use Rattle.osgi_ops.specs.laws.Items.{In-filter, In-kept}
-use Rattle.osgi_legal.proofs.Current.{up-resolved}
+use Rattle.osgi_stage.proofs.Current.{up-resolved}
 use Rattle.osgi_legal.proofs.Facts.{fit-at, turns-at}
 use Rattle.osgi_legal.proofs.Innermost.{closed-one}
 use Rattle.osgi_legal.proofs.Legal.{at-told}
 use Rattle.osgi_legal.proofs.Listening.{HasEnded, has-ended, is_turn}
 use Rattle.osgi_legal.proofs.Owned.{closes-own, of}
 use Rattle.osgi_legal.proofs.Phases.{brackets_for, Fits, is_bracket_for, is_for, same-id, state-by}
-use Rattle.osgi_legal.proofs.Running.{busy-live}
-use Rattle.osgi_legal.proofs.StateReadings.{IsIn}
+use Rattle.osgi_legal.proofs.Busy.{busy-live}
+use Rattle.osgi_stage.proofs.StateReadings.{IsIn}
 use Rattle.osgi_legal.proofs.SystemIdle.{system-idle-at}
 use Rattle.osgi_legal.proofs.Turns.{AreTurns, none-left, none-passes, turn-cause, turns_of}
 use Rattle.osgi_legal.proofs.Up.{is_idle}

@@ -33,16 +33,16 @@ use Rattle.osgi_world.specs.System.{known_system}
 use Rattle.osgi_world.specs.declared.world.Known.{Known}
 use Rattle.osgi_world.specs.declared.world.World.{World}
 use Rattle.osgi_legal.proofs.Accepted.{accepted}
-use Rattle.osgi_legal.proofs.Facts.{row-at, running-at}
+use Rattle.osgi_stage.proofs.Facts.{row-at, running-at}
 use Rattle.osgi_legal.proofs.Legal.{at-told, world-last}
 use Rattle.osgi_legal.proofs.Owned.{entries-last}
 use Rattle.osgi_legal.proofs.Quiet.{bundles-refused}
-use Rattle.osgi_legal.proofs.Rows.{current-at}
-use Rattle.osgi_legal.proofs.Running.{current-pended}
-use Rattle.osgi_legal.proofs.States.{always-agrees, find-none, find-other, none-current}
+use Rattle.osgi_stage.proofs.Rows.{current-at}
+use Rattle.osgi_stage.proofs.Running.{current-pended}
+use Rattle.osgi_stage.proofs.States.{always-agrees, find-none, find-other, none-current}
 use Rattle.osgi_legal.proofs.Tidy.{extends-of}
-use Rattle.osgi_legal.proofs.Windows.{leaves-refused, refused-is}
-use Rattle.osgi_legal.proofs.Loads.{load-stays}
+use Rattle.osgi_stage.proofs.Windows.{leaves-refused, refused-is}
+use Rattle.osgi_stage.proofs.Loads.{load-stays}
 
 -- a bundle that is not live has no current revision
 abbrev pub AreGone : List Entry → World → Type 0

@@ -53,10 +53,10 @@ use Rattle.osgi_legal.proofs.Names.{row-made, update-is}
 use Rattle.osgi_legal.proofs.Owned.{entries-last}
 use Rattle.osgi_legal.proofs.Phases.{same-id}
 use Rattle.osgi_legal.proofs.Quiet.{bundles-quiet, bundles-refused, count-same, live-same}
-use Rattle.osgi_legal.proofs.Running.{current-pended}
+use Rattle.osgi_stage.proofs.Running.{current-pended}
 use Rattle.osgi_legal.proofs.Tidy.{any-in, contains-member, extends-of, in-any, IsTidy, known-bundle, member-contains, passed-bundle, pended-tidy}
-use Rattle.osgi_legal.proofs.Windows.{always-kept, IsKept, IsWindow, leaves-refused, refused-is, window-closed, window-outside}
-use Rattle.osgi_legal.proofs.Loads.{load-stays}
+use Rattle.osgi_stage.proofs.Windows.{always-kept, IsKept, IsWindow, leaves-refused, refused-is, window-closed, window-outside}
+use Rattle.osgi_stage.proofs.Loads.{load-stays}
 
 -- ---- rows and live bundles
 
