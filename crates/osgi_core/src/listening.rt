@@ -1,4 +1,4 @@
-//! What a listener sees in a history, found by making its calls again. Simple and slow: tests compare the listeners with it.
+//! What a listener sees in a history, found by making its calls again: simple and slow, for comparison with the listeners.
 
 ghost use Rattle.std.specs.Prelude.{◌≡◌, List, ◌++◌, IfOk, map};
 ghost use Rattle.osgi_listeners.specs.Sights.{sights_by, sights_of};

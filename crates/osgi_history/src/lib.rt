@@ -1,4 +1,4 @@
-//! What a history says, read off its entries by plain scans.
+//! What a history says, read off its entries by plain scans, for tests.
 #![tactic(auto)]
 
 mod handings;

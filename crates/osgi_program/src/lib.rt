@@ -1,4 +1,4 @@
-//! The top call: a console script read, run and rendered.
+//! The top call: the words of the command line, a console script read, run and rendered, and the status.
 #![tactic(auto)]
 
 mod alone;

@@ -1,4 +1,5 @@
-//! The tables of the running state, and the changes that operations make of them.
+//! The tables of the running state, and the changes that operations make of them: whether who asks may ask, what happens by a change
+//! and who is told of it, and the clean up of a bundle.
 #![tactic(auto)]
 
 mod askers;
