@@ -7,7 +7,7 @@ use Rattle.osgi_ops.specs.Moments.{Moment, Seen, sights_in}
 use Rattle.osgi_ops.specs.Settings.{Setting}
 use Rattle.osgi_ops.specs.declared.entry.Entry.{Entry}
 use Rattle.osgi_ops.specs.declared.op.Op.{Op}
-use Rattle.osgi_tables.specs.Asked.{takes_no_memory}
+use Rattle.osgi_tables.specs.Asked.{is_hand_or_job_end}
 use Rattle.osgi_world.specs.declared.world.World.{World}
 
 -- what it runs under, which never changes, its history, and the world after it
@@ -25,5 +25,5 @@ abbrev pub moment_of : Machine → Tag → List Seen → Moment
 moment_of machine tag sights = record { setting = machine.setting; before = machine.entries; world = machine.world; sights = sights; tag = tag }
 
 -- the operation is the end of a hand or of a job that the tag's line began, while that is its caller's innermost bracket
-abbrev pub IsOwnEnd : Tag → Op → List Entry → Type 0
-IsOwnEnd tag op history = (takes_no_memory op ≡ true) × (is_own_end tag op history ≡ true)
+abbrev pub IsOwnHandOrJobEnd : Tag → Op → List Entry → Type 0
+IsOwnHandOrJobEnd tag op history = (is_hand_or_job_end op ≡ true) × (is_own_end tag op history ≡ true)

@@ -185,7 +185,8 @@ fn since_registered(entries: &[Entry], service: ServiceId) -> Option<&[Entry]>
     None
 }
 
-/// How often the user holds the service after these entries, objects that were made for it not counted; 0 where it is not live.
+/// How often the user holds the service after these entries by its Gets alone: the use that begins as an object is made is not counted,
+/// the Ungets are. 0 where it is not live.
 fn uses_shared(entries: &[Entry], user: BundleId, service: ServiceId) -> u64
     ensures uses { result ≡ uses_shared user service entries.now }
 {

@@ -7,7 +7,7 @@ ghost use Rattle.std.specs.Prelude.{◌≡◌, ◌<◌, ℕ, false, true, All, N
 ghost use Rattle.osgi_listeners.specs.Sights.{IsOfEarlier, sights_of};
 ghost use Rattle.osgi_ops.specs.declared.op.Op.TheVariants as op;
 ghost use Rattle.osgi_reply_listening.specs.Hands.{end_reply};
-ghost use Rattle.osgi_tables.specs.Asked.{asker_here, asker_refusal, takes_no_memory, is_decided};
+ghost use Rattle.osgi_tables.specs.Asked.{asker_here, asker_refusal, is_hand_or_job_end, is_decided};
 ghost use Rattle.osgi_tables.specs.Changes.{IsReplyAndChange};
 ghost use Rattle.osgi_tables.specs.Replied.{HasRoom, IsReplied, StandsStill};
 
@@ -55,7 +55,7 @@ fn decide_by(
 ) -> Result<(Reply, Change), AllocError>
     requires room { HasRoom tables.old }
     requires asker { asker_refusal tables.old.bundles (asker_here asked.now.op) ≡ None }
-    requires no_end { takes_no_memory asked.now.op ≡ false }
+    requires no_end { is_hand_or_job_end asked.now.op ≡ false }
     ensures decided { IfOk result (λ r. IsReplyAndChange asked.now tables.old r.0 r.1) }
     ensures unchanged { tables.new ≡ tables.old }
 {
@@ -148,7 +148,7 @@ fn decide_by(
 /// Decides an operation that ends no hand and no job: its reply, and what it changes.
 fn decide(alloc: Global, tables: &mut Tables, asked: &Asked) -> Result<(Reply, Change), AllocError>
     requires room { HasRoom tables.old }
-    requires no_end { takes_no_memory asked.now.op ≡ false }
+    requires no_end { is_hand_or_job_end asked.now.op ≡ false }
     ensures decided { IfOk result (λ r. IsReplyAndChange asked.now tables.old r.0 r.1) }
     ensures unchanged { tables.new ≡ tables.old }
 {
@@ -178,7 +178,7 @@ fn change_by(
     requires room { HasRoom tables.old }
     requires countable { entries < 4294967295 }
     requires earlier { All (IsOfEarlier entries) tables.old.listeners.rows }
-    requires no_end { takes_no_memory asked.now.op ≡ false }
+    requires no_end { is_hand_or_job_end asked.now.op ≡ false }
     ensures copied { IfOk result (λ r. r.kept ≡ r.reply) }
     ensures replied { IfOk result (λ r.
         IsReplied entries asked.now tables.old tables.new r.reply (sights_of r.told.items)) }
@@ -244,7 +244,7 @@ pub fn reply_to(
     ensures copied { IfOk result (λ r. r.kept ≡ r.reply) }
     ensures replied { IfOk result (λ r.
         IsReplied entries asked.now tables.old tables.new r.reply (sights_of r.told.items)) }
-    ensures no_memory { takes_no_memory asked.now.op ≡ true → IsOk result }
+    ensures no_memory { is_hand_or_job_end asked.now.op ≡ true → IsOk result }
     ensures unchanged { OnErr result (StandsStill tables.old tables.new) }
 {
     match &asked.op {

@@ -4,6 +4,7 @@ use Rattle.osgi_base.specs.declared.ids.Tag.{Tag}
 use Rattle.osgi_ops.specs.Listening.{Happening, happenings, modifications}
 use Rattle.osgi_ops.specs.Listening as happening
 use Rattle.osgi_ops.specs.declared.entry.Entry.{Entry}
+use Rattle.osgi_ops.specs.declared.event_codes.TheConstants.{SERVICE_REGISTERED, SERVICE_UNREGISTERING}
 use Rattle.osgi_ops.specs.declared.limits.TheConstants.{MAX_SERVICES}
 use Rattle.osgi_ops.specs.declared.op.Op.{Op}
 use Rattle.osgi_ops.specs.declared.op.Op.TheVariants as op
@@ -37,9 +38,9 @@ Changes (TakeUse user service) old new = StandsAfter (op.Unget user service) (an
 -- what happens to services when the change is made of this registry
 abbrev pub happened : ServiceChange → RegistryRows → List Happening
 happened Nothing old = []
-happened (Insert service scope) old = happening.service 1 service ∷ []
+happened (Insert service scope) old = happening.service SERVICE_REGISTERED service ∷ []
 happened (Modify service) old = modifications (services_in (option_to_list (row_at service.service old.rows))) (service ∷ [])
-happened (Remove owner service) old = map (happening.service 4) (services_in (option_to_list (row_at service old.rows)))
+happened (Remove owner service) old = map (happening.service SERVICE_UNREGISTERING) (services_in (option_to_list (row_at service old.rows)))
 happened (AddUse user service) old = []
 happened (TakeUse user service) old = []
 

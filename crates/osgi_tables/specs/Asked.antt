@@ -11,11 +11,11 @@ use Rattle.osgi_ops.specs.declared.refusal.Refusal.{Refusal}
 use Rattle.osgi_ops.specs.declared.refusal.Refusal.TheVariants.{InvalidOperation, NoSuchBundle}
 use Rattle.osgi_ops.specs.declared.state.TheConstants.{UNINSTALLED}
 
--- the operation is the end of a hand or of a job: such an end takes no memory
-abbrev pub takes_no_memory : Op → Bool
-takes_no_memory (EndHand listener) = true
-takes_no_memory EndJob = true
-takes_no_memory op = false
+-- the operation is the end of a hand or of a job
+abbrev pub is_hand_or_job_end : Op → Bool
+is_hand_or_job_end (EndHand listener) = true
+is_hand_or_job_end EndJob = true
+is_hand_or_job_end op = false
 
 -- the operation has come, and is not the end of a job or of a make, which nothing begins yet
 abbrev pub is_decided : Op → Bool

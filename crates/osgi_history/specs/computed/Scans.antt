@@ -27,6 +27,6 @@ abbrev pub held : BundleId → ServiceId → List Entry → ℕ
 held user service since =
     count_by (λ e. gets_object user service e.op e.reply) (since_cleaning user since) - count_by (λ e. is_unget user service e.op e.reply) (since_cleaning user since)
 
--- how often the user holds the service by these entries, objects that were made for it not counted
+-- how often the user holds the service by the Gets and Ungets of these entries: the use that begins as an object is made is not counted
 abbrev pub uses_shared : BundleId → ServiceId → List Entry → ℕ
 uses_shared user service history = option_map_or (uses_without_makes user) (live_at service history) 0
