@@ -156,4 +156,3 @@ pub handings-told : (setting : Setting) (told : List Told) → AreAllowed settin
 handings-told setting told legal =
     sym (length-filter (λ (e : Entry). is_handing e.reply) (entries_in told))
     ∙ ap (λ (l : List Entry). length l) (filter-same (λ (e : Entry). is_handing e.reply) (λ (e : Entry). is_handed e.op e.reply) (entries_in told) (hands-alone setting told legal))
-
