@@ -34,6 +34,7 @@ fn lock_often<R: Wait>(
                 command,
             },
             1,
+            None,
         );
         let Ok(Answer::Total(total)) = answer else {
             break;

@@ -16,3 +16,11 @@ CanMake limit history = length history ≤ limit
 -- it is full where it has as many
 abbrev pub GivesTotal : ℕ → List (Entry ℕ Answer) → ℕ → Answer → Type 0
 GivesTotal limit history op reply = length history ≡ limit
+
+-- a hint is how many entries it had
+abbrev pub HintsCount : ℕ → List (Entry ℕ Answer) → ℕ → Type 0
+HintsCount limit history count = length history ≡ count
+
+-- a view is how many entries it has
+abbrev pub TellsCount : ℕ → List (Entry ℕ Answer) → Unit {0} → ℕ → Type 0
+TellsCount limit history ask count = length history ≡ count

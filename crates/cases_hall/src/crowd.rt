@@ -114,7 +114,7 @@ fn call_often<R: Wait>(
 {
     let mut totals = Vec::new(alloc);
     for command in 0..calls {
-        let Ok(Answer::Total(total)) = hall.call(rt, pass, command, 1) else {
+        let Ok(Answer::Total(total)) = hall.call(rt, pass, command, 1, None) else {
             break;
         };
         if totals.push(total).is_err() {

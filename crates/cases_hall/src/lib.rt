@@ -3,8 +3,10 @@
 
 mod counter;
 mod crowd;
+mod looking;
 #[cfg(test)]
 mod tests;
 
 pub use counter::{Answer, Counter};
 pub use crowd::{Caller, Crowd, Start, run};
+pub use looking::look_and_call;

@@ -2,6 +2,7 @@
 
 use crate::counter::{Answer, Counter};
 use crate::crowd;
+use crate::looking::look_and_call;
 use osgi_hall::{Closed, Hall, Machine, Open};
 use std::alloc::AllocError;
 use std::process::Abort;
@@ -19,8 +20,14 @@ fn two_callers_share_a_total_and_close_once_joined(rt: HostRuntime) -> Result<()
     let (hall, mut first) = Hall::new(rt.alloc(), Counter::new(rt.alloc(), 10))?;
     let mut second = hall.split(&mut first).expect(&rt, "memory for a pass");
     assert_eq!(rt; (first.caller(), second.caller(), first.made()), (0, 1, 2));
-    assert_eq!(rt; hall.call(&rt, &mut first, 0, 2), Ok(Answer::Total(2)));
-    assert_eq!(rt; hall.call(&rt, &mut second, 0, 3), Ok(Answer::Total(5)));
+    assert_eq!(rt;
+        hall.call(&rt, &mut first, 0, 2, None),
+        Ok(Answer::Total(2))
+    );
+    assert_eq!(rt;
+        hall.call(&rt, &mut second, 0, 3, None),
+        Ok(Answer::Total(5))
+    );
     let Err(
         Open {
             hall,
@@ -44,16 +51,44 @@ fn two_callers_share_a_total_and_close_once_joined(rt: HostRuntime) -> Result<()
 fn a_call_that_is_not_recorded_loses_nothing(rt: HostRuntime) -> Result<(), Fail> {
     let (hall, mut pass) = Hall::new(rt.alloc(), Counter::new(rt.alloc(), 1))?;
     assert_eq!(rt;
-        hall.call(&rt, &mut pass, 0, 0),
+        hall.call(&rt, &mut pass, 0, 0, None),
         Err(AllocError),
         "adding 0 finds no memory"
     );
-    assert_eq!(rt; hall.call(&rt, &mut pass, 1, 7), Ok(Answer::Total(7)));
-    assert_eq!(rt; hall.call(&rt, &mut pass, 2, 8), Ok(Answer::Full));
+    assert_eq!(rt; hall.call(&rt, &mut pass, 1, 7, None), Ok(Answer::Total(7)));
+    assert_eq!(rt; hall.call(&rt, &mut pass, 2, 8, None), Ok(Answer::Full));
     let Ok(Closed { machine }) = hall.close(pass) else {
         panic!(rt; "not closed with no pass out");
     };
     assert_eq!(rt; machine.length(), 1);
+    Ok(())
+}
+
+#[test]
+fn a_view_counts_the_calls_of_all_and_a_hint_reaches_the_machine(
+    rt: HostRuntime,
+) -> Result<(), Fail> {
+    let (hall, mut first) = Hall::new(rt.alloc(), Counter::new(rt.alloc(), 2))?;
+    let mut second = hall.split(&mut first).expect(&rt, "memory for a pass");
+    assert_eq!(rt;
+        look_and_call(&rt, &hall, &mut first, 0, 7),
+        Ok((0, Answer::Total(7)))
+    );
+    assert_eq!(rt;
+        look_and_call(&rt, &hall, &mut second, 0, 1),
+        Ok((1, Answer::Total(8)))
+    );
+    assert_eq!(rt; hall.view(&rt, &mut first, ()), Ok(2));
+    assert_eq!(rt;
+        hall.call(&rt, &mut first, 1, 0, None),
+        Err(AllocError),
+        "adding 0 finds no memory"
+    );
+    assert_eq!(rt;
+        look_and_call(&rt, &hall, &mut first, 2, 0),
+        Ok((2, Answer::Full)),
+        "with the hint that the counter is full it is not tried"
+    );
     Ok(())
 }
 

@@ -1,5 +1,6 @@
 -- What a whole call leaves.
-use Rattle.std.proofs.Common.{◌≡◌, ℕ, List, [], ◌∷◌, ◌++◌, length, drop, sym, refl, ap, ◌∙◌, subst, Bool, true, false, Option, None, Result, Ok, Err, MatchBool}
+use Rattle.std.proofs.Common.{◌≡◌, ℕ, List, [], ◌∷◌, ◌++◌, length, drop, sym, refl, ap, ◌∙◌, subst, Bool, true, false, Option, None, Some, Result, Ok, Err, MatchBool, append_assoc}
+use Rattle.std.specs.Prelude.{IfSome}
 use Rattle.std.proofs.Math.Seq.{drop-append_seam, drop-length}
 use Rattle.std.proofs.lemmas.List.{append-nil}
 use Rattle.atomic_table.specs.Table.{Me}
@@ -11,7 +12,7 @@ use Rattle.osgi_hall.specs.declared.board.Known.{Known}
 use Rattle.osgi_hall.specs.declared.board.Stage.TheVariants.{Idle, Has}
 use Rattle.osgi_hall.specs.declared.board.View.{View}
 use Rattle.osgi_hall.specs.declared.board.View.TheVariants.{Live}
-use Rattle.osgi_hall.specs.Histories.{entry, IsApplied, calls_by}
+use Rattle.osgi_hall.specs.Histories.{BeginsWith, TellsOfPrefix, entry, IsApplied, calls_by}
 use Rattle.osgi_hall.specs.Passes.{PassView, IsLegalFor, IsLegal}
 use Rattle.osgi_hall.specs.Calls.{tag_of, AddsEntry, AddsNone, IsCall}
 use Rattle.osgi_hall.specs.computed.Lists.{Each}
@@ -122,3 +123,27 @@ module _ {M O R Z : Type 0} where
   -- what a caller knows as fields of what its pass is seen as
   pub is_shown : (p : PassView O R Z) (t : TableId) (me : Me (Option M) (View O R Z)) (k : Known O R Z) → pass_view t me.0 ≡ p → me ≡ (Live k, []) → pass_view t (Live k) ≡ p
   is_shown p t me k view_is is = ap (λ (m : Me (Option M) (View O R Z)). pass_view t m.0) (sym is) ∙ view_is
+
+module _ {M O R Z : Type 0} (entries : M → List (Entry O R)) (setting : M → Z) where
+  -- a turn that adds nothing
+  pub views_on : (p : PassView O R Z) (t t' : TableId) (me me' : Me (Option M) (View O R Z)) (k : Known O R Z) (v : View O R Z) (x x' : M)
+      → pass_view t me.0 ≡ p → me ≡ (Live k, []) → v ≡ Live k → Knows entries setting v x → entries x' ≡ entries x → me' ≡ (Live (after entries setting k x x'), []) → AddsNone p (pass_view t' me'.0)
+  views_on p t t' me me' k v x x' view_is is v_is knows same is' =
+      let knows' = subst (λ (y : View O R Z). Knows entries setting y x) v_is knows in
+      let k_is : pass_view t (Live k) ≡ p = is_shown p t me k view_is is in
+      let seen_is : (pass_view t' me'.0).seen ≡ entries x' = ap (λ (m : Me (Option M) (View O R Z)). (pass_view t' m.0).seen) is' in
+      let own_is : (pass_view t' me'.0).own ≡ k.own ++ drop (length (entries x)) (entries x') = ap (λ (m : Me (Option M) (View O R Z)). (pass_view t' m.0).own) is' in (
+        (knows'.1.0, seen_is ∙ (same ∙ (knows'.1.1 ∙ ap (λ (q : PassView O R Z). q.seen ++ knows'.1.0) k_is))),
+        own_is ∙ (ap (λ (l : List (Entry O R)). k.own ++ l) (ap (drop (length (entries x))) same ∙ drop-length (entries x)) ∙ (append-nil k.own ∙ ap (λ (q : PassView O R Z). q.own) k_is)),
+      )
+
+-- a hint that tells of a prefix of what a pass has seen tells of a prefix of the machine's history, which begins with that
+pub hint_kept : {O R Z H : Type 0} (hints : Z → List (Entry O R) → H → Type 0) (z : Z) (known : List Z) (z' : Z) (seen all : List (Entry O R)) (hint : Option H)
+    → known ≡ z ∷ [] → z' ∷ [] ≡ known → BeginsWith all seen → IfSome hint (TellsOfPrefix (hints z) seen) → IfSome hint (TellsOfPrefix (hints z') all)
+hint_kept hints z known z' seen all None of_hall is grown told = tt
+hint_kept {O} {R} hints z known z' seen all (Some h) of_hall is grown told =
+    let same : z' ≡ z = cc (is ∙ of_hall) in (
+      told.0,
+      (told.1.0 ++ grown.0, grown.1 ∙ (ap (λ (l : List (Entry O R)). l ++ grown.0) told.1.1 ∙ append_assoc told.0 told.1.0 grown.0)),
+      subst (λ y. hints y told.0 h) (sym same) told.2,
+    )

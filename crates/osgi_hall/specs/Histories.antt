@@ -7,6 +7,10 @@ use Rattle.osgi_hall.specs.declared.entry.Entry.{Entry}
 abbrev pub BeginsWith : {A : Type 0} → List A → List A → Type 0
 BeginsWith {A = A} list prefix = (rest : List A) × (list ≡ prefix ++ rest)
 
+-- a hint tells of a prefix of this history
+abbrev pub TellsOfPrefix : {A H : Type 0} → (List A → H → Type 0) → List A → H → Type 0
+TellsOfPrefix {A = A} hints history hint = (prefix : List A) × BeginsWith history prefix × hints prefix hint
+
 -- the longer of two lists
 abbrev pub longer : {A : Type 0} → List A → List A → List A
 longer a b = if nat_le (length a) (length b) then b else a

@@ -1,10 +1,10 @@
 //! The hall: callers draw tickets, and the one that is served has the machine.
 
-ghost use Rattle.std.specs.Prelude.{◌≡◌, ◌≢◌, ◌+◌, ◌<◌, [], IfOk, IfErr, OnOk, OnErr};
+ghost use Rattle.std.specs.Prelude.{◌≡◌, ◌≢◌, ◌+◌, ◌<◌, [], IfOk, IfErr, IfSome, OnOk, OnErr};
 ghost use Rattle.osgi_hall.specs.declared.board.Stage.TheVariants.{Idle};
-ghost use Rattle.osgi_hall.specs.Histories.{BeginsWith};
+ghost use Rattle.osgi_hall.specs.Histories.{BeginsWith, TellsOfPrefix};
 ghost use Rattle.osgi_hall.specs.Passes.{IsPassOf, IsSamePass, IsLegal, IsByKnownCallers, first_pass, after_split, new_pass, after_join};
-ghost use Rattle.osgi_hall.specs.Calls.{IsCall};
+ghost use Rattle.osgi_hall.specs.Calls.{AddsNone, IsCall};
 ghost use Rattle.osgi_hall.specs.computed.Steps.{staged, told};
 ghost use Rattle.osgi_hall.specs.computed.Seats.{IsIdle, HasTurn, MayLeave, IsDone};
 
@@ -99,15 +99,18 @@ impl<M: Machine> Hall<M> {
     }
 
     /// Waits for a turn, and has the machine do one operation, tagged with the pass's caller and this command. If the machine
-    /// runs out of memory nothing is recorded.
+    /// runs out of memory nothing is recorded. A hint has to tell of a prefix of what the pass has seen; `None` always may be
+    /// handed in.
     pub fn call<R: Wait>(
         &self,
         rt: &R,
         pass: &mut Pass<M>,
         command: u32,
         op: M::Op,
+        hint: Option<M::Hint>,
     ) -> Result<M::Reply, AllocError>
         requires hall { IsPassOf self.now pass.old }
+        requires hint { IfSome hint (TellsOfPrefix (M.hints self.now.setting) pass.old.seen) }
         ensures same { IsSamePass pass.old pass.new }
         ensures legal { IsLegal M.can_make pass.new }
         ensures call { IsCall M.is_recorded (M.gives self.now.setting) pass.old pass.new command op result }
@@ -117,7 +120,27 @@ impl<M: Machine> Hall<M> {
             command,
         };
         let mut machine = self.enter(rt, &mut pass.seat);
-        let answer = machine.apply(tag, op);
+        let answer = machine.apply(tag, op, hint);
+        self.leave(&mut pass.seat, machine);
+        answer
+    }
+
+    /// Waits for a turn, and asks the machine. The answer tells of the history that the pass has seen afterwards, which begins
+    /// with what it had seen. Nothing is recorded.
+    pub fn view<R: Wait>(
+        &self,
+        rt: &R,
+        pass: &mut Pass<M>,
+        ask: M::Ask,
+    ) -> Result<M::View, AllocError>
+        requires hall { IsPassOf self.now pass.old }
+        ensures same { IsSamePass pass.old pass.new }
+        ensures legal { IsLegal M.can_make pass.new }
+        ensures seen { AddsNone pass.old pass.new }
+        ensures told { IfOk result (M.tells self.now.setting pass.new.seen ask) }
+    {
+        let mut machine = self.enter(rt, &mut pass.seat);
+        let answer = machine.view(rt, ask);
         self.leave(&mut pass.seat, machine);
         answer
     }
