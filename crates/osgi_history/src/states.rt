@@ -4,11 +4,10 @@ ghost use Rattle.std.specs.Prelude.{◌≡◌, ◌≢◌, ◌<◌, nat_eq};
 ghost use Rattle.std.specs.Option.{option_map};
 ghost use Rattle.osgi_history.specs.computed.States.{installs, is_live_after, number_in};
 ghost use Rattle.osgi_legal.specs.States.{resolved_at, resolves_by, state_at};
-ghost use Rattle.osgi_ops.specs.Bundles.{is_live, is_uninstall, number_of, phase, put_into, state};
+ghost use Rattle.osgi_ops.specs.Bundles.{is_live, is_member, is_uninstall, number_of, phase, put_into, state};
 ghost use Rattle.osgi_legal.specs.Legal.{IsReplayed};
 ghost use Rattle.osgi_ops.specs.Replies.{is_effective};
 ghost use Rattle.osgi_ops.specs.Settings.{Setting};
-ghost use Rattle.osgi_ops.specs.Worlds.{is_member};
 ghost use Rattle.osgi_world.specs.declared.world.World.{World};
 
 use osgi_base::BundleId;
