@@ -14,7 +14,7 @@ const SYSTEM: BundleId = BundleId(0);
 /// The lines of a text, which may have as many bytes as lines can be counted.
 pub fn lines_of(alloc: Global, text: &[u8]) -> Result<List<Line>> {
     ensure!(text.len() < u32::MAX as usize, "the text is too long");
-    Ok(parse(alloc, text)?)
+    Ok(parse(alloc, text, 0)?)
 }
 
 /// Runs a line for a bundle, and answers whether it has a command that was accepted.

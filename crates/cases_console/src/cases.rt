@@ -3,6 +3,7 @@
 use crate::reading::add_read;
 use crate::writing::add_written;
 use cases_text::{Cases, put, split_word};
+use osgi_ops::MAX_LANES;
 use std::alloc::{AllocError, Global};
 
 #[derive(Drop)]
@@ -17,7 +18,9 @@ impl Cases for ConsoleCases {
     ) -> Result<(), AllocError> {
         let (word, text) = split_word(case);
         if word == "read" {
-            add_read(alloc, out, text)
+            add_read(alloc, out, text, 0)
+        } else if word == "lanes" {
+            add_read(alloc, out, text, MAX_LANES)
         } else if word == "write" {
             add_written(alloc, out, text)
         } else {

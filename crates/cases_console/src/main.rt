@@ -5,7 +5,8 @@
 //!
 //! | Line | What is answered |
 //! |---|---|
-//! | `read TEXT` | what each line of the text says: `NUMBER COMMAND`, or `empty` or `bad` for one that has none |
+//! | `read TEXT` | what each line of the text says: `NUMBER COMMAND`, or `empty`, `join` or `bad` for one that has none |
+//! | `lanes TEXT` | the same where there are eight lanes: `NUMBER lane K COMMAND` for a line of lane K |
 //! | `write ENTRY; ENTRY ..` | the text of a session of three lines with commands that has these entries |
 //!
 //! An entry is `CALLER.LINE WORD ARGUMENT ..`, as `0.1 begin-start 3`; the tables of `entries.rt` have the words.

@@ -10,12 +10,12 @@ use std::alloc::{AllocError, Global};
 /// No case has as many bytes.
 const MANY: usize = 1_000_000;
 
-/// The lines that bytes read as.
-fn lines_of(alloc: Global, bytes: &[u8]) -> Result<List<Line>, AllocError> {
+/// The lines that bytes read as where there are so many lanes.
+fn lines_of(alloc: Global, bytes: &[u8], lanes: u32) -> Result<List<Line>, AllocError> {
     if bytes.len() >= MANY {
         return List::new(alloc);
     }
-    parse(alloc, bytes)
+    parse(alloc, bytes, lanes)
 }
 
 /// Adds what a line says.
@@ -28,17 +28,21 @@ fn add_content(out: &mut String, content: &Content) -> Result<(), AllocError> {
     }
 }
 
-/// Adds the number of a line, and what it says.
+/// Adds the number of a line, its lane if it has one, and what it says.
 fn add_line(out: &mut String, line: &Line) -> Result<(), AllocError> {
     put_shown(out, &line.number)?;
-    put(out, if line.lane == 0 { " " } else { " on a lane " })?;
+    if line.lane > 0 {
+        put(out, " lane ")?;
+        put_shown(out, &line.lane)?;
+    }
+    put(out, " ")?;
     add_content(out, &line.content)
 }
 
-/// Adds what each line of a text says.
-pub fn add_read(alloc: Global, out: &mut String, text: &str) -> Result<(), AllocError> {
+/// Adds what each line of a text says where there are so many lanes.
+pub fn add_read(alloc: Global, out: &mut String, text: &str, lanes: u32) -> Result<(), AllocError> {
     let bytes = bytes_of(alloc, text)?;
-    let lines = lines_of(alloc, bytes.as_slice())?;
+    let lines = lines_of(alloc, bytes.as_slice(), lanes)?;
     for (at, line) in lines.items().iter().enumerate() {
         put(out, if at > 0 { "; " } else { "" })?;
         add_line(out, line)?;

@@ -15,7 +15,7 @@ fn lines_of(alloc: Global, text: &str) -> Result<List<Line>, AllocError> {
     if bytes.len() >= MANY {
         return List::new(alloc);
     }
-    parse(alloc, bytes)
+    parse(alloc, bytes, 0)
 }
 
 /// The operation that the plan of a command begins with, where the bundle runs it.

@@ -92,20 +92,52 @@ pub data Says (line : List ℕ) : Command → Type 0 where
   findall : {class : List ℕ} {filter : Option Filter} → IsClass class →
       IsSeparated (IsFilterEnd filter) (codes "findall" ∷ class ∷ []) (32 ∷ line) → Says line (command.FindAll class filter)
 
--- what a line is read as: it is bad where it says neither nothing nor a command
-abbrev pub LineReads : List ℕ → Content → Type 0
-LineReads line Empty = SaysNothing line
-LineReads line Join = ⊥
-LineReads line Bad = (¬ SaysNothing line) × ((command : Command) → ¬ Says line command)
-LineReads line (Run command) = Says line command
+-- ---- lanes
+
+-- the number of a lane, of which there are so many: one to ten decimal digits of a number from 1 to that
+pub record IsLane (lanes : ℕ) (word : List ℕ) (lane : ℕ) : Type 0 where
+  pub numeral : IsNumeral 10 word
+  pub short : length word ≤ 10
+  pub some : 1 ≤ digits_value 10 word
+  pub fits : digits_value 10 word ≤ lanes
+  pub number : lane ≡ digits_value 10 word
+
+-- a command behind other words, after one or more spaces
+pub record IsCommandEnd (c : Command) (end : List ℕ) : Type 0 where
+  pub line : List ℕ
+  pub is : end ≡ 32 ∷ line
+  pub says : Says line c
+
+-- the line says this command, and in which of so many lanes; the lane is 0 where it names none
+pub data SaysIn (lanes : ℕ) (line : List ℕ) : ℕ → Command → Type 0 where
+  in_no_lane : {c : Command} → Says line c → SaysIn lanes line 0 c
+  -- `lane K COMMAND`
+  in_lane : {word : List ℕ} {lane : ℕ} {c : Command} → IsLane lanes word lane →
+      IsSeparated (IsCommandEnd c) (codes "lane" ∷ word ∷ []) (32 ∷ line) → SaysIn lanes line lane c
+
+-- `join`
+abbrev pub SaysJoin : List ℕ → Type 0
+SaysJoin line = IsSeparated AreSpaces (codes "join" ∷ []) (32 ∷ line)
+
+-- ---- lines
+
+-- what a line is read as where there are so many lanes, and in which lane: it is bad where it says neither nothing, nor `join`,
+-- nor a command
+abbrev pub LineReads : ℕ → List ℕ → ℕ → Content → Type 0
+LineReads lanes line lane Empty = (lane ≡ 0) × SaysNothing line
+LineReads lanes line lane Join = (lane ≡ 0) × SaysJoin line
+LineReads lanes line lane Bad =
+    (lane ≡ 0) × (¬ SaysNothing line) × (¬ SaysJoin line) × ((k : ℕ) (command : Command) → ¬ SaysIn lanes line k command)
+LineReads lanes line lane (Run command) = SaysIn lanes line lane command
 
 -- the lines of these texts, numbered from here on
-abbrev pub AreReadFrom : ℕ → List (List ℕ) → List Line → Type 0
-AreReadFrom number [] [] = Unit {0}
-AreReadFrom number (text ∷ texts) (line ∷ rest) =
-    (line.number ≡ number) × (line.lane ≡ 0) × LineReads text line.content × AreReadFrom (number + 1) texts rest
-AreReadFrom number _ _ = ⊥
+abbrev pub AreReadFrom : ℕ → ℕ → List (List ℕ) → List Line → Type 0
+AreReadFrom lanes number [] [] = Unit {0}
+AreReadFrom lanes number (text ∷ texts) (line ∷ rest) =
+    (line.number ≡ number) × LineReads lanes text line.lane line.content × AreReadFrom lanes (number + 1) texts rest
+AreReadFrom lanes number _ _ = ⊥
 
--- the lines of an input. A line ends by LF or CRLF, which the last one need not have; lines are numbered from 1
-abbrev pub AreLinesOf : List ℕ → List Line → Type 0
-AreLinesOf bytes all = AreReadFrom 1 (lines bytes) all
+-- the lines of an input, where there are so many lanes; with none, no line names one. A line ends by LF or CRLF, which the last
+-- one need not have; lines are numbered from 1
+abbrev pub AreLinesOf : ℕ → List ℕ → List Line → Type 0
+AreLinesOf lanes bytes all = AreReadFrom lanes 1 (lines bytes) all

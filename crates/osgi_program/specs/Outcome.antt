@@ -45,16 +45,16 @@ pub record Shelved : Type 0 where
   pub before : ℕ
   pub after : ℕ
 
--- `input` is what the source had left, if the source exposes it, and within the limit. The session's lines are all lines of the input.
--- Its depot is what these lines name, as the shelf told it, and its scripts are those of the depot's rows. Its history replays from the
--- empty framework, and is what these lines make under the limits. After every step of it, as it replays, the wirings in force are
--- consistent, and each bundle that it refuses as unresolvable is so. What each listener was handed is a beginning of what is due to it;
--- on the statuses 0 and 1 it is all of that, for each listener that is live in the end
+-- `input` is what the source had left, if the source exposes it, and within the limit. The session's lines are all lines of the input,
+-- read with no lanes. Its depot is what these lines name, as the shelf told it, and its scripts are those of the depot's rows. Its
+-- history replays from the empty framework, and is what these lines make under the limits. After every step of it, as it replays, the
+-- wirings in force are consistent, and each bundle that it refuses as unresolvable is so. What each listener was handed is a beginning
+-- of what is due to it; on the statuses 0 and 1 it is all of that, for each listener that is live in the end
 pub record IsSession (bounds : Bounds) (status : ℕ) (left : Option (List ℕ)) (shelf : Shelved) (session : Session) : Type 0 where
   pub input : List ℕ
   pub all : IfSome left (λ bytes. input ≡ bytes)
   pub within : length input ≤ MAX_INPUT
-  pub lines : AreLinesOf input session.lines
+  pub lines : AreLinesOf 0 input session.lines
   pub depot : IsDepotOf session.lines shelf.told shelf.before shelf.after session.depot.rows
   pub scripts : AreScriptsOf shelf.told session.depot.rows session.scripts.rows
   pub legal : Legal (record { bounds = bounds; depot = session.depot.rows }) session.entries

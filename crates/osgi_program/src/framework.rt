@@ -57,10 +57,11 @@ fn run_input<F: Shelf>(
     ensures later { F.faults shelf.old ≤ F.faults shelf.new }
     ensures run { IfOk result (λ r.
         IsRun (bounds_of limits) input.now
-        (record { told = F.told shelf.old; before = F.faults shelf.old; after = F.faults shelf.new })
+        (record
+        { told = F.told shelf.old; before = F.faults shelf.old; after = F.faults shelf.new })
         r.0 r.1) }
 {
-    let lines = parse(alloc, input)?;
+    let lines = parse(alloc, input, 0)?;
     let folders = read_depot(alloc, lines.items(), shelf)?;
     let (stored, scripts) = folders.into_parts();
     let core = Core::new(alloc, limits, stored)?;

@@ -1,16 +1,18 @@
 -- What the reader computes of commands and of lines. No public promise speaks of this: it is proved to give the
 -- readings of the grammar.
-use Rattle.std.specs.Prelude.{ℕ, ◌+◌, ◌==◌, if◌then◌else◌, List, [], ◌∷◌, length, codes, Option, None, Some, option_and_then, find}
+use Rattle.std.specs.Prelude.{ℕ, ◌+◌, ◌==◌, ◌||◌, nat_lt, if◌then◌else◌, List, [], ◌∷◌, length, codes, Option, None, Some, option_and_then, find}
 use Rattle.std.specs.Option.{option_map}
 use Rattle.std.specs.Str.{bytes_eq}
+use Rattle.osgi_base.specs.declared.ids.ServiceId.{ServiceId}
 use Rattle.osgi_ops.specs.declared.target.Target.TheVariants.{Id}
 use Rattle.osgi_session.specs.declared.command.Command.{Command}
 use Rattle.osgi_session.specs.declared.command.Command.TheVariants as command
 use Rattle.osgi_session.specs.declared.line.Content.{Content}
-use Rattle.osgi_session.specs.declared.line.Content.TheVariants.{Empty, Bad, Run}
+use Rattle.osgi_session.specs.declared.line.Content.TheVariants.{Empty, Join, Bad, Run}
 use Rattle.osgi_session.specs.declared.line.Line.{Line}
 use Rattle.osgi_console.specs.declared.commands.Verb.{Verb}
 use Rattle.osgi_console.specs.declared.commands.Verb.TheVariants as verb
+use Rattle.osgi_console.specs.declared.input_lines.InLane.{InLane}
 use Rattle.osgi_console.specs.computed.ArgumentReader.{aim_of, bundle_ids_of, location_of, only_bundle_of, only_id_of, only_level_of, search_of}
 use Rattle.osgi_syntax.specs.LineReader.{is_silent}
 use Rattle.osgi_syntax.specs.Splitting.{after_spaces, after_word, first_word, only_word_of, words_of}
@@ -112,16 +114,53 @@ command_by verb.Services text = alone command.Services (words_of text)
 abbrev pub command_of : List ℕ → Option Command
 command_of text = option_and_then (λ verb. command_by verb (after_word text)) (verb_of (first_word text))
 
+-- ---- lanes
+
+-- the lane with this number, where there is one of so many
+abbrev pub lane_by : ℕ → Option ServiceId → Option ℕ
+lane_by lanes None = None
+lane_by lanes (Some number) = if nat_lt number.0 1 || nat_lt lanes number.0 then None else Some number.0
+
+abbrev pub lane_of : ℕ → List ℕ → Option ℕ
+lane_of lanes word = lane_by lanes (service_id_of word)
+
 -- ---- lines
 
-abbrev pub run_or_bad : Option Command → Content
-run_or_bad None = Bad
-run_or_bad (Some command) = Run command
+-- what a line says that names no lane
+abbrev pub unlaned : Content → InLane
+unlaned content = record { lane = 0; content = content }
 
-abbrev pub content_of : List ℕ → Content
-content_of text = if is_silent (after_spaces text) then Empty else run_or_bad (command_of text)
+-- a command in this lane, if there is one
+abbrev pub run_in : ℕ → Option Command → InLane
+run_in lane None = unlaned Bad
+run_in lane (Some command) = record { lane = lane; content = Run command }
+
+-- what a text says in this lane, if there is one
+abbrev pub said_in : Option ℕ → List ℕ → InLane
+said_in None text = unlaned Bad
+said_in (Some lane) text = run_in lane (command_of text)
+
+-- what follows `lane`
+abbrev pub laned : ℕ → List ℕ → InLane
+laned lanes text = said_in (lane_of lanes (first_word text)) (after_word text)
+
+-- what follows `join`
+abbrev pub joined : List (List ℕ) → Content
+joined words = if length words == 0 then Join else Bad
+
+-- a line by its first word
+abbrev pub said_by : ℕ → List ℕ → InLane
+said_by lanes text =
+    if bytes_eq (first_word text) (codes "join") then unlaned (joined (words_of (after_word text)))
+    else (if bytes_eq (first_word text) (codes "lane") then laned lanes (after_word text) else run_in 0 (command_of text))
+
+abbrev pub said_of : ℕ → List ℕ → InLane
+said_of lanes text = if is_silent (after_spaces text) then unlaned Empty else said_by lanes text
+
+abbrev pub line_of : ℕ → ℕ → List ℕ → Line
+line_of lanes number text = record { number = number; lane = (said_of lanes text).lane; content = (said_of lanes text).content }
 
 -- the lines of these texts, numbered from here on
-abbrev pub numbered : ℕ → List (List ℕ) → List Line
-numbered number [] = []
-numbered number (text ∷ texts) = record { number = number; lane = 0; content = content_of text } ∷ numbered (number + 1) texts
+abbrev pub numbered : ℕ → ℕ → List (List ℕ) → List Line
+numbered lanes number [] = []
+numbered lanes number (text ∷ texts) = line_of lanes number text ∷ numbered lanes (number + 1) texts

@@ -21,7 +21,7 @@ hands e = is_handing e.reply
 
 -- the lines of the input ran so far, from the empty history
 pub record IsRun (bounds : Bounds) (input : List ℕ) (shelf : Shelved) (ran : Ran) (session : Session) : Type 0 where
-  pub lines : AreLinesOf input session.lines
+  pub lines : AreLinesOf 0 input session.lines
   pub depot : IsDepotOf session.lines shelf.told shelf.before shelf.after session.depot.rows
   pub scripts : AreScriptsOf shelf.told session.depot.rows session.scripts.rows
   pub legal : Legal (record { bounds = bounds; depot = session.depot.rows }) session.entries

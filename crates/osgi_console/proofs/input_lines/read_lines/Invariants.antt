@@ -7,7 +7,7 @@ use Rattle.osgi_console.proofs.input_lines.read_lines.Given as goal
 abbrev pub invariant-loop-text : goal.invariant-loop-text
 invariant-loop-text l = record {
   number : l.number + length l.rest ≤ length l.bytes + 1;
-  read : l.all ++ numbered l.number (lines l.rest) ≡ numbered 1 (lines l.bytes);
+  read : l.all ++ numbered l.lanes l.number (lines l.rest) ≡ numbered l.lanes 1 (lines l.bytes);
 }
 
 abbrev pub decreases-loop-text : goal.decreases-loop-text
