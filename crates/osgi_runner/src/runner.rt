@@ -47,7 +47,6 @@ fn finish<'s, C: Caller>(
     requires can { CanStep step (reverse stack.old.items) }
     ensures number { C.number caller.new ≡ C.number caller.old }
     ensures limit { C.limit caller.new ≡ C.limit caller.old }
-    ensures goes { C.goes_on caller.old caller.new }
     ensures ended { IfOk result (λ how.
         Ends (λ calls. After (sections_of scripts.now) step.entry (frames_of stack.old.items) calls)
         how (record { caller = C.number caller.old; command = number }) (C.full caller.new)
@@ -105,7 +104,6 @@ fn run<C: Caller>(
 ) -> Result<Ended, AllocError>
     ensures number { C.number caller.new ≡ C.number caller.old }
     ensures limit { C.limit caller.new ≡ C.limit caller.old }
-    ensures goes { C.goes_on caller.old caller.new }
     ensures ended { IfOk result (λ how.
         Ends (Follows (sections_of scripts.now) command.now) how
         (record { caller = C.number caller.old; command = number }) (C.full caller.new)
@@ -130,7 +128,6 @@ fn run_line<C: Caller>(
     requires command { has_command line.now.content ≡ true }
     ensures number { C.number caller.new ≡ C.number caller.old }
     ensures limit { C.limit caller.new ≡ C.limit caller.old }
-    ensures goes { C.goes_on caller.old caller.new }
     ensures done { IfOk result (λ how.
         how ≡ ended.Done
         → Adds (IsRunOf (sections_of scripts.now) (C.number caller.old) line.now)
@@ -158,7 +155,6 @@ fn drain<C: Caller>(
 ) -> Result<Ended, AllocError>
     ensures number { C.number caller.new ≡ C.number caller.old }
     ensures limit { C.limit caller.new ≡ C.limit caller.old }
-    ensures goes { C.goes_on caller.old caller.new }
     ensures done { IfOk result (λ how.
         how ≡ ended.Done
         → Adds (IsDrainOf (sections_of scripts.now) (C.number caller.old) line.now)
@@ -209,7 +205,6 @@ impl<'a, C: Caller> Runner<'a, C> {
         ensures scripts { self.new.scripts.now ≡ self.old.scripts.now }
         ensures number { C.number self.new.caller.now ≡ C.number self.old.caller.now }
         ensures limit { C.limit self.new.caller.now ≡ C.limit self.old.caller.now }
-        ensures goes { C.goes_on self.old.caller.now self.new.caller.now }
         ensures done { IfOk result (λ how.
             how ≡ ended.Done
             → Adds
@@ -239,7 +234,6 @@ impl<'a, C: Caller> Runner<'a, C> {
         ensures scripts { self.new.scripts.now ≡ self.old.scripts.now }
         ensures number { C.number self.new.caller.now ≡ C.number self.old.caller.now }
         ensures limit { C.limit self.new.caller.now ≡ C.limit self.old.caller.now }
-        ensures goes { C.goes_on self.old.caller.now self.new.caller.now }
         ensures done { IfOk result (λ how.
             how ≡ ended.Done
             → Adds

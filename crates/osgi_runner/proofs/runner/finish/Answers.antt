@@ -47,7 +47,6 @@ loop-op-preserved g c =
     record {
       number = c.call.ensures.number ∙ c.advance.ensures.number ∙ c.loop-op.invariant.number;
       limit = c.call.ensures.limit ∙ c.advance.ensures.limit ∙ c.loop-op.invariant.limit;
-      goes = g.met.C.Caller.goes_further c.args.caller.now c.advance.new.caller c.call.new.self (g.met.C.Caller.goes_further c.args.caller.now c.loop-op.caller c.advance.new.caller c.loop-op.invariant.goes c.advance.ensures.goes) c.call.ensures.goes;
       fit = c.answered-step.ensures.fit;
       can = c.answered-step.ensures.can;
       way = one-call (g.C.Caller.limit c.advance.new.caller) c.args.number (g.C.Caller.number c.args.caller.now) (g.C.Caller.number c.advance.new.caller) (g.C.Caller.made c.args.caller.now)
