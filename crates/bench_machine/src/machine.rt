@@ -1,11 +1,14 @@
 //! Console lines run on a machine, block by block.
 
+ghost use Rattle.std.specs.Prelude.{◌≡◌};
+ghost use Rattle.osgi_session.specs.Beginnings.{is_peek};
+
 use anyhow::{Result, ensure};
 use osgi_base::{BundleId, List, Tag};
 use osgi_console::parse;
 use osgi_core::Core;
 use osgi_ops::{Depot, Limits};
-use osgi_session::{Content, Line};
+use osgi_session::{Command, Content, Line};
 use std::alloc::{AllocError, Global};
 
 /// The bundle that asks for everything, where nothing else is said.
@@ -15,6 +18,13 @@ const SYSTEM: BundleId = BundleId(0);
 pub fn lines_of(alloc: Global, text: &[u8]) -> Result<List<Line>> {
     ensure!(text.len() < u32::MAX as usize, "the text is too long");
     Ok(parse(alloc, text, 0)?)
+}
+
+/// Whether the command asks for no operation.
+fn is_peek(command: &Command) -> bool
+    ensures peek { result ≡ is_peek command.now }
+{
+    matches!(command, Command::Peek { .. })
 }
 
 /// Runs a line for a bundle, and answers whether it has a command that was accepted.
@@ -31,8 +41,12 @@ fn run_line(
         caller: 0,
         command: line.number,
     };
+    let command = command.copy(alloc)?;
+    if is_peek(&command) {
+        return Ok(false);
+    }
     // No plan of a measured command has a second operation.
-    let (op, _) = command.copy(alloc)?.into_op(asker);
+    let (op, _) = command.into_op(asker);
     let reply = core.apply(tag, op)?;
     Ok(!reply.is_refusal())
 }

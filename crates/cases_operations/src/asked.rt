@@ -1,5 +1,8 @@
 //! The operations that rows ask for.
 
+ghost use Rattle.std.specs.Prelude.{◌≡◌};
+ghost use Rattle.osgi_session.specs.Beginnings.{is_peek};
+
 use osgi_base::{BundleId, List};
 use osgi_console::parse;
 use osgi_ops::Op;
@@ -18,10 +21,21 @@ fn lines_of(alloc: Global, text: &str) -> Result<List<Line>, AllocError> {
     parse(alloc, bytes, 0)
 }
 
-/// The operation that the plan of a command begins with, where the bundle runs it.
-fn first_op(alloc: Global, bundle: BundleId, command: &Command) -> Result<Op, AllocError> {
-    let (op, _) = command.copy(alloc)?.into_op(bundle);
-    Ok(op)
+/// Whether the command asks for no operation.
+fn is_peek(command: &Command) -> bool
+    ensures peek { result ≡ is_peek command.now }
+{
+    matches!(command, Command::Peek { .. })
+}
+
+/// The operation that the plan of a command begins with, where the bundle runs it, if it begins with one.
+fn first_op(alloc: Global, bundle: BundleId, command: &Command) -> Result<Option<Op>, AllocError> {
+    let command = command.copy(alloc)?;
+    if is_peek(&command) {
+        return Ok(None);
+    }
+    let (op, _) = command.into_op(bundle);
+    Ok(Some(op))
 }
 
 /// The operation that a line asks for, or why it asks for none.
@@ -31,7 +45,10 @@ fn op_by(
     content: &Content,
 ) -> Result<Result<Op, &'static str>, AllocError> {
     match content {
-        Content::Run(command) => Ok(Ok(first_op(alloc, bundle, command)?)),
+        Content::Run(command) => match first_op(alloc, bundle, command)? {
+            Some(op) => Ok(Ok(op)),
+            None => Ok(Err("nothing")),
+        },
         Content::Empty => Ok(Err("nothing")),
         Content::Bad | Content::Join => Ok(Err("syntax")),
     }
