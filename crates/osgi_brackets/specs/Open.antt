@@ -1,10 +1,11 @@
 -- Which brackets are open, how they change, and that they are those of a history.
-use Rattle.std.specs.Prelude.{ℕ, ◌≡◌, ◌==◌, ◌<◌, if◌then◌else◌, List, [], ◌∷◌, map, reverse, Option, None, Some, IsSomeAnd, vec_capacity, vec_len}
+use Rattle.std.specs.Prelude.{ℕ, ◌≡◌, ◌==◌, ◌<◌, ◌≤◌, if◌then◌else◌, List, [], ◌∷◌, length, map, reverse, Option, None, Some, IsSomeAnd, vec_capacity, vec_len}
 use Rattle.std.specs.Option.{option_map_or}
 use Rattle.osgi_base.specs.NumberMaps.{value_at}
 use Rattle.osgi_base.specs.declared.ids.Tag.{Tag}
 use Rattle.osgi_ops.specs.Brackets.{Bracket, bracket, brackets_of, Cause, without_first}
 use Rattle.osgi_ops.specs.declared.entry.Entry.{Entry}
+use Rattle.osgi_ops.specs.declared.limits.TheConstants.{MAX_BRACKETS}
 use Rattle.osgi_brackets.specs.declared.bracket.OpenBracket.{OpenBracket}
 use Rattle.osgi_brackets.specs.declared.brackets.Brackets.{Brackets}
 use Rattle.osgi_brackets.specs.Kinds.{bracket_of}
@@ -20,6 +21,10 @@ open_of brackets caller = map (bracket_of caller) (reverse (kept_of brackets cal
 abbrev pub innermost_of : List Bracket → Option Bracket
 innermost_of [] = None
 innermost_of (b ∷ outer) = Some b
+
+-- the caller has as many brackets open as it may
+abbrev pub HoldsMost : ℕ → Brackets → Type 0
+HoldsMost caller brackets = MAX_BRACKETS ≤ length (open_of brackets caller)
 
 -- the tag's caller has this one more, within those that it had; no other caller's change
 abbrev pub Opens : Brackets → Brackets → Tag → Cause → Type 0

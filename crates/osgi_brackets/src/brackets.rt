@@ -1,15 +1,15 @@
 //! The open brackets by caller.
 
-ghost use Rattle.std.specs.Prelude.{◌≡◌, ℕ, [], ◌++◌, ◌∷◌, List, length, IsOk, OnOk, OnErr};
+ghost use Rattle.std.specs.Prelude.{◌≡◌, ◌↔◌, ℕ, [], ◌++◌, ◌∷◌, List, length, IsOk, IsTrue, OnOk, OnErr};
 ghost use Rattle.std.specs.Option.{option_map};
 ghost use Rattle.osgi_ops.specs.Brackets.{own_closes};
 ghost use Rattle.osgi_ops.specs.declared.entry.Entry.{Entry};
 ghost use Rattle.osgi_brackets.specs.Kinds.{bracket_of, cause_of};
-ghost use Rattle.osgi_brackets.specs.Open.{Closes, HasRoom, HoldsSame, innermost_of, open_of, Opens, StandsFor};
+ghost use Rattle.osgi_brackets.specs.Open.{Closes, HasRoom, HoldsMost, HoldsSame, innermost_of, open_of, Opens, StandsFor};
 
 use crate::bracket::{BracketKind, OpenBracket, ends, opens};
 use osgi_base::{NumberMap, Tag};
-use osgi_ops::{Entry, Op};
+use osgi_ops::{Entry, MAX_BRACKETS, Op};
 use std::alloc::{AllocError, Global};
 
 /// The open brackets of each caller. Each call takes the same time however many brackets and callers there are.
@@ -39,6 +39,13 @@ impl Brackets {
             Some(own) => own.len(),
             None => 0,
         }
+    }
+
+    /// Whether the caller has as many brackets open as it may.
+    pub fn is_full(&self, caller: u32) -> bool
+        ensures full { IsTrue result ↔ HoldsMost caller self.now }
+    {
+        self.depth(caller) >= MAX_BRACKETS
     }
 
     /// The innermost bracket of the caller, if it has one.

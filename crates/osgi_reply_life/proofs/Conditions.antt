@@ -1,32 +1,19 @@
 -- When the conditions of starts and stops hold, by what is read of the tables.
-use Rattle.std.proofs.Common.{◌≡◌, ◌≤◌, ap, sym, subst, ◌∙◌, false, true}
-use Rattle.std.specs.Prelude.{◌↔◌, Bool, IsTrue, length, None, Option, Some, IsSomeAnd}
+use Rattle.std.proofs.Common.{◌≡◌, ap, subst, ◌∙◌, false, true}
+use Rattle.std.specs.Prelude.{None, Option, Some, IsSomeAnd}
 use Rattle.osgi_base.specs.declared.ids.BundleId.{BundleId}
 use Rattle.osgi_base.specs.declared.ids.Tag.{Tag}
-use Rattle.osgi_brackets.specs.Open.{open_of}
 use Rattle.osgi_bundle.specs.declared.kept.BundleKept.{BundleKept}
 use Rattle.osgi_legal.proofs.Targets.{target-once}
 use Rattle.osgi_ops.specs.Bundles.{is_changing}
-use Rattle.osgi_ops.specs.Conditions.{at_target, IsDeep, IsTarget, state_change, state_of}
-use Rattle.osgi_legal.specs.Legal.{IsAskedAt}
+use Rattle.osgi_ops.specs.Conditions.{at_target, IsTarget, state_change, state_of}
 use Rattle.osgi_ops.specs.Moments.{Moment}
 use Rattle.osgi_ops.specs.Replies.{is_effective}
-use Rattle.osgi_ops.specs.declared.asked.Asked.{Asked}
-use Rattle.osgi_ops.specs.declared.limits.TheConstants.{MAX_BRACKETS}
 use Rattle.osgi_ops.specs.declared.refusal.Refusal.{Refusal}
 use Rattle.osgi_ops.specs.declared.refusal.Refusal.TheVariants as no
 use Rattle.osgi_ops.specs.declared.reply.Reply.TheVariants as answer
 use Rattle.osgi_ops.specs.declared.target.Target.{Target}
-use Rattle.osgi_tables.proofs.Living.{depth_at}
-use Rattle.osgi_tables.specs.Replied.{StandsFor}
-use Rattle.osgi_tables.specs.declared.tables.Tables.{Tables}
 use Rattle.osgi_reply_life.proofs.Rows.{IsRowAt}
-
--- ---- tests
-
--- what a test denies does not hold
-pub not_by : {P : Type 0} (test : Bool) → (IsTrue test ↔ P) → test ≡ false → ¬ P
-not_by test says fails p = let bad : true ≡ false = sym (says.1 p) ∙ fails in cc bad
 
 -- ---- targets
 
@@ -48,12 +35,3 @@ says_nothing (Some tag) f is = ap (λ g. is_effective (answer.Refused g)) is
 -- so it is the one that a bundle in change calls for
 pub changed_by : (now : Moment) (b : BundleId) (row : BundleKept) (f : Refusal) → IsRowAt now b row → is_changing (state_of now b) ≡ true → SaysChange row.by f → state_change is_changing now b f
 changed_by now b row f is changing says = (changing, subst (λ o. SaysChange o f) is.by says)
-
--- ---- brackets
-
--- as many brackets are open in the history as are kept
-pub deep_at : (asked : Asked) (tables : Tables) (now : Moment) → IsAskedAt asked now → StandsFor now tables → MAX_BRACKETS ≤ length (open_of tables.brackets asked.tag.caller) → IsDeep now
-deep_at asked tables now at stood deep = subst (λ n. MAX_BRACKETS ≤ n) (sym (depth_at asked tables now at stood)) deep
-
-pub shallow_at : (asked : Asked) (tables : Tables) (now : Moment) → IsAskedAt asked now → StandsFor now tables → ¬ (MAX_BRACKETS ≤ length (open_of tables.brackets asked.tag.caller)) → ¬ IsDeep now
-shallow_at asked tables now at stood shallow deep = shallow (subst (λ n. MAX_BRACKETS ≤ n) (depth_at asked tables now at stood) deep)

@@ -1,10 +1,10 @@
 -- What a wish to start a bundle is answered, and the begin of a start.
-use Rattle.std.proofs.Common.{◌≡◌, ◌≢◌, ◌⊎◌, ℕ, ◌≤◌, List, inl, inr, ap, sym, subst, ◌∙◌, refl}
-use Rattle.std.specs.Prelude.{Bool, true, false, cond, [], ◌∷◌, None, Some, IsSomeAnd, length}
+use Rattle.std.proofs.Common.{◌≡◌, ◌≢◌, ◌⊎◌, ℕ, List, inl, inr, ap, sym, subst, ◌∙◌, refl}
+use Rattle.std.specs.Prelude.{Bool, true, false, cond, [], ◌∷◌, None, Some, IsSomeAnd}
 use Rattle.osgi_base.specs.Verdict.{Gives, Where}
 use Rattle.osgi_base.specs.declared.ids.BundleId.{BundleId}
 use Rattle.osgi_base.specs.declared.ids.Tag.{Tag}
-use Rattle.osgi_brackets.specs.Open.{open_of}
+use Rattle.osgi_brackets.specs.Open.{HoldsMost}
 use Rattle.osgi_bundle.specs.Rows.{row_at}
 use Rattle.osgi_bundle.specs.Targets.{IsTargetRow}
 use Rattle.osgi_bundle.specs.declared.kept.BundleKept.{BundleKept}
@@ -24,7 +24,6 @@ use Rattle.osgi_ops.specs.Replies.{is_effective, verdict}
 use Rattle.osgi_ops.specs.States.{is_changing as is_changing_number}
 use Rattle.osgi_ops.specs.Resolved.{is_fragment_bundle}
 use Rattle.osgi_ops.specs.declared.asked.Asked.{Asked}
-use Rattle.osgi_ops.specs.declared.limits.TheConstants.{MAX_BRACKETS}
 use Rattle.osgi_ops.specs.declared.op.Op.TheVariants as op
 use Rattle.osgi_ops.specs.declared.refusal.Refusal.{Refusal}
 use Rattle.osgi_ops.specs.declared.refusal.Refusal.TheVariants as no
@@ -34,7 +33,7 @@ use Rattle.osgi_ops.specs.declared.state.TheConstants.{ACTIVE, RESOLVED}
 use Rattle.osgi_ops.specs.declared.target.Target.{Target}
 use Rattle.osgi_legal.specs.laws.Stages.{row-here}
 use Rattle.osgi_ops.specs.rows.Life.{BeginStartAnswers, start_transient, WishStartAnswers}
-use Rattle.osgi_tables.proofs.Living.{IsBeginOf, replied_begun}
+use Rattle.osgi_tables.proofs.Living.{deep_at, IsBeginOf, replied_begun, shallow_at}
 use Rattle.osgi_tables.proofs.Replying.{decided_refused, decided_same, of_services, replied_refused}
 use Rattle.osgi_tables.proofs.Shown.{one_shown}
 use Rattle.osgi_tables.specs.Changes.{happened, IsReplyAndChange}
@@ -42,7 +41,7 @@ use Rattle.osgi_tables.specs.Replied.{EachTime, IsAnsweredToAll}
 use Rattle.osgi_tables.specs.declared.change.Change.TheVariants as change
 use Rattle.osgi_tables.specs.declared.tables.Tables.{Tables}
 use Rattle.osgi_reply_life.proofs.Idle.{IsIdle, replied_idle}
-use Rattle.osgi_reply_life.proofs.Conditions.{changed_by, deep_at, not_at, says_nothing, SaysChange, shallow_at}
+use Rattle.osgi_reply_life.proofs.Conditions.{changed_by, not_at, says_nothing, SaysChange}
 use Rattle.osgi_reply_life.proofs.Rows.{changing_at, down_at, row_gone, row_there, state_is, unresolved_rest}
 
 -- ---- a wish, at a moment
@@ -265,14 +264,14 @@ module _ (tables : Tables) (tag : Tag) (b : BundleId) (transient : Bool) where
         begin_changing now at.told b transient of.live f (sym of.fragment ∙ whole) (λ unresolved. (let bad : true ≡ false = sym changes ∙ ap is_changing unresolved in cc bad))
         (changed_by now b row f of changes says))
 
-    pub decided_begin_deep : row.fragment ≡ false → row.state ≡ RESOLVED → MAX_BRACKETS ≤ length (open_of tables.brackets tag.caller) → IsReplyAndChange (begin tag b transient) tables (answer.Refused no.TooDeep) change.Nothing
+    pub decided_begin_deep : row.fragment ≡ false → row.state ≡ RESOLVED → HoldsMost tag.caller tables.brackets → IsReplyAndChange (begin tag b transient) tables (answer.Refused no.TooDeep) change.Nothing
     decided_begin_deep whole resolved deep =
         refused_begin no.TooDeep refl
         (λ now at stood.
         let of = row_there now at.told tables.bundles b row stood.bundles is in
         begin_deep now at.told b transient of.live (sym of.fragment ∙ whole) (state_is Resolved of resolved) (deep_at (begin tag b transient) tables now at stood deep))
 
-    pub decided_begun : row.fragment ≡ false → row.state ≡ RESOLVED → ¬ (MAX_BRACKETS ≤ length (open_of tables.brackets tag.caller)) →
+    pub decided_begun : row.fragment ≡ false → row.state ≡ RESOLVED → ¬ HoldsMost tag.caller tables.brackets →
         IsReplyAndChange (begin tag b transient) tables (answer.Begun b row.row) (change.BeginStart tag b)
     decided_begun whole resolved shallow = record {
       possible = subst (λ o. IsSomeAnd o (λ (r : BundleKept). (r.fragment ≡ false) × (r.state ≡ RESOLVED))) (sym is) (whole, resolved);

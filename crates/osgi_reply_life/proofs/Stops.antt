@@ -1,11 +1,11 @@
 -- What the begin of a stop is answered.
-use Rattle.std.proofs.Common.{◌≡◌, ◌≢◌, ℕ, ◌≤◌, inl, inr, ap, sym, subst, ◌∙◌, refl}
-use Rattle.std.specs.Prelude.{Bool, true, false, cond, [], ◌∷◌, Contains, Some, IsSomeAnd, length}
+use Rattle.std.proofs.Common.{◌≡◌, ◌≢◌, ℕ, inl, inr, ap, sym, subst, ◌∙◌, refl}
+use Rattle.std.specs.Prelude.{Bool, true, false, cond, [], ◌∷◌, Contains, Some, IsSomeAnd}
 use Rattle.std.proofs.lemmas.Bool.{cond-false}
 use Rattle.osgi_base.specs.Verdict.{Gives, Where}
 use Rattle.osgi_base.specs.declared.ids.BundleId.{BundleId}
 use Rattle.osgi_base.specs.declared.ids.Tag.{Tag}
-use Rattle.osgi_brackets.specs.Open.{open_of}
+use Rattle.osgi_brackets.specs.Open.{HoldsMost}
 use Rattle.osgi_bundle.specs.Rows.{row_at}
 use Rattle.osgi_bundle.specs.Targets.{IsTargetRow}
 use Rattle.osgi_bundle.specs.declared.kept.BundleKept.{BundleKept}
@@ -25,7 +25,6 @@ use Rattle.osgi_ops.specs.Waiting.{is_waiting}
 use Rattle.osgi_ops.specs.Replies.{is_effective, verdict}
 use Rattle.osgi_ops.specs.States.{is_changing as is_changing_number}
 use Rattle.osgi_ops.specs.declared.asked.Asked.{Asked}
-use Rattle.osgi_ops.specs.declared.limits.TheConstants.{MAX_BRACKETS}
 use Rattle.osgi_ops.specs.declared.op.Op.TheVariants as op
 use Rattle.osgi_ops.specs.declared.refusal.Refusal.{Refusal}
 use Rattle.osgi_ops.specs.declared.refusal.Refusal.TheVariants as no
@@ -35,14 +34,14 @@ use Rattle.osgi_ops.specs.declared.state.TheConstants.{ACTIVE}
 use Rattle.osgi_ops.specs.declared.target.Target.{Target}
 use Rattle.osgi_legal.specs.laws.Stages.{row-here}
 use Rattle.osgi_ops.specs.rows.Life.{BeginStopAnswers}
-use Rattle.osgi_tables.proofs.Living.{IsBeginOf, replied_begun}
+use Rattle.osgi_tables.proofs.Living.{deep_at, IsBeginOf, replied_begun, shallow_at}
 use Rattle.osgi_tables.proofs.Replying.{decided_refused, decided_same, of_services}
 use Rattle.osgi_tables.proofs.Shown.{one_shown}
 use Rattle.osgi_tables.specs.Changes.{happened, IsReplyAndChange}
 use Rattle.osgi_tables.specs.Replied.{EachTime}
 use Rattle.osgi_tables.specs.declared.change.Change.TheVariants as change
 use Rattle.osgi_tables.specs.declared.tables.Tables.{Tables}
-use Rattle.osgi_reply_life.proofs.Conditions.{changed_by, deep_at, not_at, says_nothing, SaysChange, shallow_at}
+use Rattle.osgi_reply_life.proofs.Conditions.{changed_by, not_at, says_nothing, SaysChange}
 use Rattle.osgi_reply_life.proofs.Idle.{IsIdle, replied_idle}
 use Rattle.osgi_reply_life.proofs.Rows.{changing_at, down_at, row_there, state_is}
 
@@ -160,7 +159,7 @@ module _ (tables : Tables) (tag : Tag) (target : Target) (transient : Bool) wher
         let of = row_there now at.told tables.bundles b row stood.bundles is in
         stop_idle now at.told target transient b (target_of_rows now tables.bundles stood.bundles target b (row-at now at.told) names) (no_system b other) (changing_at of rests) (down_at of down)))
 
-    pub decided_stop_deep : b.0 ≢ 0 → row.state ≡ ACTIVE → MAX_BRACKETS ≤ length (open_of tables.brackets tag.caller) → IsReplyAndChange (begin_stop tag target transient) tables (answer.Refused no.TooDeep) change.Nothing
+    pub decided_stop_deep : b.0 ≢ 0 → row.state ≡ ACTIVE → HoldsMost tag.caller tables.brackets → IsReplyAndChange (begin_stop tag target transient) tables (answer.Refused no.TooDeep) change.Nothing
     decided_stop_deep other active deep =
         refused_stop no.TooDeep refl
         (λ now at stood.
@@ -168,7 +167,7 @@ module _ (tables : Tables) (tag : Tag) (target : Target) (transient : Bool) wher
         stop_deep now at.told target transient b (target_of_rows now tables.bundles stood.bundles target b (row-at now at.told) names) (no_system b other) (state_is Active of active)
         (deep_at (begin_stop tag target transient) tables now at stood deep))
 
-    pub decided_stop_begun : b.0 ≢ 0 → row.state ≡ ACTIVE → ¬ (MAX_BRACKETS ≤ length (open_of tables.brackets tag.caller)) →
+    pub decided_stop_begun : b.0 ≢ 0 → row.state ≡ ACTIVE → ¬ HoldsMost tag.caller tables.brackets →
         IsReplyAndChange (begin_stop tag target transient) tables (answer.Begun b row.row) (change.BeginStop tag b)
     decided_stop_begun other active shallow = record {
       possible = (no_system b other, subst (λ o. IsSomeAnd o (λ (r : BundleKept). r.state ≡ ACTIVE)) (sym is) active);

@@ -1,15 +1,12 @@
 //! What starts and stops read of the tables.
 
-ghost use Rattle.std.specs.Prelude.{◌≡◌, ◌≤◌, ◌↔◌, true, IsSomeAnd, IsTrue, length};
-ghost use Rattle.osgi_brackets.specs.Open.{open_of};
+ghost use Rattle.std.specs.Prelude.{◌≡◌, true, IsSomeAnd};
 ghost use Rattle.osgi_bundle.specs.Rows.{IsBegun};
 ghost use Rattle.osgi_ops.specs.States.{is_changing};
-ghost use Rattle.osgi_ops.specs.declared.limits.TheConstants.{MAX_BRACKETS};
 ghost use Rattle.osgi_ops.specs.declared.refusal.Refusal.TheVariants as no;
 
-use osgi_brackets::Brackets;
 use osgi_bundle::BundleKept;
-use osgi_ops::{MAX_BRACKETS, Refusal};
+use osgi_ops::Refusal;
 
 /// The refusal for a bundle that is starting or stopping, by its row. It names the line that began that.
 pub fn state_change(row: &BundleKept) -> Refusal
@@ -19,11 +16,4 @@ pub fn state_change(row: &BundleKept) -> Refusal
 {
     let Some(by) = row.by else { unreachable!() };
     Refusal::StateChange { by }
-}
-
-/// Whether a caller has as many brackets open as it may.
-pub fn is_deep(brackets: &Brackets, caller: u32) -> bool
-    ensures deep { IsTrue result ↔ MAX_BRACKETS ≤ length (open_of brackets.now caller) }
-{
-    brackets.depth(caller) >= MAX_BRACKETS
 }

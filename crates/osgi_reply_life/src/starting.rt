@@ -5,7 +5,7 @@ ghost use Rattle.osgi_ops.specs.declared.op.Op.TheVariants as op;
 ghost use Rattle.osgi_tables.specs.Changes.{IsReplyAndChange};
 ghost use Rattle.osgi_tables.specs.Replied.{IsAnsweredToAll};
 
-use crate::reading::{is_deep, state_change};
+use crate::reading::state_change;
 use osgi_base::{BundleId, Tag};
 use osgi_ops::{ACTIVE, Op, RESOLVED, Refusal, Reply, STARTING, Target, is_changing};
 use osgi_tables::{Change, Tables};
@@ -61,7 +61,7 @@ pub fn begin_start(tables: &Tables, tag: Tag, bundle: BundleId, transient: bool)
         let refusal = Refusal::InvalidOperation;
         return (Reply::Refused { refusal }, Change::Nothing);
     }
-    if is_deep(&tables.brackets, tag.caller) {
+    if tables.brackets.is_full(tag.caller) {
         let refusal = Refusal::TooDeep;
         return (Reply::Refused { refusal }, Change::Nothing);
     }

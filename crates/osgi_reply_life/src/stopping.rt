@@ -4,7 +4,7 @@ ghost use Rattle.std.specs.Prelude.{IfOk};
 ghost use Rattle.osgi_ops.specs.declared.op.Op.TheVariants as op;
 ghost use Rattle.osgi_tables.specs.Changes.{IsReplyAndChange};
 
-use crate::reading::{is_deep, state_change};
+use crate::reading::state_change;
 use osgi_base::{BundleId, Tag};
 use osgi_ops::{ACTIVE, Op, Refusal, Reply, STOPPING, Target, is_changing};
 use osgi_tables::{Change, Tables};
@@ -39,7 +39,7 @@ pub fn begin_stop(
     if row.state != ACTIVE {
         return Ok((Reply::Idle { bundle }, Change::Nothing));
     }
-    if is_deep(&tables.brackets, tag.caller) {
+    if tables.brackets.is_full(tag.caller) {
         let refusal = Refusal::TooDeep;
         return Ok((Reply::Refused { refusal }, Change::Nothing));
     }

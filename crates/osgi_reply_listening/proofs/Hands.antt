@@ -1,5 +1,5 @@
 -- What is decided of hands, and what their ends come to.
-use Rattle.std.proofs.Common.{◌≡◌, ◌≤◌, ◌<◌, ◌-◌, inl, inr, ℕ, Bool, true, false, List, [], ◌∷◌, length, refl, sym, ap, ◌∙◌, subst, arith}
+use Rattle.std.proofs.Common.{◌≡◌, ◌<◌, ◌-◌, inl, inr, ℕ, Bool, true, false, List, [], ◌∷◌, refl, sym, ap, ◌∙◌, subst, arith}
 use Rattle.std.specs.Option.{option_map, option_map_or}
 use Rattle.std.specs.Prelude.{All, Err, is_err, None, Ok, OnOk, Option, Result, Some}
 use Rattle.std.specs.Result.{result_err}
@@ -7,7 +7,7 @@ use Rattle.osgi_base.specs.Verdict.{answers, Gives, refuses}
 use Rattle.osgi_base.specs.declared.ids.BundleId.{BundleId}
 use Rattle.osgi_base.specs.declared.ids.ListenerId.{ListenerId}
 use Rattle.osgi_base.specs.declared.ids.Tag.{Tag}
-use Rattle.osgi_brackets.specs.Open.{Closes, open_of}
+use Rattle.osgi_brackets.specs.Open.{Closes, HoldsMost, open_of}
 use Rattle.osgi_brackets.specs.declared.brackets.Brackets.{Brackets}
 use Rattle.osgi_bundle.specs.Rows.{row_at}
 use Rattle.osgi_bundle.specs.declared.kept.BundleKept.{BundleKept}
@@ -18,7 +18,6 @@ use Rattle.osgi_listeners.specs.laws.Conditions.{is-end-accepted}
 use Rattle.osgi_listeners.specs.laws.Handing.{answers-next, row-handed}
 use Rattle.osgi_ops.specs.Brackets.{closes, brackets, is_own_end, own_closes}
 use Rattle.osgi_ops.specs.Bundles.{row_of}
-use Rattle.osgi_ops.specs.Conditions.{IsDeep}
 use Rattle.osgi_legal.specs.Legal.{entry_of, IsAskedAt, IsTold}
 use Rattle.osgi_ops.specs.Listening.{AreSights, handings, happenings}
 use Rattle.osgi_ops.specs.Moments.{later, Moment}
@@ -29,7 +28,6 @@ use Rattle.osgi_ops.specs.declared.asked.Asked.{Asked}
 use Rattle.osgi_ops.specs.declared.entry.Entry.{Entry}
 use Rattle.osgi_ops.specs.declared.event.Busy.{Busy}
 use Rattle.osgi_ops.specs.declared.event.Event.{Event}
-use Rattle.osgi_ops.specs.declared.limits.TheConstants.{MAX_BRACKETS}
 use Rattle.osgi_ops.specs.declared.op.Op.{Op}
 use Rattle.osgi_ops.specs.declared.op.Op.TheVariants as op
 use Rattle.osgi_ops.specs.declared.refusal.Refusal.{Refusal}
@@ -42,7 +40,7 @@ use Rattle.osgi_reply_listening.specs.Hands.{end_reply, handed_reply}
 use Rattle.osgi_tables.proofs.DepotRows.{shown_row}
 use Rattle.osgi_sights.specs.laws.Standing.{nothing_seen}
 use Rattle.osgi_tables.proofs.Heard.{ended_stands, handed_stands, nothing_stands, with_end}
-use Rattle.osgi_tables.proofs.Living.{depth_at, own_end_at}
+use Rattle.osgi_tables.proofs.Living.{deep_at, own_end_at, shallow_at}
 use Rattle.osgi_tables.proofs.Premises.{handed-first, turns-apart}
 use Rattle.osgi_tables.proofs.Replying.{decided_refused, decided_same, replied_refused, unseen}
 use Rattle.osgi_tables.specs.Changes.{CanBeHanded, IsReplyAndChange}
@@ -100,26 +98,23 @@ module _ (tables : Tables) (tag : Tag) (listener : ListenerId) (event : Event) (
   any_ready now told stood = let h = handing_at now told stood in (h.listener, h.spot, h.earliest.ready)
 
   -- as many brackets are open as may be
-  pub decided_deep : MAX_BRACKETS ≤ length (open_of tables.brackets tag.caller) → IsReplyAndChange (by_tag tag) tables (answer.Refused no.TooDeep) change.Nothing
+  pub decided_deep : HoldsMost tag.caller tables.brackets → IsReplyAndChange (by_tag tag) tables (answer.Refused no.TooDeep) change.Nothing
   decided_deep deep =
       decided_refused (by_tag tag) tables no.TooDeep refl
       (λ now at stood.
       row-here now op.Hand (answer.Refused no.TooDeep) refl
-      (inl (no.TooDeep, (refl, (any_ready now at.told stood, subst (λ n. MAX_BRACKETS ≤ n) (sym (depth_at (by_tag tag) tables now at stood)) deep)), refl)))
-
-  shallow_at : (now : Moment) → IsAskedAt (by_tag tag) now → StandsFor now tables → ¬ (MAX_BRACKETS ≤ length (open_of tables.brackets tag.caller)) → ¬ IsDeep now
-  shallow_at now at stood shallow deep = shallow (subst (λ n. MAX_BRACKETS ≤ n) (depth_at (by_tag tag) tables now at stood) deep)
+      (inl (no.TooDeep, (refl, (any_ready now at.told stood, deep_at (by_tag tag) tables now at stood deep)), refl)))
 
   -- enough was handed
-  pub decided_spent : ¬ (MAX_BRACKETS ≤ length (open_of tables.brackets tag.caller)) → tables.handings_left ≡ 0 → IsReplyAndChange (by_tag tag) tables (answer.Refused no.HandingsSpent) change.Nothing
+  pub decided_spent : ¬ HoldsMost tag.caller tables.brackets → tables.handings_left ≡ 0 → IsReplyAndChange (by_tag tag) tables (answer.Refused no.HandingsSpent) change.Nothing
   decided_spent shallow none =
       decided_refused (by_tag tag) tables no.HandingsSpent refl
       (λ now at stood.
       row-here now op.Hand (answer.Refused no.HandingsSpent) refl
-      (inr ((λ f called. shallow_at now at stood shallow called.1.1), inl (no.HandingsSpent, (refl, (any_ready now at.told stood, (let left = stood.handings in omega (arith, none, left)))), refl))))
+      (inr ((λ f called. shallow_at (by_tag tag) tables now at stood shallow called.1.1), inl (no.HandingsSpent, (refl, (any_ready now at.told stood, (let left = stood.handings in omega (arith, none, left)))), refl))))
 
   -- it is handed
-  handed_next : ¬ (MAX_BRACKETS ≤ length (open_of tables.brackets tag.caller)) → 0 < tables.handings_left → IsReplyAndChange (by_tag tag) tables (handed_reply tables.bundles.rows next.row.listener event) (change.Hand tag listener)
+  handed_next : ¬ HoldsMost tag.caller tables.brackets → 0 < tables.handings_left → IsReplyAndChange (by_tag tag) tables (handed_reply tables.bundles.rows next.row.listener event) (change.Hand tag listener)
   handed_next shallow some =
       let row : ListenerRow = next.row.listener in
       record {
@@ -130,7 +125,7 @@ module _ (tables : Tables) (tag : Tag) (listener : ListenerId) (event : Event) (
             (λ now at stood.
             row-here now op.Hand (handed_reply tables.bundles.rows row event) refl
             (inr (
-              (λ f called. shallow_at now at stood shallow called.1.1),
+              (λ f called. shallow_at (by_tag tag) tables now at stood shallow called.1.1),
               inr (
                 (λ f called. (let left = stood.handings in let most = called.1.1 in omega (arith, some, left, most))),
                 inl (handing_at now at.told stood),
@@ -143,7 +138,7 @@ module _ (tables : Tables) (tag : Tag) (listener : ListenerId) (event : Event) (
             (handed_stands now tables new tag listener row.kind row.owner (option_map_or (λ (r : BundleKept). r.row) (row_at row.owner tables.bundles.rows) 0) row.name event at.tag stood changed));
       }
 
-  pub decided_handed : (row : ListenerRow) → option_map listener_of (listener_at_row listener tables.listeners.rows) ≡ Some row → ¬ (MAX_BRACKETS ≤ length (open_of tables.brackets tag.caller)) → 0 < tables.handings_left →
+  pub decided_handed : (row : ListenerRow) → option_map listener_of (listener_at_row listener tables.listeners.rows) ≡ Some row → ¬ HoldsMost tag.caller tables.brackets → 0 < tables.handings_left →
       IsReplyAndChange (by_tag tag) tables (handed_reply tables.bundles.rows row event) (change.Hand tag listener)
   decided_handed row is shallow some =
       subst (λ (r : ListenerRow). IsReplyAndChange (by_tag tag) tables (handed_reply tables.bundles.rows r event) (change.Hand tag listener)) (row_is tables.listeners listener event row order next is) (handed_next shallow some)

@@ -12,7 +12,7 @@ ghost use Rattle.osgi_tables.specs.Replied.{IsReplied};
 use osgi_base::{BundleId, ListenerId, Tag};
 use osgi_bundle::Table;
 use osgi_listeners::ListenerRow;
-use osgi_ops::{Event, MAX_BRACKETS, Op, Refusal, Reply};
+use osgi_ops::{Event, Op, Refusal, Reply};
 use osgi_tables::{Change, Tables};
 use std::alloc::{AllocError, Global};
 
@@ -57,7 +57,7 @@ pub fn hand(alloc: Global, tables: &Tables, tag: Tag) -> Result<(Reply, Change),
         let busy = tables.listeners.busy()?;
         return Ok((Reply::Nothing { busy }, Change::Nothing));
     };
-    if tables.brackets.depth(tag.caller) >= MAX_BRACKETS {
+    if tables.brackets.is_full(tag.caller) {
         let refusal = Refusal::TooDeep;
         return Ok((Reply::Refused { refusal }, Change::Nothing));
     }

@@ -1,12 +1,12 @@
 -- What the tables answer to the begin or the end of a start or a stop, where the reply is due: then they stand for the history with its
 -- entry.
-use Rattle.std.proofs.Common.{◌≡◌, [], ◌∷◌, ◌++◌, ap, refl, sym, subst, ◌∙◌}
+use Rattle.std.proofs.Common.{◌≡◌, ◌≤◌, [], ◌∷◌, ◌++◌, ap, refl, sym, subst, ◌∙◌}
 use Rattle.std.specs.Prelude.{◌==◌, if◌then◌else◌, Bool, true, false, length, List, MatchBool, None, Some}
 use Rattle.std.specs.Option.{option_map}
 use Rattle.osgi_base.specs.declared.ids.BundleId.{BundleId}
 use Rattle.osgi_base.specs.declared.ids.ListenerId.{ListenerId}
 use Rattle.osgi_base.specs.declared.ids.Tag.{Tag}
-use Rattle.osgi_brackets.specs.Open.{Closes, open_of, Opens}
+use Rattle.osgi_brackets.specs.Open.{Closes, HoldsMost, open_of, Opens}
 use Rattle.osgi_brackets.specs.laws.Following.{closed-after, opened-after}
 use Rattle.osgi_bundle.specs.Rows.{TableRows}
 use Rattle.osgi_bundle.specs.Stands.{Puts, StandsPut}
@@ -17,6 +17,7 @@ use Rattle.osgi_legal.proofs.Quiet.{bundles-quiet}
 use Rattle.osgi_ops.specs.Brackets.{brackets, brackets_of, Cause, is_end, is_own_end, opens, own_closes}
 use Rattle.osgi_ops.specs.Bundles.{Phase, put_into}
 use Rattle.osgi_ops.specs.Cleaning.{cleaned_by}
+use Rattle.osgi_ops.specs.Conditions.{IsDeep}
 use Rattle.osgi_legal.specs.Legal.{entry_of, IsAskedAt}
 use Rattle.osgi_ops.specs.Listening.{clears, happenings, heard_by}
 use Rattle.osgi_ops.specs.Moments.{later, Moment}
@@ -26,6 +27,7 @@ use Rattle.osgi_ops.specs.Soundness.{IsSound}
 use Rattle.osgi_ops.specs.Worlds.{Leaves}
 use Rattle.osgi_ops.specs.declared.asked.Asked.{Asked}
 use Rattle.osgi_ops.specs.declared.entry.Entry.{Entry}
+use Rattle.osgi_ops.specs.declared.limits.TheConstants.{MAX_BRACKETS}
 use Rattle.osgi_ops.specs.declared.op.Op.{Op}
 use Rattle.osgi_ops.specs.declared.reply.Reply.{Reply}
 use Rattle.osgi_ops.specs.laws.Brackets.{ends_turn}
@@ -46,9 +48,16 @@ pub own_end_at : (asked : Asked) (tables : Tables) (now : Moment) → IsAskedAt 
 own_end_at asked tables now at stood =
     sym (kept_closes now asked.op tables.brackets stood.brackets) ∙ ap (λ (t : Tag). own_closes t asked.op (open_of tables.brackets t.caller)) at.tag
 
-pub depth_at : (asked : Asked) (tables : Tables) (now : Moment) → IsAskedAt asked now → StandsFor now tables → length (brackets_of now.tag.caller now.before) ≡ length (open_of tables.brackets asked.tag.caller)
+-- as many brackets are open in the history as are kept
+depth_at : (asked : Asked) (tables : Tables) (now : Moment) → IsAskedAt asked now → StandsFor now tables → length (brackets_of now.tag.caller now.before) ≡ length (open_of tables.brackets asked.tag.caller)
 depth_at asked tables now at stood =
     ap length (sym (stood.brackets now.tag.caller)) ∙ ap (λ (t : Tag). length (open_of tables.brackets t.caller)) at.tag
+
+pub deep_at : (asked : Asked) (tables : Tables) (now : Moment) → IsAskedAt asked now → StandsFor now tables → HoldsMost asked.tag.caller tables.brackets → IsDeep now
+deep_at asked tables now at stood most = subst (λ n. MAX_BRACKETS ≤ n) (sym (depth_at asked tables now at stood)) most
+
+pub shallow_at : (asked : Asked) (tables : Tables) (now : Moment) → IsAskedAt asked now → StandsFor now tables → ¬ HoldsMost asked.tag.caller tables.brackets → ¬ IsDeep now
+shallow_at asked tables now at stood fewer deep = fewer (subst (λ n. MAX_BRACKETS ≤ n) (depth_at asked tables now at stood) deep)
 
 -- ---- the tables after an entry that puts a bundle into a phase
 

@@ -1,7 +1,7 @@
 -- The bundle is not there, or by its row it is a fragment, is starting or stopping, is active, or is not resolved; or the caller has too many
 -- brackets open; else the start begins.
 use Rattle.std.proofs.Common.{sym}
-use Rattle.osgi_reply_life.proofs.Conditions.{not_by}
+use Rattle.std.proofs.lemmas.Bool.Decides.{not_from_Decides}
 use Rattle.osgi_reply_life.proofs.Starts.{decided_begin_active, decided_begin_changing, decided_begin_deep, decided_begin_fragment, decided_begin_missing, decided_begin_unresolved, decided_begun}
 use Rattle.osgi_reply_life.proofs.starting.begin_start.Goals as goal
 
@@ -30,16 +30,16 @@ returns-then-row-ne-RESOLVED c = record {
       c.if-row-eq-ACTIVE.false c.if-row-ne-RESOLVED.true;
 }
 
-pub returns-then-is_deep : goal.returns-then-is_deep
-returns-then-is_deep c = record {
+pub returns-then-is_full : goal.returns-then-is_full
+returns-then-is_full c = record {
   decided =
       decided_begin_deep c.args.tables.now c.args.tag c.args.bundle c.args.transient c.in-Some.row.now (sym c.in-Some.ensures.row) c.if-row.false c.if-row-ne-RESOLVED.false
-      (c.is_deep.ensures.deep.0 c.if-is_deep.true);
+      (c.is_full.ensures.full.0 c.if-is_full.true);
 }
 
 pub returns : goal.returns
 returns c = record {
   decided =
       decided_begun c.args.tables.now c.args.tag c.args.bundle c.args.transient c.in-Some.row.now (sym c.in-Some.ensures.row) c.if-row.false c.if-row-ne-RESOLVED.false
-      (not_by c.is_deep.result c.is_deep.ensures.deep c.if-is_deep.false);
+      (not_from_Decides c.is_full.result c.is_full.ensures.full c.if-is_full.false);
 }

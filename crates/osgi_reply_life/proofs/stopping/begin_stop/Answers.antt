@@ -1,7 +1,7 @@
 -- The target stands for no bundle, or it is the system bundle, or by its row it is starting or stopping, or at rest; or the caller has too
 -- many brackets open; else the stop begins.
 use Rattle.std.proofs.Common.{sym}
-use Rattle.osgi_reply_life.proofs.Conditions.{not_by}
+use Rattle.std.proofs.lemmas.Bool.Decides.{not_from_Decides}
 use Rattle.osgi_reply_life.proofs.Stops.{decided_stop_begun, decided_stop_changing, decided_stop_deep, decided_stop_idle, decided_stop_missing, decided_stop_system}
 use Rattle.osgi_reply_life.proofs.Rows.{target_has_row}
 use Rattle.osgi_reply_life.proofs.stopping.begin_stop.Goals as goal
@@ -33,16 +33,16 @@ returns-then-row-ne-ACTIVE c = record {
       c.if-bundle-eq0.false (sym (rw c.if-is_changing.false at c.is_changing.ensures.changing)) c.if-row-ne-ACTIVE.true;
 }
 
-pub returns-then-is_deep : goal.returns-then-is_deep
-returns-then-is_deep c = record {
+pub returns-then-is_full : goal.returns-then-is_full
+returns-then-is_full c = record {
   decided =
       decided_stop_deep c.args.tables.now c.args.tag c.args.target.now c.args.transient c.in-Some.bundle c.in-Some-row.row.now (rw c.in-Some.is at c.in_ok-bundle.ensures.target) (sym c.in-Some-row.ensures.row)
-      c.if-bundle-eq0.false c.if-row-ne-ACTIVE.false (c.is_deep.ensures.deep.0 c.if-is_deep.true);
+      c.if-bundle-eq0.false c.if-row-ne-ACTIVE.false (c.is_full.ensures.full.0 c.if-is_full.true);
 }
 
 pub returns : goal.returns
 returns c = record {
   decided =
       decided_stop_begun c.args.tables.now c.args.tag c.args.target.now c.args.transient c.in-Some.bundle c.in-Some-row.row.now (rw c.in-Some.is at c.in_ok-bundle.ensures.target) (sym c.in-Some-row.ensures.row)
-      c.if-bundle-eq0.false c.if-row-ne-ACTIVE.false (not_by c.is_deep.result c.is_deep.ensures.deep c.if-is_deep.false);
+      c.if-bundle-eq0.false c.if-row-ne-ACTIVE.false (not_from_Decides c.is_full.result c.is_full.ensures.full c.if-is_full.false);
 }

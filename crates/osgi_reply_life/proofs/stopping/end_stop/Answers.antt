@@ -1,6 +1,6 @@
 -- The operation is no end of a stop of the bundle, or a section failed, or the stop ends well.
 use Rattle.std.proofs.Common.{◌≡◌, true, false, sym, ◌∙◌}
-use Rattle.osgi_reply_life.proofs.Conditions.{not_by}
+use Rattle.std.proofs.lemmas.Bool.Decides.{not_from_Decides}
 use Rattle.osgi_reply_life.proofs.Ends.{decided_stop_ended, decided_stop_refused}
 use Rattle.osgi_reply_life.proofs.stopping.end_stop.Goals as goal
 use Rattle.osgi_reply_life.proofs.stopping.end_stop.Goals.{then-not-is_end-via-else-not-is_end+then-not-is_in_change, then-not-is_end-via-then-not-is_end}
@@ -11,7 +11,7 @@ returns-then-not-is_end c = record {
       decided_stop_refused c.args.tables.now c.args.tag c.args.bundle c.args.failed
       (λ both. elim c.then-not-is_end.branch [
         | then-not-is_end-via-then-not-is_end w ↦ (let bad : true ≡ false = sym both.0 ∙ sym c.is_end.ensures.end ∙ w.if-not-is_end.true in cc bad)
-        | then-not-is_end-via-else-not-is_end+then-not-is_in_change w ↦ not_by w.is_in_change.result w.is_in_change.ensures.change w.if-not-is_in_change.true both.1
+        | then-not-is_end-via-else-not-is_end+then-not-is_in_change w ↦ not_from_Decides w.is_in_change.result w.is_in_change.ensures.change w.if-not-is_in_change.true both.1
       ]);
 }
 

@@ -1,8 +1,8 @@
 -- Nothing can be handed; or there are too many brackets, or enough was handed; else the earliest event is handed.
-use Rattle.std.proofs.Common.{◌≡◌, ◌<◌, ◌≤◌, ap, arith, length, refl, sym, subst, ◌∙◌}
+use Rattle.std.proofs.Common.{◌≡◌, ◌<◌, ap, arith, refl, sym, subst, ◌∙◌}
+use Rattle.std.proofs.lemmas.Bool.Decides.{not_from_Decides}
 use Rattle.std.specs.Option.{option_copied}
 use Rattle.std.specs.Prelude.{None, Some}
-use Rattle.osgi_brackets.specs.Open.{open_of}
 use Rattle.osgi_listeners.specs.laws.Handing.{row-handed}
 use Rattle.osgi_ops.specs.declared.reply.Reply.{Reply}
 use Rattle.osgi_reply_listening.proofs.Hands.{by_tag, decided_deep, decided_handed, decided_nothing, decided_spent, no_row}
@@ -13,15 +13,15 @@ use Rattle.osgi_reply_listening.proofs.handing.hand.Goals as goal
 pub returns-in_default : goal.returns-in_default
 returns-in_default c = record { decided = decided_nothing c.args.tables.now c.args.tag c.in_ok-busy.busy c.in_ok-busy.ensures.busy c.in_default.ensures.next }
 
-pub returns-then-depth-ge-MAX_BRACKETS : goal.returns-then-depth-ge-MAX_BRACKETS
-returns-then-depth-ge-MAX_BRACKETS c = record {
-  decided = decided_deep c.args.tables.now c.args.tag c.in-Some.listener c.in-Some.event c.next.ensures.in_order c.in-Some.ensures.next (let many = c.if-depth-ge-MAX_BRACKETS.true in omega (arith, many, c.depth.ensures.depth));
+pub returns-then-is_full : goal.returns-then-is_full
+returns-then-is_full c = record {
+  decided = decided_deep c.args.tables.now c.args.tag c.in-Some.listener c.in-Some.event c.next.ensures.in_order c.in-Some.ensures.next (c.is_full.ensures.full.0 c.if-is_full.true);
 }
 
 pub returns-then-tables-eq0 : goal.returns-then-tables-eq0
 returns-then-tables-eq0 c = record {
   decided =
-      decided_spent c.args.tables.now c.args.tag c.in-Some.listener c.in-Some.event c.next.ensures.in_order c.in-Some.ensures.next (λ deep. (let few = c.if-depth-ge-MAX_BRACKETS.false in omega (arith, few, c.depth.ensures.depth, deep))) c.if-tables-eq0.true;
+      decided_spent c.args.tables.now c.args.tag c.in-Some.listener c.in-Some.event c.next.ensures.in_order c.in-Some.ensures.next (not_from_Decides c.is_full.result c.is_full.ensures.full c.if-is_full.false) c.if-tables-eq0.true;
 }
 
 pub unreachable-requires : goal.unreachable-requires
@@ -33,5 +33,5 @@ returns c =
     record {
       decided = subst (λ (y : Reply). IsReplyAndChange (by_tag c.args.tag) c.args.tables.now y (change.Hand c.args.tag c.in-Some.listener)) (sym c.in_ok-reply.ensures.handed)
           (decided_handed c.args.tables.now c.args.tag c.in-Some.listener c.in-Some.event c.next.ensures.in_order c.in-Some.ensures.next c.in-Some-row.row.now said
-          (λ deep. (let few = c.if-depth-ge-MAX_BRACKETS.false in omega (arith, few, c.depth.ensures.depth, deep))) (let some = c.if-tables-eq0.false in omega (arith, some)));
+          (not_from_Decides c.is_full.result c.is_full.ensures.full c.if-is_full.false) (let some = c.if-tables-eq0.false in omega (arith, some)));
     }
