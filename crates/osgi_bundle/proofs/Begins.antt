@@ -1,19 +1,21 @@
 -- What starts and stops come to, by the row of the bundle.
-use Rattle.std.proofs.Common.{◌≡◌, ◌⊎◌, inl, inr, ℕ, List, [], ◌∷◌, Result, Ok, Err, ap, sym, ◌∙◌, refl}
-use Rattle.std.specs.Prelude.{◌==◌, true, false, cond, Option, None, Some, IsOkAnd, IsSomeAnd}
-use Rattle.std.proofs.lemmas.Bool.{eq-eqb}
+use Rattle.std.proofs.Common.{◌≡◌, ◌≢◌, ◌⊎◌, inl, inr, ℕ, List, [], ◌∷◌, Result, Ok, Err, ap, sym, subst, ◌∙◌, refl}
+use Rattle.std.specs.Prelude.{◌==◌, Bool, true, false, cond, Option, None, Some, IsOkAnd, IsSome, IsSomeAnd}
+use Rattle.std.proofs.lemmas.Bool.{eq-eqb, ne_eqb}
 use Rattle.osgi_base.specs.Verdict.{answers, Gives, Where}
 use Rattle.osgi_base.specs.declared.ids.BundleId.{BundleId}
 use Rattle.osgi_base.specs.declared.ids.Tag.{Tag}
-use Rattle.osgi_bundle.specs.Rows.{begin_start_refusals, begin_stop_refusals, IsInChange, IsStartable, IsStoppable, row_at, rows_begun, StartBegins, StopBegins, TableRows, verdict_of, with_begun}
+use Rattle.osgi_bundle.specs.Rows.{IsBegun, IsInChange, IsInNoChange, IsInState, IsStartable, IsStoppable, MayStart, row_at, rows_begun, start_refusals, StartBegins, started_state, stop_refusals, StopBegins, TableRows, verdict_of, with_begun, with_state}
+use Rattle.osgi_bundle.specs.Stands.{started_phase, StandsPut}
 use Rattle.osgi_bundle.specs.declared.kept.BundleKept.{BundleKept}
 use Rattle.osgi_bundle.specs.declared.life.Begun.{Begun}
 use Rattle.osgi_bundle.specs.declared.life.Begun.TheVariants.{Already, Run}
-use Rattle.osgi_bundle.specs.laws.Changes.{IsNoSystem, no_system}
+use Rattle.osgi_bundle.specs.laws.Changes.{IsNoSystem, no_system, stands_ended}
+use Rattle.osgi_ops.specs.Bundles as phases
 use Rattle.osgi_ops.specs.Bundles.{system}
 use Rattle.osgi_ops.specs.declared.refusal.Refusal.{Refusal}
 use Rattle.osgi_ops.specs.declared.refusal.Refusal.TheVariants.{InvalidOperation, NoSuchBundle, StateChange}
-use Rattle.osgi_ops.specs.declared.state.TheConstants.{ACTIVE, INSTALLED}
+use Rattle.osgi_ops.specs.declared.state.TheConstants.{ACTIVE, INSTALLED, RESOLVED}
 use Rattle.osgi_ops.specs.States.{is_changing}
 
 abbrev Change : Option BundleKept → Refusal → Type 0
@@ -45,7 +47,7 @@ some_not_active begun None runs is = absurd is
 some_not_active begun (Some row) runs is = not_active begun row runs is
 
 -- a start that begins is not the system bundle's
-pub start_apart : (id : BundleId) (table : TableRows) (begun : Begun) → Gives (begin_start_refusals id table.rows) (StartBegins id table.rows) (answers begun) → ¬ (begun ≡ Already) → IsNoSystem id table
+pub start_apart : (id : BundleId) (table : TableRows) (begun : Begun) → Gives (start_refusals id table.rows) (StartBegins id table.rows) (answers begun) → ¬ (begun ≡ Already) → IsNoSystem id table
 start_apart id table begun given runs = no_system id table (some_not_active begun (row_at id table.rows) runs (start_due (row_at id table.rows) begun given))
 
 stop_other : (id : BundleId) (o : Option BundleKept) (begun : Begun) → StopAnswer id o (Ok begun) → ¬ (id ≡ system)
@@ -54,33 +56,38 @@ stop_other id o begun (inr (there, inl (refusal, called, same))) own = cc same
 stop_other id o begun (inr (there, inr (valid, more))) own = valid InvalidOperation (refl, own)
 
 -- nor is a stop
-pub stop_apart : (id : BundleId) (table : TableRows) (begun : Begun) → Gives (begin_stop_refusals id table.rows) (StopBegins id table.rows) (answers begun) → IsNoSystem id table
+pub stop_apart : (id : BundleId) (table : TableRows) (begun : Begun) → Gives (stop_refusals id table.rows) (StopBegins id table.rows) (answers begun) → IsNoSystem id table
 stop_apart id table begun given depot history world stands own = stop_other id (row_at id table.rows) begun given (λ i. record { 0 = own i })
 
 -- nor what is starting or stopping
-pub change_apart : (id : BundleId) (table : TableRows) (state : ℕ) (tag : Tag) → ¬ (state ≡ ACTIVE) → IsInChange state tag id table.rows → IsNoSystem id table
-change_apart id table state tag other change = no_system id table (by (row_at id table.rows) change)
+pub state_apart : (id : BundleId) (table : TableRows) (state : ℕ) → ¬ (state ≡ ACTIVE) → IsInState state id table.rows → IsNoSystem id table
+state_apart id table state other in_it = no_system id table (by (row_at id table.rows) in_it)
   where
-    by : (o : Option BundleKept) → IsSomeAnd o (λ (row : BundleKept). (row.state ≡ state) × (row.by ≡ Some tag)) → IsSomeAnd o (λ (row : BundleKept). ¬ (row.state ≡ ACTIVE))
+    by : (o : Option BundleKept) → IsSomeAnd o (λ (row : BundleKept). row.state ≡ state) → IsSomeAnd o (λ (row : BundleKept). ¬ (row.state ≡ ACTIVE))
     by None is = absurd is
-    by (Some row) is = λ active. other (sym is.0 ∙ active)
+    by (Some row) is = λ active. other (sym is ∙ active)
 
-change_live_by : (o : Option BundleKept) (state : ℕ) (tag : Tag) → IsSomeAnd o (λ (row : BundleKept). (row.state ≡ state) × (row.by ≡ Some tag)) → ¬ (o ≡ None)
-change_live_by None state tag is none = absurd is
-change_live_by (Some row) state tag is none = cc none
-
-pub change_live : (id : BundleId) (rows : List BundleKept) (state : ℕ) (tag : Tag) → IsInChange state tag id rows → ¬ (row_at id rows ≡ None)
-change_live id rows state tag change = change_live_by (row_at id rows) state tag change
+-- what a line began is in the state that it began
+pub in_state : (id : BundleId) (rows : List BundleKept) (state : ℕ) (tag : Tag) → IsInChange state tag id rows → IsInState state id rows
+in_state id rows state tag change = by (row_at id rows) change
+  where
+    by : (o : Option BundleKept) → IsSomeAnd o (λ (row : BundleKept). (row.state ≡ state) × (row.by ≡ Some tag)) → IsSomeAnd o (λ (row : BundleKept). row.state ≡ state)
+    by None is = absurd is
+    by (Some row) is = is.0
 
 begins_live : (o : Option BundleKept) (is : BundleKept → Type 0) → IsSomeAnd o is → ¬ (o ≡ None)
 begins_live None is there none = absurd there
 begins_live (Some row) is there none = cc none
 
+-- a bundle in a state is live
+pub state_live : (id : BundleId) (rows : List BundleKept) (state : ℕ) → IsInState state id rows → ¬ (row_at id rows ≡ None)
+state_live id rows state in_it = begins_live (row_at id rows) (λ (row : BundleKept). row.state ≡ state) in_it
+
 -- a bundle whose start or stop begins is live
-pub start_live : (id : BundleId) (rows : List BundleKept) (begun : Begun) → Gives (begin_start_refusals id rows) (StartBegins id rows) (answers begun) → ¬ (row_at id rows ≡ None)
+pub start_live : (id : BundleId) (rows : List BundleKept) (begun : Begun) → Gives (start_refusals id rows) (StartBegins id rows) (answers begun) → ¬ (row_at id rows ≡ None)
 start_live id rows begun given = begins_live (row_at id rows) _ (start_due (row_at id rows) begun given)
 
-pub stop_live : (id : BundleId) (rows : List BundleKept) (begun : Begun) → Gives (begin_stop_refusals id rows) (StopBegins id rows) (answers begun) → ¬ (row_at id rows ≡ None)
+pub stop_live : (id : BundleId) (rows : List BundleKept) (begun : Begun) → Gives (stop_refusals id rows) (StopBegins id rows) (answers begun) → ¬ (row_at id rows ≡ None)
 stop_live id rows begun (inl (refusal, called, same)) none = cc same
 stop_live id rows begun (inr (there, more)) none = there NoSuchBundle (refl, none)
 
@@ -91,26 +98,60 @@ rows_run id state tag rows Already runs = absurd (runs refl)
 
 -- ---- what is possible begins
 
-start_runs : (row : BundleKept) (r : Result Begun Refusal) → row.fragment ≡ false → row.state ≡ 4 → StartAnswer (Some row) r → IsOkAnd r (λ begun. ¬ (begun ≡ Already))
-start_runs row (Ok begun) fragment state given = λ already.
-    let is : begun ≡ Run row.row = start_due (Some row) begun given ∙ ap (λ n. cond (n == 32) Already (Run row.row)) state in
+-- a row in which no line began a change is in none
+rests : (state : ℕ) (by : Option Tag) → (is_changing state ≡ true → IsSome by) → cond (is_changing state) by None ≡ None → is_changing state ≡ false
+rests state by begun none = go (is_changing state) begun none
+  where
+    go : (k : Bool) → (k ≡ true → IsSome by) → cond k by None ≡ None → k ≡ false
+    go true begun none = let bad : false ≡ true = subst IsSome none (begun refl) in absurd (cc bad)
+    go false begun none = refl
+
+pub may_start : (id : BundleId) (rows : List BundleKept) (row : BundleKept) → row_at id rows ≡ Some row → IsBegun row → row.fragment ≡ false → row.state ≢ INSTALLED → cond (is_changing row.state) row.by None ≡ None → row.state ≢ ACTIVE → IsStartable id rows
+may_start id rows row is begun whole resolved none down = subst (λ o. IsSomeAnd o MayStart) (sym is) (whole, resolved, rests row.state row.by begun none, down)
+
+pub settled_row : (id : BundleId) (rows : List BundleKept) (row : BundleKept) → row_at id rows ≡ Some row → IsBegun row → cond (is_changing row.state) row.by None ≡ None → IsInNoChange id rows
+settled_row id rows row is begun none = subst (λ o. IsSomeAnd o (λ (r : BundleKept). is_changing r.state ≡ false)) (sym is) (rests row.state row.by begun none)
+
+pub may_stop : (id : BundleId) (rows : List BundleKept) (row : BundleKept) → row_at id rows ≡ Some row → id ≢ system → row.state ≡ ACTIVE → IsStoppable id rows
+may_stop id rows row is other active = (other, subst (λ o. IsSomeAnd o (λ (r : BundleKept). r.state ≡ ACTIVE)) (sym is) active)
+
+-- and then it is live, and not the system bundle
+pub startable_live : (id : BundleId) (rows : List BundleKept) → IsStartable id rows → ¬ (row_at id rows ≡ None)
+startable_live id rows startable = begins_live (row_at id rows) MayStart startable
+
+pub startable_apart : (id : BundleId) (table : TableRows) → IsStartable id table.rows → IsNoSystem id table
+startable_apart id table startable = no_system id table (by (row_at id table.rows) startable)
+  where
+    by : (o : Option BundleKept) → IsSomeAnd o MayStart → IsSomeAnd o (λ (row : BundleKept). ¬ (row.state ≡ ACTIVE))
+    by None is = absurd is
+    by (Some row) is = is.3
+
+pub stoppable_live : (id : BundleId) (rows : List BundleKept) → IsStoppable id rows → ¬ (row_at id rows ≡ None)
+stoppable_live id rows stoppable = begins_live (row_at id rows) (λ (row : BundleKept). row.state ≡ ACTIVE) stoppable.1
+
+pub stoppable_apart : (id : BundleId) (table : TableRows) → IsStoppable id table.rows → IsNoSystem id table
+stoppable_apart id table stoppable depot history world stands own = stoppable.0 (λ i. record { 0 = own i })
+
+start_runs : (row : BundleKept) (r : Result Begun Refusal) → MayStart row → StartAnswer (Some row) r → IsOkAnd r (λ begun. ¬ (begun ≡ Already))
+start_runs row (Ok begun) may given = λ already.
+    let is : begun ≡ Run row.row = start_due (Some row) begun given ∙ ap (λ t. cond t Already (Run row.row)) (ne_eqb row.state ACTIVE may.3) in
     let bad : Run row.row ≡ Already = sym is ∙ already in
     cc bad
-start_runs row (Err refusal) fragment state (inl (other, called, same)) = absurd (cc (called.1))
-start_runs row (Err refusal) fragment state (inr (there, inl (other, called, same))) = absurd (by called.1)
+start_runs row (Err refusal) may (inl (other, called, same)) = absurd (cc (called.1))
+start_runs row (Err refusal) may (inr (there, inl (other, called, same))) = absurd (by called.1)
   where
     by : (row.fragment ≡ true) ⊎ (row.state ≡ INSTALLED) → ⊥
-    by (inl is) = (let bad : true ≡ false = sym is ∙ fragment in cc bad)
-    by (inr is) = (let bad : 4 ≡ 2 = sym state ∙ is in cc bad)
-start_runs row (Err refusal) fragment state (inr (there, inr (valid, inl (other, called, same)))) = absurd (let bad : false ≡ true = ap is_changing (sym state) ∙ called.0 in cc bad)
-start_runs row (Err refusal) fragment state (inr (there, inr (valid, inr (still, is)))) = absurd is
+    by (inl is) = (let bad : true ≡ false = sym is ∙ may.0 in cc bad)
+    by (inr is) = may.1 is
+start_runs row (Err refusal) may (inr (there, inr (valid, inl (other, called, same)))) = absurd (let bad : true ≡ false = sym called.0 ∙ may.2 in cc bad)
+start_runs row (Err refusal) may (inr (there, inr (valid, inr (still, is)))) = absurd is
 
-pub start_possible : (id : BundleId) (rows : List BundleKept) (r : Result Begun Refusal) → Gives (begin_start_refusals id rows) (StartBegins id rows) (verdict_of r) → IsStartable id rows → IsOkAnd r (λ begun. ¬ (begun ≡ Already))
+pub start_possible : (id : BundleId) (rows : List BundleKept) (r : Result Begun Refusal) → Gives (start_refusals id rows) (StartBegins id rows) (verdict_of r) → IsStartable id rows → IsOkAnd r (λ begun. ¬ (begun ≡ Already))
 start_possible id rows r given startable = by (row_at id rows) given startable
   where
-    by : (o : Option BundleKept) → StartAnswer o r → IsSomeAnd o (λ (row : BundleKept). (row.fragment ≡ false) × (row.state ≡ 4)) → IsOkAnd r (λ begun. ¬ (begun ≡ Already))
+    by : (o : Option BundleKept) → StartAnswer o r → IsSomeAnd o MayStart → IsOkAnd r (λ begun. ¬ (begun ≡ Already))
     by None answer is = absurd is
-    by (Some row) answer is = start_runs row r is.0 is.1 answer
+    by (Some row) answer is = start_runs row r is answer
 
 stop_runs : (id : BundleId) (row : BundleKept) (r : Result Begun Refusal) → ¬ (id ≡ system) → row.state ≡ 32 → StopAnswer id (Some row) r → IsOkAnd r (λ begun. ¬ (begun ≡ Already))
 stop_runs id row (Ok begun) apart state (inl (other, called, same)) = absurd (cc same)
@@ -125,9 +166,20 @@ stop_runs id row (Err refusal) apart state (inr (there, inl (other, called, same
 stop_runs id row (Err refusal) apart state (inr (there, inr (valid, inl (other, called, same)))) = absurd (let bad : false ≡ true = ap is_changing (sym state) ∙ called.0 in cc bad)
 stop_runs id row (Err refusal) apart state (inr (there, inr (valid, inr (still, is)))) = absurd is
 
-pub stop_possible : (id : BundleId) (rows : List BundleKept) (r : Result Begun Refusal) → Gives (begin_stop_refusals id rows) (StopBegins id rows) (verdict_of r) → IsStoppable id rows → IsOkAnd r (λ begun. ¬ (begun ≡ Already))
+pub stop_possible : (id : BundleId) (rows : List BundleKept) (r : Result Begun Refusal) → Gives (stop_refusals id rows) (StopBegins id rows) (verdict_of r) → IsStoppable id rows → IsOkAnd r (λ begun. ¬ (begun ≡ Already))
 stop_possible id rows r given stoppable = by (row_at id rows) given stoppable.1
   where
     by : (o : Option BundleKept) → StopAnswer id o r → IsSomeAnd o (λ (row : BundleKept). row.state ≡ 32) → IsOkAnd r (λ begun. ¬ (begun ≡ Already))
     by None answer is = absurd is
     by (Some row) answer is = stop_runs id row r stoppable.0 is answer
+
+-- ---- ends
+
+-- a start that has ended has left the bundle in no change
+pub started_rests : (failed : Bool) → is_changing (started_state failed) ≡ false
+started_rests true = refl
+started_rests false = refl
+
+pub started_stands : (failed : Bool) (tag : Tag) (id : BundleId) (old new : TableRows) → IsNoSystem id old → new.rows ≡ with_state id (started_state failed) old.rows → new.issued ≡ old.issued → StandsPut (started_phase failed) tag id old new
+started_stands true tag id old new apart rows issued = stands_ended phases.idle RESOLVED tag id old new refl (λ t. refl) apart rows issued
+started_stands false tag id old new apart rows issued = stands_ended phases.active ACTIVE tag id old new refl (λ t. refl) apart rows issued

@@ -3,7 +3,7 @@ use Rattle.std.proofs.Common.{◌≡◌, inl, inr, true, false, ℕ, List, [], �
 use Rattle.std.specs.Prelude.{Bool}
 use Rattle.osgi_base.specs.Verdict.{answers, Gives, refuses}
 use Rattle.osgi_base.specs.declared.ids.BundleId.{BundleId}
-use Rattle.osgi_bundle.specs.Rows.{install_refusals, IsBegun, IsTwin, new_row}
+use Rattle.osgi_bundle.specs.Rows.{row_refusals, IsBegun, IsTwin, new_row}
 use Rattle.osgi_bundle.specs.declared.kept.BundleKept.{BundleKept}
 use Rattle.osgi_ops.specs.declared.refusal.Refusal.{Refusal}
 use Rattle.osgi_ops.specs.States.{is_changing}
@@ -31,7 +31,7 @@ gives_refusal (condition ∷ rest) due other refusal (inr (none, given)) = inr (
 -- ---- the bundle that is made
 
 -- no live bundle has its name and version
-pub made_apart : {A : Type 0} (name : List ℕ) (version : Version) (rows : List BundleKept) (due : A → Type 0) (x : A) → Gives (install_refusals name version rows) due (answers x) → (refusal : Refusal) → ¬ IsTwin name version rows refusal
+pub made_apart : {A : Type 0} (name : List ℕ) (version : Version) (rows : List BundleKept) (due : A → Type 0) (x : A) → Gives (row_refusals name version rows) due (answers x) → (refusal : Refusal) → ¬ IsTwin name version rows refusal
 made_apart name version rows due x (inl (refusal, called, same)) = absurd (cc same)
 made_apart name version rows due x (inr (none, given)) = none
 

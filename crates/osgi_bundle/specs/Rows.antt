@@ -44,12 +44,12 @@ has_bundle_id id row = bundle_number row == id.0
 abbrev pub row_at : BundleId → List BundleKept → Option BundleKept
 row_at id rows = find (has_bundle_id id) rows
 
-abbrev pub has_location : List ℕ → BundleKept → Bool
-has_location location row = bytes_eq row.location location
+abbrev pub has_location_row : List ℕ → BundleKept → Bool
+has_location_row location row = bytes_eq row.location location
 
 -- the live bundle that was installed from this location, if there is one
 abbrev pub bundle_from : List ℕ → List BundleKept → Option BundleId
-bundle_from location rows = option_map (λ (row : BundleKept). row.bundle) (find (has_location location) rows)
+bundle_from location rows = option_map (λ (row : BundleKept). row.bundle) (find (has_location_row location) rows)
 
 -- the state of a bundle of this row, or where there is none, of one that is live no more; none where the id was never given
 abbrev pub state_by : Option BundleKept → Bool → Option ℕ
@@ -111,9 +111,10 @@ pub record IsTwin (name : List ℕ) (version : Version) (rows : List BundleKept)
   pub same_version : other.version ≡ version
   pub says : refusal ≡ DuplicateBundle other.bundle
 
--- why a bundle is not installed: one of its name and version is there, or there are as many bundles as may be, besides the system bundle
-abbrev pub install_refusals : List ℕ → Version → List BundleKept → List (Refusal → Type 0)
-install_refusals name version rows = IsTwin name version rows ∷ Where (TooMany Bundles) (MAX_BUNDLES < length rows) ∷ []
+-- why no row is added for a bundle: one of its name and version is there, or there are as many bundles as may be, besides the system bundle.
+-- Of the depot the table knows nothing
+abbrev pub row_refusals : List ℕ → Version → List BundleKept → List (Refusal → Type 0)
+row_refusals name version rows = IsTwin name version rows ∷ Where (TooMany Bundles) (MAX_BUNDLES < length rows) ∷ []
 
 -- an answer as a verdict
 abbrev pub verdict_of : {A : Type 0} → Result A Refusal → Verdict Refusal A
@@ -122,17 +123,29 @@ verdict_of (Err refusal) = refuses refusal
 
 -- ---- starts and stops
 
--- the bundle is resolved and no fragment, so that the table lets a start of it begin
+-- the bundle is in this state
+abbrev pub IsInState : ℕ → BundleId → List BundleKept → Type 0
+IsInState state id rows = IsSomeAnd (row_at id rows) (λ (row : BundleKept). row.state ≡ state)
+
+-- the row is of no fragment, and of a bundle that is resolved, and neither starting, stopping nor active
+abbrev pub MayStart : BundleKept → Type 0
+MayStart row = (row.fragment ≡ false) × (row.state ≢ INSTALLED) × (is_changing row.state ≡ false) × (row.state ≢ ACTIVE)
+
+-- so that the table lets a start of the bundle begin
 abbrev pub IsStartable : BundleId → List BundleKept → Type 0
-IsStartable id rows = IsSomeAnd (row_at id rows) (λ (row : BundleKept). (row.fragment ≡ false) × (row.state ≡ RESOLVED))
+IsStartable id rows = IsSomeAnd (row_at id rows) MayStart
 
 -- the bundle is active and not the system bundle, so that the table lets a stop of it begin
 abbrev pub IsStoppable : BundleId → List BundleKept → Type 0
-IsStoppable id rows = (id ≢ system) × IsSomeAnd (row_at id rows) (λ (row : BundleKept). row.state ≡ ACTIVE)
+IsStoppable id rows = (id ≢ system) × IsInState ACTIVE id rows
 
 -- a bundle that is starting or stopping is so since a line began that
 abbrev pub IsBegun : BundleKept → Type 0
 IsBegun row = is_changing row.state ≡ true → IsSome row.by
+
+-- no start or stop of the bundle, which is live, is under way
+abbrev pub IsInNoChange : BundleId → List BundleKept → Type 0
+IsInNoChange id rows = IsSomeAnd (row_at id rows) (λ (row : BundleKept). is_changing row.state ≡ false)
 
 -- the bundle is in this state since the line of the tag began that
 abbrev pub IsInChange : ℕ → Tag → BundleId → List BundleKept → Type 0
@@ -164,21 +177,22 @@ abbrev pub IsUnstartable : BundleId → List BundleKept → Type 0
 IsUnstartable id rows = IsSomeAnd (row_at id rows) (λ (row : BundleKept). (row.fragment ≡ true) ⊎ (row.state ≡ INSTALLED))
 
 -- the bundle is starting or stopping, which the call that is named began
-abbrev pub state_change : BundleId → List BundleKept → Refusal → Type 0
-state_change id rows refusal =
+abbrev pub changing_row : BundleId → List BundleKept → Refusal → Type 0
+changing_row id rows refusal =
     IsSomeAnd (row_at id rows) (λ (row : BundleKept). (is_changing row.state ≡ true) × IsSomeAnd row.by (λ by. refusal ≡ StateChange by))
 
--- why a start does not begin
-abbrev pub begin_start_refusals : BundleId → List BundleKept → List (Refusal → Type 0)
-begin_start_refusals id rows = no_such_row id rows ∷ Where InvalidOperation (IsUnstartable id rows) ∷ state_change id rows ∷ []
+-- why a start does not begin, by the row of the bundle. Of levels, brackets and refreshes, by which the rules refuse a start, too, the
+-- table knows nothing
+abbrev pub start_refusals : BundleId → List BundleKept → List (Refusal → Type 0)
+start_refusals id rows = no_such_row id rows ∷ Where InvalidOperation (IsUnstartable id rows) ∷ changing_row id rows ∷ []
 
 -- a start begins, unless the bundle is active
 abbrev pub StartBegins : BundleId → List BundleKept → Begun → Type 0
 StartBegins id rows begun = IsSomeAnd (row_at id rows) (λ (row : BundleKept). begun ≡ (if row.state == ACTIVE then Already else Run row.row))
 
--- why a stop does not begin
-abbrev pub begin_stop_refusals : BundleId → List BundleKept → List (Refusal → Type 0)
-begin_stop_refusals id rows = no_such_row id rows ∷ Where InvalidOperation (id ≡ system) ∷ state_change id rows ∷ []
+-- why a stop does not begin, by the row of the bundle
+abbrev pub stop_refusals : BundleId → List BundleKept → List (Refusal → Type 0)
+stop_refusals id rows = no_such_row id rows ∷ Where InvalidOperation (id ≡ system) ∷ changing_row id rows ∷ []
 
 -- a stop begins, if the bundle is active
 abbrev pub StopBegins : BundleId → List BundleKept → Begun → Type 0

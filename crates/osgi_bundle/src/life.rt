@@ -1,18 +1,17 @@
 //! Starts and stops of the bundles in the table, as they begin and end.
 
-ghost use Rattle.std.specs.Prelude.{◌≡◌, ◌≢◌, ⊤, None, if◌then◌else◌, Decides, IfOk, IsOkAnd, OnErr};
+ghost use Rattle.std.specs.Prelude.{◌≡◌, ◌≢◌, ⊤, Decides, IfOk, IsOkAnd, OnErr};
 ghost use Rattle.osgi_base.specs.Verdict.{Gives};
-ghost use Rattle.osgi_bundle.specs.Rows.{begin_start_refusals, begin_stop_refusals, end_refusals, IsInChange, IsStartable, IsStoppable, rows_begun, StartBegins, started_state, StopBegins, verdict_of, with_state};
+ghost use Rattle.osgi_base.specs.declared.ids.Tag.{Tag};
+ghost use Rattle.osgi_bundle.specs.Rows.{end_refusals, IsInChange, IsInNoChange, IsInState, IsStartable, IsStoppable, rows_begun, start_refusals, StartBegins, started_state, stop_refusals, StopBegins, verdict_of, with_begun, with_state};
 ghost use Rattle.osgi_bundle.specs.Stands.{started_phase, StandsPut};
 ghost use Rattle.osgi_bundle.specs.declared.life.Begun.TheVariants.{Already};
 ghost use Rattle.osgi_ops.specs.Bundles.{idle, starting, stopping};
-ghost use Rattle.osgi_ops.specs.States.{is_changing};
 ghost use Rattle.osgi_ops.specs.declared.state.TheConstants.{RESOLVED, STARTING, STOPPING};
 
-use crate::kept::BundleKept;
 use crate::table::Table;
 use osgi_base::{BundleId, Tag};
-use osgi_ops::{ACTIVE, INSTALLED, RESOLVED, Refusal, STARTING, STOPPING, is_changing};
+use osgi_ops::{ACTIVE, INSTALLED, RESOLVED, Refusal, STARTING, STOPPING};
 
 /// What the begin of a start or of a stop came to.
 #[derive(Clone, Copy, PartialEq, Eq)]
@@ -24,9 +23,10 @@ pub enum Begun {
 }
 
 impl Table {
-    /// The start of a bundle begins, for the line of the tag.
+    /// The start of a bundle begins, for the line of the tag. Tests alone call it: the program decides by `start`, and changes
+    /// the table by `set_starting`.
     pub fn begin_start(&mut self, tag: Tag, bundle: BundleId) -> Result<Begun, Refusal>
-        ensures answer { Gives (begin_start_refusals bundle self.old.rows)
+        ensures answer { Gives (start_refusals bundle self.old.rows)
             (StartBegins bundle self.old.rows) (verdict_of result) }
         ensures rows { IfOk result (λ begun.
             self.new.rows ≡ rows_begun bundle STARTING tag self.old.rows begun) }
@@ -41,12 +41,13 @@ impl Table {
     {
         let begun = self.start(bundle)?;
         if let Begun::Run { .. } = begun {
-            self.set_begun(bundle, STARTING, tag);
+            self.set_starting(tag, bundle);
         }
         Ok(begun)
     }
 
-    /// The start of a bundle ends, which the line of the tag began. Where a section failed, the bundle is not active.
+    /// The start of a bundle ends, which the line of the tag began. Where a section failed, the bundle is not active. Tests alone
+    /// call it: the program decides by `is_in_change`, and changes the table by `set_started`.
     pub fn end_start(&mut self, tag: Tag, bundle: BundleId, failed: bool) -> Result<(), Refusal>
         ensures answer { Gives (end_refusals STARTING tag bundle failed self.old.rows) (λ done. ⊤)
             (verdict_of result) }
@@ -60,17 +61,17 @@ impl Table {
         if !self.is_in_change(STARTING, tag, bundle) {
             return Err(Refusal::InvalidOperation);
         }
+        self.set_started(bundle, failed);
         if failed {
-            self.set_state(bundle, RESOLVED);
             return Err(Refusal::ActivatorError);
         }
-        self.set_state(bundle, ACTIVE);
         Ok(())
     }
 
-    /// The stop of a bundle begins, for the line of the tag.
+    /// The stop of a bundle begins, for the line of the tag. Tests alone call it: the program decides by `stop`, and changes the
+    /// table by `set_stopping`.
     pub fn begin_stop(&mut self, tag: Tag, bundle: BundleId) -> Result<Begun, Refusal>
-        ensures answer { Gives (begin_stop_refusals bundle self.old.rows)
+        ensures answer { Gives (stop_refusals bundle self.old.rows)
             (StopBegins bundle self.old.rows) (verdict_of result) }
         ensures rows { IfOk result (λ begun.
             self.new.rows ≡ rows_begun bundle STOPPING tag self.old.rows begun) }
@@ -85,12 +86,13 @@ impl Table {
     {
         let begun = self.stop(bundle)?;
         if let Begun::Run { .. } = begun {
-            self.set_begun(bundle, STOPPING, tag);
+            self.set_stopping(tag, bundle);
         }
         Ok(begun)
     }
 
-    /// The stop of a bundle ends, which the line of the tag began. The bundle is at rest, even where a section failed.
+    /// The stop of a bundle ends, which the line of the tag began. The bundle is at rest, even where a section failed. Tests
+    /// alone call it: the program decides by `is_in_change`, and changes the table by `set_stopped`.
     pub fn end_stop(&mut self, tag: Tag, bundle: BundleId, failed: bool) -> Result<(), Refusal>
         ensures answer { Gives (end_refusals STOPPING tag bundle failed self.old.rows) (λ done. ⊤)
             (verdict_of result) }
@@ -104,17 +106,19 @@ impl Table {
         if !self.is_in_change(STOPPING, tag, bundle) {
             return Err(Refusal::InvalidOperation);
         }
-        self.set_state(bundle, RESOLVED);
+        self.set_stopped(bundle);
         if failed {
             return Err(Refusal::ActivatorError);
         }
         Ok(())
     }
 
-    /// What a start of the bundle would come to.
-    fn start(&self, bundle: BundleId) -> Result<Begun, Refusal>
-        ensures answer { Gives (begin_start_refusals bundle self.now.rows)
+    /// What a start of the bundle comes to. Nothing changes: `set_starting` begins it.
+    pub fn start(&self, bundle: BundleId) -> Result<Begun, Refusal>
+        ensures answer { Gives (start_refusals bundle self.now.rows)
             (StartBegins bundle self.now.rows) (verdict_of result) }
+        ensures possible { IfOk result (λ begun.
+            begun ≢ Already → IsStartable bundle self.now.rows) }
     {
         let Some(row) = self.row(bundle) else {
             return Err(Refusal::NoSuchBundle);
@@ -122,7 +126,7 @@ impl Table {
         if row.fragment || row.state == INSTALLED {
             return Err(Refusal::InvalidOperation);
         }
-        if let Some(by) = changed_by(row) {
+        if let Some(by) = row.changed_by() {
             return Err(Refusal::StateChange { by });
         }
         if row.state == ACTIVE {
@@ -131,10 +135,13 @@ impl Table {
         Ok(Begun::Run { row: row.row })
     }
 
-    /// What a stop of the bundle would come to.
-    fn stop(&self, bundle: BundleId) -> Result<Begun, Refusal>
-        ensures answer { Gives (begin_stop_refusals bundle self.now.rows)
+    /// What a stop of the bundle comes to. Nothing changes: `set_stopping` begins it.
+    pub fn stop(&self, bundle: BundleId) -> Result<Begun, Refusal>
+        ensures answer { Gives (stop_refusals bundle self.now.rows)
             (StopBegins bundle self.now.rows) (verdict_of result) }
+        ensures possible { IfOk result (λ begun.
+            begun ≢ Already → IsStoppable bundle self.now.rows) }
+        ensures settled { IfOk result (λ begun. IsInNoChange bundle self.now.rows) }
     {
         let Some(row) = self.row(bundle) else {
             return Err(Refusal::NoSuchBundle);
@@ -142,7 +149,7 @@ impl Table {
         if bundle == BundleId(0) {
             return Err(Refusal::InvalidOperation);
         }
-        if let Some(by) = changed_by(row) {
+        if let Some(by) = row.changed_by() {
             return Err(Refusal::StateChange { by });
         }
         if row.state == ACTIVE {
@@ -160,11 +167,52 @@ impl Table {
             None => false,
         }
     }
+
+    /// The bundle, whose start `start` lets begin, is starting from now on, for the line of the tag.
+    pub fn set_starting(&mut self, tag: Tag, bundle: BundleId)
+        requires possible { IsStartable bundle self.old.rows }
+        ensures rows { self.new.rows ≡ with_begun bundle STARTING tag self.old.rows }
+        ensures issued { self.new.issued ≡ self.old.issued }
+        ensures stands { StandsPut starting tag bundle self.old self.new }
+    {
+        self.set_begun(bundle, STARTING, tag);
+    }
+
+    /// The bundle, which is starting, is active from now on, or where a section failed at rest again.
+    pub fn set_started(&mut self, bundle: BundleId, failed: bool)
+        requires starting { IsInState STARTING bundle self.old.rows }
+        ensures rows { self.new.rows ≡ with_state bundle (started_state failed) self.old.rows }
+        ensures issued { self.new.issued ≡ self.old.issued }
+        ensures stands { (tag : Tag)
+            → StandsPut (started_phase failed) tag bundle self.old self.new }
+    {
+        self.set_state(bundle, started_state(failed));
+    }
+
+    /// The bundle, whose stop `stop` lets begin, is stopping from now on, for the line of the tag.
+    pub fn set_stopping(&mut self, tag: Tag, bundle: BundleId)
+        requires possible { IsStoppable bundle self.old.rows }
+        ensures rows { self.new.rows ≡ with_begun bundle STOPPING tag self.old.rows }
+        ensures issued { self.new.issued ≡ self.old.issued }
+        ensures stands { StandsPut stopping tag bundle self.old self.new }
+    {
+        self.set_begun(bundle, STOPPING, tag);
+    }
+
+    /// The bundle, which is stopping, is at rest from now on.
+    pub fn set_stopped(&mut self, bundle: BundleId)
+        requires stopping { IsInState STOPPING bundle self.old.rows }
+        ensures rows { self.new.rows ≡ with_state bundle RESOLVED self.old.rows }
+        ensures issued { self.new.issued ≡ self.old.issued }
+        ensures stands { (tag : Tag) → StandsPut idle tag bundle self.old self.new }
+    {
+        self.set_state(bundle, RESOLVED);
+    }
 }
 
-/// Whose line began the start or the stop of the bundle of this row, where that has not ended.
-fn changed_by(row: &BundleKept) -> Option<Tag>
-    ensures by { result ≡ (if is_changing row.now.state then row.now.by else None) }
+/// The state of a bundle whose start has ended.
+fn started_state(failed: bool) -> u8
+    ensures state { result ≡ started_state failed }
 {
-    if is_changing(row.state) { row.by } else { None }
+    if failed { RESOLVED } else { ACTIVE }
 }

@@ -5,7 +5,7 @@ ghost use Rattle.std.specs.Option.{option_copied};
 ghost use Rattle.osgi_base.specs.Verdict.{Gives};
 ghost use Rattle.osgi_base.specs.declared.ids.BundleId.{BundleId};
 ghost use Rattle.osgi_bundle.specs.computed.Kept.{bundle_under, name_cmp, bundle_name, row_in};
-ghost use Rattle.osgi_bundle.specs.Rows.{AreApart, AreInOrder, bundle_from, bundle_number, install_refusals, IsBegun, IsSettable, IsTwin, new_row, resolved_state, row_at, state_at, verdict_of, with_begun, with_state};
+ghost use Rattle.osgi_bundle.specs.Rows.{AreApart, AreInOrder, bundle_from, bundle_number, row_refusals, IsBegun, IsSettable, IsTwin, new_row, resolved_state, row_at, state_at, verdict_of, with_begun, with_state};
 ghost use Rattle.osgi_bundle.specs.Stands.{first_table, kept_of, StandsAfter, StandsForNone};
 ghost use Rattle.osgi_bundle.specs.Targets.{IsNamedRow};
 ghost use Rattle.osgi_ops.specs.Bundles.{the_system_bundle};
@@ -157,7 +157,7 @@ impl Table {
     ) -> Result<Result<BundleId, Refusal>, AllocError>
         requires ids_left { self.old.issued < u32.MAX }
         ensures answer { IfOk result (λ answer.
-            Gives (install_refusals name version self.old.rows) (λ id. id.0 ≡ self.old.issued + 1)
+            Gives (row_refusals name version self.old.rows) (λ id. id.0 ≡ self.old.issued + 1)
             (verdict_of answer)) }
         ensures rows { IfOk result (λ answer.
             IfOk answer (λ id.
@@ -191,7 +191,7 @@ impl Table {
     ) -> Result<Result<BundleKept, Refusal>, AllocError>
         requires ids_left { self.now.issued < u32.MAX }
         ensures answer { IfOk result (λ answer.
-            Gives (install_refusals name version self.now.rows)
+            Gives (row_refusals name version self.now.rows)
             (λ made.
             made
             ≡ new_row (record { 0 = self.now.issued + 1 }) location name version fragment row)

@@ -155,7 +155,8 @@ impl Listeners {
         None
     }
 
-    /// Adds a listener under the next id.
+    /// Adds a listener under the next id. Tests alone call it: the program decides by `add_refusal` and `next_id`, and adds by
+    /// `insert`.
     pub fn add(
         &mut self,
         owner: BundleId,
@@ -183,7 +184,7 @@ impl Listeners {
             return Ok(Err(refusal));
         }
         let listener = self.next_id();
-        self.push(ListenerRow {
+        self.insert(ListenerRow {
             listener,
             owner,
             name,
@@ -193,8 +194,8 @@ impl Listeners {
         Ok(Ok(listener))
     }
 
-    /// Adds a listener under the next id.
-    fn push(&mut self, row: ListenerRow) -> Result<(), AllocError>
+    /// Adds a listener under the next id, where nothing refuses it (`add_refusal`).
+    pub fn insert(&mut self, row: ListenerRow) -> Result<(), AllocError>
         requires next { number_of row ≡ self.old.issued + 1 }
         requires free { add_refusal row.owner row.name self.old.rows ≡ None }
         ensures rows { OnOk result (self.new.rows ≡ self.old.rows ++ new_row row ∷ []) }

@@ -3,7 +3,7 @@ use Rattle.std.proofs.Common.{◌≡◌, ◌≢◌, ℕ, List, ap, sym, ◌∙�
 use Rattle.std.specs.Prelude.{◌==◌, Bool, true, false, cond, Option, None, Some}
 use Rattle.std.proofs.lemmas.Bool.{eq-eqb}
 use Rattle.osgi_base.specs.declared.ids.BundleId.{BundleId}
-use Rattle.osgi_bundle.specs.Rows.{has_bundle_id, row_at, TableRows}
+use Rattle.osgi_bundle.specs.Rows.{has_bundle_id, MayStart, row_at, TableRows}
 use Rattle.osgi_bundle.specs.Stands.{StandsFor}
 use Rattle.osgi_bundle.specs.Targets.{IsTargetRow}
 use Rattle.osgi_bundle.specs.laws.OneBundle.{found_row, gone, row_by, row_fragment, row_live, row_number_of, row_state, says_row, SaysRow}
@@ -49,14 +49,14 @@ same_changing Starting = refl
 same_changing Stopping = refl
 same_changing Active = refl
 
--- a live bundle is not resolved where it is none of the rest
-unresolved_else : (s : State) → s ≢ Uninstalled → is_changing_number (number_of s) ≡ false → number_of s ≢ RESOLVED → number_of s ≢ ACTIVE → s ≡ Unresolved
-unresolved_else Uninstalled there rests r a = absurd (there refl)
-unresolved_else Unresolved there rests r a = refl
-unresolved_else Resolved there rests r a = absurd (r refl)
-unresolved_else Starting there rests r a = absurd (cc rests)
-unresolved_else Stopping there rests r a = absurd (cc rests)
-unresolved_else Active there rests r a = absurd (a refl)
+-- a live bundle is resolved where it is none of the rest
+resolved_else : (s : State) → s ≢ Uninstalled → number_of s ≢ INSTALLED → is_changing_number (number_of s) ≡ false → number_of s ≢ ACTIVE → s ≡ Resolved
+resolved_else Uninstalled there i rests a = absurd (there refl)
+resolved_else Unresolved there i rests a = absurd (i refl)
+resolved_else Resolved there i rests a = refl
+resolved_else Starting there i rests a = absurd (cc rests)
+resolved_else Stopping there i rests a = absurd (cc rests)
+resolved_else Active there i rests a = absurd (a refl)
 
 down_else : (s : State) → number_of s ≢ ACTIVE → is_active s ≡ false
 down_else Uninstalled not = refl
@@ -132,7 +132,7 @@ changing_at {now = now} {b = b} is changing = sym (same_changing (state_of now b
 pub down_at : {now : Moment} {b : BundleId} {row : BundleKept} → IsRowAt now b row → row.state ≢ ACTIVE → is_active (state_of now b) ≡ false
 down_at {now = now} {b = b} is down = down_else (state_of now b) (λ same. down (is.state ∙ same))
 
--- the bundle is not resolved where it is none of the rest
-pub unresolved_rest : {now : Moment} {b : BundleId} {row : BundleKept} → IsRowAt now b row → is_changing_number row.state ≡ false → row.state ≢ RESOLVED → row.state ≢ ACTIVE → state_of now b ≡ Unresolved
-unresolved_rest {now = now} {b = b} is rests resolved active =
-    unresolved_else (state_of now b) (live_there now b is.live) (ap is_changing_number (sym is.state) ∙ rests) (λ same. resolved (is.state ∙ same)) (λ same. active (is.state ∙ same))
+-- a bundle whose start may begin is resolved
+pub resolved_rest : {now : Moment} {b : BundleId} {row : BundleKept} → IsRowAt now b row → MayStart row → state_of now b ≡ Resolved
+resolved_rest {now = now} {b = b} is may =
+    resolved_else (state_of now b) (live_there now b is.live) (λ same. may.1 (is.state ∙ same)) (ap is_changing_number (sym is.state) ∙ may.2) (λ same. may.3 (is.state ∙ same))

@@ -1,13 +1,16 @@
 -- What a wish to start a bundle is answered, and the begin of a start.
 use Rattle.std.proofs.Common.{◌≡◌, ◌≢◌, ◌⊎◌, ℕ, List, inl, inr, ap, sym, subst, ◌∙◌, refl}
-use Rattle.std.specs.Prelude.{Bool, true, false, cond, [], ◌∷◌, None, Some, IsSomeAnd}
-use Rattle.osgi_base.specs.Verdict.{Gives, Where}
+use Rattle.std.specs.Prelude.{◌==◌, Bool, true, false, cond, [], ◌∷◌, None, Option, Some, IsSomeAnd}
+use Rattle.std.proofs.lemmas.Bool.{eqb-true, ne_eqb}
+use Rattle.osgi_base.specs.Verdict.{answers, Gives, refuses, Verdict, Where}
 use Rattle.osgi_base.specs.declared.ids.BundleId.{BundleId}
 use Rattle.osgi_base.specs.declared.ids.Tag.{Tag}
 use Rattle.osgi_brackets.specs.Open.{HoldsMost}
-use Rattle.osgi_bundle.specs.Rows.{row_at}
+use Rattle.osgi_bundle.specs.Rows.{IsStartable, MayStart, row_at, start_refusals, StartBegins}
 use Rattle.osgi_bundle.specs.Targets.{IsTargetRow}
 use Rattle.osgi_bundle.specs.declared.kept.BundleKept.{BundleKept}
+use Rattle.osgi_bundle.specs.declared.life.Begun.{Begun}
+use Rattle.osgi_bundle.specs.declared.life.Begun.TheVariants.{Already, Run}
 use Rattle.osgi_bundle.specs.laws.OneBundle.{rows_of_target, target_of_rows}
 use Rattle.osgi_legal.specs.Quiet.{QuietServices}
 use Rattle.osgi_stage.proofs.Facts.{row-at}
@@ -29,7 +32,7 @@ use Rattle.osgi_ops.specs.declared.refusal.Refusal.{Refusal}
 use Rattle.osgi_ops.specs.declared.refusal.Refusal.TheVariants as no
 use Rattle.osgi_ops.specs.declared.reply.Reply.{Reply}
 use Rattle.osgi_ops.specs.declared.reply.Reply.TheVariants as answer
-use Rattle.osgi_ops.specs.declared.state.TheConstants.{ACTIVE, RESOLVED}
+use Rattle.osgi_ops.specs.declared.state.TheConstants.{ACTIVE, INSTALLED}
 use Rattle.osgi_ops.specs.declared.target.Target.{Target}
 use Rattle.osgi_legal.specs.laws.Stages.{row-here}
 use Rattle.osgi_ops.specs.rows.Life.{BeginStartAnswers, start_transient, WishStartAnswers}
@@ -41,8 +44,8 @@ use Rattle.osgi_tables.specs.Replied.{EachTime, IsAnsweredToAll}
 use Rattle.osgi_tables.specs.declared.change.Change.TheVariants as change
 use Rattle.osgi_tables.specs.declared.tables.Tables.{Tables}
 use Rattle.osgi_reply_life.proofs.Idle.{IsIdle, replied_idle}
-use Rattle.osgi_reply_life.proofs.Conditions.{changed_by, not_at, says_nothing, SaysChange}
-use Rattle.osgi_reply_life.proofs.Rows.{changing_at, down_at, row_gone, row_there, state_is, unresolved_rest}
+use Rattle.osgi_reply_life.proofs.Conditions.{changed_by, not_at, not_so, says_nothing, SaysChange}
+use Rattle.osgi_reply_life.proofs.Rows.{changing_at, down_at, resolved_rest, row_gone, row_there, state_is}
 
 -- ---- a wish, at a moment
 
@@ -224,38 +227,40 @@ begins_start b transient row = record {
   leaves = λ now world same. same;
 }
 
+-- what the table answers, by the row that the bundle has
+abbrev StartGives : Option BundleKept → Verdict Refusal Begun → Type 0
+StartGives o v =
+    Gives
+    (Where no.NoSuchBundle (o ≡ None)
+    ∷ Where no.InvalidOperation (IsSomeAnd o (λ (r : BundleKept). (r.fragment ≡ true) ⊎ (r.state ≡ INSTALLED)))
+    ∷ (λ f. IsSomeAnd o (λ (r : BundleKept). (is_changing_number r.state ≡ true) × SaysChange r.by f))
+    ∷ [])
+    (λ begun. IsSomeAnd o (λ (r : BundleKept). begun ≡ cond (r.state == ACTIVE) Already (Run r.row))) v
+
 module _ (tables : Tables) (tag : Tag) (b : BundleId) (transient : Bool) where
   refused_begin : (f : Refusal) → is_effective (answer.Refused f) ≡ false → EachTime (begin tag b transient) tables (λ now. IsReply now (op.BeginStart b transient) (answer.Refused f)) →
       IsReplyAndChange (begin tag b transient) tables (answer.Refused f) change.Nothing
   refused_begin f none due = decided_refused (begin tag b transient) tables f none due
 
-  pub decided_begin_missing : row_at b tables.bundles.rows ≡ None → IsReplyAndChange (begin tag b transient) tables (answer.Refused no.NoSuchBundle) change.Nothing
+  decided_begin_missing : row_at b tables.bundles.rows ≡ None → IsReplyAndChange (begin tag b transient) tables (answer.Refused no.NoSuchBundle) change.Nothing
   decided_begin_missing none = refused_begin no.NoSuchBundle refl (λ now at stood. begin_missing now b transient (row_gone now at.told tables.bundles b stood.bundles none))
 
   module _ (row : BundleKept) (is : row_at b tables.bundles.rows ≡ Some row) where
-    pub decided_begin_fragment : row.fragment ≡ true → IsReplyAndChange (begin tag b transient) tables (answer.Refused no.InvalidOperation) change.Nothing
+    decided_begin_fragment : row.fragment ≡ true → IsReplyAndChange (begin tag b transient) tables (answer.Refused no.InvalidOperation) change.Nothing
     decided_begin_fragment fragment =
         refused_begin no.InvalidOperation refl
         (λ now at stood.
         let of = row_there now at.told tables.bundles b row stood.bundles is in
         begin_invalid now at.told b transient of.live (inl (sym of.fragment ∙ fragment)))
 
-    pub decided_begin_unresolved : is_changing_number row.state ≡ false → row.state ≢ ACTIVE → row.state ≢ RESOLVED → IsReplyAndChange (begin tag b transient) tables (answer.Refused no.InvalidOperation) change.Nothing
-    decided_begin_unresolved rests active resolved =
+    decided_begin_unresolved : row.state ≡ INSTALLED → IsReplyAndChange (begin tag b transient) tables (answer.Refused no.InvalidOperation) change.Nothing
+    decided_begin_unresolved installed =
         refused_begin no.InvalidOperation refl
         (λ now at stood.
         let of = row_there now at.told tables.bundles b row stood.bundles is in
-        begin_invalid now at.told b transient of.live (inr (unresolved_rest of rests resolved active)))
+        begin_invalid now at.told b transient of.live (inr (state_is Unresolved of installed)))
 
-    pub decided_begin_active : row.fragment ≡ false → row.state ≡ ACTIVE → IsReplyAndChange (begin tag b transient) tables (answer.Active b) change.Nothing
-    decided_begin_active whole active =
-        decided_same (begin tag b transient) tables (answer.Active b) refl
-        (replied_idle (begin tag b transient) tables (answer.Active b) (idle_begin b transient)
-        (λ now at stood.
-        let of = row_there now at.told tables.bundles b row stood.bundles is in
-        begin_active now at.told b transient of.live (sym of.fragment ∙ whole) (state_is Active of active)))
-
-    pub decided_begin_changing : (f : Refusal) → row.fragment ≡ false → is_changing_number row.state ≡ true → SaysChange row.by f → IsReplyAndChange (begin tag b transient) tables (answer.Refused f) change.Nothing
+    decided_begin_changing : (f : Refusal) → row.fragment ≡ false → is_changing_number row.state ≡ true → SaysChange row.by f → IsReplyAndChange (begin tag b transient) tables (answer.Refused f) change.Nothing
     decided_begin_changing f whole changing says =
         refused_begin f (says_nothing row.by f says)
         (λ now at stood.
@@ -264,23 +269,91 @@ module _ (tables : Tables) (tag : Tag) (b : BundleId) (transient : Bool) where
         begin_changing now at.told b transient of.live f (sym of.fragment ∙ whole) (λ unresolved. (let bad : true ≡ false = sym changes ∙ ap is_changing unresolved in cc bad))
         (changed_by now b row f of changes says))
 
-    pub decided_begin_deep : row.fragment ≡ false → row.state ≡ RESOLVED → HoldsMost tag.caller tables.brackets → IsReplyAndChange (begin tag b transient) tables (answer.Refused no.TooDeep) change.Nothing
-    decided_begin_deep whole resolved deep =
+    decided_row_active : row.fragment ≡ false → row.state ≡ ACTIVE → IsReplyAndChange (begin tag b transient) tables (answer.Active b) change.Nothing
+    decided_row_active whole active =
+        decided_same (begin tag b transient) tables (answer.Active b) refl
+        (replied_idle (begin tag b transient) tables (answer.Active b) (idle_begin b transient)
+        (λ now at stood.
+        let of = row_there now at.told tables.bundles b row stood.bundles is in
+        begin_active now at.told b transient of.live (sym of.fragment ∙ whole) (state_is Active of active)))
+
+    decided_row_deep : MayStart row → HoldsMost tag.caller tables.brackets → IsReplyAndChange (begin tag b transient) tables (answer.Refused no.TooDeep) change.Nothing
+    decided_row_deep may most =
         refused_begin no.TooDeep refl
         (λ now at stood.
         let of = row_there now at.told tables.bundles b row stood.bundles is in
-        begin_deep now at.told b transient of.live (sym of.fragment ∙ whole) (state_is Resolved of resolved) (deep_at (begin tag b transient) tables now at stood deep))
+        begin_deep now at.told b transient of.live (sym of.fragment ∙ may.0) (resolved_rest of may) (deep_at (begin tag b transient) tables now at stood most))
 
-    pub decided_begun : row.fragment ≡ false → row.state ≡ RESOLVED → ¬ HoldsMost tag.caller tables.brackets →
-        IsReplyAndChange (begin tag b transient) tables (answer.Begun b row.row) (change.BeginStart tag b)
-    decided_begun whole resolved shallow = record {
-      possible = subst (λ o. IsSomeAnd o (λ (r : BundleKept). (r.fragment ≡ false) × (r.state ≡ RESOLVED))) (sym is) (whole, resolved);
+    decided_row_begun : MayStart row → ¬ HoldsMost tag.caller tables.brackets → IsReplyAndChange (begin tag b transient) tables (answer.Begun b row.row) (change.BeginStart tag b)
+    decided_row_begun may fewer = record {
+      possible = subst (λ o. IsSomeAnd o MayStart) (sym is) may;
       cleans = refl;
       answered = λ new changed.
           replied_begun (begin tag b transient) tables new (answer.Begun b row.row) starting (start_of b) b (happened (change.BeginStart tag b) tables.registry tables.bundles) (begins_start b transient row.row)
           (λ now at stood.
           let of = row_there now at.told tables.bundles b row stood.bundles is in
-          begin_begun now at.told b transient of.live row.row of.depot_row (sym of.fragment ∙ whole) (state_is Resolved of resolved) (shallow_at (begin tag b transient) tables now at stood shallow))
-          (λ now at stood. let of = row_there now at.told tables.bundles b row stood.bundles is in (when-resolved now b (state_is Resolved of resolved)).is_so)
+          begin_begun now at.told b transient of.live row.row of.depot_row (sym of.fragment ∙ may.0) (resolved_rest of may) (shallow_at (begin tag b transient) tables now at stood fewer))
+          (λ now at stood. let of = row_there now at.told tables.bundles b row stood.bundles is in (when-resolved now b (resolved_rest of may)).is_so)
           (λ now at stood. one_shown 128 now tables at.told stood b row is) changed;
     }
+
+  -- ---- as the table of bundles decides
+
+  refused_by_row : (o : Option BundleKept) → row_at b tables.bundles.rows ≡ o → (f : Refusal) → StartGives o (refuses f) → IsReplyAndChange (begin tag b transient) tables (answer.Refused f) change.Nothing
+  refused_by_row o is f (inl (g, called, same)) =
+      let f_is : f ≡ g = cc same in
+      subst (λ h. IsReplyAndChange (begin tag b transient) tables (answer.Refused h) change.Nothing) (sym (f_is ∙ called.0)) (decided_begin_missing (is ∙ called.1))
+  refused_by_row None is f (inr (there, inl (g, called, same))) = absurd called.1
+  refused_by_row None is f (inr (there, inr (valid, inl (g, called, same)))) = absurd called
+  refused_by_row (Some row) is f (inr (there, inl (g, called, same))) =
+      let f_is : f ≡ g = cc same in
+      subst (λ h. IsReplyAndChange (begin tag b transient) tables (answer.Refused h) change.Nothing) (sym (f_is ∙ called.0)) (by called.1)
+    where
+      by : (row.fragment ≡ true) ⊎ (row.state ≡ INSTALLED) → IsReplyAndChange (begin tag b transient) tables (answer.Refused no.InvalidOperation) change.Nothing
+      by (inl fragment) = decided_begin_fragment row is fragment
+      by (inr installed) = decided_begin_unresolved row is installed
+  refused_by_row (Some row) is f (inr (there, inr (valid, inl (g, called, same)))) =
+      let f_is : f ≡ g = cc same in
+      subst (λ h. IsReplyAndChange (begin tag b transient) tables (answer.Refused h) change.Nothing) (sym f_is)
+      (decided_begin_changing row is g (not_so row.fragment (λ fragment. valid no.InvalidOperation (refl, inl fragment))) called.0 called.1)
+  refused_by_row o is f (inr (there, inr (valid, inr (still, none)))) = absurd none
+
+  active_by_row : (o : Option BundleKept) → row_at b tables.bundles.rows ≡ o → StartGives o (answers Already) → IsReplyAndChange (begin tag b transient) tables (answer.Active b) change.Nothing
+  active_by_row o is (inl (g, called, same)) = absurd (cc same)
+  active_by_row o is (inr (there, inl (g, called, same))) = absurd (cc same)
+  active_by_row o is (inr (there, inr (valid, inl (g, called, same)))) = absurd (cc same)
+  active_by_row None is (inr (there, inr (valid, inr (still, due)))) = absurd due
+  active_by_row (Some row) is (inr (there, inr (valid, inr (still, due)))) =
+      decided_row_active row is (not_so row.fragment (λ fragment. valid no.InvalidOperation (refl, inl fragment))) (eqb-true row.state ACTIVE (already (row.state == ACTIVE) row.row due))
+    where
+      already : (k : Bool) (n : ℕ) → Already ≡ cond k Already (Run n) → k ≡ true
+      already true n e = refl
+      already false n e = absurd (cc e)
+
+  deep_by_row : (o : Option BundleKept) → row_at b tables.bundles.rows ≡ o → IsSomeAnd o MayStart → HoldsMost tag.caller tables.brackets → IsReplyAndChange (begin tag b transient) tables (answer.Refused no.TooDeep) change.Nothing
+  deep_by_row None is may most = absurd may
+  deep_by_row (Some row) is may most = decided_row_deep row is may most
+
+  begun_by_row : (o : Option BundleKept) → row_at b tables.bundles.rows ≡ o → (number : ℕ) → StartGives o (answers (Run number)) → IsSomeAnd o MayStart → ¬ HoldsMost tag.caller tables.brackets →
+      IsReplyAndChange (begin tag b transient) tables (answer.Begun b number) (change.BeginStart tag b)
+  begun_by_row o is number (inl (g, called, same)) may fewer = absurd (cc same)
+  begun_by_row o is number (inr (there, inl (g, called, same))) may fewer = absurd (cc same)
+  begun_by_row o is number (inr (there, inr (valid, inl (g, called, same)))) may fewer = absurd (cc same)
+  begun_by_row None is number (inr (there, inr (valid, inr (still, due)))) may fewer = absurd may
+  begun_by_row (Some row) is number (inr (there, inr (valid, inr (still, due)))) may fewer =
+      let run : Run number ≡ Run row.row = due ∙ ap (λ k. cond k Already (Run row.row)) (ne_eqb row.state ACTIVE may.3) in
+      let same : number ≡ row.row = cc run in
+      subst (λ n. IsReplyAndChange (begin tag b transient) tables (answer.Begun b n) (change.BeginStart tag b)) (sym same) (decided_row_begun row is may fewer)
+
+  pub decided_begin_refused : (f : Refusal) → Gives (start_refusals b tables.bundles.rows) (StartBegins b tables.bundles.rows) (refuses f) → IsReplyAndChange (begin tag b transient) tables (answer.Refused f) change.Nothing
+  decided_begin_refused f given = refused_by_row (row_at b tables.bundles.rows) refl f given
+
+  pub decided_begin_active : Gives (start_refusals b tables.bundles.rows) (StartBegins b tables.bundles.rows) (answers Already) → IsReplyAndChange (begin tag b transient) tables (answer.Active b) change.Nothing
+  decided_begin_active given = active_by_row (row_at b tables.bundles.rows) refl given
+
+  pub decided_begin_deep : IsStartable b tables.bundles.rows → HoldsMost tag.caller tables.brackets → IsReplyAndChange (begin tag b transient) tables (answer.Refused no.TooDeep) change.Nothing
+  decided_begin_deep may most = deep_by_row (row_at b tables.bundles.rows) refl may most
+
+  pub decided_begun : (number : ℕ) → Gives (start_refusals b tables.bundles.rows) (StartBegins b tables.bundles.rows) (answers (Run number)) → IsStartable b tables.bundles.rows → ¬ HoldsMost tag.caller tables.brackets →
+      IsReplyAndChange (begin tag b transient) tables (answer.Begun b number) (change.BeginStart tag b)
+  decided_begun number given may fewer = begun_by_row (row_at b tables.bundles.rows) refl number given may fewer

@@ -1,14 +1,16 @@
 -- What the begin of a stop is answered.
 use Rattle.std.proofs.Common.{◌≡◌, ◌≢◌, ℕ, inl, inr, ap, sym, subst, ◌∙◌, refl}
-use Rattle.std.specs.Prelude.{Bool, true, false, cond, [], ◌∷◌, Contains, Some, IsSomeAnd}
-use Rattle.std.proofs.lemmas.Bool.{cond-false}
-use Rattle.osgi_base.specs.Verdict.{Gives, Where}
+use Rattle.std.specs.Prelude.{◌==◌, Bool, true, false, cond, [], ◌∷◌, Contains, None, Option, Some, IsSomeAnd}
+use Rattle.std.proofs.lemmas.Bool.{cond-false, eq-eqb}
+use Rattle.osgi_base.specs.Verdict.{answers, Gives, refuses, Verdict, Where}
 use Rattle.osgi_base.specs.declared.ids.BundleId.{BundleId}
 use Rattle.osgi_base.specs.declared.ids.Tag.{Tag}
 use Rattle.osgi_brackets.specs.Open.{HoldsMost}
-use Rattle.osgi_bundle.specs.Rows.{row_at}
+use Rattle.osgi_bundle.specs.Rows.{IsInNoChange, IsStoppable, row_at, stop_refusals, StopBegins}
 use Rattle.osgi_bundle.specs.Targets.{IsTargetRow}
 use Rattle.osgi_bundle.specs.declared.kept.BundleKept.{BundleKept}
+use Rattle.osgi_bundle.specs.declared.life.Begun.{Begun}
+use Rattle.osgi_bundle.specs.declared.life.Begun.TheVariants.{Already, Run}
 use Rattle.osgi_bundle.specs.laws.OneBundle.{rows_of_target, target_of_rows}
 use Rattle.osgi_legal.specs.Quiet.{QuietServices}
 use Rattle.osgi_stage.proofs.Current.{up-resolved}
@@ -43,7 +45,7 @@ use Rattle.osgi_tables.specs.declared.change.Change.TheVariants as change
 use Rattle.osgi_tables.specs.declared.tables.Tables.{Tables}
 use Rattle.osgi_reply_life.proofs.Conditions.{changed_by, not_at, says_nothing, SaysChange}
 use Rattle.osgi_reply_life.proofs.Idle.{IsIdle, replied_idle}
-use Rattle.osgi_reply_life.proofs.Rows.{changing_at, down_at, row_there, state_is}
+use Rattle.osgi_reply_life.proofs.Rows.{changing_at, down_at, row_there, state_is, target_has_row}
 
 -- ---- at a moment
 
@@ -126,8 +128,15 @@ begins_stop target transient b row = record {
   leaves = λ now world same. same;
 }
 
-no_system : (b : BundleId) → b.0 ≢ 0 → b ≢ system
-no_system b other own = other (ap (λ (c : BundleId). c.0) own)
+-- what the table answers, by the row that the bundle has
+abbrev StopGives : BundleId → Option BundleKept → Verdict Refusal Begun → Type 0
+StopGives b o v =
+    Gives
+    (Where no.NoSuchBundle (o ≡ None)
+    ∷ Where no.InvalidOperation (b ≡ system)
+    ∷ (λ f. IsSomeAnd o (λ (r : BundleKept). (is_changing_number r.state ≡ true) × SaysChange r.by f))
+    ∷ [])
+    (λ begun. IsSomeAnd o (λ (r : BundleKept). begun ≡ cond (r.state == ACTIVE) (Run r.row) Already)) v
 
 module _ (tables : Tables) (tag : Tag) (target : Target) (transient : Bool) where
   refused_stop : (f : Refusal) → is_effective (answer.Refused f) ≡ false → EachTime (begin_stop tag target transient) tables (λ now. IsReply now (op.BeginStop target transient) (answer.Refused f)) →
@@ -138,46 +147,101 @@ module _ (tables : Tables) (tag : Tag) (target : Target) (transient : Bool) wher
   decided_stop_missing none = refused_stop no.NoSuchBundle refl (λ now at stood. stop_missing now target transient (λ b is. none b (rows_of_target now tables.bundles stood.bundles target b (row-at now at.told) is)))
 
   module _ (b : BundleId) (row : BundleKept) (names : IsTargetRow target tables.bundles.rows b) (is : row_at b tables.bundles.rows ≡ Some row) where
-    pub decided_stop_system : b.0 ≡ 0 → IsReplyAndChange (begin_stop tag target transient) tables (answer.Refused no.InvalidOperation) change.Nothing
-    decided_stop_system zero =
+    decided_row_system : b ≡ system → IsReplyAndChange (begin_stop tag target transient) tables (answer.Refused no.InvalidOperation) change.Nothing
+    decided_row_system own =
         refused_stop no.InvalidOperation refl
-        (λ now at stood. stop_system now at.told target transient b (target_of_rows now tables.bundles stood.bundles target b (row-at now at.told) names) (λ i. record { 0 = zero i }))
+        (λ now at stood. stop_system now at.told target transient b (target_of_rows now tables.bundles stood.bundles target b (row-at now at.told) names) own)
 
-    pub decided_stop_changing : (f : Refusal) → b.0 ≢ 0 → is_changing_number row.state ≡ true → SaysChange row.by f → IsReplyAndChange (begin_stop tag target transient) tables (answer.Refused f) change.Nothing
-    decided_stop_changing f other changing says =
+    decided_row_changing : (f : Refusal) → b ≢ system → is_changing_number row.state ≡ true → SaysChange row.by f → IsReplyAndChange (begin_stop tag target transient) tables (answer.Refused f) change.Nothing
+    decided_row_changing f other changing says =
         refused_stop f (says_nothing row.by f says)
         (λ now at stood.
         let of = row_there now at.told tables.bundles b row stood.bundles is in
-        stop_changing now at.told target transient b (target_of_rows now tables.bundles stood.bundles target b (row-at now at.told) names) f (no_system b other)
+        stop_changing now at.told target transient b (target_of_rows now tables.bundles stood.bundles target b (row-at now at.told) names) f other
         (changed_by now b row f of (changing_at of changing) says))
 
-    pub decided_stop_idle : b.0 ≢ 0 → is_changing_number row.state ≡ false → row.state ≢ ACTIVE → IsReplyAndChange (begin_stop tag target transient) tables (answer.Idle b) change.Nothing
-    decided_stop_idle other rests down =
+    decided_row_idle : b ≢ system → is_changing_number row.state ≡ false → row.state ≢ ACTIVE → IsReplyAndChange (begin_stop tag target transient) tables (answer.Idle b) change.Nothing
+    decided_row_idle other rests down =
         decided_same (begin_stop tag target transient) tables (answer.Idle b) refl
         (replied_idle (begin_stop tag target transient) tables (answer.Idle b) (idle_stop target transient b)
         (λ now at stood.
         let of = row_there now at.told tables.bundles b row stood.bundles is in
-        stop_idle now at.told target transient b (target_of_rows now tables.bundles stood.bundles target b (row-at now at.told) names) (no_system b other) (changing_at of rests) (down_at of down)))
+        stop_idle now at.told target transient b (target_of_rows now tables.bundles stood.bundles target b (row-at now at.told) names) other (changing_at of rests) (down_at of down)))
 
-    pub decided_stop_deep : b.0 ≢ 0 → row.state ≡ ACTIVE → HoldsMost tag.caller tables.brackets → IsReplyAndChange (begin_stop tag target transient) tables (answer.Refused no.TooDeep) change.Nothing
-    decided_stop_deep other active deep =
+    decided_row_deep : b ≢ system → row.state ≡ ACTIVE → HoldsMost tag.caller tables.brackets → IsReplyAndChange (begin_stop tag target transient) tables (answer.Refused no.TooDeep) change.Nothing
+    decided_row_deep other active most =
         refused_stop no.TooDeep refl
         (λ now at stood.
         let of = row_there now at.told tables.bundles b row stood.bundles is in
-        stop_deep now at.told target transient b (target_of_rows now tables.bundles stood.bundles target b (row-at now at.told) names) (no_system b other) (state_is Active of active)
-        (deep_at (begin_stop tag target transient) tables now at stood deep))
+        stop_deep now at.told target transient b (target_of_rows now tables.bundles stood.bundles target b (row-at now at.told) names) other (state_is Active of active)
+        (deep_at (begin_stop tag target transient) tables now at stood most))
 
-    pub decided_stop_begun : b.0 ≢ 0 → row.state ≡ ACTIVE → ¬ HoldsMost tag.caller tables.brackets →
-        IsReplyAndChange (begin_stop tag target transient) tables (answer.Begun b row.row) (change.BeginStop tag b)
-    decided_stop_begun other active shallow = record {
-      possible = (no_system b other, subst (λ o. IsSomeAnd o (λ (r : BundleKept). r.state ≡ ACTIVE)) (sym is) active);
+    decided_row_begun : b ≢ system → row.state ≡ ACTIVE → ¬ HoldsMost tag.caller tables.brackets → IsReplyAndChange (begin_stop tag target transient) tables (answer.Begun b row.row) (change.BeginStop tag b)
+    decided_row_begun other active fewer = record {
+      possible = (other, subst (λ o. IsSomeAnd o (λ (r : BundleKept). r.state ≡ ACTIVE)) (sym is) active);
       cleans = refl;
       answered = λ new changed.
           replied_begun (begin_stop tag target transient) tables new (answer.Begun b row.row) stopping (stop_of b) b (happened (change.BeginStop tag b) tables.registry tables.bundles) (begins_stop target transient b row.row)
           (λ now at stood.
           let of = row_there now at.told tables.bundles b row stood.bundles is in
-          stop_begun now at.told target transient b (target_of_rows now tables.bundles stood.bundles target b (row-at now at.told) names) row.row of.depot_row (no_system b other) (state_is Active of active)
-          (shallow_at (begin_stop tag target transient) tables now at stood shallow))
+          stop_begun now at.told target transient b (target_of_rows now tables.bundles stood.bundles target b (row-at now at.told) names) row.row of.depot_row other (state_is Active of active)
+          (shallow_at (begin_stop tag target transient) tables now at stood fewer))
           (λ now at stood. let of = row_there now at.told tables.bundles b row stood.bundles is in up-resolved now at.told b (ap is_up (state_is Active of active)))
           (λ now at stood. one_shown 256 now tables at.told stood b row is) changed;
     }
+
+  -- ---- as the table of bundles decides
+
+  module _ (b : BundleId) (names : IsTargetRow target tables.bundles.rows b) where
+    refused_by_row : (o : Option BundleKept) → row_at b tables.bundles.rows ≡ o → (f : Refusal) → StopGives b o (refuses f) → IsReplyAndChange (begin_stop tag target transient) tables (answer.Refused f) change.Nothing
+    refused_by_row o is f (inl (g, called, same)) = absurd (target_has_row target tables.bundles.rows b names (is ∙ called.1))
+    refused_by_row None is f given = absurd (target_has_row target tables.bundles.rows b names is)
+    refused_by_row (Some row) is f (inr (there, inl (g, called, same))) =
+        let f_is : f ≡ g = cc same in
+        subst (λ h. IsReplyAndChange (begin_stop tag target transient) tables (answer.Refused h) change.Nothing) (sym (f_is ∙ called.0)) (decided_row_system b row names is called.1)
+    refused_by_row (Some row) is f (inr (there, inr (valid, inl (g, called, same)))) =
+        let f_is : f ≡ g = cc same in
+        subst (λ h. IsReplyAndChange (begin_stop tag target transient) tables (answer.Refused h) change.Nothing) (sym f_is)
+        (decided_row_changing b row names is g (λ own. valid no.InvalidOperation (refl, own)) called.0 called.1)
+    refused_by_row (Some row) is f (inr (there, inr (valid, inr (still, none)))) = absurd none
+
+    idle_by_row : (o : Option BundleKept) → row_at b tables.bundles.rows ≡ o → StopGives b o (answers Already) → IsSomeAnd o (λ (r : BundleKept). is_changing_number r.state ≡ false) → IsReplyAndChange (begin_stop tag target transient) tables (answer.Idle b) change.Nothing
+    idle_by_row o is (inl (g, called, same)) settled = absurd (cc same)
+    idle_by_row o is (inr (there, inl (g, called, same))) settled = absurd (cc same)
+    idle_by_row o is (inr (there, inr (valid, inl (g, called, same)))) settled = absurd (cc same)
+    idle_by_row None is (inr (there, inr (valid, inr (still, due)))) settled = absurd due
+    idle_by_row (Some row) is (inr (there, inr (valid, inr (still, due)))) settled = decided_row_idle b row names is (λ own. valid no.InvalidOperation (refl, own)) settled down
+      where
+        down : row.state ≢ ACTIVE
+        down active =
+            let bad : Already ≡ Run row.row = due ∙ ap (λ k. cond k (Run row.row) Already) (eq-eqb row.state ACTIVE active) in
+            cc bad
+
+    deep_by_row : (o : Option BundleKept) → row_at b tables.bundles.rows ≡ o → b ≢ system → IsSomeAnd o (λ (r : BundleKept). r.state ≡ ACTIVE) → HoldsMost tag.caller tables.brackets →
+        IsReplyAndChange (begin_stop tag target transient) tables (answer.Refused no.TooDeep) change.Nothing
+    deep_by_row None is other active most = absurd active
+    deep_by_row (Some row) is other active most = decided_row_deep b row names is other active most
+
+    begun_by_row : (o : Option BundleKept) → row_at b tables.bundles.rows ≡ o → (number : ℕ) → StopGives b o (answers (Run number)) → b ≢ system → IsSomeAnd o (λ (r : BundleKept). r.state ≡ ACTIVE) → ¬ HoldsMost tag.caller tables.brackets →
+        IsReplyAndChange (begin_stop tag target transient) tables (answer.Begun b number) (change.BeginStop tag b)
+    begun_by_row o is number (inl (g, called, same)) other active fewer = absurd (cc same)
+    begun_by_row o is number (inr (there, inl (g, called, same))) other active fewer = absurd (cc same)
+    begun_by_row o is number (inr (there, inr (valid, inl (g, called, same)))) other active fewer = absurd (cc same)
+    begun_by_row None is number (inr (there, inr (valid, inr (still, due)))) other active fewer = absurd active
+    begun_by_row (Some row) is number (inr (there, inr (valid, inr (still, due)))) other active fewer =
+        let run : Run number ≡ Run row.row = due ∙ ap (λ k. cond k (Run row.row) Already) (eq-eqb row.state ACTIVE active) in
+        let same : number ≡ row.row = cc run in
+        subst (λ n. IsReplyAndChange (begin_stop tag target transient) tables (answer.Begun b n) (change.BeginStop tag b)) (sym same) (decided_row_begun b row names is other active fewer)
+
+    pub decided_stop_refused : (f : Refusal) → Gives (stop_refusals b tables.bundles.rows) (StopBegins b tables.bundles.rows) (refuses f) → IsReplyAndChange (begin_stop tag target transient) tables (answer.Refused f) change.Nothing
+    decided_stop_refused f given = refused_by_row (row_at b tables.bundles.rows) refl f given
+
+    pub decided_stop_idle : Gives (stop_refusals b tables.bundles.rows) (StopBegins b tables.bundles.rows) (answers Already) → IsInNoChange b tables.bundles.rows → IsReplyAndChange (begin_stop tag target transient) tables (answer.Idle b) change.Nothing
+    decided_stop_idle given settled = idle_by_row (row_at b tables.bundles.rows) refl given settled
+
+    pub decided_stop_deep : IsStoppable b tables.bundles.rows → HoldsMost tag.caller tables.brackets → IsReplyAndChange (begin_stop tag target transient) tables (answer.Refused no.TooDeep) change.Nothing
+    decided_stop_deep may most = deep_by_row (row_at b tables.bundles.rows) refl may.0 may.1 most
+
+    pub decided_stop_begun : (number : ℕ) → Gives (stop_refusals b tables.bundles.rows) (StopBegins b tables.bundles.rows) (answers (Run number)) → IsStoppable b tables.bundles.rows → ¬ HoldsMost tag.caller tables.brackets →
+        IsReplyAndChange (begin_stop tag target transient) tables (answer.Begun b number) (change.BeginStop tag b)
+    decided_stop_begun number given may fewer = begun_by_row (row_at b tables.bundles.rows) refl number given may.0 may.1 fewer

@@ -1,7 +1,6 @@
 //! What starts and stops of bundles answer, and change in the tables.
 #![tactic(auto)]
 
-mod reading;
 mod starting;
 mod stopping;
 

@@ -5,9 +5,9 @@ ghost use Rattle.osgi_ops.specs.declared.op.Op.TheVariants as op;
 ghost use Rattle.osgi_tables.specs.Changes.{IsReplyAndChange};
 ghost use Rattle.osgi_tables.specs.Replied.{IsAnsweredToAll};
 
-use crate::reading::state_change;
 use osgi_base::{BundleId, Tag};
-use osgi_ops::{ACTIVE, Op, RESOLVED, Refusal, Reply, STARTING, Target, is_changing};
+use osgi_bundle::Begun;
+use osgi_ops::{ACTIVE, Op, Refusal, Reply, STARTING, Target};
 use osgi_tables::{Change, Tables};
 use std::alloc::AllocError;
 
@@ -27,8 +27,8 @@ pub fn wish_start(tables: &Tables, target: &Target, transient: bool) -> Result<R
         let refusal = Refusal::InvalidOperation;
         return Ok(Reply::Refused { refusal });
     }
-    if is_changing(row.state) {
-        let refusal = state_change(row);
+    if let Some(by) = row.changed_by() {
+        let refusal = Refusal::StateChange { by };
         return Ok(Reply::Refused { refusal });
     }
     if row.state == ACTIVE {
@@ -37,35 +37,23 @@ pub fn wish_start(tables: &Tables, target: &Target, transient: bool) -> Result<R
     Ok(Reply::Go { bundle })
 }
 
-/// Decides the begin of a start. It begins where the bundle is resolved, and no fragment.
+/// Decides the begin of a start, as the table of bundles answers it. One that would run is refused where the caller has too many
+/// brackets open.
 pub fn begin_start(tables: &Tables, tag: Tag, bundle: BundleId, transient: bool) -> (Reply, Change)
     ensures decided { IsReplyAndChange (record { tag = tag; op = op.BeginStart bundle transient })
         tables.now result.0 result.1 }
 {
-    let Some(row) = tables.bundles.row(bundle) else {
-        let refusal = Refusal::NoSuchBundle;
-        return (Reply::Refused { refusal }, Change::Nothing);
+    let begun = match tables.bundles.start(bundle) {
+        Ok(begun) => begun,
+        Err(refusal) => return (Reply::Refused { refusal }, Change::Nothing),
     };
-    if row.fragment {
-        let refusal = Refusal::InvalidOperation;
-        return (Reply::Refused { refusal }, Change::Nothing);
-    }
-    if is_changing(row.state) {
-        let refusal = state_change(row);
-        return (Reply::Refused { refusal }, Change::Nothing);
-    }
-    if row.state == ACTIVE {
+    let Begun::Run { row } = begun else {
         return (Reply::Active { bundle }, Change::Nothing);
-    }
-    if row.state != RESOLVED {
-        let refusal = Refusal::InvalidOperation;
-        return (Reply::Refused { refusal }, Change::Nothing);
-    }
+    };
     if tables.brackets.is_full(tag.caller) {
         let refusal = Refusal::TooDeep;
         return (Reply::Refused { refusal }, Change::Nothing);
     }
-    let row = row.row;
     (
         Reply::Begun { bundle, row },
         Change::BeginStart { tag, bundle },

@@ -4,13 +4,14 @@ ghost use Rattle.std.specs.Prelude.{IfOk};
 ghost use Rattle.osgi_ops.specs.declared.op.Op.TheVariants as op;
 ghost use Rattle.osgi_tables.specs.Changes.{IsReplyAndChange};
 
-use crate::reading::state_change;
 use osgi_base::{BundleId, Tag};
-use osgi_ops::{ACTIVE, Op, Refusal, Reply, STOPPING, Target, is_changing};
+use osgi_bundle::Begun;
+use osgi_ops::{Op, Refusal, Reply, STOPPING, Target};
 use osgi_tables::{Change, Tables};
 use std::alloc::AllocError;
 
-/// Decides the begin of a stop. It begins where the bundle is active, and not the system bundle.
+/// Decides the begin of a stop, as the table of bundles answers it. One that would run is refused where the caller has too many
+/// brackets open.
 pub fn begin_stop(
     tables: &Tables,
     tag: Tag,
@@ -25,25 +26,17 @@ pub fn begin_stop(
         let refusal = Refusal::NoSuchBundle;
         return Ok((Reply::Refused { refusal }, Change::Nothing));
     };
-    let Some(row) = tables.bundles.row(bundle) else {
-        unreachable!()
+    let begun = match tables.bundles.stop(bundle) {
+        Ok(begun) => begun,
+        Err(refusal) => return Ok((Reply::Refused { refusal }, Change::Nothing)),
     };
-    if bundle.0 == 0 {
-        let refusal = Refusal::InvalidOperation;
-        return Ok((Reply::Refused { refusal }, Change::Nothing));
-    }
-    if is_changing(row.state) {
-        let refusal = state_change(row);
-        return Ok((Reply::Refused { refusal }, Change::Nothing));
-    }
-    if row.state != ACTIVE {
+    let Begun::Run { row } = begun else {
         return Ok((Reply::Idle { bundle }, Change::Nothing));
-    }
+    };
     if tables.brackets.is_full(tag.caller) {
         let refusal = Refusal::TooDeep;
         return Ok((Reply::Refused { refusal }, Change::Nothing));
     }
-    let row = row.row;
     Ok((
         Reply::Begun { bundle, row },
         Change::BeginStop { tag, bundle },

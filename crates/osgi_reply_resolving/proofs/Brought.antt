@@ -7,7 +7,7 @@ use Rattle.osgi_base.specs.Verdict.{answers, Gives, refuses, Verdict, Where}
 use Rattle.osgi_base.specs.declared.ids.BundleId.{BundleId}
 use Rattle.osgi_base.specs.declared.ids.RevisionId.{RevisionId}
 use Rattle.osgi_bundle.proofs.Made.{gives_answer, gives_due, gives_refusal, made_apart, made_new}
-use Rattle.osgi_bundle.specs.Rows.{bundle_from as row_from, install_refusals, IsTwin, new_row, TableRows}
+use Rattle.osgi_bundle.specs.Rows.{bundle_from as row_from, row_refusals, IsTwin, new_row, TableRows}
 use Rattle.osgi_bundle.specs.Stands as bundle
 use Rattle.osgi_bundle.specs.Stands.{IsNewBundle, kept_of, StandsAfter}
 use Rattle.osgi_bundle.specs.declared.kept.BundleKept.{BundleKept}
@@ -26,7 +26,7 @@ use Rattle.osgi_ops.specs.Replies.{is_effective}
 use Rattle.osgi_ops.specs.Resolved.{is_in_use}
 use Rattle.osgi_ops.specs.Soundness.{IsSound}
 use Rattle.osgi_ops.specs.Worlds.{Leaves, with_revision}
-use Rattle.osgi_ops.specs.rows.Bundles.{install_refusals as install_conditions, installs}
+use Rattle.osgi_ops.specs.rows.Bundles.{install_refusals, installs}
 use Rattle.osgi_ops.specs.laws.Resolved.{in_use-true}
 use Rattle.osgi_ops.specs.declared.depot.DepotRow.{DepotRow}
 use Rattle.osgi_ops.specs.declared.depot.Stored.{Stored}
@@ -63,7 +63,7 @@ use Rattle.osgi_tables.specs.declared.tables.Tables.{Tables}
 -- ---- the location of a live bundle
 
 known_reply : (at : Option Bundle) (id : BundleId) (now : Moment) (location : List ℕ) (count : ℕ) → option_map (λ (b : Bundle). b.bundle) at ≡ Some id →
-    Gives (install_conditions at now location) (λ reply. reply ≡ installs at count) (answers (answer.Bundle id true))
+    Gives (install_refusals at now location) (λ reply. reply ≡ installs at count) (answers (answer.Bundle id true))
 known_reply None id now location count is = absurd (cc is)
 known_reply (Some b) id now location count is = let same : b.bundle ≡ id = cc is in ap (λ i. answer.Bundle i true) (sym same)
 
@@ -90,9 +90,9 @@ new_location now tables location stood none = unknown (bundle_from now.setting.d
     unknown None is = refl
     unknown (Some b) is = absurd (cc is)
 
-given_new : (at : Option Bundle) (now : Moment) (location : List ℕ) (count : ℕ) (v : Verdict Refusal Reply) → at ≡ None → Gives (install_conditions None now location) (λ reply. reply ≡ installs None count) v →
-    Gives (install_conditions at now location) (λ reply. reply ≡ installs at count) v
-given_new at now location count v none given = subst (λ a. Gives (install_conditions a now location) (λ reply. reply ≡ installs a count) v) (sym none) given
+given_new : (at : Option Bundle) (now : Moment) (location : List ℕ) (count : ℕ) (v : Verdict Refusal Reply) → at ≡ None → Gives (install_refusals None now location) (λ reply. reply ≡ installs None count) v →
+    Gives (install_refusals at now location) (λ reply. reply ≡ installs at count) v
+given_new at now location count v none given = subst (λ a. Gives (install_refusals a now location) (λ reply. reply ≡ installs a count) v) (sym none) given
 
 -- none of the refusals of an Install cleans up
 plain_depot : (stored : Option Stored) (refusal : Refusal) → depot_refusal stored ≡ Some refusal → is_effective (answer.Refused refusal) ≡ false
@@ -104,7 +104,7 @@ plain_depot (Some stored.NoFolder) refusal is = let named : refusal ≡ no.NoFol
 plain_depot (Some (stored.Bad fault)) refusal is = let named : refusal ≡ no.ManifestError fault = cc (sym is) in ap (λ f. is_effective (answer.Refused f)) named
 plain_depot (Some (stored.Read revision manifest)) refusal is = absurd (cc is)
 
-plain_rows : (name : List ℕ) (version : Version) (rows : List BundleKept) (due : BundleKept → Type 0) (refusal : Refusal) → Gives (install_refusals name version rows) due (refuses refusal) → is_effective (answer.Refused refusal) ≡ false
+plain_rows : (name : List ℕ) (version : Version) (rows : List BundleKept) (due : BundleKept → Type 0) (refusal : Refusal) → Gives (row_refusals name version rows) due (refuses refusal) → is_effective (answer.Refused refusal) ≡ false
 plain_rows name version rows due refusal (inl (other, twin, same)) = let named : refusal ≡ DuplicateBundle twin.other.bundle = cc same ∙ twin.says in ap (λ f. is_effective (answer.Refused f)) named
 plain_rows name version rows due refusal (inr (none, inl (other, full, same))) = let named : refusal ≡ TooMany Bundles = cc same ∙ full.0 in ap (λ f. is_effective (answer.Refused f)) named
 plain_rows name version rows due refusal (inr (none, inr (room, given))) = absurd given
@@ -124,8 +124,8 @@ count_rows now old stood = ap length stood.rows ∙ length-map (bundles now.sett
 
 -- what the table gives by its rows is given by the history
 by_rows : (now : Moment) (old : TableRows) (location : List ℕ) (revision : Revision) (manifest : List ℕ) (due : Reply → Type 0) (v : Verdict Refusal Reply) → bundle.StandsFor now.setting.depot now.before now.world old →
-    stored_at now.setting.depot location ≡ Some (stored.Read revision manifest) → Gives (install_refusals revision.name revision.version old.rows) due v →
-    Gives (install_conditions None now location) due v
+    stored_at now.setting.depot location ≡ Some (stored.Read revision manifest) → Gives (row_refusals revision.name revision.version old.rows) due v →
+    Gives (install_refusals None now location) due v
 by_rows now old location revision manifest due v stood is given = inr ((λ other called. absurd (cc (called, ap depot_refusal is))), own given)
   where
     there : stored_revision now.setting.depot location ≡ Some revision
@@ -134,7 +134,7 @@ by_rows now old location revision manifest due v stood is given = inr ((λ other
     count : length old.rows ≡ length (bundles now.setting.depot now.before)
     count = count_rows now old stood
 
-    own : Gives (install_refusals revision.name revision.version old.rows) due v →
+    own : Gives (row_refusals revision.name revision.version old.rows) due v →
         Gives (IsDuplicate now None location ∷ Where (TooMany Bundles) (MAX_BUNDLES < length (bundles now.setting.depot now.before)) ∷ []) due v
     own (inl (refusal, twin, same)) = inl (refusal, table.twin_is_duplicate now old location revision refusal stood there twin, same)
     own (inr (none, inl (refusal, (named, full), same))) =
@@ -144,7 +144,7 @@ by_rows now old location revision manifest due v stood is given = inr ((λ other
 
 -- the table refuses
 pub replied_uninstalled : (tables : Tables) (location : List ℕ) (revision : Revision) (manifest : List ℕ) (due : BundleKept → Type 0) (refusal : Refusal) → row_from location tables.bundles.rows ≡ None →
-    stored_at tables.depot.rows location ≡ Some (stored.Read revision manifest) → Gives (install_refusals revision.name revision.version tables.bundles.rows) due (refuses refusal) →
+    stored_at tables.depot.rows location ≡ Some (stored.Read revision manifest) → Gives (row_refusals revision.name revision.version tables.bundles.rows) due (refuses refusal) →
     IsAnsweredToAll (op.Install location) tables (answer.Refused refusal)
 replied_uninstalled tables location revision manifest due refusal none is given who =
     replied_refused (record { tag = who; op = op.Install location }) tables refusal (plain_rows revision.name revision.version tables.bundles.rows due refusal given) (λ now told stood.
@@ -152,7 +152,7 @@ replied_uninstalled tables location revision manifest due refusal none is given 
     given_new (bundle_from now.setting.depot now.before location) now location count (refuses refusal) (new_location now tables location stood none)
     (by_rows now tables.bundles location revision manifest (λ reply. reply ≡ installs None count) (refuses refusal) stood.bundles
     (subst (λ (rows : List DepotRow). stored_at rows location ≡ Some (stored.Read revision manifest)) stood.depot is)
-    (gives_refusal (install_refusals revision.name revision.version tables.bundles.rows) due (λ reply. reply ≡ installs None count) refusal given)))
+    (gives_refusal (row_refusals revision.name revision.version tables.bundles.rows) due (λ reply. reply ≡ installs None count) refusal given)))
 
 -- ---- the world with one more bundle
 
@@ -176,13 +176,13 @@ pub record Installs (old : Tables) (new : TableRows) (after : WiringState) (loca
   pub none : row_from location old.bundles.rows ≡ None
   pub is : stored_at old.depot.rows location ≡ Some (stored.Read revision manifest)
   pub number : row ≡ row_number old.depot.rows location
-  pub given : Gives (install_refusals revision.name revision.version old.bundles.rows) (λ (id : BundleId). id.0 ≡ old.bundles.issued + 1) (answers id)
+  pub given : Gives (row_refusals revision.name revision.version old.bundles.rows) (λ (id : BundleId). id.0 ≡ old.bundles.issued + 1) (answers id)
   pub stands : StandsAfter location revision.name revision.version (is_some revision.host) row id old.bundles new
   pub brought : IsBrought id revision old.wirings after
 
 module _ (old : Tables) (new : TableRows) (after : WiringState) (location : List ℕ) (row : ℕ) (revision : Revision) (manifest : List ℕ) (id : BundleId) (i : Installs old new after location row revision manifest id) where
   next : id.0 ≡ old.bundles.issued + 1
-  next = gives_due (install_refusals revision.name revision.version old.bundles.rows) (λ (id : BundleId). id.0 ≡ old.bundles.issued + 1) id i.given
+  next = gives_due (row_refusals revision.name revision.version old.bundles.rows) (λ (id : BundleId). id.0 ≡ old.bundles.issued + 1) id i.given
 
   installed_due : (now : Moment) → StandsFor (at now old) old → IsReply (at now old) (op.Install location) (answer.Bundle id false)
   installed_due now stood =
@@ -191,7 +191,7 @@ module _ (old : Tables) (new : TableRows) (after : WiringState) (location : List
       let said : answer.Bundle id false ≡ answer.Bundle (record { 0 = count + 1 }) false = λ j. answer.Bundle (record { 0 = (next ∙ ap (λ n. n + 1) stood.bundles.issued) j }) false in
       given_new (bundle_from now.setting.depot now.before location) (at now old) location count (answers (answer.Bundle id false)) (new_location (at now old) old location stood i.none)
       (by_rows (at now old) old.bundles location revision manifest (λ reply. reply ≡ installs None count) (answers (answer.Bundle id false)) stood.bundles here
-      (gives_answer (install_refusals revision.name revision.version old.bundles.rows) (λ (id : BundleId). id.0 ≡ old.bundles.issued + 1) (λ reply. reply ≡ installs None count) id (answer.Bundle id false) i.given said))
+      (gives_answer (row_refusals revision.name revision.version old.bundles.rows) (λ (id : BundleId). id.0 ≡ old.bundles.issued + 1) (λ reply. reply ≡ installs None count) id (answer.Bundle id false) i.given said))
 
   -- the world that is left
   left_world : (now : Moment) → StandsFor (at now old) old → after.world ≡ with_revision old.wirings.world (record { 0 = revisions now.before + 1 }) id revision
@@ -264,20 +264,20 @@ module _ (old : Tables) (new : TableRows) (after : WiringState) (location : List
 
 -- what the table answers is said of the same location, name, version and kind
 pub made_said : (rows : List BundleKept) (id : BundleId) (row : ℕ) (v : Verdict Refusal BundleKept) (l k n m : List ℕ) (x y : Version) (f g : Bool) → l ≡ k → n ≡ m → x ≡ y → f ≡ g →
-    Gives (install_refusals n x rows) (λ (made : BundleKept). made ≡ new_row id l n x f row) v → Gives (install_refusals m y rows) (λ (made : BundleKept). made ≡ new_row id k m y g row) v
+    Gives (row_refusals n x rows) (λ (made : BundleKept). made ≡ new_row id l n x f row) v → Gives (row_refusals m y rows) (λ (made : BundleKept). made ≡ new_row id k m y g row) v
 made_said rows id row v l k n m x y f g location name version fragment given =
-    subst (λ h. Gives (install_refusals m y rows) (λ (made : BundleKept). made ≡ new_row id k m y h row) v) fragment
-    (subst (λ z. Gives (install_refusals m z rows) (λ (made : BundleKept). made ≡ new_row id k m z f row) v) version
-    (subst (λ p. Gives (install_refusals p x rows) (λ (made : BundleKept). made ≡ new_row id k p x f row) v) name
-    (subst (λ q. Gives (install_refusals n x rows) (λ (made : BundleKept). made ≡ new_row id q n x f row) v) location given)))
+    subst (λ h. Gives (row_refusals m y rows) (λ (made : BundleKept). made ≡ new_row id k m y h row) v) fragment
+    (subst (λ z. Gives (row_refusals m z rows) (λ (made : BundleKept). made ≡ new_row id k m z f row) v) version
+    (subst (λ p. Gives (row_refusals p x rows) (λ (made : BundleKept). made ≡ new_row id k p x f row) v) name
+    (subst (λ q. Gives (row_refusals n x rows) (λ (made : BundleKept). made ≡ new_row id q n x f row) v) location given)))
 
 pub decided_installed : (tables : Tables) (location : List ℕ) (row : ℕ) (revision : Revision) (manifest : List ℕ) (made : BundleKept) → HasRoom tables → row_from location tables.bundles.rows ≡ None →
     stored_at tables.depot.rows location ≡ Some (stored.Read revision manifest) → row ≡ row_number tables.depot.rows location →
-    Gives (install_refusals revision.name revision.version tables.bundles.rows) (λ (m : BundleKept). m ≡ new_row (record { 0 = tables.bundles.issued + 1 }) location revision.name revision.version (is_some revision.host) row) (answers made) →
+    Gives (row_refusals revision.name revision.version tables.bundles.rows) (λ (m : BundleKept). m ≡ new_row (record { 0 = tables.bundles.issued + 1 }) location revision.name revision.version (is_some revision.host) row) (answers made) →
     IsReplyAndChangeToAll (op.Install location) tables (answer.Bundle made.bundle false) (change.Install made revision)
 decided_installed tables location row revision manifest made room none stored number given who =
     let id : BundleId = record { 0 = tables.bundles.issued + 1 } in
-    let conditions = install_refusals revision.name revision.version tables.bundles.rows in
+    let conditions = row_refusals revision.name revision.version tables.bundles.rows in
     let due : BundleKept → Type 0 = λ (m : BundleKept). m ≡ new_row id location revision.name revision.version (is_some revision.host) row in
     let is : made ≡ new_row id location revision.name revision.version (is_some revision.host) row = gives_due conditions due made given in
     let next : made.bundle.0 ≡ tables.bundles.issued + 1 = ap (λ (m : BundleKept). m.bundle.0) is in

@@ -2,7 +2,7 @@
 
 ghost use Rattle.std.specs.Prelude.{◌≡◌, ◌<◌, ◌+◌, Some, is_some, IfOk};
 ghost use Rattle.osgi_base.specs.Verdict.{Gives};
-ghost use Rattle.osgi_bundle.specs.Rows.{install_refusals, new_row, verdict_of};
+ghost use Rattle.osgi_bundle.specs.Rows.{row_refusals, new_row, verdict_of};
 ghost use Rattle.osgi_ops.specs.declared.op.Op.TheVariants as op;
 ghost use Rattle.osgi_ops.specs.Conditions.{depot_refusal};
 ghost use Rattle.osgi_tables.specs.Replied.{HasRoom};
@@ -42,7 +42,7 @@ fn make(
 ) -> Result<Result<BundleKept, Refusal>, AllocError>
     requires ids { bundles.now.issued < u32.MAX }
     ensures answer { IfOk result (λ answer.
-        Gives (install_refusals revision.now.name revision.now.version bundles.now.rows)
+        Gives (row_refusals revision.now.name revision.now.version bundles.now.rows)
         (λ made.
         made
         ≡ new_row (record { 0 = bundles.now.issued + 1 }) location.now revision.now.name

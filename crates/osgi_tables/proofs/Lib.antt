@@ -7,7 +7,6 @@ pub mod Heard
 pub mod Hearing
 pub mod Living
 pub mod Premises
-mod Putting
 mod Roomier
 pub mod Shown
 mod Telling

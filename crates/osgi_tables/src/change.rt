@@ -159,8 +159,8 @@ impl Change {
             Change::EndStop {
                 tag,
                 bundle,
-                failed,
-            } => tables.end_stop(tag, bundle, failed),
+                failed: _,
+            } => tables.end_stop(tag, bundle),
         }
     }
 }

@@ -10,7 +10,7 @@ ghost use Rattle.osgi_tables.specs.Replied.{StandsStill};
 use crate::tables::Tables;
 use osgi_base::{BundleId, ListenerId, Tag, Text};
 use osgi_brackets::BracketKind;
-use osgi_listeners::HandAnswer;
+use osgi_listeners::{HandAnswer, ListenerRow};
 use osgi_model::Filter;
 use osgi_ops::Kind;
 use std::alloc::AllocError;
@@ -29,9 +29,14 @@ impl Tables {
         ensures added { OnOk result (Listens owner name kind filter self.old self.new) }
         ensures unchanged { OnErr result (StandsStill self.old self.new) }
     {
-        let Ok(_) = self.listeners.add(owner, name, kind, filter)? else {
-            unreachable!()
-        };
+        let listener = self.listeners.next_id();
+        self.listeners.insert(ListenerRow {
+            listener,
+            owner,
+            name,
+            kind,
+            filter,
+        })?;
         Ok(())
     }
 

@@ -25,7 +25,7 @@ impl Tables {
         ensures unchanged { OnErr result (StandsStill self.old self.new) }
     {
         self.brackets.push(tag, BracketKind::Start(bundle))?;
-        let _ = self.bundles.begin_start(tag, bundle);
+        self.bundles.set_starting(tag, bundle);
         Ok(())
     }
 
@@ -42,7 +42,7 @@ impl Tables {
         ensures unchanged { OnErr result (StandsStill self.old self.new) }
     {
         clean(&mut self.registry, &mut self.listeners, bundle, failed)?;
-        let _ = self.bundles.end_start(tag, bundle, failed);
+        self.bundles.set_started(bundle, failed);
         self.brackets.pop(tag.caller);
         Ok(())
     }
@@ -55,23 +55,18 @@ impl Tables {
         ensures unchanged { OnErr result (StandsStill self.old self.new) }
     {
         self.brackets.push(tag, BracketKind::Stop(bundle))?;
-        let _ = self.bundles.begin_stop(tag, bundle);
+        self.bundles.set_stopping(tag, bundle);
         Ok(())
     }
 
     /// The stop of the bundle ends, which the line of the tag began. If memory runs out, the tables stand for what they did.
-    pub(crate) fn end_stop(
-        &mut self,
-        tag: Tag,
-        bundle: BundleId,
-        failed: bool,
-    ) -> Result<(), AllocError>
+    pub(crate) fn end_stop(&mut self, tag: Tag, bundle: BundleId) -> Result<(), AllocError>
         requires possible { IsInChange STOPPING tag bundle self.old.bundles.rows }
         ensures ended { OnOk result (Ends idle true tag bundle self.old self.new) }
         ensures unchanged { OnErr result (StandsStill self.old self.new) }
     {
         clean(&mut self.registry, &mut self.listeners, bundle, true)?;
-        let _ = self.bundles.end_stop(tag, bundle, failed);
+        self.bundles.set_stopped(bundle);
         self.brackets.pop(tag.caller);
         Ok(())
     }

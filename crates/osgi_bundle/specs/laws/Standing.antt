@@ -9,7 +9,7 @@ use Rattle.std.proofs.lemmas.List.Elements.{All-contains, All-contains_itself, A
 use Rattle.osgi_base.specs.declared.ids.BundleId.{BundleId}
 use Rattle.osgi_base.specs.declared.ids.RevisionId.{RevisionId}
 use Rattle.osgi_base.specs.declared.ids.Tag.{Tag}
-use Rattle.osgi_bundle.specs.Rows.{bundle_from, bundle_number, first_level_of, has_bundle_id, has_location as has_location_row, IsTwin, new_row, row_at, row_of, state_at, state_by, TableRows}
+use Rattle.osgi_bundle.specs.Rows.{bundle_from, bundle_number, first_level_of, has_bundle_id, has_location_row, IsTwin, new_row, row_at, row_of, state_at, state_by, TableRows}
 use Rattle.osgi_bundle.specs.Stands.{IsNewBundle, IsOfDepot, kept_of, StandsFor}
 use Rattle.osgi_bundle.specs.laws.Worlds.{resolved_other, unresolved_new}
 use Rattle.osgi_bundle.specs.declared.kept.BundleKept.{BundleKept}

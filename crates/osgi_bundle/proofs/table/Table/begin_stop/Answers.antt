@@ -1,7 +1,7 @@
 -- The rows where the stop began stand for the history with its begin.
 use Rattle.std.proofs.Common.{◌≡◌, ◌∙◌, Ok, refl, rules}
 use Rattle.osgi_base.specs.Verdict.{answers, Gives}
-use Rattle.osgi_bundle.specs.Rows.{begin_stop_refusals, rows_begun, StopBegins}
+use Rattle.osgi_bundle.specs.Rows.{stop_refusals, rows_begun, StopBegins}
 use Rattle.osgi_bundle.specs.Stands.{StandsPut}
 use Rattle.osgi_bundle.specs.declared.life.Begun.TheVariants.{Already}
 use Rattle.osgi_bundle.specs.laws.Changes.{stands_begun}
@@ -10,7 +10,7 @@ use Rattle.osgi_ops.specs.declared.state.TheConstants.{STOPPING}
 use Rattle.osgi_bundle.proofs.Begins.{rows_run, stop_apart, stop_possible}
 use Rattle.osgi_bundle.proofs.table.Table.begin_stop.Goals as goal
 
-answered : (c : goal.Joined-begun) → Gives (begin_stop_refusals c.args.bundle c.args.self.now.rows) (StopBegins c.args.bundle c.args.self.now.rows) (answers c.in_ok-begun.begun)
+answered : (c : goal.Joined-begun) → Gives (stop_refusals c.args.bundle c.args.self.now.rows) (StopBegins c.args.bundle c.args.self.now.rows) (answers c.in_ok-begun.begun)
 answered c = c.in_ok-begun.ensures.answer
 
 put : (c : goal.Joined-begun) → ¬ (c.in_ok-begun.begun ≡ Already) → StandsPut stopping c.args.tag c.args.bundle c.args.self.now c.match-begun.self

@@ -1,6 +1,5 @@
 -- A bracket is open, and the bundle is in its phase.
 use Rattle.std.proofs.Common.{refl}
-use Rattle.osgi_tables.proofs.Putting.{put_ok}
 use Rattle.osgi_tables.proofs.Replying.{on_err, stays_open}
 use Rattle.osgi_tables.proofs.tables.Tables.begin_start.Goals as goal
 
@@ -9,9 +8,9 @@ returns-in_err-push-clause-unchanged c = on_err c.from_residual.result (stays_op
 
 pub returns-clause-begun : goal.returns-clause-begun
 returns-clause-begun c = record {
-  bundles = c.begin_start.new.self;
+  bundles = c.set_starting.new.self;
   brackets = c.push.new.self;
-  put = put_ok c.begin_start.result _ (c.begin_start.ensures.possible c.requires.possible);
+  put = c.set_starting.ensures.stands;
   opened = c.in_ok-push.ensures.opened;
   is = refl;
 }

@@ -1,6 +1,5 @@
 -- A bracket is open, and the bundle is in its phase.
 use Rattle.std.proofs.Common.{refl}
-use Rattle.osgi_tables.proofs.Putting.{put_ok}
 use Rattle.osgi_tables.proofs.Replying.{on_err, stays_open}
 use Rattle.osgi_tables.proofs.tables.Tables.begin_stop.Goals as goal
 
@@ -9,9 +8,9 @@ returns-in_err-push-clause-unchanged c = on_err c.from_residual.result (stays_op
 
 pub returns-clause-begun : goal.returns-clause-begun
 returns-clause-begun c = record {
-  bundles = c.begin_stop.new.self;
+  bundles = c.set_stopping.new.self;
   brackets = c.push.new.self;
-  put = put_ok c.begin_stop.result _ (c.begin_stop.ensures.possible c.requires.possible);
+  put = c.set_stopping.ensures.stands;
   opened = c.in_ok-push.ensures.opened;
   is = refl;
 }

@@ -7,7 +7,7 @@ use Rattle.std.proofs.lemmas.Bool.{leb-false}
 use Rattle.osgi_listeners.specs.Rows.{add_refusal, is_named, Listening, new_row}
 use Rattle.osgi_listeners.specs.computed.Kept.{IsKept}
 use Rattle.osgi_listeners.proofs.Orders.{kept_push}
-use Rattle.osgi_listeners.proofs.listeners.Listeners.push.Goals as goal
+use Rattle.osgi_listeners.proofs.listeners.Listeners.insert.Goals as goal
 use Rattle.osgi_ops.specs.declared.refusal.Many.TheVariants.{Listeners}
 use Rattle.osgi_ops.specs.declared.refusal.Refusal.TheVariants.{InvalidOperation, TooMany}
 
