@@ -113,7 +113,7 @@ impl Table {
         Ok(())
     }
 
-    /// What a start of the bundle comes to. Nothing changes: `set_starting` begins it.
+    /// What a start of the bundle comes to. Nothing changes: `set_starting` begins it. The program decides by this call.
     pub fn start(&self, bundle: BundleId) -> Result<Begun, Refusal>
         ensures answer { Gives (start_refusals bundle self.now.rows)
             (StartBegins bundle self.now.rows) (verdict_of result) }
@@ -135,7 +135,7 @@ impl Table {
         Ok(Begun::Run { row: row.row })
     }
 
-    /// What a stop of the bundle comes to. Nothing changes: `set_stopping` begins it.
+    /// What a stop of the bundle comes to. Nothing changes: `set_stopping` begins it. The program decides by this call.
     pub fn stop(&self, bundle: BundleId) -> Result<Begun, Refusal>
         ensures answer { Gives (stop_refusals bundle self.now.rows)
             (StopBegins bundle self.now.rows) (verdict_of result) }

@@ -146,7 +146,7 @@ impl Table {
         self.directory.highest(name)
     }
 
-    /// Installs a bundle under the next id.
+    /// Installs a bundle under the next id. Tests alone call it: the program decides by `make`, and installs by `insert`.
     pub fn install(
         &mut self,
         location: Text,
@@ -180,7 +180,7 @@ impl Table {
         }
     }
 
-    /// The bundle as it is installed under the next id.
+    /// The bundle as it is installed under the next id, by `insert`. The program decides by this call.
     pub fn make(
         &self,
         location: Text,
@@ -218,7 +218,7 @@ impl Table {
         }))
     }
 
-    /// Inserts a bundle that was made, under the next id.
+    /// Inserts a bundle that `make` made, under the next id. The program installs by this call.
     pub fn insert(&mut self, made: BundleKept) -> Result<(), AllocError>
         requires next { made.bundle.0 ≡ self.old.issued + 1 }
         requires is_new { made

@@ -194,7 +194,7 @@ impl Listeners {
         Ok(Ok(listener))
     }
 
-    /// Adds a listener under the next id, where nothing refuses it (`add_refusal`).
+    /// Adds a listener under the next id, where nothing refuses it (`add_refusal`). The program adds by this call.
     pub fn insert(&mut self, row: ListenerRow) -> Result<(), AllocError>
         requires next { number_of row ≡ self.old.issued + 1 }
         requires free { add_refusal row.owner row.name self.old.rows ≡ None }
@@ -256,7 +256,8 @@ impl Listeners {
         are_later(&self.slots, place)
     }
 
-    /// Makes room at each live listener for so many events more. If memory runs out, some listeners may have more room.
+    /// Makes room at each live listener for so many events more. If memory runs out, some listeners may have more room. Tests
+    /// and `post` alone call it: the program makes room by `reserve_for`.
     pub fn reserve(&mut self, events: u64) -> Result<(), AllocError>
         ensures roomier { AreRoomier self.old self.new }
         ensures room { OnOk result (HasRoom events self.new.rows) }
@@ -266,7 +267,8 @@ impl Listeners {
     }
 
     /// Makes room at each live listener for as many events more as sights name it. If memory runs out, nothing has changed but
-    /// room. The cost is that of the sights: it does not go over the other listeners, and without sights it takes no memory.
+    /// room. The cost is that of the sights: it does not go over the other listeners, and without sights it takes no memory. The
+    /// program makes room by this call.
     pub fn reserve_for(&mut self, sights: &[Sight]) -> Result<(), AllocError>
         ensures roomier { AreRoomier self.old self.new }
         ensures room { OnOk result (HasRoomFor (sights_of sights.now) self.new.rows) }
@@ -277,7 +279,8 @@ impl Listeners {
 
     /// Puts the events that are seen of an entry behind those that wait for their listeners, one after another. `entry` is how
     /// many entries stand before it, and `sights` are in order. What a listener that is not live sees is passed over. It takes
-    /// no memory: there has to be room, as `reserve_for` makes it, and what waits has to be of earlier entries.
+    /// no memory: there has to be room, as `reserve_for` makes it, and what waits has to be of earlier entries. The program
+    /// delivers by this call.
     pub fn deliver_all(&mut self, entry: u64, sights: &[Sight])
         requires fits { entry < 4294967295 }
         requires room { HasRoomFor (sights_of sights.now) self.old.rows }
@@ -313,7 +316,7 @@ impl Listeners {
 
     /// Puts an event behind those that wait for each live listener that sees one: what `sees` answers for it. The place is
     /// above those of all events that wait, and below the greatest number of 64 bits, which stands for no place. If memory runs out,
-    /// no event is put anywhere.
+    /// no event is put anywhere. Tests alone call it: the program delivers by `deliver_all`.
     pub fn post<F: Fn(ListenerId) -> Option<Event> + Drop>(
         &mut self,
         place: u64,

@@ -118,7 +118,7 @@ impl Registry {
         Services::new(self.services.values())
     }
 
-    /// Registers a service under the next id.
+    /// Registers a service under the next id. Tests alone call it: the program decides by `make`, and registers by `insert`.
     pub fn register(
         &mut self,
         owner: BundleId,
@@ -154,7 +154,7 @@ impl Registry {
         }
     }
 
-    /// The service as it is registered under the next id.
+    /// The service as it is registered under the next id, by `insert`. The program decides by this call.
     pub fn make(
         &self,
         owner: BundleId,
@@ -200,7 +200,7 @@ impl Registry {
         }))
     }
 
-    /// Inserts a service that was made, under the next id.
+    /// Inserts a service that `make` made, under the next id. The program registers by this call.
     pub fn insert(&mut self, service: Service, scope: Scope) -> Result<(), AllocError>
         requires next { service.service.0 ≡ self.old.issued + 1 }
         requires fits { self.old.issued < u32.MAX }
@@ -242,7 +242,8 @@ impl Registry {
         Some(Refusal::NotOwner { owner: other })
     }
 
-    /// Puts these properties in place of all that were given of the service.
+    /// Puts these properties in place of all that were given of the service. Tests alone call it: the program decides by
+    /// `modify_refusal` and `make_modified`, and modifies by `replace`.
     pub fn modify(
         &mut self,
         owner: BundleId,
@@ -310,7 +311,8 @@ impl Registry {
         Ok(Some(made))
     }
 
-    /// Puts a service in place of the live one of its id, from which it differs in its properties alone.
+    /// Puts a service, which `make_modified` made, in place of the live one of its id, from which it differs in its properties
+    /// alone. The program modifies by this call.
     pub fn replace(&mut self, service: Service) -> Result<(), AllocError>
         requires differs { DiffersAtMostInProperties service self.old.rows }
         ensures rows { OnOk result
@@ -364,7 +366,8 @@ impl Registry {
         self.bundles.take(taken.owner, service);
     }
 
-    /// Counts one more use of the service by the user, and answers a copy of its object.
+    /// Counts one more use of the service by the user, and answers a copy of its object. Tests alone call it: the program reads
+    /// the `object`, and counts by `add_use`.
     pub fn get(
         &mut self,
         user: BundleId,
@@ -409,7 +412,8 @@ impl Registry {
         Some(&held.service().object)
     }
 
-    /// Counts one more use of the service by the user; false, and nothing changed, where it is not live.
+    /// Counts one more use of the service by the user; false, and nothing changed, where it is not live. The program counts by
+    /// this call.
     pub fn add_use(&mut self, user: BundleId, service: ServiceId) -> Result<bool, AllocError>
         requires countable { use_count user service self.old.rows < u64.MAX }
         ensures absent { IfOk result (λ live. OnFalse live (row_at service self.old.rows ≡ None)) }
@@ -455,7 +459,8 @@ impl Registry {
 
     /// The best of the live services of the class that the filter, if there is one, matches, and that are assignable for each
     /// of their classes: that of the highest ranking, and of these that of the lowest id. `assignable` is asked for a
-    /// registrant and a class. Whatever it answers, a service that is found is of the class and fits the filter.
+    /// registrant and a class. Whatever it answers, a service that is found is of the class and fits the filter. Tests alone call
+    /// it: the program finds by `find_by`.
     pub fn find<F: Fn(BundleId, &Text) -> bool + Drop>(
         &self,
         class: &Text,
@@ -484,7 +489,8 @@ impl Registry {
         }
     }
 
-    /// The same, where who asks is named, and it is asked by the wirings of a world what is assignable to it.
+    /// The same, where who asks is named, and it is asked by the wirings of a world what is assignable to it. The program finds
+    /// by this call.
     pub fn find_by<A: Assignability>(
         &self,
         class: &Text,
