@@ -9,3 +9,4 @@ pub mod Posting
 pub mod Delivering
 pub mod Counting
 pub mod InOrder
+pub mod Standing

@@ -7,6 +7,7 @@ ghost use Rattle.std.specs.Result.{result_err};
 ghost use Rattle.osgi_ops.specs.Listening.{ComesBefore};
 ghost use Rattle.osgi_listeners.specs.Rows.{Accepts, add_refusal, AnswersHand, AreInOrder, ArePosted, AreRoomier, busy_in, change, end_refusal, HasRoom, ids_of, is_kind, is_named, is_open, is_owned, IsHanded, IsLater, listener_of, listeners_in, new_row, no_listeners, number_of, row_at, rows_after, told, turns_after, without_turn};
 ghost use Rattle.osgi_listeners.specs.Sights.{HasRoomFor, IsOfEarlier, sights_of, told_all};
+ghost use Rattle.osgi_listeners.specs.Stands.{StandsAdded, StandsCleaned, StandsEnded, StandsFor, StandsHanded, StandsRemoved, StandsSeen};
 
 use crate::answer::HandAnswer;
 use crate::counts::{counts_of, reserve_counts};
@@ -69,6 +70,7 @@ impl Model for Listeners {
 impl Listeners {
     pub fn new(alloc: Global) -> Result<Listeners, AllocError>
         ensures empty { IfOk result (λ listeners. listeners ≡ no_listeners) }
+        ensures stands { IfOk result (StandsFor [] []) }
     {
         Ok(Listeners {
             alloc,
@@ -177,6 +179,11 @@ impl Listeners {
         ensures turns { self.new.turns ≡ self.old.turns }
         ensures issued { IfOk result (λ answer.
             OnOk answer (self.new.issued ≡ self.old.issued + 1)) }
+        ensures stands { IfOk result (λ answer.
+            IfOk answer (λ id.
+            StandsAdded
+            (record { listener = id; owner = owner; name = name; kind = kind; filter = filter })
+            self.old self.new)) }
         ensures refused { IfOk result (λ answer. OnErr answer (self.new ≡ self.old)) }
         ensures unchanged { OnErr result (self.new ≡ self.old) }
     {
@@ -201,6 +208,7 @@ impl Listeners {
         ensures rows { OnOk result (self.new.rows ≡ self.old.rows ++ new_row row ∷ []) }
         ensures turns { self.new.turns ≡ self.old.turns }
         ensures issued { OnOk result (self.new.issued ≡ self.old.issued + 1) }
+        ensures stands { OnOk result (StandsAdded row self.old self.new) }
         ensures unchanged { OnErr result (self.new ≡ self.old) }
     {
         let listener = row.listener;
@@ -220,6 +228,7 @@ impl Listeners {
             ≡ filter (λ row. not (is_named owner name.now row)) self.old.rows }
         ensures turns { self.new.turns ≡ self.old.turns }
         ensures issued { self.new.issued ≡ self.old.issued }
+        ensures stands { StandsRemoved owner name.now result self.old self.new }
     {
         let found = self.has(owner, name);
         let before = self.slots.len();
@@ -238,6 +247,7 @@ impl Listeners {
         ensures rows { self.new.rows ≡ filter (λ row. not (is_owned owner row)) self.old.rows }
         ensures turns { self.new.turns ≡ self.old.turns }
         ensures issued { self.new.issued ≡ self.old.issued }
+        ensures stands { StandsCleaned owner self.old self.new }
     {
         let count = self.slots.len();
         self.slots.retain(
@@ -289,6 +299,7 @@ impl Listeners {
         ensures rows { self.new.rows ≡ map (told_all entry (sights_of sights.now)) self.old.rows }
         ensures turns { self.new.turns ≡ self.old.turns }
         ensures issued { self.new.issued ≡ self.old.issued }
+        ensures stands { StandsSeen entry (sights_of sights.now) self.old self.new }
     {
         for sight in sights {
             let place = entry * ENTRY_PLACES + u64::from(sight.place);
@@ -389,6 +400,7 @@ impl Listeners {
         ensures turns { IfOk result (λ answer.
             self.new.turns ≡ turns_after tag answer self.old.turns) }
         ensures issued { self.new.issued ≡ self.old.issued }
+        ensures stands { IfOk result (λ answer. StandsHanded tag answer self.old self.new) }
         ensures unchanged { OnErr result (self.new ≡ self.old) }
     {
         let Some(at) = self.firsts.first() else {
@@ -414,6 +426,7 @@ impl Listeners {
         ensures rows { self.new.rows ≡ self.old.rows }
         ensures turns { OnOk result (self.new.turns ≡ without_turn listener self.old.turns) }
         ensures issued { self.new.issued ≡ self.old.issued }
+        ensures stands { OnOk result (StandsEnded tag listener self.old self.new) }
         ensures refused { OnErr result (self.new ≡ self.old) }
     {
         match self.turns.get(&listener.0) {

@@ -14,7 +14,8 @@ use std::alloc::{AllocError, Global};
 use std::marker::Model;
 use std::mem;
 
-/// A world that is consistent at all times: what changes it keeps it so. Revision ids rise and are never given twice.
+/// A world that is consistent at all times: what changes it keeps it so. Revision ids rise and are never given twice. Its calls
+/// speak of worlds and not of histories: the world of a history is told with it, and whoever keeps both shows that this is it.
 ///
 /// The room is an empty vector. Where the known revisions grow and there is no memory, they move there. The ids of the known
 /// revisions and of those in force stand in the order of the world's lists; each bundle has the id of its current revision.

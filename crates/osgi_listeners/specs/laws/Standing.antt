@@ -6,13 +6,14 @@
 --   remove       stands-with-removed    a RemoveListener that is answered by what the call answers
 --   remove_all   stands-with-cleaned    an entry that cleans the bundle
 --   deliver_all  stands-with-all-seen   the entry is in the history already: first its own law, then this
+--   post         stands-with-posted     likewise, of one happening of the entry
 --   hand         stands-with-handed     a Hand that is answered Handed; one that is answered Nothing is quiet
 --   end_hand     stands-with-ended      an EndHand that is answered Done
 --   reserve_for  stands-roomier         no entry; so with `reserve`
 --   no call      stands-with-quiet      an entry that says nothing of listeners, hands and turns
 -- stands-later and stands-later-still go from there to the moment after a whole call.
-use Rattle.std.proofs.Common.{◌≡◌, ℕ, ◌+◌, List, [], ◌∷◌, ◌++◌, append-nil, map, Bool, true, false, refl, sym, ap, ◌∙◌, subst, inl, length}
-use Rattle.std.specs.Prelude.{◌==◌, ◌&&◌, not, cond, filter, find, None, Some, Option}
+use Rattle.std.proofs.Common.{◌≡◌, ◌<◌, ℕ, suc, ◌+◌, arith, List, [], ◌∷◌, ◌++◌, append-nil, map, Bool, true, false, refl, sym, ap, ◌∙◌, subst, inl, length}
+use Rattle.std.specs.Prelude.{◌==◌, ◌&&◌, not, cond, filter, find, None, Some, Option, slice_index_or}
 use Rattle.std.specs.BTreeMap.{is_at, insert_entry}
 use Rattle.std.specs.List.{list_any}
 use Rattle.std.specs.Option.{option_map}
@@ -20,7 +21,7 @@ use Rattle.std.specs.Ordering.{nat_cmp}
 use Rattle.std.proofs.lemmas.List.{map-append}
 use Rattle.osgi_base.specs.declared.ids.BundleId.{BundleId}
 use Rattle.osgi_base.specs.declared.ids.ListenerId.{ListenerId}
-use Rattle.osgi_listeners.specs.Rows.{bare, is_listener, is_named, is_owned, Listening, new_row, Row, told, without_first, change, no_listeners, without_turn, tag_of, AreRising, AreRoomier}
+use Rattle.osgi_listeners.specs.Rows.{ArePosted, bare, IsPosted, told_if, is_listener, is_named, is_owned, Listening, new_row, Row, without_first, change, no_listeners, without_turn, tag_of, AreRising, AreRoomier}
 use Rattle.osgi_ops.specs.Brackets.{bracket, brackets, handing, opens, turned, closes}
 use Rattle.osgi_ops.specs.Cleaning.{cleaned_by}
 use Rattle.osgi_ops.specs.Listening.{Added, clears, handed_by, heard_by, Hearing, hearing, lets_go, listeners, takes_off, with_heard, AreSights, happenings, IsAt, IsSight, here, there}
@@ -37,6 +38,7 @@ use Rattle.osgi_listeners.specs.laws.Turns.{lookup-inserted, lookup-removed, ope
 use Rattle.osgi_listeners.specs.laws.Premises.{handed-first-same}
 use Rattle.osgi_listeners.specs.laws.Room.{same_but_room}
 use Rattle.osgi_listeners.specs.Sights.{sights_by, told_all, waiting_at}
+use Rattle.osgi_listeners.specs.declared.row.Waiting.{Waiting}
 use Rattle.osgi_ops.specs.declared.event.Event.{Event}
 use Rattle.osgi_ops.specs.declared.kind.Kind.{Kind}
 use Rattle.osgi_model.specs.declared.filter.Filter.{Filter}
@@ -170,6 +172,40 @@ stands-with-all-seen sights history l entry these first stands = record {
 
     bared : (rows : List Row) → map bare (map (told_all entry these) rows) ≡ map told (map bare rows)
     bared rows = map-twice (told_all entry these) bare (λ row. told (bare row)) (λ row. refl) rows ∙ sym (map-twice bare told (λ row. told (bare row)) (λ row. refl) rows)
+
+-- `post`: one happening of an entry. What it answers for a listener is what the listener sees of it
+abbrev pub waits_by : ℕ → Option Event → List Waiting
+waits_by place None = []
+waits_by place (Some event) = record { place = place; event = event } ∷ []
+
+module _ (entry place : ℕ) (these : List Sight) (Sees : ListenerId → Option Event → Type 0) (says : (listener : ListenerId) (seen : Option Event) → Sees listener seen → map (waiting_at entry) (sights_by listener these) ≡ waits_by place seen) where
+  posted-row : (old new : Row) → IsPosted place Sees old new → bare new ≡ bare (told_all entry these old)
+  posted-row old new posted = posted.is ∙ by posted.answer (says old.listener.listener posted.answer posted.seen)
+    where
+      by : (seen : Option Event) → map (waiting_at entry) (sights_by old.listener.listener these) ≡ waits_by place seen → bare (told_if place seen old) ≡ bare (told_all entry these old)
+      by None is = λ i. record { listener = old.listener; waiting = (sym (append-nil old.waiting) ∙ ap (λ (w : List Waiting). old.waiting ++ w) (sym is)) i; room = 0 }
+      by (Some event) is = λ i. record { listener = old.listener; waiting = old.waiting ++ sym is i; room = 0 }
+
+  posted-rows : (old new : List Row) → length new ≡ length old → ((i : ℕ) (d : Row) → i < length old → IsPosted place Sees (slice_index_or old i d) (slice_index_or new i d)) → map bare new ≡ map bare (map (told_all entry these) old)
+  posted-rows [] [] count each = refl
+  posted-rows [] (n ∷ ns) count each = absurd (cc count)
+  posted-rows (o ∷ os) [] count each = absurd (cc count)
+  posted-rows (o ∷ os) (n ∷ ns) count each =
+      let head : bare n ≡ bare (told_all entry these o) = posted-row o n (each 0 o (omega arith)) in
+      let same : length ns ≡ length os = cc count in
+      let rest : map bare ns ≡ map bare (map (told_all entry these) os) = posted-rows os ns same (λ i d within. each (suc i) d (omega (arith, within))) in
+      λ i. head i ∷ rest i
+
+  pub stands-with-posted : (sights : List Seen) (history : List Entry) (old new : Listening) → ArePosted place Sees old.rows new.rows → new.turns ≡ old.turns → new.issued ≡ old.issued → AreHandedFirst sights history → StandsFor sights history old →
+      StandsFor (sights ++ seen_after entry these) history new
+  stands-with-posted sights history old new posted turns issued first stands =
+      let seen = stands-with-all-seen sights history old entry these first stands in
+      record {
+        rows = posted-rows old.rows new.rows posted.count posted.each ∙ seen.rows;
+        turns = λ n. ap (tag_of n) turns ∙ seen.turns n;
+        rising = subst AreRising (sym turns) seen.rising;
+        issued = issued ∙ seen.issued;
+      }
 
 pub stands-with-handed :
     (sights : List Seen) (history : List Entry) (l : Listening) (tag : Tag) (listener : ListenerId) (kind : Kind) (owner : BundleId) (number : ℕ) (name : List ℕ) (happened : Event) → StandsFor sights history l →

@@ -1,5 +1,5 @@
 -- All that is true of the fields stays so where the turn ends.
-use Rattle.std.proofs.Common.{◌≡◌, ◌≢◌, ℕ, List, ap, get_or, subst, sym, ◌∙◌}
+use Rattle.std.proofs.Common.{◌≡◌, ◌≢◌, ℕ, List, ap, get_or, subst, sym, ◌∙◌, rules}
 use Rattle.std.specs.BTreeMap.{is_at}
 use Rattle.std.specs.Ordering.{nat_cmp}
 use Rattle.std.specs.Prelude.{None}
@@ -8,6 +8,7 @@ use Rattle.osgi_listeners.specs.Rows.{AreRising, Listening, Row, tag_of}
 use Rattle.osgi_listeners.specs.computed.Kept.{first_place, IsAbsent, IsKept, IsPlaceOf}
 use Rattle.osgi_listeners.specs.laws.Turns.{rising-removed}
 use Rattle.osgi_listeners.proofs.Handing.{kept_ended, kept_ended_absent, other_key}
+use Rattle.osgi_listeners.proofs.Standing.{ended_stands}
 use Rattle.osgi_listeners.proofs.listeners.Listeners.end_hand.Goals as goal
 
 pub invariant_of-self : goal.invariant_of-self
@@ -34,3 +35,6 @@ invariant_of-self-in_default-place_of c =
     let rising : AreRising turns = subst AreRising (sym c.remove.ensures.entries) (rising-removed (is_at (nat_cmp c.args.listener.0)) old.turns c.self.invariant.in_order.turns) in
     let others : (q : ℕ) → q ≢ c.args.listener.0 → tag_of q turns ≡ tag_of q old.turns = λ q differ. c.remove.ensures.updates.2 q (other_key c.args.listener.0 q differ) in
     kept_ended_absent old c.self.inside.firsts c.args.listener turns c.self.invariant rising ended others absent
+
+pub returns-clause-stands : goal.returns-clause-stands
+returns-clause-stands c = ended_stands c.args.self.now c.match-place_of.self c.args.tag c.args.listener (search rules) (search rules) (search rules)

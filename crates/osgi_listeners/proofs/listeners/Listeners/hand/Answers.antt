@@ -1,5 +1,5 @@
 -- The earliest event is handed, and all that is true of the fields stays so.
-use Rattle.std.proofs.Common.{◌≡◌, ◌≢◌, ℕ, List, ap, get_or, set, subst, sym, refl, ◌∙◌}
+use Rattle.std.proofs.Common.{◌≡◌, ◌≢◌, ℕ, List, ap, get_or, set, subst, sym, refl, ◌∙◌, rules}
 use Rattle.std.specs.Prelude.{Some, All, false, slice_get}
 use Rattle.std.proofs.lemmas.List.{get_or_default}
 use Rattle.osgi_listeners.specs.Rows.{AreRising, change, id_of, is_open, number_of, IsEarliest, IsHanded, Listening, Row, tag_of, without_first}
@@ -9,6 +9,8 @@ use Rattle.osgi_listeners.proofs.Changes.{change_at}
 use Rattle.osgi_listeners.specs.laws.Ids.{ids_rise}
 use Rattle.osgi_listeners.specs.laws.Turns.{rising-inserted}
 use Rattle.osgi_listeners.proofs.Handing.{earliest, first_within, kept_handed, none_open_by, other_key, waits_there}
+use Rattle.osgi_listeners.proofs.Standing.{handed_stands}
+use Rattle.osgi_listeners.specs.declared.answer.HandAnswer.TheVariants as answer
 use Rattle.osgi_listeners.proofs.listeners.Listeners.hand.Goals as goal
 
 pub returns-in_default-clause-answer : goal.returns-in_default-clause-answer
@@ -62,3 +64,10 @@ returns-clause-answer c =
 
 pub returns-clause-rows : goal.returns-clause-rows
 returns-clause-rows c = written c ∙ ap (λ (l : Listening). change c.listener.result.now.listener without_first l.rows) c.self.view_is
+
+pub returns-in_default-clause-stands : goal.returns-in_default-clause-stands
+returns-in_default-clause-stands c = handed_stands c.args.self.now c.args.self.now c.args.tag (answer.Nothing c.in_ok-busy.busy) refl refl refl
+
+pub returns-clause-stands : goal.returns-clause-stands
+returns-clause-stands c =
+    handed_stands c.args.self.now _ c.args.tag (answer.Handed c.listener.result.now.listener c.in-Some-take_first.first.event) (returns-clause-rows c) (search rules) (search rules)

@@ -7,6 +7,7 @@ use Rattle.std.proofs.lemmas.Bool.{leb-false}
 use Rattle.osgi_listeners.specs.Rows.{add_refusal, is_named, Listening, new_row}
 use Rattle.osgi_listeners.specs.computed.Kept.{IsKept}
 use Rattle.osgi_listeners.proofs.Orders.{kept_push}
+use Rattle.osgi_listeners.proofs.Standing.{added_stands}
 use Rattle.osgi_listeners.proofs.listeners.Listeners.insert.Goals as goal
 use Rattle.osgi_ops.specs.declared.refusal.Many.TheVariants.{Listeners}
 use Rattle.osgi_ops.specs.declared.refusal.Refusal.TheVariants.{InvalidOperation, TooMany}
@@ -25,3 +26,6 @@ invariant_of-self-2 c =
     let both = neither (list_any (is_named c.args.row.owner c.args.row.name) old.rows) (nat_le 4096 (length old.rows)) free in
     subst (λ (l : Listening). IsKept l c.self.inside.firsts c.add.new.self) (λ i. record { rows = sym rows i; turns = old.turns; issued = sym next i })
     (kept_push old c.args.row c.self.inside.firsts next (leb-false 4096 (length old.rows) both.1) both.0 c.self.inside.by_kind c.add.new.self c.in_ok-add.ensures.added c.self.invariant)
+
+pub returns-clause-stands : goal.returns-clause-stands
+returns-clause-stands c = added_stands c.args.self.now _ c.args.row c.requires.next (search rules) (search rules) (search rules)

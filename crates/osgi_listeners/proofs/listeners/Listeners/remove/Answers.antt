@@ -12,6 +12,7 @@ use Rattle.osgi_listeners.proofs.ByKind.{by_kind_filter}
 use Rattle.osgi_listeners.specs.laws.Ids.{ids_rise}
 use Rattle.osgi_listeners.proofs.Orders.{order_filter}
 use Rattle.osgi_ops.specs.declared.kind.Kind.{Kind}
+use Rattle.osgi_listeners.proofs.Standing.{removed_stands}
 use Rattle.osgi_listeners.proofs.listeners.Listeners.remove.Goals as goal
 
 rows_left : (c : goal.After-set_firsts) → c.retain.new.self.items ≡ filter (λ (row : Row). not (is_named c.args.owner c.args.name.now row)) c.self.inside.slots.items
@@ -41,3 +42,6 @@ invariant_of-self c =
 
 pub returns-clause-rows : goal.returns-clause-rows
 returns-clause-rows c = rows_left c ∙ ap (λ (l : Listening). filter (λ (row : Row). not (is_named c.args.owner c.args.name.now row)) l.rows) c.self.view_is
+
+pub returns-clause-stands : goal.returns-clause-stands
+returns-clause-stands c = removed_stands c.args.self.now _ c.args.owner c.args.name.now c.has-found.result (search rules) (returns-clause-rows c) (search rules) (search rules)

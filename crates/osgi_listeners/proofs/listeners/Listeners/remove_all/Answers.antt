@@ -11,6 +11,7 @@ use Rattle.osgi_listeners.proofs.ByKind.{by_kind_filter}
 use Rattle.osgi_listeners.specs.laws.Ids.{ids_rise}
 use Rattle.osgi_listeners.proofs.Orders.{order_filter}
 use Rattle.osgi_ops.specs.declared.kind.Kind.{Kind}
+use Rattle.osgi_listeners.proofs.Standing.{cleaned_stands}
 use Rattle.osgi_listeners.proofs.listeners.Listeners.remove_all.Goals as goal
 
 rows_left : (c : goal.After-set_firsts) → c.retain.new.self.items ≡ filter (λ (row : Row). not (is_owned c.args.owner row)) c.self.inside.slots.items
@@ -40,3 +41,6 @@ invariant_of-self c =
 
 pub returns-clause-rows : goal.returns-clause-rows
 returns-clause-rows c = rows_left c ∙ ap (λ (l : Listening). filter (λ (row : Row). not (is_owned c.args.owner row)) l.rows) c.self.view_is
+
+pub returns-clause-stands : goal.returns-clause-stands
+returns-clause-stands c = cleaned_stands c.args.self.now _ c.args.owner (returns-clause-rows c) (search rules) (search rules)
