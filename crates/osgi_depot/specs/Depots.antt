@@ -1,10 +1,10 @@
--- The depot of a session and its scripts: which locations its lines name, and what comes of reading their folders.
+-- The depot of a session with its scripts: which locations its lines name, and what comes of reading their folders.
 use Rattle.std.specs.Prelude.{ℕ, ◌≡◌, ◌≤◌, Bool, if◌then◌else◌, List, [], ◌∷◌, Option, None, Some, All, IsSomeAnd, drop, map, take}
 use Rattle.std.specs.List.{AllZip, filter_map, list_any}
 use Rattle.std.specs.Str.{bytes_eq}
 use Rattle.osgi_base.specs.declared.folder.File.{File}
 use Rattle.osgi_base.specs.declared.folder.Folder.{Folder}
-use Rattle.osgi_manifest.specs.Manifests.{file_at, IsManifestFault, IsScriptOf, manifest_path, Means}
+use Rattle.osgi_manifest.specs.Manifests.{file_at, IsManifestFault, IsMeaning, manifest_path}
 use Rattle.osgi_ops.specs.Along.{along}
 use Rattle.osgi_ops.specs.declared.depot.DepotRow.{DepotRow}
 use Rattle.osgi_ops.specs.declared.depot.Stored.{Stored}
@@ -45,17 +45,23 @@ pub record IsFoundAt (told : Option (List ShelfRow)) (location : List ℕ) (fold
   pub as_told : IsAsTold told location (found.Folder folder)
   pub within : KeepsLimits (found.Folder folder)
 
--- what is stored of a location that was read: the revision that its folder means, with the text of its manifest; the manifest's fault; that
--- there is no folder; that it is too large, with its bytes and files; or that the read failed, and then the shelf's count of faults rose
--- from the first number to the second. It was not skipped
-abbrev pub IsStored : Option (List ShelfRow) → List ℕ → Stored → Type 0
-IsStored told location (stored.Read revision manifest) =
-    (folder : Folder) × IsFoundAt told location folder × Means folder revision × IsSomeAnd (file_at manifest_path folder) (λ (file : File). manifest ≡ file.bytes)
-IsStored told location (stored.Bad fault) = (folder : Folder) × IsFoundAt told location folder × IsManifestFault folder fault
-IsStored told location stored.NoFolder = IsAsTold told location found.NoFolder
-IsStored told location (stored.TooLarge bytes files) = IsAsTold told location (found.TooLarge bytes files) × KeepsLimits (found.TooLarge bytes files)
-IsStored told location (stored.Failed before after) = Rose before after
-IsStored told location stored.Skipped = ⊥
+-- what is kept of a location, and the script of its bundle. Of a folder that means a revision: the revision with the text of its manifest,
+-- and the revision's script, all of one folder. Else there is a script without sections, and it is kept what was found: the fault of the
+-- folder's manifest; that there is no folder; that it is too large, with its bytes and files; that the read failed, and then the shelf's
+-- count of faults rose from the first number to the second; or that the location was skipped
+abbrev pub IsKeptAt : Option (List ShelfRow) → List ℕ → Stored → Script → Type 0
+IsKeptAt told location (stored.Read revision manifest) script =
+    (folder : Folder) × IsFoundAt told location folder × IsMeaning folder (record { revision = revision; script = script }) ×
+    IsSomeAnd (file_at manifest_path folder) (λ (file : File). manifest ≡ file.bytes)
+IsKeptAt told location (stored.Bad fault) script = ((folder : Folder) × IsFoundAt told location folder × IsManifestFault folder fault) × (script.sections ≡ [])
+IsKeptAt told location stored.NoFolder script = IsAsTold told location found.NoFolder × (script.sections ≡ [])
+IsKeptAt told location (stored.TooLarge bytes files) script = IsAsTold told location (found.TooLarge bytes files) × KeepsLimits (found.TooLarge bytes files) × (script.sections ≡ [])
+IsKeptAt told location (stored.Failed before after) script = Rose before after × (script.sections ≡ [])
+IsKeptAt told location stored.Skipped script = script.sections ≡ []
+
+-- so it is of each row, with the script at its place
+abbrev pub AreKeptAt : Option (List ShelfRow) → List DepotRow → List Script → Type 0
+AreKeptAt told rows scripts = AllZip (λ (row : DepotRow) (script : Script). IsKeptAt told row.location row.stored script) rows scripts
 
 -- ---- failed reads
 
@@ -76,25 +82,16 @@ AreWithin from to (failure ∷ rest) = (from ≤ failure.0) × AreWithin failure
 
 -- ---- the depot
 
--- the rows are the depot of these lines, read from a shelf that exposes these folders or none, while its count of faults went from one
--- number to the other: a row for each location, in order; those up to the limit were read, and those beyond it were skipped; and the reads
--- that failed raised the count one after another
-pub record IsDepotOf (lines : List Line) (told : Option (List ShelfRow)) (from to : ℕ) (rows : List DepotRow) : Type 0 where
+-- the row's location was passed over
+abbrev pub IsSkipped : DepotRow → Type 0
+IsSkipped row = row.stored ≡ stored.Skipped
+
+-- the rows and their scripts are the depot of these lines, read from a shelf that exposes these folders or none, while its count of faults
+-- went from one number to the other: a row and a script for each location, in order; those up to the limit were read, and those beyond it
+-- were skipped; and the reads that failed raised the count one after another
+pub record IsDepotOf (lines : List Line) (told : Option (List ShelfRow)) (from to : ℕ) (rows : List DepotRow) (scripts : List Script) : Type 0 where
   pub locations : map (λ (row : DepotRow). row.location) rows ≡ locations_in lines
-  pub read : All (λ (row : DepotRow). IsStored told row.location row.stored) (take MAX_LOCATIONS rows)
-  pub skipped : All (λ (row : DepotRow). row.stored ≡ stored.Skipped) (drop MAX_LOCATIONS rows)
+  pub kept : AreKeptAt told rows scripts
+  pub read : All (λ row. ¬ IsSkipped row) (take MAX_LOCATIONS rows)
+  pub skipped : All IsSkipped (drop MAX_LOCATIONS rows)
   pub failed : AreWithin from to (failures rows)
-
--- ---- the scripts
-
--- the script of a location whose revision was read is that of the activator in the folder that means the revision and has this manifest, or has
--- no sections where the revision has no activator. That of any other location has no sections
-abbrev pub IsScriptAt : Option (List ShelfRow) → List ℕ → Stored → Script → Type 0
-IsScriptAt told location (stored.Read revision manifest) script =
-    (folder : Folder) × IsFoundAt told location folder × Means folder revision × IsSomeAnd (file_at manifest_path folder) (λ (file : File). manifest ≡ file.bytes) ×
-    IsScriptOf folder revision.activator script
-IsScriptAt told location _ script = script.sections ≡ []
-
--- a script for each row, in the order of the rows: that of the row's location
-abbrev pub AreScriptsOf : Option (List ShelfRow) → List DepotRow → List Script → Type 0
-AreScriptsOf told rows scripts = AllZip (λ (row : DepotRow) (script : Script). IsScriptAt told row.location row.stored script) rows scripts

@@ -1,7 +1,7 @@
 //! The depot and its scripts, read from a shelf.
 
 ghost use Rattle.std.specs.Prelude.{◌≡◌, ◌≤◌, IfOk};
-ghost use Rattle.osgi_depot.specs.Depots.{AreScriptsOf, IsDepotOf, IsScriptAt};
+ghost use Rattle.osgi_depot.specs.Depots.{AreKeptAt, IsDepotOf, IsKeptAt};
 ghost use Rattle.osgi_depot.specs.computed.Rows.{AreRowsOf, IsStoredAt};
 ghost use Rattle.osgi_ops.specs.declared.limits.TheConstants.{MAX_LOCATIONS};
 
@@ -52,10 +52,9 @@ fn store<F: Shelf>(
     number: usize,
 ) -> Result<Kept, AllocError>
     ensures stored { IfOk result (λ kept.
-        IsStoredAt MAX_LOCATIONS (F.told shelf.old) location.now number (F.faults shelf.old)
-        (F.faults shelf.new) kept.stored) }
-    ensures script { IfOk result (λ kept.
-        IsScriptAt (F.told shelf.old) location.now kept.stored kept.script) }
+        IsStoredAt MAX_LOCATIONS number (F.faults shelf.old) (F.faults shelf.new) kept.stored) }
+    ensures kept { IfOk result (λ kept.
+        IsKeptAt (F.told shelf.old) location.now kept.stored kept.script) }
     ensures told { F.told shelf.new ≡ F.told shelf.old }
     ensures later { F.faults shelf.old ≤ F.faults shelf.new }
 {
@@ -75,9 +74,8 @@ fn read_rows<F: Shelf>(
     locations: &[Text],
 ) -> Result<(List<DepotRow>, List<Script>), AllocError>
     ensures rows { IfOk result (λ read.
-        AreRowsOf MAX_LOCATIONS (F.told shelf.old) locations.now (F.faults shelf.old)
-        (F.faults shelf.new) read.0) }
-    ensures scripts { IfOk result (λ read. AreScriptsOf (F.told shelf.old) read.0 read.1) }
+        AreRowsOf MAX_LOCATIONS locations.now (F.faults shelf.old) (F.faults shelf.new) read.0) }
+    ensures kept { IfOk result (λ read. AreKeptAt (F.told shelf.old) read.0 read.1) }
     ensures told { F.told shelf.new ≡ F.told shelf.old }
     ensures later { F.faults shelf.old ≤ F.faults shelf.new }
 {
@@ -105,9 +103,7 @@ pub fn read_depot<F: Shelf>(
 ) -> Result<Folders, AllocError>
     ensures depot { IfOk result (λ folders.
         IsDepotOf lines.now (F.told shelf.old) (F.faults shelf.old) (F.faults shelf.new)
-        folders.depot.rows) }
-    ensures scripts { IfOk result (λ folders.
-        AreScriptsOf (F.told shelf.old) folders.depot.rows folders.scripts.rows) }
+        folders.depot.rows folders.scripts.rows) }
     ensures told { F.told shelf.new ≡ F.told shelf.old }
     ensures later { F.faults shelf.old ≤ F.faults shelf.new }
 {

@@ -108,7 +108,6 @@ session_from bounds input shelf how session status left run all within starved i
       within = within;
       lines = run.lines;
       depot = run.depot;
-      scripts = run.scripts;
       legal = run.legal;
       sound = run.sound;
       handed = all_handed how setting session status run.legal.1.told run.legal.1.allowed run.legal.1.tells starved is run.runs;

@@ -20,7 +20,7 @@ use Rattle.osgi_ops.specs.declared.reply.Reply.TheVariants.{Handed, Refused}
 use Rattle.osgi_console.specs.Console.{AreLinesOf}
 use Rattle.osgi_core.specs.Sound.{IsSoundTelling}
 use Rattle.osgi_runs.specs.Handed.{AllHanded}
-use Rattle.osgi_depot.specs.Depots.{AreScriptsOf, IsDepotOf}
+use Rattle.osgi_depot.specs.Depots.{IsDepotOf}
 use Rattle.osgi_outside.specs.Shelves.{ShelfRow}
 use Rattle.osgi_program.specs.declared.session.Session.{Session}
 use Rattle.osgi_program.specs.declared.session.TheConstants.{MAX_INPUT, DONE, TROUBLED, FAULTY_WORDS, READ_FAILED, INPUT_TOO_LONG, CUT}
@@ -46,7 +46,7 @@ pub record Shelved : Type 0 where
   pub after : ℕ
 
 -- `input` is what the source had left, if the source exposes it, and within the limit. The session's lines are all lines of the input,
--- read with no lanes. Its depot is what these lines name, as the shelf told it, and its scripts are those of the depot's rows. Its
+-- read with no lanes. Its depot is what these lines name, as the shelf told it, each row with its script. Its
 -- history replays from the empty framework, and is what these lines make under the limits. After every step of it, as it replays, the
 -- wirings in force are consistent, and each bundle that it refuses as unresolvable is so. What each listener was handed is a beginning
 -- of what is due to it; on the statuses 0 and 1 it is all of that, for each listener that is live in the end
@@ -55,8 +55,7 @@ pub record IsSession (bounds : Bounds) (status : ℕ) (left : Option (List ℕ))
   pub all : IfSome left (λ bytes. input ≡ bytes)
   pub within : length input ≤ MAX_INPUT
   pub lines : AreLinesOf 0 input session.lines
-  pub depot : IsDepotOf session.lines shelf.told shelf.before shelf.after session.depot.rows
-  pub scripts : AreScriptsOf shelf.told session.depot.rows session.scripts.rows
+  pub depot : IsDepotOf session.lines shelf.told shelf.before shelf.after session.depot.rows session.scripts.rows
   pub legal : Legal (record { bounds = bounds; depot = session.depot.rows }) session.entries
   pub sound : IsSoundTelling legal.1.told
   pub handed : IsDoneStatus status → AllHanded legal.1.told

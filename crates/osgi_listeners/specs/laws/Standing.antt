@@ -2,7 +2,7 @@
 --
 -- Each law is from StandsFor before to StandsFor after.
 --   new          stands-at-first        the history of no entries
---   add          stands-with-added      an AddListener that is answered with the id
+--   add, insert  stands-with-added      an AddListener that is answered with the id
 --   remove       stands-with-removed    a RemoveListener that is answered by what the call answers
 --   remove_all   stands-with-cleaned    an entry that cleans the bundle
 --   deliver_all  stands-with-all-seen   the entry is in the history already: first its own law, then this

@@ -6,7 +6,7 @@ use Rattle.osgi_ops.specs.Settings.{Bounds}
 use Rattle.osgi_ops.specs.declared.entry.Entry.{Entry}
 use Rattle.osgi_console.specs.Console.{AreLinesOf}
 use Rattle.osgi_core.specs.Sound.{IsSoundTelling}
-use Rattle.osgi_depot.specs.Depots.{AreScriptsOf, IsDepotOf}
+use Rattle.osgi_depot.specs.Depots.{IsDepotOf}
 use Rattle.osgi_program.specs.Outcome.{is_handing, is_troubled, Shelved}
 use Rattle.osgi_program.specs.computed.Running.{RunsLines}
 use Rattle.osgi_program.specs.declared.runner.Ran.{Ran}
@@ -22,8 +22,7 @@ hands e = is_handing e.reply
 -- the lines of the input ran so far, from the empty history
 pub record IsRun (bounds : Bounds) (input : List ℕ) (shelf : Shelved) (ran : Ran) (session : Session) : Type 0 where
   pub lines : AreLinesOf 0 input session.lines
-  pub depot : IsDepotOf session.lines shelf.told shelf.before shelf.after session.depot.rows
-  pub scripts : AreScriptsOf shelf.told session.depot.rows session.scripts.rows
+  pub depot : IsDepotOf session.lines shelf.told shelf.before shelf.after session.depot.rows session.scripts.rows
   pub legal : Legal (record { bounds = bounds; depot = session.depot.rows }) session.entries
   pub sound : IsSoundTelling legal.1.told
   pub runs : RunsLines ran (sections_of session.scripts) bounds.entries session.lines [] session.entries

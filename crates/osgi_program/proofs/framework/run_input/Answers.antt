@@ -18,8 +18,7 @@ returns-clause-run g c =
     let told = subst (λ (s : Setting). IsSoundlyTold s entries machine.world) setting c.into_parts-depot.ensures.sound in
     record {
       lines = search rules;
-      depot = rw (c.items.ensures.items, all) at c.in_ok-folders.ensures.depot;
-      scripts = rw (all, sym c.into_parts-stored.ensures.scripts) at c.in_ok-folders.ensures.scripts;
+      depot = rw (c.items.ensures.items, all, sym c.into_parts-stored.ensures.scripts) at c.in_ok-folders.ensures.depot;
       legal = (machine.world, told.replayed);
       sound = told.sound;
       runs = search rules;
