@@ -22,6 +22,8 @@ pub enum End {
     Failed,
 }
 
+/// What comes next of a plan's own. It is no `Next`: a drain is none of these, since where one comes first is asked afterwards, of
+/// the reply before (`Plan::next`).
 pub enum Head {
     Ask {
         op: Op,

@@ -26,8 +26,8 @@ use Rattle.osgi_program.specs.computed.Ended.{IsRun, status_by}
 use Rattle.osgi_program.specs.Outcome.{is_handing, is_troubled, IsAtLimit, IsDoneStatus, IsSession, IsUncut, IsWrittenStatus, Shelved, status_of}
 use Rattle.osgi_program.specs.declared.session.TheConstants.{CUT, DONE, MAX_INPUT, NO_MEMORY, TROUBLED, WRITE_FAILED}
 use Rattle.osgi_program.specs.computed.Running.{IsSpentOrFull, RunsLines, Unspent}
-use Rattle.osgi_program.specs.declared.runner.Ran.{Ran}
-use Rattle.osgi_program.specs.declared.runner.Ran.TheVariants as ran
+use Rattle.osgi_program.specs.declared.lines.Ran.{Ran}
+use Rattle.osgi_program.specs.declared.lines.Ran.TheVariants as ran
 use Rattle.osgi_program.specs.declared.session.Session.{Session}
 
 -- what was taken of told bytes, up to their end, is all of them

@@ -4,8 +4,8 @@ use Rattle.std.specs.Prelude.{Bool, true, false}
 use Rattle.std.proofs.lemmas.Bool.{eqb-true}
 use Rattle.osgi_ops.specs.declared.entry.Entry.{Entry}
 use Rattle.osgi_program.specs.computed.Running.{IsSpentOrFull, RunsLine, RunsLines, Unspent}
-use Rattle.osgi_program.specs.declared.runner.Ran.{Ran}
-use Rattle.osgi_program.specs.declared.runner.Ran.TheVariants as ran
+use Rattle.osgi_program.specs.declared.lines.Ran.{Ran}
+use Rattle.osgi_program.specs.declared.lines.Ran.TheVariants as ran
 use Rattle.osgi_runs.proofs.Plain.{cut-there, idle-more, ran-more}
 use Rattle.osgi_runs.specs.Plain.{commands_in}
 use Rattle.osgi_session.specs.Runs.{Sections}

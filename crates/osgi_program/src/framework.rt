@@ -9,7 +9,7 @@ ghost use Rattle.osgi_program.specs.Outcome.{is_bad, is_troubled, status_of, IsA
 ghost use Rattle.osgi_program.specs.Words.{AsksRun};
 ghost use Rattle.osgi_program.specs.computed.Ended.{hands, IsRun, status_by};
 
-use crate::runner::{Ran, run_lines};
+use crate::lines::{Ran, run_lines};
 use crate::session::{
     CUT, DONE, FAULTY_WORDS, Finished, INPUT_TOO_LONG, MAX_INPUT, NO_MEMORY, READ_FAILED, Session,
     TROUBLED, WRITE_FAILED,

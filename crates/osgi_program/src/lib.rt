@@ -3,7 +3,7 @@
 
 mod alone;
 mod framework;
-mod runner;
+mod lines;
 mod session;
 mod words;
 

@@ -118,60 +118,6 @@ fn run<C: Caller>(
     finish(alloc, caller, scripts, number, &mut stack, step)
 }
 
-/// Runs the command of a line, and then the jobs.
-fn run_line<C: Caller>(
-    alloc: Global,
-    caller: &mut C,
-    scripts: &Scripts,
-    line: &Line,
-) -> Result<Ended, AllocError>
-    requires command { has_command line.now.content ≡ true }
-    ensures number { C.number caller.new ≡ C.number caller.old }
-    ensures limit { C.limit caller.new ≡ C.limit caller.old }
-    ensures done { IfOk result (λ how.
-        how ≡ ended.Done
-        → Adds (IsRunOf (sections_of scripts.now) (C.number caller.old) line.now)
-        (C.made caller.old) (C.made caller.new)) }
-    ensures cut { IfOk result (λ how.
-        how ≡ ended.Cut
-        → IsCutShort (sections_of scripts.now) (C.number caller.old) line.now (C.full caller.new)
-        (C.made caller.old) (C.made caller.new)) }
-    ensures wanting { OnErr result
-        (Adds (IsCutRunOf (sections_of scripts.now) (C.number caller.old) line.now false)
-        (C.made caller.old) (C.made caller.new)) }
-{
-    let Content::Run(command) = &line.content else {
-        unreachable!()
-    };
-    run(alloc, caller, scripts, line.number, command)
-}
-
-/// Hands what can be handed now, for a line.
-fn drain<C: Caller>(
-    alloc: Global,
-    caller: &mut C,
-    scripts: &Scripts,
-    line: &Line,
-) -> Result<Ended, AllocError>
-    ensures number { C.number caller.new ≡ C.number caller.old }
-    ensures limit { C.limit caller.new ≡ C.limit caller.old }
-    ensures done { IfOk result (λ how.
-        how ≡ ended.Done
-        → Adds (IsDrainOf (sections_of scripts.now) (C.number caller.old) line.now)
-        (C.made caller.old) (C.made caller.new)) }
-    ensures cut { IfOk result (λ how.
-        how ≡ ended.Cut
-        → IsDrainCutShort (sections_of scripts.now) (C.number caller.old) line.now
-        (C.full caller.new) (C.made caller.old) (C.made caller.new)) }
-    ensures wanting { OnErr result
-        (Adds (IsCutDrainOf (sections_of scripts.now) (C.number caller.old) line.now false)
-        (C.made caller.old) (C.made caller.new)) }
-{
-    let mut stack = Vec::new(alloc);
-    let step = Step::Ask(Op::Hand, Wait::Drain);
-    finish(alloc, caller, scripts, line.number, &mut stack, step)
-}
-
 /// A caller of the framework as it runs lines, whose sections are those of these scripts.
 #[derive(Drop)]
 pub struct Runner<'a, C> {
@@ -220,7 +166,10 @@ impl<'a, C: Caller> Runner<'a, C> {
             (IsCutRunOf (sections_of self.old.scripts.now) (C.number self.old.caller.now)
             line.now false) (C.made self.old.caller.now) (C.made self.new.caller.now)) }
     {
-        run_line(self.alloc, self.caller, self.scripts, line)
+        let Content::Run(command) = &line.content else {
+            unreachable!()
+        };
+        run(self.alloc, self.caller, self.scripts, line.number, command)
     }
 
     /// Makes one drain for a line, with or without a command: hands one event after another, and runs the section of each, until
@@ -249,6 +198,15 @@ impl<'a, C: Caller> Runner<'a, C> {
             (IsCutDrainOf (sections_of self.old.scripts.now) (C.number self.old.caller.now)
             line.now false) (C.made self.old.caller.now) (C.made self.new.caller.now)) }
     {
-        drain(self.alloc, self.caller, self.scripts, line)
+        let mut stack = Vec::new(self.alloc);
+        let step = Step::Ask(Op::Hand, Wait::Drain);
+        finish(
+            self.alloc,
+            self.caller,
+            self.scripts,
+            line.number,
+            &mut stack,
+            step,
+        )
     }
 }

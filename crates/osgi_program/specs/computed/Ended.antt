@@ -9,8 +9,8 @@ use Rattle.osgi_core.specs.Sound.{IsSoundTelling}
 use Rattle.osgi_depot.specs.Depots.{IsDepotOf}
 use Rattle.osgi_program.specs.Outcome.{is_handing, is_troubled, Shelved}
 use Rattle.osgi_program.specs.computed.Running.{RunsLines}
-use Rattle.osgi_program.specs.declared.runner.Ran.{Ran}
-use Rattle.osgi_program.specs.declared.runner.Ran.TheVariants.{Cut}
+use Rattle.osgi_program.specs.declared.lines.Ran.{Ran}
+use Rattle.osgi_program.specs.declared.lines.Ran.TheVariants.{Cut}
 use Rattle.osgi_program.specs.declared.session.Session.{Session}
 use Rattle.osgi_program.specs.declared.session.TheConstants.{DONE, TROUBLED, CUT}
 use Rattle.osgi_session.specs.Scripts.{sections_of}

@@ -2,8 +2,8 @@
 use Rattle.std.specs.Prelude.{ℕ, ◌≡◌, ◌==◌, ◌⊎◌, true, false, Bool, List, [], length}
 use Rattle.osgi_ops.specs.Settings.{Setting}
 use Rattle.osgi_ops.specs.declared.entry.Entry.{Entry}
-use Rattle.osgi_program.specs.declared.runner.Ran.{Ran}
-use Rattle.osgi_program.specs.declared.runner.Ran.TheVariants.{All, Cut, Starved}
+use Rattle.osgi_program.specs.declared.lines.Ran.{Ran}
+use Rattle.osgi_program.specs.declared.lines.Ran.TheVariants.{All, Cut, Starved}
 use Rattle.osgi_runner.specs.Calls.{Adds, IsCutShort}
 use Rattle.osgi_runs.specs.Plain.{commands_in}
 use Rattle.osgi_session.specs.Lines.{has_command}

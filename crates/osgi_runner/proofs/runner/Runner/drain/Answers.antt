@@ -9,13 +9,13 @@ use Rattle.osgi_runner.specs.computed.Ends.{Ends}
 use Rattle.osgi_runner.specs.declared.runner.Ended.{Ended}
 use Rattle.osgi_runner.specs.declared.runner.Ended.TheVariants as ended
 use Rattle.osgi_session.specs.Scripts.{sections_of}
-use Rattle.osgi_runner.proofs.runner.drain.Goals as goal
+use Rattle.osgi_runner.proofs.runner.Runner.drain.Goals as goal
 
 pub returns-clause-done : goal.returns-clause-done
 returns-clause-done g c =
-    let script = sections_of c.args.scripts.now in
-    let caller = g.C.Caller.number c.args.caller.now in
-    let before = g.C.Caller.made c.args.caller.now in
+    let script = sections_of c.args.self.now.scripts.now in
+    let caller = g.C.Caller.number c.args.self.now.caller.now in
+    let before = g.C.Caller.made c.args.self.now.caller.now in
     let after = g.C.Caller.made c.finish.new.caller in
     let full = g.C.Caller.full c.finish.new.caller in
     let stack = c.new-stack.result.items in
@@ -25,9 +25,9 @@ returns-clause-done g c =
 
 pub returns-clause-cut : goal.returns-clause-cut
 returns-clause-cut g c =
-    let script = sections_of c.args.scripts.now in
-    let caller = g.C.Caller.number c.args.caller.now in
-    let before = g.C.Caller.made c.args.caller.now in
+    let script = sections_of c.args.self.now.scripts.now in
+    let caller = g.C.Caller.number c.args.self.now.caller.now in
+    let before = g.C.Caller.made c.args.self.now.caller.now in
     let after = g.C.Caller.made c.finish.new.caller in
     let full = g.C.Caller.full c.finish.new.caller in
     let stack = c.new-stack.result.items in
@@ -38,5 +38,5 @@ returns-clause-cut g c =
 pub returns-clause-wanting : goal.returns-clause-wanting
 returns-clause-wanting g c =
     on_err_weaker c.finish.result
-    (λ m. drain-starved (sections_of c.args.scripts.now) (g.C.Caller.number c.args.caller.now) (g.C.Caller.made c.args.caller.now) (g.C.Caller.made c.finish.new.caller) c.args.line.now
+    (λ m. drain-starved (sections_of c.args.self.now.scripts.now) (g.C.Caller.number c.args.self.now.caller.now) (g.C.Caller.made c.args.self.now.caller.now) (g.C.Caller.made c.finish.new.caller) c.args.line.now
     c.new-stack.result.items c.new-stack.ensures.items m) c.finish.ensures.wanting

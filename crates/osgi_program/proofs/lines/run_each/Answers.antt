@@ -5,7 +5,7 @@ use Rattle.osgi_session.specs.Scripts.{sections_of}
 use Rattle.osgi_session.specs.Sessions.{over}
 use Rattle.osgi_session.specs.declared.line.Line.{Line}
 use Rattle.osgi_program.proofs.Runs.{cut_line, one_more, SoFar}
-use Rattle.osgi_program.proofs.runner.run_each.Goals as goal
+use Rattle.osgi_program.proofs.lines.run_each.Goals as goal
 
 pub loop-line-init : goal.loop-line-init
 loop-line-init g c = record { so_far = record { made = []; is = sym (append-nil c.args.alone.now.core.entries); lane = over } }

@@ -10,13 +10,13 @@ use Rattle.osgi_session.specs.Runs.{Follows}
 use Rattle.osgi_session.specs.Scripts.{sections_of}
 use Rattle.osgi_session.specs.Sessions.{IsRunOf}
 use Rattle.std.proofs.Common.{◌≡◌}
-use Rattle.osgi_runner.proofs.runner.run_line.Goals as goal
+use Rattle.osgi_runner.proofs.runner.Runner.command.Goals as goal
 
 pub returns-clause-done : goal.returns-clause-done
 returns-clause-done g c =
-    let script = sections_of c.args.scripts.now in
-    let caller = g.C.Caller.number c.args.caller.now in
-    let before = g.C.Caller.made c.args.caller.now in
+    let script = sections_of c.args.self.now.scripts.now in
+    let caller = g.C.Caller.number c.args.self.now.caller.now in
+    let before = g.C.Caller.made c.args.self.now.caller.now in
     let after = g.C.Caller.made c.run.new.caller in
     let full = g.C.Caller.full c.run.new.caller in
     if-ok (λ (how : Ended). Ends (Follows script c.in-Run.command) how (tag_of caller c.args.line.now.number) full before after)
@@ -25,9 +25,9 @@ returns-clause-done g c =
 
 pub returns-clause-cut : goal.returns-clause-cut
 returns-clause-cut g c =
-    let script = sections_of c.args.scripts.now in
-    let caller = g.C.Caller.number c.args.caller.now in
-    let before = g.C.Caller.made c.args.caller.now in
+    let script = sections_of c.args.self.now.scripts.now in
+    let caller = g.C.Caller.number c.args.self.now.caller.now in
+    let before = g.C.Caller.made c.args.self.now.caller.now in
     let after = g.C.Caller.made c.run.new.caller in
     let full = g.C.Caller.full c.run.new.caller in
     if-ok (λ (how : Ended). Ends (Follows script c.in-Run.command) how (tag_of caller c.args.line.now.number) full before after)
@@ -37,4 +37,4 @@ returns-clause-cut g c =
 pub returns-clause-wanting : goal.returns-clause-wanting
 returns-clause-wanting g c =
     on_err_weaker c.run.result
-    (λ m. cut-of (sections_of c.args.scripts.now) (g.C.Caller.number c.args.caller.now) (g.C.Caller.made c.args.caller.now) (g.C.Caller.made c.run.new.caller) c.args.line.now c.in-Run.command c.in-Run.is m) c.run.ensures.wanting
+    (λ m. cut-of (sections_of c.args.self.now.scripts.now) (g.C.Caller.number c.args.self.now.caller.now) (g.C.Caller.made c.args.self.now.caller.now) (g.C.Caller.made c.run.new.caller) c.args.line.now c.in-Run.command c.in-Run.is m) c.run.ensures.wanting
