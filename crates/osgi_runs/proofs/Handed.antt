@@ -1,10 +1,11 @@
--- Where no run was cut, each listener that is live in the end was handed all that is due to it.
+-- Where who leaves something to be handed hands again, each listener that is live in the end was handed all that is due to it; so where no run
+-- was cut.
 use Rattle.std.proofs.Common.{◌≡◌, ◌⊎◌, inl, inr, ℕ, List, [], ◌∷◌, ◌++◌, map, append_assoc, append-nil, Bool, true, false, refl, sym, ap, ◌∙◌, subst, arith}
 use Rattle.std.specs.Prelude.{◌||◌, ◌&&◌, cond, filter, is_some, All, Some}
 use Rattle.std.specs.List.{list_any}
 use Rattle.std.proofs.lemmas.Bool.{eq-eqb, eqb-true, or_left, or_right, and_from, and_parts}
 use Rattle.std.proofs.lemmas.List.{map-append}
-use Rattle.std.proofs.lemmas.List.Elements.{All-head, All-tail, filter-append}
+use Rattle.std.proofs.lemmas.List.Elements.{All-head, All-tail}
 use mathlib.Core.List.{IsPrefix}
 use Rattle.osgi_base.specs.declared.ids.ListenerId.{ListenerId}
 use Rattle.osgi_ops.specs.Along.{AllAlong}
@@ -31,6 +32,7 @@ use Rattle.osgi_ops.specs.rows.Events.{IsAnyReady, IsHanding, IsNothing}
 use Rattle.osgi_runs.specs.Bound.{finds_nothing}
 use Rattle.osgi_runs.specs.Handed.{AllHanded, AllHandedIn}
 use Rattle.osgi_runs.specs.Plain.{AreNumberedFrom, commands_in, IsPlain}
+use Rattle.osgi_runs.specs.Turns.{HandsAgain, HandsAll, IsHandedOut, is_end_of_hand, leaves_some}
 use Rattle.osgi_session.specs.Plans.{stirs}
 use Rattle.osgi_session.specs.Runs.{Sections}
 use Rattle.osgi_session.specs.Rendering.{is_full}
@@ -49,7 +51,7 @@ use Rattle.osgi_runs.proofs.Due.{owned}
 use Rattle.osgi_runs.proofs.Full.{some-full}
 use Rattle.osgi_runs.proofs.Plain.{blocks-plain, makes-lane}
 use Rattle.osgi_runs.proofs.Sessions.{AreRuns, calls_of, lane-callers, makes-runs}
-use Rattle.osgi_runs.proofs.Settled.{AreSettled, is_end_of_hand, leaves_some, Settles}
+use Rattle.osgi_runs.proofs.Settled.{AreSettled, Settles}
 use Rattle.osgi_runs.proofs.Wholes.{uncut-lane}
 
 -- ---- a drain follows where something happens
@@ -144,25 +146,20 @@ concerned setting listener front x before a c = go (or-cases (is_some_there (see
 
 -- ---- a Hand that finds nothing comes behind it
 
-settled-at : (first : List Entry) (e : Entry) (rest : List Entry) → AreSettled (calls_of (first ++ e ∷ rest)) → leaves_some e.op e.reply ≡ true → Settles (calls_of rest)
-settled-at [] e rest c s = c.0 s
-settled-at (x ∷ first) e rest c s = settled-at first e rest c.1 s
+again-at : (u : List Told) (e : Told) (v : List Told) → HandsAgain (entries_in (u ++ e ∷ v)) → leaves_some e.entry.op e.entry.reply ≡ true → HandsAll e.entry.tag.caller (entries_in v)
+again-at [] e v c s = c.0 s
+again-at (x ∷ u) e v c s = again-at u e v c.1 s
 
-settles-at : (caller : ℕ) (v : List Told) → Settles (calls_of (by caller (entries_in v))) →
-    (a : List Told) × (n : Told) × (b : List Told) × (v ≡ a ++ n ∷ b) × (finds_nothing n.entry.op n.entry.reply ≡ true)
-settles-at caller [] s = absurd s
-settles-at caller (x ∷ v) s = go (is_by caller x.entry) s (settles-at caller v)
-  where
-    Found : List Told → Type 0
-    Found l = (a : List Told) × (n : Told) × (b : List Told) × (l ≡ a ++ n ∷ b) × (finds_nothing n.entry.op n.entry.reply ≡ true)
+abbrev Found : List Told → Type 0
+Found l = (a : List Told) × (n : Told) × (b : List Told) × (l ≡ a ++ n ∷ b) × (finds_nothing n.entry.op n.entry.reply ≡ true)
 
-    later : Found v → Found (x ∷ v)
-    later r = (x ∷ r.0, r.1, r.2, ap (λ l. x ∷ l) r.3, r.4)
+later : (x : Told) (v : List Told) → Found v → Found (x ∷ v)
+later x v r = (x ∷ r.0, r.1, r.2, ap (λ l. x ∷ l) r.3, r.4)
 
-    go : (k : Bool) → Settles (calls_of (cond k (x.entry ∷ by caller (entries_in v)) (by caller (entries_in v)))) → (Settles (calls_of (by caller (entries_in v))) → Found v) → Found (x ∷ v)
-    go true (inl n) ih = ([], x, v, refl, n)
-    go true (inr r) ih = later (ih r)
-    go false r ih = later (ih r)
+found-at : (caller : ℕ) (v : List Told) → HandsAll caller (entries_in v) → Found v
+found-at caller [] s = absurd s
+found-at caller (x ∷ v) (inl n) = ([], x, v, refl, n.1)
+found-at caller (x ∷ v) (inr r) = later x v (found-at caller v r)
 
 not-nothing : (reply other : Reply) → reply ≡ other → finds_nothing op.Hand other ≡ false → finds_nothing op.Hand reply ≡ true → ⊥
 not-nothing reply other e n y = let c : true ≡ false = sym y ∙ ap (finds_nothing op.Hand) e ∙ n in cc c
@@ -220,34 +217,15 @@ all-closed (b ∷ rest) e =
     let own : of b.tag.caller (b ∷ rest) ≡ b ∷ of b.tag.caller rest = ap (λ k. cond k (b ∷ of b.tag.caller rest) (of b.tag.caller rest)) (eq-eqb b.tag.caller b.tag.caller refl) in
     let none : [] ≡ b ∷ of b.tag.caller rest = e b.tag.caller ∙ own in absurd (cc none)
 
-split-by : (caller : ℕ) (u : List Told) (e : Told) (v : List Told) → (e.entry.tag.caller ≡ caller) → by caller (entries_in (u ++ e ∷ v)) ≡ by caller (entries_in u) ++ e.entry ∷ by caller (entries_in v)
-split-by caller u e v same =
-    ap (by caller) (map-append (λ (x : Told). x.entry) u (e ∷ v)) ∙ filter-append (is_by caller) (entries_in u) (e.entry ∷ entries_in v)
-    ∙ ap (λ l. by caller (entries_in u) ++ l) (ap (λ k. cond k (e.entry ∷ by caller (entries_in v)) (by caller (entries_in v))) (eq-eqb e.entry.tag.caller caller same))
-
--- each caller's entries are whole runs
-abbrev pub AllRuns : Sections → List Entry → Type 0
-AllRuns script history = (caller : ℕ) → AreRuns script caller (by caller history)
-
--- so behind each of its calls that may leave something to be handed a Hand finds nothing, and it has no bracket open in the end
-calm-callers : (setting : Setting) (script : Sections) (told : List Told) → AreAllowed setting told → AllRuns script (entries_in told) →
-    (caller : ℕ) → AreSettled (calls_of (by caller (entries_in told))) × ([] ≡ brackets_of caller (entries_in told))
-calm-callers setting script told legal runs caller = runs-settled (λ own. own ≡ brackets_of caller (entries_in told)) (runs caller) (owned setting caller [] told legal)
-
--- of a legal history in which each caller's entries are whole runs: each listener that is live in the end was handed all that is due to it
-pub runs-handed : (setting : Setting) (script : Sections) (told : List Told) → AreAllowed setting told → AllRuns script (entries_in told) → AllHanded told
-runs-handed setting script told legal runs listener a live =
+-- Of a legal history in which who leaves something to be handed hands again, and nothing is open in the end: each listener that is live in the
+-- end was handed all that is due to it. Callers may take turns in any order.
+pub out-handed : (setting : Setting) (told : List Told) → AreAllowed setting told → IsHandedOut (entries_in told) → AllHanded told
+out-handed setting told legal out listener a live =
     sym (all-handed (seen listener) (hands listener) (Concerns listener) (λ f x. known (concerns listener f x))
     (λ f x n. quiet f x n) told (handed-is-prefix setting told legal listener) after)
   where
     quiet : (f : List Told) (x : Told) → (Concerns listener f x → ⊥) → seen listener f x ≡ []
     quiet f x n = none-there (seen listener f x) (is-false _ (λ e. n (or_left _ _ e)))
-
-    calm : (caller : ℕ) → AreSettled (calls_of (by caller (entries_in told))) × ([] ≡ brackets_of caller (entries_in told))
-    calm = calm-callers setting script told legal runs
-
-    closed : brackets (entries_in told) ≡ []
-    closed = all-closed (brackets (entries_in told)) (λ caller. (calm caller).1)
 
     after : (u : List Told) (e : Told) (v : List Told) → told ≡ u ++ e ∷ v → Concerns listener u e → AllAlong (λ f x. Concerns listener f x → ⊥) (u ++ e ∷ []) v →
         (w : List Told) × (z : List Told) × (v ≡ w ++ z) × (due listener ((u ++ e ∷ []) ++ w) ≡ handed listener ((u ++ e ∷ []) ++ w))
@@ -255,9 +233,7 @@ runs-handed setting script told legal runs listener a live =
         let ok = IsAllowed setting in
         let parts = AllAlong-split ok [] u (e ∷ v) (subst (AreAllowed setting) is legal) in
         let here = concerned setting listener u e parts.0 parts.1.0 c in
-        let caller : ℕ = e.entry.tag.caller in
-        let own = subst (λ l. AreSettled (calls_of l)) (ap (λ l. by caller (entries_in l)) is ∙ split-by caller u e v refl) (calm caller).0 in
-        let found = settles-at caller v (settled-at (by caller (entries_in u)) e.entry (by caller (entries_in v)) own here.0) in
+        let found = found-at e.entry.tag.caller v (again-at u e v (subst (λ l. HandsAgain (entries_in l)) is out.again) here.0) in
         let w : List Told = found.0 in
         let n : Told = found.1 in
         let z : List Told = found.2 in
@@ -276,13 +252,61 @@ runs-handed setting script told legal runs listener a live =
         let free : is_in_turn listener (entries_in front) ≡ false = is-false _ (λ t.
         (let lasts = turn-lasts setting listener front (n ∷ z) legal_parts.1 (no-ends listener front (n ∷ z) between.0 a there end quiet_parts.1) t in
         let in_end : is_in_turn listener (entries_in told) ≡ true = subst (λ l. is_in_turn listener (entries_in l) ≡ true) (sym whole) lasts in
-        let bad : true ≡ false = sym in_end ∙ ap (λ l. list_any (λ (b : Bracket). is_turn_of listener b.cause) l) closed in cc bad)) in (
+        let bad : true ≡ false = sym in_end ∙ ap (λ l. list_any (λ (b : Bracket). is_turn_of listener b.cause) l) out.closed in cc bad)) in (
           w,
           n ∷ z,
           found.3,
           all-there front listener between.0 (handed-is-prefix setting front legal_parts.0 listener) there free
               (none-ready (moment setting front n.entry.tag) n.entry.op n.entry.reply legal_parts.1.0.replied found.4),
         )
+
+-- ---- whole runs
+
+-- each caller's entries are whole runs
+abbrev pub AllRuns : Sections → List Entry → Type 0
+AllRuns script history = (caller : ℕ) → AreRuns script caller (by caller history)
+
+hands-all : (caller : ℕ) (entries : List Entry) → Settles (calls_of (by caller entries)) → HandsAll caller entries
+hands-all caller [] s = absurd s
+hands-all caller (e ∷ rest) s = go (is_by caller e) refl s (hands-all caller rest)
+  where
+    go : (k : Bool) → is_by caller e ≡ k → Settles (calls_of (cond k (e ∷ by caller rest) (by caller rest))) → (Settles (calls_of (by caller rest)) → HandsAll caller rest) → HandsAll caller (e ∷ rest)
+    go true same (inl n) ih = inl (eqb-true e.tag.caller caller same, n)
+    go true same (inr r) ih = inr (ih r)
+    go false same r ih = inr (ih r)
+
+abbrev Settled : List Entry → Type 0
+Settled history = (caller : ℕ) → AreSettled (calls_of (by caller history))
+
+settled-rest : (e : Entry) (rest : List Entry) → Settled (e ∷ rest) → Settled rest
+settled-rest e rest all caller = go (is_by caller e) (all caller)
+  where
+    go : (k : Bool) → AreSettled (calls_of (cond k (e ∷ by caller rest) (by caller rest))) → AreSettled (calls_of (by caller rest))
+    go true s = s.1
+    go false s = s
+
+-- where the calls of each caller are settled, who leaves something to be handed hands again
+hands-again : (history : List Entry) → Settled history → HandsAgain history
+hands-again [] all = tt
+hands-again (e ∷ rest) all = (hands-here, hands-again rest (settled-rest e rest all))
+  where
+    hands-here : leaves_some e.op e.reply ≡ true → HandsAll e.tag.caller rest
+    hands-here some =
+        let own = subst (λ k. AreSettled (calls_of (cond k (e ∷ by e.tag.caller rest) (by e.tag.caller rest)))) (eq-eqb e.tag.caller e.tag.caller refl) (all e.tag.caller) in
+        hands-all e.tag.caller rest (own.0 some)
+
+-- of a legal history in which each caller's entries are whole runs
+pub runs-out : (setting : Setting) (script : Sections) (told : List Told) → AreAllowed setting told → AllRuns script (entries_in told) → IsHandedOut (entries_in told)
+runs-out setting script told legal runs = record {
+  again = hands-again (entries_in told) (λ caller. (calm caller).0);
+  closed = all-closed (brackets (entries_in told)) (λ caller. (calm caller).1);
+}
+  where
+    calm : (caller : ℕ) → AreSettled (calls_of (by caller (entries_in told))) × ([] ≡ brackets_of caller (entries_in told))
+    calm caller = runs-settled (λ own. own ≡ brackets_of caller (entries_in told)) (runs caller) (owned setting caller [] told legal)
+
+pub runs-handed : (setting : Setting) (script : Sections) (told : List Told) → AreAllowed setting told → AllRuns script (entries_in told) → AllHanded told
+runs-handed setting script told legal runs = out-handed setting told legal (runs-out setting script told legal runs)
 
 -- so in a session without a cut, lanes and all
 pub uncut-handed : (setting : Setting) (script : Sections) (lines : List Line) (told : List Told) → AreAllowed setting told → Uncut script lines (entries_in told) → AllHanded told

@@ -9,19 +9,12 @@ use Rattle.osgi_ops.specs.declared.op.Op.TheVariants.{Hand, EndHand, EndJob}
 use Rattle.osgi_ops.specs.declared.reply.Reply.{Reply}
 use Rattle.osgi_legal.specs.laws.Stages.{hand-here}
 use Rattle.osgi_runs.specs.Bound.{AreBound, ClosesTask, finds_nothing, push}
+use Rattle.osgi_runs.specs.Turns.{is_end_of_hand, leaves_some}
 use Rattle.osgi_session.specs.Plans.{End, is_drained, Plan, stirs}
 use Rattle.osgi_session.specs.Runs.{Call, call, command_of, has_failed, Task, planned, drained, taking, Sections, Reads, at_stop, asked, ran, calm, empty, handed, over, fails, goes, none, took}
 use Rattle.osgi_runs.proofs.Balanced.{balanced, behind, behind-end}
 use Rattle.osgi_runs.proofs.Closing.{closes-plan}
 use Rattle.osgi_runs.proofs.Words.{no-word, put-word, then-word, word-of}
-
-abbrev pub is_end_of_hand : Op → Bool
-is_end_of_hand (EndHand listener) = true
-is_end_of_hand _ = false
-
--- after this call something may be to be handed: something may have been seen, or a listener is free again
-abbrev pub leaves_some : Op → Reply → Bool
-leaves_some o reply = stirs o reply || is_end_of_hand o
 
 -- one of the calls is a Hand that finds nothing
 abbrev pub Settles : List Call → Type 0
