@@ -1,10 +1,11 @@
-//! What a session writes that has the entries of a row.
+//! What a session writes that has the entries and the peeks of a row.
 
 use crate::entries::entry_of;
-use cases_text::{push_bytes, put};
-use osgi_base::List;
+use cases_operations::number;
+use cases_text::{number_of, push_bytes, put, split_word};
+use osgi_base::{List, ServiceId, Tag, Text};
 use osgi_console::render;
-use osgi_ops::Entry;
+use osgi_ops::{Entry, Peek};
 use osgi_session::{Command, Content, Line};
 use std::alloc::{AllocError, Global};
 
@@ -26,29 +27,62 @@ fn lines(alloc: Global) -> Result<List<Line>, AllocError> {
     Ok(lines)
 }
 
-/// The entries of a row, which semicolons part; none where one of them is none.
-fn entries(alloc: Global, row: &str) -> Result<Option<List<Entry>>, AllocError> {
-    let mut entries = List::new(alloc)?;
-    for part in row.split("; ") {
-        let Some(entry) = entry_of(alloc, part)? else {
-            return Ok(None);
-        };
-        entries.push(entry)?;
+/// A peek by the number of its line, how many entries there were, and the services that it found.
+fn peek_of(alloc: Global, text: &str) -> Result<Peek, AllocError> {
+    let (command, rest) = split_word(text);
+    let (place, ids) = split_word(rest);
+    let mut services = List::new(alloc)?;
+    for id in ids.split(' ') {
+        if let Some(id) = number_of(id) {
+            services.push(ServiceId(id))?;
+        }
     }
-    Ok(Some(entries))
+    Ok(Peek {
+        tag: Tag {
+            caller: 0,
+            command: number(command),
+        },
+        class: Text::of(alloc, b"a.A".as_slice())?,
+        filter: None,
+        place: u64::from(number(place)),
+        services,
+    })
 }
 
-/// Adds the text of a session with these entries.
-fn add_rendered(alloc: Global, out: &mut String, entries: &[Entry]) -> Result<(), AllocError> {
+/// The entries and the peeks of a row, which semicolons part; none where one of them is none.
+fn parts(alloc: Global, row: &str) -> Result<Option<(List<Entry>, List<Peek>)>, AllocError> {
+    let mut entries = List::new(alloc)?;
+    let mut peeks = List::new(alloc)?;
+    for part in row.split("; ") {
+        let (word, text) = split_word(part);
+        if word == "peek" {
+            peeks.push(peek_of(alloc, text)?)?;
+        } else {
+            let Some(entry) = entry_of(alloc, part)? else {
+                return Ok(None);
+            };
+            entries.push(entry)?;
+        }
+    }
+    Ok(Some((entries, peeks)))
+}
+
+/// Adds the text of a session with these entries and peeks.
+fn add_rendered(
+    alloc: Global,
+    out: &mut String,
+    entries: &[Entry],
+    peeks: &[Peek],
+) -> Result<(), AllocError> {
     let lines = lines(alloc)?;
-    let text = render(alloc, lines.items(), entries)?;
+    let text = render(alloc, lines.items(), entries, peeks)?;
     push_bytes(out, text.bytes())
 }
 
-/// Adds the text of a session with the entries of a row.
+/// Adds the text of a session with the entries and the peeks of a row.
 pub fn add_written(alloc: Global, out: &mut String, row: &str) -> Result<(), AllocError> {
-    match entries(alloc, row)? {
-        Some(entries) => add_rendered(alloc, out, entries.items()),
+    match parts(alloc, row)? {
+        Some((entries, peeks)) => add_rendered(alloc, out, entries.items(), peeks.items()),
         None => put(out, "no such entry"),
     }
 }

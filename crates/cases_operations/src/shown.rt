@@ -19,7 +19,7 @@ fn line_of(entry: &Entry) -> Line {
 
 /// What the console writes of a line that has this entry alone.
 fn written(alloc: Global, line: &Line, entry: &Entry) -> Result<Text, AllocError> {
-    render(alloc, slice::from_ref(line), slice::from_ref(entry))
+    render(alloc, slice::from_ref(line), slice::from_ref(entry), &[])
 }
 
 /// What an entry writes. Where it is alone it does not end the run of its line, and so `full` follows.

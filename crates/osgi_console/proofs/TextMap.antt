@@ -1,22 +1,26 @@
--- What the entries of each line write, with one more entry.
-use Rattle.std.proofs.Common.{◌≡◌, ℕ, List, [], ◌∷◌, ◌++◌, ap, sym, ◌∙◌, refl, append-nil, arith}
+-- What the peeks and the entries of each line write, with one more of them.
+use Rattle.std.proofs.Common.{◌≡◌, ℕ, List, [], ◌∷◌, ◌++◌, ap, sym, ◌∙◌, refl, append-nil, append_assoc, map, arith}
 use Rattle.std.specs.Prelude.{Bool, true, false, cond, Option, None, Some, nat_eq, nat_lt, filter, unwrap_or}
 use Rattle.std.specs.BTreeMap.{get}
+use Rattle.std.specs.List.{concat}
 use Rattle.std.specs.Ordering.{is_eq, nat_cmp}
 use Rattle.std.specs.declared.cmp.Ordering.TheVariants.{Equal, Greater, Less}
 use Rattle.std.proofs.lemmas.Bool.{cond-false, cond-true, eqb-true, ltb-true}
+use Rattle.std.proofs.lemmas.List.{map-append}
 use Rattle.std.proofs.lemmas.List.Elements.{filter-append}
+use Rattle.std.proofs.lemmas.List.Folds.{concat-append}
 use Rattle.osgi_ops.specs.Along.{latest}
 use Rattle.osgi_ops.specs.Levels.{active_level, moved_to}
 use Rattle.osgi_ops.specs.laws.Along.{latest-quiet, latest-set}
 use Rattle.osgi_session.specs.laws.Texts.{entries_text-push}
 use Rattle.osgi_session.specs.Lines.{is_of}
-use Rattle.osgi_session.specs.Rendering.{ends_without_job, entries_text, entry_text, line_text, takes_no_job}
+use Rattle.osgi_session.specs.Rendering.{ends_without_job, entries_text, entry_text, line_text, peek_text, peeks_text, takes_no_job}
 use Rattle.osgi_ops.specs.declared.entry.Entry.{Entry}
+use Rattle.osgi_ops.specs.declared.peek.Peek.{Peek}
 use Rattle.osgi_session.specs.declared.line.Content.{Content}
 use Rattle.osgi_session.specs.declared.line.Content.TheVariants.{Empty, Join, Bad, Run}
 use Rattle.osgi_session.specs.declared.line.Line.{Line}
-use Rattle.osgi_console.specs.computed.Texts.{AreTextsOf, has_ended, IsTextOf, line_text_by, text_at, Texts, written}
+use Rattle.osgi_console.specs.computed.Texts.{AreTextsOf, ends_so, has_ended, Holds, line_text_by, text_at, text_under, Texts, written}
 use Rattle.osgi_console.specs.declared.rendering.LineText.{LineText}
 
 -- ---- the active level
@@ -56,23 +60,45 @@ text-no : (number : ℕ) (history : List Entry) (e : Entry) → is_of number e �
 text-no number history e other =
     entries_text-push number history e ∙ ap (λ t. entries_text number history ++ t) (cond-false (is_of number e) (entry_text history e) [] other) ∙ append-nil (entries_text number history)
 
+-- ---- peeks
+
+abbrev is_peek_of : ℕ → Peek → Bool
+is_peek_of number p = nat_eq p.tag.command number
+
+peeks-last : (number : ℕ) (peeks : List Peek) (p : Peek) →
+    peeks_text number (peeks ++ p ∷ []) ≡ peeks_text number peeks ++ concat (map peek_text (cond (is_peek_of number p) (p ∷ []) []))
+peeks-last number peeks p =
+    ap (λ l. concat (map peek_text l)) (filter-append (is_peek_of number) peeks (p ∷ []))
+    ∙ ap concat (map-append peek_text (filter (is_peek_of number) peeks) (cond (is_peek_of number p) (p ∷ []) []))
+    ∙ concat-append (map peek_text (filter (is_peek_of number) peeks)) (map peek_text (cond (is_peek_of number p) (p ∷ []) []))
+
+peek-yes : (number : ℕ) (peeks : List Peek) (p : Peek) → is_peek_of number p ≡ true → text_under [] (peeks ++ p ∷ []) number ≡ text_under [] peeks number ++ peek_text p
+peek-yes number peeks p of =
+    append-nil (peeks_text number (peeks ++ p ∷ [])) ∙ peeks-last number peeks p
+    ∙ ap (λ l. peeks_text number peeks ++ concat (map peek_text l)) (cond-true (is_peek_of number p) (p ∷ []) [] of)
+    ∙ ap (λ l. peeks_text number peeks ++ l) (append-nil (peek_text p))
+    ∙ ap (λ l. l ++ peek_text p) (sym (append-nil (peeks_text number peeks)))
+
+peek-no : (number : ℕ) (peeks : List Peek) (p : Peek) → is_peek_of number p ≡ false → text_under [] (peeks ++ p ∷ []) number ≡ text_under [] peeks number
+peek-no number peeks p other =
+    append-nil (peeks_text number (peeks ++ p ∷ [])) ∙ peeks-last number peeks p
+    ∙ ap (λ l. peeks_text number peeks ++ concat (map peek_text l)) (cond-false (is_peek_of number p) (p ∷ []) [] other)
+
 -- ---- all lines
 
-put_by : (number q : ℕ) (test : Bool) (history : List Entry) (e : Entry) (taken at_old at_less at_more : Option LineText) (line : LineText) → nat_eq number q ≡ test → e.tag.command ≡ number →
-    (number ≡ q → taken ≡ at_old) → IsTextOf history q at_old → line.text.items ≡ written taken ++ entry_text history e → line.has_ended ≡ takes_no_job e.op e.reply →
-    at_less ≡ cond test None at_old → at_more ≡ cond test (Some line) at_less → IsTextOf (history ++ e ∷ []) q at_more
-put_by number q true history e taken at_old at_less at_more line same is_number found known added ended less more =
-    let of : is_of q e ≡ true = rw is_number same in
-    record {
-      text = ap written more ∙ added ∙ ap (λ t. t ++ entry_text history e) (ap written (found (eqb-true number q same)) ∙ known.text) ∙ sym (text-yes q history e of);
-      ended = ap has_ended more ∙ ended ∙ sym (ended-yes q history e of);
-    }
-put_by number q false history e taken at_old at_less at_more line same is_number found known added ended less more =
-    let other : is_of q e ≡ false = rw is_number same in
-    record {
-      text = ap written (more ∙ less) ∙ known.text ∙ sym (text-no q history e other);
-      ended = ap has_ended (more ∙ less) ∙ known.ended ∙ sym (ended-no q history e other);
-    }
+-- one more text under a number: that line has it behind what it had, and each other line has what it had
+put_by : (number q : ℕ) (test : Bool) (before after : List ℕ) (ended_before ended_after : Bool) (added : List ℕ) (ends : Bool) (taken at_old at_less at_more : Option LineText) (line : LineText) →
+    nat_eq number q ≡ test → (number ≡ q → taken ≡ at_old) → Holds before ended_before at_old → line.text.items ≡ written taken ++ added → line.has_ended ≡ ends →
+    (test ≡ true → (after ≡ before ++ added) × (ended_after ≡ ends)) → (test ≡ false → (after ≡ before) × (ended_after ≡ ended_before)) →
+    at_less ≡ cond test None at_old → at_more ≡ cond test (Some line) at_less → Holds after ended_after at_more
+put_by number q true before after ended_before ended_after added ends taken at_old at_less at_more line same found known more ended own other less with_line = record {
+  text = ap written with_line ∙ more ∙ ap (λ t. t ++ added) (ap written (found (eqb-true number q same)) ∙ known.text) ∙ sym (own refl).0;
+  ended = ap has_ended with_line ∙ ended ∙ sym (own refl).1;
+}
+put_by number q false before after ended_before ended_after added ends taken at_old at_less at_more line same found known more ended own other less with_line = record {
+  text = ap written (with_line ∙ less) ∙ known.text ∙ sym (other refl).0;
+  ended = ap has_ended (with_line ∙ less) ∙ known.ended ∙ sym (other refl).1;
+}
 
 same_by : (x y : ℕ) (less same : Bool) → nat_lt x y ≡ less → nat_eq x y ≡ same → is_eq (cond less Less (cond same Equal Greater)) ≡ same
 same_by x y true true l s = absurd (omega (arith, ltb-true x y l, eqb-true x y s))
@@ -84,25 +110,53 @@ same_by x y false false l s = refl
 same_number : (x y : ℕ) → is_eq (nat_cmp x y) ≡ nat_eq x y
 same_number x y = same_by x y (nat_lt x y) (nat_eq x y) refl refl
 
--- the text of a line is taken out, gains that of one more entry and is put back
-pub texts_put : (history : List Entry) (e : Entry) (old less more : Texts) (taken : Option LineText) (line : LineText) → AreTextsOf history old → taken ≡ get nat_cmp old e.tag.command →
-    line.text.items ≡ written taken ++ entry_text history e → line.has_ended ≡ takes_no_job e.op e.reply →
-    ((q : ℕ) → get nat_cmp less q ≡ cond (is_eq (nat_cmp e.tag.command q)) None (get nat_cmp old q)) →
-    ((q : ℕ) → get nat_cmp more q ≡ cond (is_eq (nat_cmp e.tag.command q)) (Some line) (get nat_cmp less q)) → AreTextsOf (history ++ e ∷ []) more
-texts_put history e old less more taken line texts is_taken added ended without with_line = λ q.
-    put_by e.tag.command q (is_eq (nat_cmp e.tag.command q)) history e taken (get nat_cmp old q) (get nat_cmp less q) (get nat_cmp more q) line (sym (same_number e.tag.command q)) refl
-    (λ here. is_taken ∙ ap (get nat_cmp old) here) (texts q) added ended (without q) (with_line q)
+-- the text of a line was taken out and put back with more
+abbrev pub WasPut : ℕ → LineText → Texts → Texts → Texts → Type 0
+WasPut number line old less more =
+    ((q : ℕ) → get nat_cmp less q ≡ cond (is_eq (nat_cmp number q)) None (get nat_cmp old q)) ×
+    ((q : ℕ) → get nat_cmp more q ≡ cond (is_eq (nat_cmp number q)) (Some line) (get nat_cmp less q))
+
+-- so it gains that of one more entry
+pub texts_put : (history : List Entry) (peeks : List Peek) (e : Entry) (old less more : Texts) (taken : Option LineText) (line : LineText) → AreTextsOf history peeks old →
+    taken ≡ get nat_cmp old e.tag.command → line.text.items ≡ written taken ++ entry_text history e → line.has_ended ≡ takes_no_job e.op e.reply →
+    WasPut e.tag.command line old less more → AreTextsOf (history ++ e ∷ []) peeks more
+texts_put history peeks e old less more taken line texts is_taken added ended put = λ q.
+    put_by e.tag.command q (is_eq (nat_cmp e.tag.command q)) (text_under history peeks q) (text_under (history ++ e ∷ []) peeks q) (ends_so history q) (ends_so (history ++ e ∷ []) q)
+    (entry_text history e) (takes_no_job e.op e.reply) taken (get nat_cmp old q) (get nat_cmp less q) (get nat_cmp more q) line (sym (same_number e.tag.command q))
+    (λ here. is_taken ∙ ap (get nat_cmp old) here) (texts q) added ended
+    (λ yes.
+    (let of : is_of q e ≡ true = sym (same_number e.tag.command q) ∙ yes in (
+      ap (λ t. peeks_text q peeks ++ t) (text-yes q history e of) ∙ sym (append_assoc (peeks_text q peeks) (entries_text q history) (entry_text history e)),
+      ended-yes q history e of,
+    )))
+    (λ no.
+    (let other : is_of q e ≡ false = sym (same_number e.tag.command q) ∙ no in
+    (ap (λ t. peeks_text q peeks ++ t) (text-no q history e other), ended-no q history e other)))
+    (put.0 q) (put.1 q)
+
+-- or, before any entry, that of one more peek
+pub peek_put : (peeks : List Peek) (p : Peek) (old less more : Texts) (taken : Option LineText) (line : LineText) → AreTextsOf [] peeks old →
+    taken ≡ get nat_cmp old p.tag.command → line.text.items ≡ written taken ++ peek_text p → line.has_ended ≡ false →
+    WasPut p.tag.command line old less more → AreTextsOf [] (peeks ++ p ∷ []) more
+peek_put peeks p old less more taken line texts is_taken added ended put = λ q.
+    put_by p.tag.command q (is_eq (nat_cmp p.tag.command q)) (text_under [] peeks q) (text_under [] (peeks ++ p ∷ []) q) false false
+    (peek_text p) false taken (get nat_cmp old q) (get nat_cmp less q) (get nat_cmp more q) line (sym (same_number p.tag.command q))
+    (λ here. is_taken ∙ ap (get nat_cmp old) here) (texts q) added ended
+    (λ yes. (peek-yes q peeks p (sym (same_number p.tag.command q) ∙ yes), refl))
+    (λ no. (peek-no q peeks p (sym (same_number p.tag.command q) ∙ no), refl))
+    (put.0 q) (put.1 q)
 
 -- ---- one line
 
-line_by : (content : Content) (number : ℕ) (history : List Entry) (line : Option LineText) (ended : Bool) → IsTextOf history number line → ends_without_job (filter (is_of number) history) ≡ ended →
-    line_text_by content line ≡ line_text history [] (record { number = number; lane = 0; content = content })
-line_by Empty number history line ended is e = refl
-line_by Join number history line ended is e = refl
-line_by Bad number history line ended is e = refl
-line_by (Run command) number history line true is e = rw (is.text, is.ended, e) refl
-line_by (Run command) number history line false is e = rw (is.text, is.ended, e) refl
+line_by : (content : Content) (number : ℕ) (history : List Entry) (peeks : List Peek) (line : Option LineText) (ended : Bool) → Holds (text_under history peeks number) (ends_so history number) line →
+    ends_so history number ≡ ended → line_text_by content line ≡ line_text history peeks (record { number = number; lane = 0; content = content })
+line_by Empty number history peeks line ended is e = refl
+line_by Join number history peeks line ended is e = refl
+line_by Bad number history peeks line ended is e = refl
+line_by (Run command) number history peeks line true is e = rw (is.text, is.ended, e) refl
+line_by (Run command) number history peeks line false is e = rw (is.text, is.ended, e) refl
 
--- what a line writes by what its entries write is what it writes by the history
-pub line_text_from : (history : List Entry) (texts : Texts) (line : Line) → AreTextsOf history texts → line_text_by line.content (text_at texts line.number) ≡ line_text history [] line
-line_text_from history texts line are = line_by line.content line.number history (text_at texts line.number) (ends_without_job (filter (is_of line.number) history)) (are line.number) refl
+-- what a line writes by what its peeks and entries write is what it writes by the history and the peeks
+pub line_text_from : (history : List Entry) (peeks : List Peek) (texts : Texts) (line : Line) → AreTextsOf history peeks texts →
+    line_text_by line.content (text_at texts line.number) ≡ line_text history peeks line
+line_text_from history peeks texts line are = line_by line.content line.number history peeks (text_at texts line.number) (ends_so history line.number) (are line.number) refl

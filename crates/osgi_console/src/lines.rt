@@ -3,12 +3,12 @@
 ghost use Rattle.std.specs.Prelude.{◌≡◌, ◌++◌, codes, OnOk};
 ghost use Rattle.std.specs.Fmt.{decimal};
 ghost use Rattle.osgi_session.specs.RefusalTexts.{spaced};
-ghost use Rattle.osgi_session.specs.Rendering.{bundles_text, event_text, held_text, line_at, loaded_text, quoted, services_text, truth};
+ghost use Rattle.osgi_session.specs.Rendering.{bundles_text, event_text, held_text, line_at, loaded_text, peek_text, quoted, services_text, truth};
 
 use crate::ids::{add_bundle_ids, add_service_ids};
 use crate::writing::{add_indent, add_number, add_quoted, add_spaced, add_spaced_number};
 use osgi_base::{BundleId, ListenerId, RevisionId, ServiceId};
-use osgi_ops::{Event, ObjectId};
+use osgi_ops::{Event, ObjectId, Peek};
 use std::alloc::AllocError;
 
 /// Adds a line that is this text.
@@ -166,6 +166,17 @@ fn add_object_id(out: &mut Vec<u8>, object: ObjectId) -> Result<(), AllocError>
 {
     out.extend_from_slice(b" o")?;
     add_number(out, object.0)
+}
+
+/// Adds the line of a peek: how many entries there were, and the services that it found.
+pub fn add_peek(out: &mut Vec<u8>, peek: &Peek) -> Result<(), AllocError>
+    ensures added { OnOk result (out.new.items ≡ out.old.items ++ peek_text peek.now) }
+{
+    out.extend_from_slice(b"peek")?;
+    add_spaced_number(out, peek.place)?;
+    add_service_ids(out, peek.services.items())?;
+    out.push(b'\n')?;
+    Ok(())
 }
 
 /// Adds the line of an object that a factory made.

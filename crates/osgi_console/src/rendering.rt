@@ -1,16 +1,17 @@
 //! The text of a session.
 
-ghost use Rattle.std.specs.Prelude.{◌≡◌, ◌++◌, ◌∷◌, [], List, IfOk, OnOk, option_copied, unwrap_or};
+ghost use Rattle.std.specs.Prelude.{◌≡◌, ◌++◌, ◌∷◌, [], false, List, IfOk, OnOk, option_copied, unwrap_or};
 ghost use Rattle.osgi_brackets.specs.Open.{StandsFor};
 ghost use Rattle.osgi_ops.specs.Levels.{moved_to};
 ghost use Rattle.osgi_ops.specs.declared.entry.Entry.{Entry};
-ghost use Rattle.osgi_session.specs.Rendering.{depth, entry_lines, lines_at, render, takes_no_job};
+ghost use Rattle.osgi_session.specs.Rendering.{depth, entry_lines, lines_at, peek_text, render, takes_no_job};
 ghost use Rattle.osgi_console.specs.computed.Texts.{AreTextsOf, has_ended, line_text_by, run_text, text_at, written};
 
 use crate::entries::add_entry;
+use crate::lines::add_peek;
 use osgi_base::Text;
 use osgi_brackets::Brackets;
-use osgi_ops::{Entry, Op, Reply};
+use osgi_ops::{Entry, Op, Peek, Reply};
 use osgi_session::{Content, Line};
 use std::alloc::{AllocError, Global};
 use std::collections::BTreeMap;
@@ -18,11 +19,11 @@ use std::collections::BTreeMap;
 /// The active start level of a history without entries.
 const FIRST_LEVEL: u8 = 1;
 
-/// What the entries of a line write.
+/// What the peeks of a line write, and then its entries.
 #[derive(Drop)]
 struct LineText {
     text: Vec<u8>,
-    /// Whether the last of them found no job to take, with which the line's run ends.
+    /// Whether the last of the entries found no job to take, with which the line's run ends.
     has_ended: bool,
 }
 
@@ -59,7 +60,31 @@ fn takes_no_job(entry: &Entry) -> bool
     matches!((&entry.op, &entry.reply), (Op::TakeJob, Reply::NoJob))
 }
 
-/// What a line's entries write with one more of them, from what those before it write.
+/// What was written of a line so far.
+fn text_so_far(alloc: Global, line: Option<LineText>) -> Vec<u8>
+    ensures text { result.items ≡ written line }
+{
+    match line {
+        Some(LineText { text, .. }) => text,
+        None => Vec::new(alloc),
+    }
+}
+
+/// What a line's peeks write with one more of them, from what those before it write.
+fn with_peek(alloc: Global, line: Option<LineText>, peek: &Peek) -> Result<LineText, AllocError>
+    ensures text { IfOk result (λ more.
+        more.text.items ≡ written line ++ peek_text peek.now) }
+    ensures ended { IfOk result (λ more. more.has_ended ≡ false) }
+{
+    let mut text = text_so_far(alloc, line);
+    add_peek(&mut text, peek)?;
+    Ok(LineText {
+        text,
+        has_ended: false,
+    })
+}
+
+/// What a line writes with one more of its entries, from what its peeks and the entries before it write.
 fn with_entry(
     alloc: Global,
     line: Option<LineText>,
@@ -73,10 +98,7 @@ fn with_entry(
     ensures ended { IfOk result (λ more.
         more.has_ended ≡ takes_no_job entry.now.op entry.now.reply) }
 {
-    let mut text = match line {
-        Some(LineText { text, .. }) => text,
-        None => Vec::new(alloc),
-    };
+    let mut text = text_so_far(alloc, line);
     add_entry(alloc, &mut text, depth, level, entry)?;
     Ok(LineText {
         text,
@@ -84,17 +106,35 @@ fn with_entry(
     })
 }
 
-/// What the entries of each line write, under the number of the line.
-fn texts(alloc: Global, entries: &[Entry]) -> Result<BTreeMap<u32, LineText>, AllocError>
-    ensures texts { IfOk result (AreTextsOf entries.now) }
+/// What the peeks of each line write, under the number of the line.
+fn peeked(alloc: Global, peeks: &[Peek]) -> Result<BTreeMap<u32, LineText>, AllocError>
+    ensures texts { IfOk result (AreTextsOf [] peeks.now) }
 {
     let mut texts = BTreeMap::new(alloc);
+    for peek in peeks {
+        let number = peek.tag.command;
+        // Taken out and put back: what the map then holds has a contract, which a loan into it has not.
+        let text = with_peek(alloc, texts.remove(&number), peek)?;
+        texts.insert(number, text)?;
+    }
+    Ok(texts)
+}
+
+/// What the peeks and then the entries of each line write, under the number of the line.
+fn texts(
+    alloc: Global,
+    entries: &[Entry],
+    peeks: &[Peek],
+) -> Result<BTreeMap<u32, LineText>, AllocError>
+    ensures texts { IfOk result (AreTextsOf entries.now peeks.now) }
+{
+    let mut texts = peeked(alloc, peeks)?;
     let mut brackets = Brackets::new(alloc);
     let mut level = FIRST_LEVEL;
     for entry in entries {
         let number = entry.tag.command;
         let depth = depth_of(&mut brackets, entry)?;
-        // Taken out and put back: what the map then holds has a contract, which a loan into it has not.
+        // Taken out and put back, as in `peeked`.
         let text = with_entry(alloc, texts.remove(&number), depth, level, entry)?;
         texts.insert(number, text)?;
         level = level_after(level, entry);
@@ -136,16 +176,22 @@ fn add_line(
     }
 }
 
-/// The text of a session in which no line peeks: what its lines write, in input order.
+/// The text of a session: what its lines write, in input order.
 ///
-/// An entry writes its lines after two spaces for each bracket of its caller that it stands in. A line with a command ends
-/// with `full` exactly where its entries do not end with one that found no job to take.
+/// A line with a command writes its peeks, in the order in which they are given, and then its entries. An entry writes its
+/// lines after two spaces for each bracket of its caller that it stands in. A line with a command ends with `full` exactly
+/// where its entries do not end with one that found no job to take.
 ///
-/// The cost is near linear in the lines and entries together.
-pub fn render(alloc: Global, lines: &[Line], entries: &[Entry]) -> Result<Text, AllocError>
-    ensures text { IfOk result (λ text. text ≡ render lines.now entries.now []) }
+/// The cost is near linear in the lines, entries and peeks together.
+pub fn render(
+    alloc: Global,
+    lines: &[Line],
+    entries: &[Entry],
+    peeks: &[Peek],
+) -> Result<Text, AllocError>
+    ensures text { IfOk result (λ text. text ≡ render lines.now entries.now peeks.now) }
 {
-    let texts = texts(alloc, entries)?;
+    let texts = texts(alloc, entries, peeks)?;
     let mut out = Vec::new(alloc);
     for line in lines {
         add_line(&mut out, line, &texts)?;

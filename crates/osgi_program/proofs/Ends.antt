@@ -24,6 +24,7 @@ use Rattle.osgi_session.specs.declared.line.Line.{Line}
 use Rattle.osgi_program.proofs.Limits.{handed_all, hands_are, lane_end, some_spent}
 use Rattle.osgi_program.specs.computed.Ended.{IsRun, status_by}
 use Rattle.osgi_program.specs.Outcome.{is_handing, is_troubled, IsAtLimit, IsDoneStatus, IsSession, IsUncut, IsWrittenStatus, Shelved, status_of}
+use Rattle.osgi_program.specs.Words.{replies}
 use Rattle.osgi_program.specs.declared.session.TheConstants.{CUT, DONE, MAX_INPUT, NO_MEMORY, TROUBLED, WRITE_FAILED}
 use Rattle.osgi_program.specs.computed.Running.{IsSpentOrFull, RunsLines, Unspent}
 use Rattle.osgi_program.specs.declared.lines.Ran.{Ran}
@@ -96,7 +97,7 @@ all_handed ran.Cut setting session status told legal tells starved is runs done 
 all_handed ran.Starved setting session status told legal tells starved is runs done = absurd (not_done status (let e : status ≡ 5 = starved refl in omega (arith, e)) done)
 
 pub session_from : (bounds : Bounds) (input : List ℕ) (shelf : Shelved) (how : Ran) (session : Session) (status : ℕ) (left : Option (List ℕ)) → IsRun bounds input shelf how session → IfSome left (λ all. input ≡ all) → length input ≤ MAX_INPUT →
-    (how ≡ ran.Starved → status ≡ 5) → (IsWrittenStatus status → status ≡ status_by how session) → IsSession bounds status left shelf session
+    (how ≡ ran.Starved → status ≡ 5) → (IsWrittenStatus status → status ≡ status_by how session) → IsSession (replies bounds) status left shelf session
 session_from bounds input shelf how session status left run all within starved is =
     let script = sections_of session.scripts in
     let setting : Setting = record { bounds = bounds; depot = session.depot.rows } in
@@ -114,6 +115,7 @@ session_from bounds input shelf how session status left run all within starved i
       whole = whole;
       full = full-where-cut setting script bounds.entries status session.lines session.entries run.legal (numbered_from 1 (lines input) session.lines run.lines) flat whole;
       handings = run.handings ∙ hands_are session.entries;
+      peeks = run.peeks;
     }
 
 -- ---- the status

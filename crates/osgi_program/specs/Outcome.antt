@@ -23,6 +23,7 @@ use Rattle.osgi_runs.specs.Handed.{AllHanded}
 use Rattle.osgi_depot.specs.Depots.{IsDepotOf}
 use Rattle.osgi_outside.specs.Shelves.{ShelfRow}
 use Rattle.osgi_program.specs.declared.session.Session.{Session}
+use Rattle.osgi_program.specs.Words.{bounds_in, replies, Request}
 use Rattle.osgi_program.specs.declared.session.TheConstants.{MAX_INPUT, DONE, TROUBLED, FAULTY_WORDS, READ_FAILED, INPUT_TOO_LONG, CUT}
 
 -- the reply hands an event to a listener
@@ -49,19 +50,21 @@ pub record Shelved : Type 0 where
 -- read with no lanes. Its depot is what these lines name, as the shelf told it, each row with its script. Its
 -- history replays from the empty framework, and is what these lines make under the limits. After every step of it, as it replays, the
 -- wirings in force are consistent, and each bundle that it refuses as unresolvable is so. What each listener was handed is a beginning
--- of what is due to it; on the statuses 0 and 1 it is all of that, for each listener that is live in the end
-pub record IsSession (bounds : Bounds) (status : ℕ) (left : Option (List ℕ)) (shelf : Shelved) (session : Session) : Type 0 where
+-- of what is due to it; on the statuses 0 and 1 it is all of that, for each listener that is live in the end. No line peeks: there is no
+-- word for it yet
+pub record IsSession (asked : Request) (status : ℕ) (left : Option (List ℕ)) (shelf : Shelved) (session : Session) : Type 0 where
   pub input : List ℕ
   pub all : IfSome left (λ bytes. input ≡ bytes)
   pub within : length input ≤ MAX_INPUT
   pub lines : AreLinesOf 0 input session.lines
   pub depot : IsDepotOf session.lines shelf.told shelf.before shelf.after session.depot.rows session.scripts.rows
-  pub legal : Legal (record { bounds = bounds; depot = session.depot.rows }) session.entries
+  pub legal : Legal (record { bounds = bounds_in asked; depot = session.depot.rows }) session.entries
   pub sound : IsSoundTelling legal.1.told
   pub handed : IsDoneStatus status → AllHanded legal.1.told
-  pub whole : IsWhole (sections_of session.scripts) bounds.entries status session.lines session.entries
-  pub full : All (IsFullWhereCut (sections_of session.scripts) 0 session.entries) session.lines
+  pub whole : IsWhole (sections_of session.scripts) (bounds_in asked).entries status session.lines session.entries
+  pub full : All (IsFullWhereCut (sections_of session.scripts) session.entries) session.lines
   pub handings : session.handings ≡ count_by (λ e. is_handing e.reply) session.entries
+  pub peeks : session.peeks ≡ []
 
 abbrev pub is_bad : Content → Bool
 is_bad Bad = true
@@ -77,19 +80,19 @@ status_of session =
     if list_any (is_full session.entries) session.lines then CUT
     else (if is_troubled session.lines session.entries then TROUBLED else DONE)
 
--- no line peeks
-abbrev pub text_of : Session → List ℕ
-text_of session = render session.lines session.entries []
+-- the text that is written of a session, by what was asked for
+abbrev pub text_of : Request → Session → List ℕ
+text_of (replies bounds) session = render session.lines session.entries session.peeks
 
--- the session's whole text was written and flushed
-pub record IsWritten (before after flushed : Option (List ℕ)) (session : Session) : Type 0 where
-  pub text : Appends before after (text_of session)
+-- the whole text was written and flushed
+pub record IsWritten (before after flushed : Option (List ℕ)) (whole : List ℕ) : Type 0 where
+  pub text : Appends before after whole
   pub flush : flushed ≡ after
 
--- the session's text was written up to some place
-pub record IsPartlyWritten (before after : Option (List ℕ)) (session : Session) : Type 0 where
+-- the text was written up to some place
+pub record IsPartlyWritten (before after : Option (List ℕ)) (whole : List ℕ) : Type 0 where
   pub count : ℕ
-  pub text : Appends before after (take count (text_of session))
+  pub text : Appends before after (take count whole)
 
 -- statuses of a run whose text was written
 abbrev pub IsWrittenStatus : ℕ → Type 0

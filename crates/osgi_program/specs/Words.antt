@@ -1,8 +1,11 @@
--- The words of the command line.
-use Rattle.std.specs.Prelude.{ℕ, ◌≡◌, ◌≤◌, ◌⊎◌, List, [], ◌∷◌, ◌++◌, length, codes}
+-- The words of the command line, and what they ask for.
+use Rattle.std.specs.Prelude.{ℕ, ◌≡◌, ◌≤◌, ◌⊎◌, List, [], ◌∷◌, ◌++◌, Option, None, Some, length, map, filter, codes}
+use Rattle.std.specs.Str.{bytes_eq}
 use Rattle.std.specs.Str.Parse.{IsNumeral, digits_value}
 use Rattle.osgi_ops.specs.Settings.{Bounds, standard_bounds}
 use Rattle.osgi_ops.specs.declared.limits.TheConstants.{MAX_BUDGET, MAX_HANDINGS}
+
+-- ---- options
 
 -- the word is one to ten digits of a number from 1 to this one
 pub record IsNumberUpTo (greatest : ℕ) (word : List ℕ) (number : ℕ) : Type 0 where
@@ -18,30 +21,70 @@ abbrev pub IsOption : List ℕ → List (List ℕ) → List ℕ → List (List �
 IsOption name words word rest = (words ≡ name ∷ word ∷ rest) ⊎ (words ≡ (name ++ codes "=" ++ word) ∷ rest)
 
 -- and its number is one from 1 to the greatest
-abbrev pub Gives : List ℕ → ℕ → List (List ℕ) → ℕ → List (List ℕ) → Type 0
-Gives name greatest words number rest = (word : List ℕ) × IsOption name words word rest × IsNumberUpTo greatest word number
+abbrev pub GivesNumber : List ℕ → ℕ → List (List ℕ) → ℕ → List (List ℕ) → Type 0
+GivesNumber name greatest words number rest = (word : List ℕ) × IsOption name words word rest × IsNumberUpTo greatest word number
 
--- the words are options, one after another in any order, which give these budgets and these numbers of handings
-pub data AreOptions : List (List ℕ) → List ℕ → List ℕ → Type 0 where
-  none : AreOptions [] [] []
-  one_budget : {words rest : List (List ℕ)} {number : ℕ} {budgets handings : List ℕ} →
-      Gives (codes "--budget") MAX_BUDGET words number rest → AreOptions rest budgets handings → AreOptions words (number ∷ budgets) handings
-  one_handings : {words rest : List (List ℕ)} {number : ℕ} {budgets handings : List ℕ} →
-      Gives (codes "--handings") MAX_HANDINGS words number rest → AreOptions rest budgets handings → AreOptions words budgets (number ∷ handings)
+-- an option that there is: its name, and the greatest number that may stand behind it; none where it has no number
+pub record Offered : Type 0 where
+  pub name : List ℕ
+  pub greatest : Option ℕ
 
--- at most one number is given, and it counts; where none is, the standard one does
-abbrev pub IsChosen : ℕ → List ℕ → ℕ → Type 0
+-- an option that is given: its name, and its number, where it has one
+pub record Given : Type 0 where
+  pub name : List ℕ
+  pub number : Option ℕ
+
+-- an option without a number is its name alone
+abbrev pub HasNumber : Option ℕ → Option ℕ → List ℕ → List (List ℕ) → List (List ℕ) → Type 0
+HasNumber None None name words rest = words ≡ name ∷ rest
+HasNumber (Some greatest) (Some number) name words rest = GivesNumber name greatest words number rest
+HasNumber _ _ name words rest = ⊥
+
+-- the words begin with one of the options that there are, given so, and these stand after it
+abbrev pub IsOneOf : List Offered → List (List ℕ) → Given → List (List ℕ) → Type 0
+IsOneOf [] words given rest = ⊥
+IsOneOf (offered ∷ others) words given rest = ((given.name ≡ offered.name) × HasNumber offered.greatest given.number offered.name words rest) ⊎ IsOneOf others words given rest
+
+-- the options of a run
+abbrev pub run_options : List Offered
+run_options = record { name = codes "--budget"; greatest = Some MAX_BUDGET } ∷ record { name = codes "--handings"; greatest = Some MAX_HANDINGS } ∷ []
+
+-- the words are options, given so, one after another in any order
+pub data AreOptions (all : List Offered) : List (List ℕ) → List Given → Type 0 where
+  none : AreOptions all [] []
+  one : {words rest : List (List ℕ)} {first : Given} {more : List Given} → IsOneOf all words first rest → AreOptions all rest more → AreOptions all words (first ∷ more)
+
+-- the numbers that the options of this name give
+abbrev pub numbers_of : List ℕ → List Given → List (Option ℕ)
+numbers_of name given = map (λ (g : Given). g.number) (filter (λ (g : Given). bytes_eq g.name name) given)
+
+-- the option is given at most once, and its number counts; where it is not given, the standard one does
+abbrev pub IsChosen : ℕ → List (Option ℕ) → ℕ → Type 0
 IsChosen standard [] number = number ≡ standard
-IsChosen standard (given ∷ []) number = number ≡ given
+IsChosen standard (given ∷ []) number = given ≡ Some number
 IsChosen standard (given ∷ other ∷ more) number = ⊥
 
--- the words ask for a run with these limits: `run`, and after it at most one budget for each resolve, and at most one limit of handings
+-- ---- what is asked for
+
+-- `run`, and after it at most one budget for each resolve, and at most one limit of handings: these are the limits of the run
 pub record AsksRun (words : List (List ℕ)) (bounds : Bounds) : Type 0 where
   pub options : List (List ℕ)
-  pub budgets : List ℕ
-  pub handings : List ℕ
+  pub given : List Given
   pub run : words ≡ codes "run" ∷ options
-  pub are : AreOptions options budgets handings
-  pub one_budget : IsChosen standard_bounds.budget budgets bounds.budget
-  pub one_limit : IsChosen standard_bounds.handings handings bounds.handings
+  pub are : AreOptions run_options options given
+  pub one_budget : IsChosen standard_bounds.budget (numbers_of (codes "--budget") given) bounds.budget
+  pub one_limit : IsChosen standard_bounds.handings (numbers_of (codes "--handings") given) bounds.handings
   pub entries : bounds.entries ≡ standard_bounds.entries
+
+-- what words may ask for
+pub data Request : Type 0 where
+  -- a run of the input's lines under these limits, and the text of what they answer
+  replies : Bounds → Request
+
+-- the limits that it sets
+abbrev pub bounds_in : Request → Bounds
+bounds_in (replies bounds) = bounds
+
+-- the words ask for this
+pub data Asks (words : List (List ℕ)) : Request → Type 0 where
+  for_replies : {bounds : Bounds} → AsksRun words bounds → Asks words (replies bounds)

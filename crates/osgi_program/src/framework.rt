@@ -3,11 +3,12 @@
 ghost use Rattle.std.specs.Prelude.{◌≡◌, ◌≤◌, ◌<◌, ◌↔◌, ◌⊎◌, [], ℕ, length, None, Some, IfSome, OnSome, IsSomeAnd, IfOk, IsTrue};
 ghost use Rattle.std.specs.List.{count_by, list_any};
 ghost use Rattle.osgi_ops.specs.Replies.{is_refusal};
-ghost use Rattle.osgi_ops.specs.Settings.{Bounds, bounds_of};
+ghost use Rattle.osgi_ops.specs.Settings.{bounds_of};
 ghost use Rattle.osgi_outside.specs.Causes.{Rose};
-ghost use Rattle.osgi_program.specs.Outcome.{is_bad, is_troubled, status_of, IsAtLimit, IsSession, IsUncut, IsWritten, IsPartlyWritten, IsWrittenStatus, IsBareStatus};
-ghost use Rattle.osgi_program.specs.Words.{AsksRun};
+ghost use Rattle.osgi_program.specs.Outcome.{is_bad, is_troubled, status_of, text_of, IsAtLimit, IsSession, IsUncut, IsWritten, IsPartlyWritten, IsWrittenStatus, IsBareStatus};
+ghost use Rattle.osgi_program.specs.Words.{bounds_in, Asks, Request};
 ghost use Rattle.osgi_program.specs.computed.Ended.{hands, IsRun, status_by};
+ghost use Rattle.osgi_session.specs.Rendering.{render};
 
 use crate::lines::{Ran, run_lines};
 use crate::session::{
@@ -15,7 +16,7 @@ use crate::session::{
     TROUBLED, WRITE_FAILED,
 };
 use crate::words::run_limits;
-use osgi_base::Text;
+use osgi_base::{List, Text};
 use osgi_console::{parse, render};
 use osgi_core::Core;
 use osgi_depot::read_depot;
@@ -64,6 +65,7 @@ fn run_input<F: Shelf>(
     let lines = parse(alloc, input, 0)?;
     let folders = read_depot(alloc, lines.items(), shelf)?;
     let (stored, scripts) = folders.into_parts();
+    let peeks = List::new(alloc)?;
     let core = Core::new(alloc, limits, stored)?;
     let (ran, core) = run_lines::<Brand>(alloc, core, &scripts, lines.items());
     let (depot, entries) = core.into_parts();
@@ -73,6 +75,7 @@ fn run_input<F: Shelf>(
         entries,
         depot,
         scripts,
+        peeks,
     };
     Ok((ran, session))
 }
@@ -104,7 +107,7 @@ fn status_by(ran: Ran, session: &Session) -> u8
     }
 }
 
-/// Writes the text of a session, where memory was found for all of its run, and says with which status the run ends.
+/// Writes what the lines of a session answer, where memory was found for all of its run, and says with which status the run ends.
 fn write_session<K: Sink>(alloc: Global, ran: Ran, session: &Session, sink: &mut K) -> u8
     ensures sink_faults { K.faults sink.old ≤ K.faults sink.new }
     ensures which { IsWrittenStatus result ⊎ (result ≡ WRITE_FAILED) ⊎ (result ≡ NO_MEMORY) }
@@ -112,15 +115,22 @@ fn write_session<K: Sink>(alloc: Global, ran: Ran, session: &Session, sink: &mut
     ensures unwritten { result ≡ NO_MEMORY → sink.new ≡ sink.old }
     ensures failed { result ≡ WRITE_FAILED → Rose (K.faults sink.old) (K.faults sink.new) }
     ensures part { result ≡ WRITE_FAILED
-        → IsPartlyWritten (K.written sink.old) (K.written sink.new) session.now }
+        → IsPartlyWritten (K.written sink.old) (K.written sink.new)
+        (render session.now.lines session.now.entries session.now.peeks) }
     ensures status { IsWrittenStatus result → result ≡ status_by ran session.now }
     ensures whole { IsWrittenStatus result →
-        IsWritten (K.written sink.old) (K.written sink.new) (K.flushed sink.new) session.now }
+        IsWritten (K.written sink.old) (K.written sink.new) (K.flushed sink.new)
+        (render session.now.lines session.now.entries session.now.peeks) }
 {
     if ran == Ran::Starved {
         return NO_MEMORY;
     }
-    let Ok(text) = render(alloc, session.lines.items(), session.entries.items()) else {
+    let Ok(text) = render(
+        alloc,
+        session.lines.items(),
+        session.entries.items(),
+        session.peeks.items(),
+    ) else {
         return NO_MEMORY;
     };
     match write_all(sink, text.bytes()) {
@@ -147,16 +157,16 @@ pub fn framework_main<R, S: Source, K: Sink, F: Shelf, G: Gate>(
 ) -> Finished
     ensures range { result.status ≤ CUT }
     ensures faulty_words { (result.status ≡ FAULTY_WORDS)
-        ↔ ¬ ((bounds : Bounds) × AsksRun words.now bounds) }
+        ↔ ¬ ((asked : Request) × Asks words.now asked) }
     ensures good_words { (result.status ≡ FAULTY_WORDS)
-        ⊎ ((bounds : Bounds) × AsksRun words.now bounds) }
+        ⊎ ((asked : Request) × Asks words.now asked) }
     ensures untouched { result.status ≡ FAULTY_WORDS
         → (source.new ≡ source.old) × (sink.new ≡ sink.old) }
     ensures unread { IsBareStatus result.status → shelf.new ≡ shelf.old }
 
     // What was read, run and recorded, whatever came of the writing.
-    ensures session { (bounds : Bounds) → AsksRun words.now bounds →
-        IfSome result.session (IsSession bounds result.status (S.left source.old)
+    ensures session { (asked : Request) → Asks words.now asked →
+        IfSome result.session (IsSession asked result.status (S.left source.old)
         (record { told = F.told shelf.old; before = F.faults shelf.old; after = F.faults shelf.new })) }
     ensures told { F.told shelf.new ≡ F.told shelf.old }
     ensures shelf_faults { F.faults shelf.old ≤ F.faults shelf.new }
@@ -177,22 +187,24 @@ pub fn framework_main<R, S: Source, K: Sink, F: Shelf, G: Gate>(
     ensures sink_faults { K.faults sink.old ≤ K.faults sink.new }
     ensures write_failed { result.status ≡ WRITE_FAILED
         → Rose (K.faults sink.old) (K.faults sink.new) }
-    ensures part_written { result.status ≡ WRITE_FAILED →
-        IsSomeAnd result.session (IsPartlyWritten (K.written sink.old) (K.written sink.new)) }
+    ensures part_written { (asked : Request) → Asks words.now asked → result.status ≡ WRITE_FAILED →
+        IsSomeAnd result.session (λ session.
+        IsPartlyWritten (K.written sink.old) (K.written sink.new) (text_of asked session)) }
     ensures unwritten { IsBareStatus result.status ⊎ (result.status ≡ NO_MEMORY)
         → sink.new ≡ sink.old }
 
     // The text, and the status that says what is in it.
-    ensures written { IsWrittenStatus result.status
-        → IsSomeAnd result.session
-        (IsWritten (K.written sink.old) (K.written sink.new) (K.flushed sink.new)) }
+    ensures written { (asked : Request) → Asks words.now asked → IsWrittenStatus result.status →
+        IsSomeAnd result.session (λ session.
+        IsWritten (K.written sink.old) (K.written sink.new) (K.flushed sink.new)
+        (text_of asked session)) }
     ensures status_by_session { IsWrittenStatus result.status →
         IsSomeAnd result.session (λ session. result.status ≡ status_of session) }
-    ensures cut { (bounds : Bounds)
-        → AsksRun words.now bounds
+    ensures cut { (asked : Request)
+        → Asks words.now asked
         → result.status ≡ CUT
-        → IsSomeAnd result.session (IsAtLimit bounds) }
-    ensures complete { (bounds : Bounds) → AsksRun words.now bounds →
+        → IsSomeAnd result.session (IsAtLimit (bounds_in asked)) }
+    ensures complete { (asked : Request) → Asks words.now asked →
         ¬ Rose (S.faults source.old) (S.faults source.new) →
         ¬ Rose (K.faults sink.old) (K.faults sink.new) →
         IsSomeAnd (S.left source.old) (λ bytes. length bytes ≤ MAX_INPUT) →

@@ -1,7 +1,7 @@
 //! What the top call answers.
 
 use osgi_base::List;
-use osgi_ops::{Depot, Entry};
+use osgi_ops::{Depot, Entry, Peek};
 use osgi_session::{Line, Scripts};
 
 /// The lines of an input, the depot that they ran with, and the history that they made.
@@ -16,6 +16,8 @@ pub struct Session {
     pub depot: Depot,
     /// The scripts of the depot's rows, in their order.
     pub scripts: Scripts,
+    /// What lines found that peeked, without an entry. None so far: there is no word for it yet.
+    pub peeks: List<Peek>,
 }
 
 /// Not derived, so that each exit at which one is dropped is a single call, which is cheap to prove.
@@ -27,6 +29,7 @@ impl Drop for Session {
             handings: _,
             depot: _,
             scripts: _,
+            peeks: _,
         } = self;
     }
 }

@@ -209,7 +209,7 @@ spent-not-whole c d calls (first, reply, missing, is, f) whole =
 -- ---- of the entries of a line
 
 -- where a run was cut, or never begun, it is not whole
-pub cut-run-not-whole : {script : Sections} {caller : ℕ} {line : Line} (spent : Bool) (entries : List Entry) → IsCutRunOf script caller line spent entries → IsRunOf script caller line entries → ⊥
+pub cut-run-not-whole : {script : Sections} {caller other : ℕ} {line : Line} (spent : Bool) (entries : List Entry) → IsCutRunOf script caller line spent entries → IsRunOf script other line entries → ⊥
 cut-run-not-whole true entries k r = spent-not-whole k.command r.command (map call_of entries) k.cut r.follows
 cut-run-not-whole {script} false entries k r =
     let same : r.command ≡ k.command = cc (sym r.says ∙ k.says) in

@@ -102,16 +102,16 @@ of-between line front entries rest a t b =
 abbrev pub IsRun : Sections → List Entry → Line → Type 0
 IsRun script history line = IsRunOf script 0 line (entries_of line history) × (ends_without_job (entries_of line history) ≡ true)
 
--- they are none, and do not end so
+-- they are a whole run of no caller, and do not end so
 abbrev pub IsNoRun : Sections → List Entry → Line → Type 0
-IsNoRun script history line = (IsRunOf script 0 line (entries_of line history) → ⊥) × (ends_without_job (entries_of line history) ≡ false)
+IsNoRun script history line = ((caller : ℕ) → IsRunOf script caller line (entries_of line history) → ⊥) × (ends_without_job (entries_of line history) ≡ false)
 
 abbrev pub IsToldOf : Sections → List Entry → Line → Type 0
 IsToldOf script history line = IsRun script history line ⊎ IsNoRun script history line
 
 none-left : {script : Sections} (line : Line) (history : List Entry) → entries_of line history ≡ [] → IsNoRun script history line
 none-left {script} line history e =
-    subst (λ l. (IsRunOf script 0 line l → ⊥) × (ends_without_job l ≡ false)) (sym e) ((λ r. nothing-not-whole r.follows), refl)
+    subst (λ l. ((caller : ℕ) → IsRunOf script caller line l → ⊥) × (ends_without_job l ≡ false)) (sym e) ((λ caller r. nothing-not-whole r.follows), refl)
 
 never-begun : {script : Sections} (number : ℕ) (lines : List Line) (history : List Entry) → AreRisingFrom number lines → All (IsBefore number) history → All (IsToldOf script history) lines
 never-begun {script} number [] history r a = All-nil (IsToldOf script history)
@@ -145,26 +145,27 @@ told-of {script} after (cut {spent = spent} {line = line} {lines = lines} {entri
     let own : entries_of line history ≡ entries =
     ap (λ l. entries_of line (front ++ l)) (sym (append-nil entries)) ∙ of-between line front entries [] before k.tagged (All-nil (IsFrom (line.number + 1))) in
     let here : IsNoRun script history line =
-    subst (λ l. (IsRunOf script 0 line l → ⊥) × (ends_without_job l ≡ false)) (sym own) (cut-run-not-whole spent entries k, cut-run-not-ended spent entries k) in
+    subst (λ l. ((caller : ℕ) → IsRunOf script caller line l → ⊥) × (ends_without_job l ≡ false)) (sym own)
+    ((λ caller r. cut-run-not-whole spent entries k r), cut-run-not-ended spent entries k) in
     All-cons (IsToldOf script history) line lines (inr here) (never-begun (line.number + 1) lines history r.1 (front-more line front entries before k.tagged))
 
 -- so `full` tells whether it is whole
-full-of : {script : Sections} (history : List Entry) (line : Line) → IsToldOf script history line → IsFullWhereCut script 0 history line
-full-of history line (inl told) has = ((λ e. told.0), (λ r. and_right (has_command line.content) _ (not_from_true _ told.1)))
+full-of : {script : Sections} (history : List Entry) (line : Line) → IsToldOf script history line → IsFullWhereCut script history line
+full-of history line (inl told) has = ((λ e. (0, told.0)), (λ r. and_right (has_command line.content) _ (not_from_true _ told.1)))
 full-of history line (inr told) has =
-    ((λ e. absurd (let bad : true ≡ false = sym (and_from (has_command line.content) _ has (not_from_false _ told.1)) ∙ e in cc bad)), (λ r. absurd (told.0 r)))
+    ((λ e. absurd (let bad : true ≡ false = sym (and_from (has_command line.content) _ has (not_from_false _ told.1)) ∙ e in cc bad)), (λ r. absurd (told.0 r.0 r.1)))
 
 -- ---- lines without a command
 
-idle-full : {script : Sections} (history : List Entry) (line : Line) → has_command line.content ≡ false → IsFullWhereCut script 0 history line
+idle-full : {script : Sections} (history : List Entry) (line : Line) → has_command line.content ≡ false → IsFullWhereCut script history line
 idle-full history line none has = absurd (let bad : true ≡ false = sym has ∙ none in cc bad)
 
-all-full : {script : Sections} (history : List Entry) (lines : List Line) → All (IsFullWhereCut script 0 history) (commands_in lines) → All (IsFullWhereCut script 0 history) lines
-all-full {script} history [] a = All-nil (IsFullWhereCut script 0 history)
+all-full : {script : Sections} (history : List Entry) (lines : List Line) → All (IsFullWhereCut script history) (commands_in lines) → All (IsFullWhereCut script history) lines
+all-full {script} history [] a = All-nil (IsFullWhereCut script history)
 all-full {script} history (line ∷ lines) a = go (runs line) refl a (all-full history lines)
   where
     Full : Line → Type 0
-    Full = IsFullWhereCut script 0 history
+    Full = IsFullWhereCut script history
 
     go : (k : Bool) → runs line ≡ k → All Full (cond k (line ∷ commands_in lines) (commands_in lines)) → (All Full (commands_in lines) → All Full lines) → All Full (line ∷ lines)
     go true e b ih = All-cons Full line lines (All-head Full line (commands_in lines) b) (ih (All-tail Full line (commands_in lines) b))
@@ -189,12 +190,12 @@ due-of setting history legal all =
 -- Of lines that are numbered from 1 and are all of lane 0, in a legal history that they made: a line with a command is not full exactly
 -- where its entries are its whole run.
 pub full-where-cut : (setting : Setting) (script : Sections) (limit status : ℕ) (lines : List Line) (history : List Entry) → Legal setting history → AreNumberedFrom 1 lines → All IsPlain lines →
-    IsWhole script limit status lines history → All (IsFullWhereCut script 0 history) lines
+    IsWhole script limit status lines history → All (IsFullWhereCut script history) lines
 full-where-cut setting script limit status lines history legal numbered flat whole =
     let lane = makes-lane whole (commands_in lines) (blocks-plain lines flat) in
     let due = due-of setting history legal (lane-by lane.1) in
     let told = told-of due.0 lane.1 1 [] (numbered-rising 1 lines numbered) (All-nil (IsBefore 1)) due.1 in
-    all-full history lines (All-weaker (IsToldOf script history) (IsFullWhereCut script 0 history) (full-of history) (commands_in lines) told)
+    all-full history lines (All-weaker (IsToldOf script history) (IsFullWhereCut script history) (full-of history) (commands_in lines) told)
 
 -- ---- which lines are full
 

@@ -198,10 +198,10 @@ ends_without_job (e ∷ more) = ends_without_job more
 abbrev pub is_full : List Entry → Line → Bool
 is_full history line = has_command line.content && not (ends_without_job (entries_of line history))
 
--- a line with a command is not full exactly where its entries are its caller's whole run of its plan
-abbrev pub IsFullWhereCut : Sections → ℕ → List Entry → Line → Type 0
-IsFullWhereCut scripts caller history line =
-    has_command line.content ≡ true → (is_full history line ≡ false) ↔ IsRunOf scripts caller line (entries_of line history)
+-- a line with a command is not full exactly where there is a caller whose whole run of its plan its entries are; their tags say which
+abbrev pub IsFullWhereCut : Sections → List Entry → Line → Type 0
+IsFullWhereCut scripts history line =
+    has_command line.content ≡ true → (is_full history line ≡ false) ↔ ((caller : ℕ) × IsRunOf scripts caller line (entries_of line history))
 
 -- what a line's peek writes: how many entries there were, and the services
 abbrev pub peek_text : Peek → List ℕ

@@ -27,6 +27,7 @@ pub record IsRun (bounds : Bounds) (input : List ℕ) (shelf : Shelved) (ran : R
   pub sound : IsSoundTelling legal.1.told
   pub runs : RunsLines ran (sections_of session.scripts) bounds.entries session.lines [] session.entries
   pub handings : session.handings ≡ count_by hands session.entries
+  pub peeks : session.peeks ≡ []
 
 -- the status by how the lines ran
 abbrev pub status_by : Ran → Session → ℕ

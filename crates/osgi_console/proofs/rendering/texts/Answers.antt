@@ -26,7 +26,7 @@ loop-entry-preserved c =
     record {
       stands = subst (λ h. StandsFor h c.depth_of.new.brackets) (sym more) (c.in_ok-depth.ensures.follows history before.stands);
       level = c.level_after-level.ensures.level ∙ ap (unwrap_or (moved_to e.op e.reply)) before.level ∙ sym (ap active_level more ∙ level-last history e);
-      texts = subst (λ h. AreTextsOf h c.insert.new.self) (sym more)
-          (texts_put history e c.loop-entry.texts c.remove.new.self c.insert.new.self c.remove.result c.in_ok-text.text before.texts c.remove.ensures.value added c.in_ok-text.ensures.ended
-          c.remove.ensures.updates.0 c.in_ok-insert.ensures.updates.0);
+      texts = subst (λ h. AreTextsOf h c.args.peeks.now c.insert.new.self) (sym more)
+          (texts_put history c.args.peeks.now e c.loop-entry.texts c.remove.new.self c.insert.new.self c.remove.result c.in_ok-text.text before.texts c.remove.ensures.value added c.in_ok-text.ensures.ended
+          (c.remove.ensures.updates.0, c.in_ok-insert.ensures.updates.0));
     }

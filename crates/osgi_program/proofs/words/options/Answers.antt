@@ -12,8 +12,8 @@ returns-in_err-next-clause-only c = λ bounds asks.
 
 pub returns-clause-reads : goal.returns-clause-reads
 returns-clause-reads c =
-    let budget : Option ℕ = c.loop-rest.given.budget in
-    let handings : Option ℕ = c.loop-rest.given.handings in
+    let budget : Option ℕ = c.loop-rest.chosen.budget in
+    let handings : Option ℕ = c.loop-rest.chosen.handings in
     let none = empty_words c.loop-rest.rest.now c.loop-rest-test.ensures in
     let here : AsksMore budget handings c.loop-rest.rest.now (limits_of budget handings)
     = subst (λ (w : List (List ℕ)). AsksMore budget handings w (limits_of budget handings)) (sym none) (all_read budget handings) in
@@ -21,5 +21,5 @@ returns-clause-reads c =
 
 pub returns-clause-only : goal.returns-clause-only
 returns-clause-only c = λ bounds asks.
-    c.limits.ensures.bounds ∙ all_read_only c.loop-rest.rest.now c.loop-rest.given.budget c.loop-rest.given.handings bounds (empty_words c.loop-rest.rest.now c.loop-rest-test.ensures)
+    c.limits.ensures.bounds ∙ all_read_only c.loop-rest.rest.now c.loop-rest.chosen.budget c.loop-rest.chosen.handings bounds (empty_words c.loop-rest.rest.now c.loop-rest-test.ensures)
     (c.loop-rest.invariant.only bounds asks)

@@ -7,8 +7,8 @@ use Rattle.osgi_program.proofs.words.options.Given as goal
 
 abbrev pub invariant-loop-rest : goal.invariant-loop-rest
 invariant-loop-rest l = record {
-  reads : (bounds : Bounds) → AsksMore l.given.budget l.given.handings l.rest bounds → AsksMore None None l.words bounds;
-  only : (bounds : Bounds) → AsksMore None None l.words bounds → AsksMore l.given.budget l.given.handings l.rest bounds;
+  reads : (bounds : Bounds) → AsksMore l.chosen.budget l.chosen.handings l.rest bounds → AsksMore None None l.words bounds;
+  only : (bounds : Bounds) → AsksMore None None l.words bounds → AsksMore l.chosen.budget l.chosen.handings l.rest bounds;
 }
 
 abbrev pub decreases-loop-rest : goal.decreases-loop-rest
