@@ -4,7 +4,7 @@ use crate::entries::entry_of;
 use cases_operations::number;
 use cases_text::{number_of, push_bytes, put, split_word};
 use osgi_base::{List, ServiceId, Tag, Text};
-use osgi_console::render;
+use osgi_console_text::render;
 use osgi_ops::{Entry, Peek};
 use osgi_session::{Command, Content, Line};
 use std::alloc::{AllocError, Global};

@@ -2,7 +2,7 @@
 
 use cases_text::{complain, put};
 use osgi_base::Text;
-use osgi_console::render;
+use osgi_console_text::render;
 use osgi_ops::Entry;
 use osgi_session::{Command, Content, Line};
 use std::alloc::{AllocError, Global};

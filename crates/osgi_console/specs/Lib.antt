@@ -1,3 +1,3 @@
--- The grammar of the console's lines, and what reader and rendering compute.
+-- The grammar of the console's lines, and what the reader computes.
 pub mod Console
 pub mod computed

@@ -17,7 +17,8 @@ use crate::session::{
 };
 use crate::words::run_limits;
 use osgi_base::{List, Text};
-use osgi_console::{parse, render};
+use osgi_console::parse;
+use osgi_console_text::render;
 use osgi_core::Core;
 use osgi_depot::read_depot;
 use osgi_ops::{Entry, Limits, Reply};

@@ -1,0 +1,3 @@
+-- Lemmas on what a session writes.
+pub mod Parts
+pub mod TextMap

@@ -1,0 +1,2 @@
+-- What the rendering computes; its definition is `Rendering` of osgi_session.
+pub mod computed

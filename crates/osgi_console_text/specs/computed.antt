@@ -1,0 +1,2 @@
+-- What private functions and proofs cite. No public promise cites these.
+pub mod Texts
