@@ -54,8 +54,9 @@ fn option<'a>(words: &'a [Text], name: &[u8]) -> Option<(&'a [u8], &'a [Text])>
 /// The number, from 1 to this one, of an option of this name that the words begin with, and the words after it.
 fn numbered<'a>(words: &'a [Text], name: &[u8], most: u64) -> Option<(u64, &'a [Text])>
     ensures reads { IfSome result (λ r. GivesNumber name.now most words.now r.0 r.1.now) }
-    ensures only { (number : ℕ) (rest : List (List ℕ)) → GivesNumber name.now most words.now number rest →
-        IsSomeAnd result (λ r. (r.0 ≡ number) × (r.1.now ≡ rest)) }
+    ensures only { (number : ℕ) (rest : List (List ℕ))
+        → GivesNumber name.now most words.now number rest
+        → IsSomeAnd result (λ r. (r.0 ≡ number) × (r.1.now ≡ rest)) }
 {
     let (word, rest) = option(words, name)?;
     Some((number(word, most)?, rest))
@@ -111,9 +112,11 @@ impl Chosen {
     /// With the number of one more option. None where the option was given before.
     fn with(self, choice: Choice, number: u64) -> Option<Chosen>
         requires fits { number ≤ greatest_of choice }
-        ensures once { MatchOption result (is_some (so_far choice self.budget self.handings) ≡ true) (λ _.
-            is_some (so_far choice self.budget self.handings) ≡ false) }
-        ensures budget { IfSome result (λ more. more.budget ≡ budget_with choice number self.budget) }
+        ensures once { MatchOption result
+            (is_some (so_far choice self.budget self.handings) ≡ true)
+            (λ more. is_some (so_far choice self.budget self.handings) ≡ false) }
+        ensures budget { IfSome result (λ more.
+            more.budget ≡ budget_with choice number self.budget) }
         ensures handings { IfSome result (λ more.
             more.handings ≡ handings_with choice number self.handings) }
     {
