@@ -8,7 +8,7 @@ use Rattle.std.specs.Prelude.{◌==◌, true, false, is_some, nat_eq, IfSome, Is
 use Rattle.osgi_syntax.specs.Words.{IsId}
 use Rattle.osgi_ops.specs.Settings.{Bounds, bounds_of, standard_bounds}
 use Rattle.osgi_ops.specs.declared.limits.Limits.{Limits}
-use Rattle.osgi_program.specs.Words.{AreOptions, Asks, AsksRun, for_replies, Given, GivesNumber, HasNumber, IsChosen, IsNumberUpTo, IsOneOf, IsOption, none, numbers_of, one, replies, Request, run_options}
+use Rattle.osgi_program.specs.Words.{AreOptions, Asks, AsksRun, for_replies, Given, GivesNumber, HasNumber, IsChosen, IsNumberUpTo, IsOneOf, IsOption, leads, none, numbers_of, replies, Request, run_options}
 use Rattle.osgi_program.specs.computed.Options.{AsksMore, budget_with, given_as, greatest_of, handings_with, held, so_far}
 use Rattle.osgi_program.specs.declared.words.Choice.{Choice}
 use Rattle.osgi_program.specs.declared.words.Choice.TheVariants.{Budget, Handings}
@@ -71,7 +71,7 @@ gives greatest None name words rest has = absurd has
 gives greatest (Some given) name words rest has = (given, refl, has)
 
 -- names differ in their third byte
-third : List ℕ → ℕ
+abbrev third : List ℕ → ℕ
 third (a ∷ (b ∷ (c ∷ rest))) = c
 third _ = 0
 
@@ -126,10 +126,10 @@ pub more_asked : (choice : Choice) (number : ℕ) (words rest : List (List ℕ))
     IsOneOf run_options words (given_as choice number) rest → AsksMore (budget_with choice number budget) (handings_with choice number handings) rest bounds → AsksMore budget handings words bounds
 more_asked Budget number words rest budget handings bounds free is asks =
     subst (λ b. AsksMore b handings words bounds) (sym (not_given budget free))
-    (record { given = given_as Budget number ∷ asks.given; are = one is asks.are; one_budget = asks.one_budget; one_limit = asks.one_limit; entries = asks.entries })
+    (record { given = given_as Budget number ∷ asks.given; are = leads is asks.are; one_budget = asks.one_budget; one_limit = asks.one_limit; entries = asks.entries })
 more_asked Handings number words rest budget handings bounds free is asks =
     subst (λ h. AsksMore budget h words bounds) (sym (not_given handings free))
-    (record { given = given_as Handings number ∷ asks.given; are = one is asks.are; one_budget = asks.one_budget; one_limit = asks.one_limit; entries = asks.entries })
+    (record { given = given_as Handings number ∷ asks.given; are = leads is asks.are; one_budget = asks.one_budget; one_limit = asks.one_limit; entries = asks.entries })
 
 -- words that are options are the first of them and others
 record Begins (choice : Choice) (number : ℕ) (rest : List (List ℕ)) (given : List Given) : Type 0 where
@@ -139,7 +139,7 @@ record Begins (choice : Choice) (number : ℕ) (rest : List (List ℕ)) (given :
 
 begins : (choice : Choice) (number : ℕ) (words rest : List (List ℕ)) (given : List Given) → AreOptions run_options words given → words ≢ [] → IsOnly choice number words rest → Begins choice number rest given
 begins choice number words rest given none some only = absurd (some refl)
-begins choice number words rest given (one {rest = left} {first = first} {more = more} is are) some only =
+begins choice number words rest given (leads {rest = left} {first = first} {more = more} is are) some only =
     let same = only first left is in
     record { more = more; is = ap (λ g. g ∷ more) (sym same.0); are = subst (λ r. AreOptions run_options r more) (sym same.1) are }
 
@@ -189,7 +189,7 @@ no_more words budget handings bounds some never asks = by words asks.given asks.
   where
     by : (words : List (List ℕ)) (given : List Given) → AreOptions run_options words given → words ≢ [] → ((given : Given) (left : List (List ℕ)) → IsOneOf run_options words given left → ⊥) → ⊥
     by words given none some never = some refl
-    by words given (one {rest = rest} {first = first} is are) some never = never first rest is
+    by words given (leads {rest = rest} {first = first} is are) some never = never first rest is
 
 -- ---- all of them
 
@@ -221,7 +221,7 @@ all_read budget handings = record { given = []; are = none; one_budget = chosen 
 
 none_given : (words : List (List ℕ)) (given : List Given) → AreOptions run_options words given → words ≡ [] → given ≡ []
 none_given words given none empty = refl
-none_given words given (one {rest = rest} {first = first} is are) empty =
+none_given words given (leads {rest = rest} {first = first} is are) empty =
     absurd (neither [] (λ other left bad. nothing_given bad) (λ other left bad. nothing_given bad) first rest (subst (λ w. IsOneOf run_options w first rest) empty is))
 
 pub all_read_only : (words : List (List ℕ)) (budget handings : Option ℕ) (bounds : Bounds) → words ≡ [] → AsksMore budget handings words bounds → limits_of budget handings ≡ bounds

@@ -52,7 +52,7 @@ run_options = record { name = codes "--budget"; greatest = Some MAX_BUDGET } ∷
 -- the words are options, given so, one after another in any order
 pub data AreOptions (all : List Offered) : List (List ℕ) → List Given → Type 0 where
   none : AreOptions all [] []
-  one : {words rest : List (List ℕ)} {first : Given} {more : List Given} → IsOneOf all words first rest → AreOptions all rest more → AreOptions all words (first ∷ more)
+  leads : {words rest : List (List ℕ)} {first : Given} {more : List Given} → IsOneOf all words first rest → AreOptions all rest more → AreOptions all words (first ∷ more)
 
 -- the numbers that the options of this name give
 abbrev pub numbers_of : List ℕ → List Given → List (Option ℕ)

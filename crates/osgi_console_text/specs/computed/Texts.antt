@@ -26,9 +26,9 @@ abbrev pub has_ended : Option LineText → Bool
 has_ended line = option_map_or (λ line. line.has_ended) line false
 
 -- a line has this text there, and its entries end so
-pub record Holds (text : List ℕ) (ended : Bool) (line : Option LineText) : Type 0 where
-  pub text : written line ≡ text
-  pub ended : has_ended line ≡ ended
+pub record Holds (whole : List ℕ) (ends : Bool) (line : Option LineText) : Type 0 where
+  pub text : written line ≡ whole
+  pub ended : has_ended line ≡ ends
 
 -- what the peeks of a line write, and then its entries
 abbrev pub text_under : List Entry → List Peek → ℕ → List ℕ
