@@ -20,12 +20,12 @@ pub enum BracketKind {
     /// A job.
     Job,
     /// The making of an object.
-    Make(Made),
+    Make(Making),
 }
 
 /// For which user, of which service, whether the user asked for one of its own, and whose factory makes it.
 #[derive(Clone, Copy)]
-pub struct Made {
+pub struct Making {
     pub user: BundleId,
     pub service: ServiceId,
     pub asked_own: bool,
@@ -49,7 +49,7 @@ pub fn opens(op: &Op, reply: &Reply) -> Option<BracketKind>
         (Op::BeginStart { bundle, .. }, Reply::Begun { .. }) => Some(BracketKind::Start(*bundle)),
         (Op::BeginStop { .. }, Reply::Begun { bundle, .. }) => Some(BracketKind::Stop(*bundle)),
         (Op::Get { user, service }, Reply::Make { owner, .. }) => {
-            Some(BracketKind::Make(Made {
+            Some(BracketKind::Make(Making {
                 user: *user,
                 service: *service,
                 asked_own: false,
@@ -57,7 +57,7 @@ pub fn opens(op: &Op, reply: &Reply) -> Option<BracketKind>
             }))
         }
         (Op::GetOwn { user, service }, Reply::Make { owner, .. }) => {
-            Some(BracketKind::Make(Made {
+            Some(BracketKind::Make(Making {
                 user: *user,
                 service: *service,
                 asked_own: true,

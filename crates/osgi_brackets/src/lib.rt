@@ -4,5 +4,5 @@
 mod bracket;
 mod brackets;
 
-pub use bracket::{BracketKind, Made, OpenBracket, ends, opens};
+pub use bracket::{BracketKind, Making, OpenBracket, ends, opens};
 pub use brackets::Brackets;

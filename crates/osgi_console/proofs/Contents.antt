@@ -23,7 +23,7 @@ use Rattle.osgi_syntax.specs.laws.Whole.{ends_all, first_separated, separated_wo
 use Rattle.osgi_console.proofs.FirstWords.{command_loud, front, has_first, join_loud, lane_loud, other}
 use Rattle.osgi_console.proofs.Lanes.{lane_read, lane_sound, whole_lane}
 use Rattle.osgi_console.proofs.Verbs.{command_read, command_sound}
-use Rattle.osgi_console.specs.Console.{AreLinesOf, AreReadFrom, in_lane, in_no_lane, IsCommandEnd, IsLane, LineReads, Says, SaysIn, SaysJoin}
+use Rattle.osgi_console.specs.Console.{AreLinesFrom, AreLinesOf, in_lane, in_no_lane, IsCommandEnd, IsLane, LineReads, Says, SaysIn, SaysJoin}
 use Rattle.osgi_console.specs.computed.LineReader.{command_of, joined, lane_of, laned, numbered, run_in, said_in, said_of, unlaned}
 use Rattle.osgi_console.specs.declared.input_lines.InLane.{InLane}
 
@@ -184,14 +184,14 @@ reads_one lanes line lane Bad says =
 reads_one lanes line lane (Run c) says = says_read lanes line lane c says
 
 -- the same of all lines
-pub lines_read : (lanes number : ℕ) (texts : List (List ℕ)) → AreReadFrom lanes number texts (numbered lanes number texts)
+pub lines_read : (lanes number : ℕ) (texts : List (List ℕ)) → AreLinesFrom lanes number texts (numbered lanes number texts)
 lines_read lanes number [] = tt
 lines_read lanes number (text ∷ texts) = (refl, reads lanes text, lines_read lanes (number + 1) texts)
 
 line_is : (line : Line) (number : ℕ) (said : InLane) → line.number ≡ number → said ≡ here line.lane line.content → line ≡ record { number = number; lane = said.lane; content = said.content }
 line_is line number said n s = λ i. record { number = n i; lane = (sym s i).lane; content = (sym s i).content }
 
-pub lines_read_one : (lanes number : ℕ) (texts : List (List ℕ)) (lines : List Line) → AreReadFrom lanes number texts lines → lines ≡ numbered lanes number texts
+pub lines_read_one : (lanes number : ℕ) (texts : List (List ℕ)) (lines : List Line) → AreLinesFrom lanes number texts lines → lines ≡ numbered lanes number texts
 lines_read_one lanes number [] [] read = refl
 lines_read_one lanes number [] (line ∷ lines) read = absurd read
 lines_read_one lanes number (text ∷ texts) [] read = absurd read

@@ -84,24 +84,24 @@ named_front IsEnd v words line end separated =
 -- a command that is made from one word
 only_command : {A : Type 0} (read_as : List ℕ → Option A) (Is : List ℕ → A → Type 0) → ((word : List ℕ) (it : A) → read_as word ≡ Some it → Is word it) →
     (name : List ℕ) (make : A → Command) (arguments : List (List ℕ)) (c : Command) → option_map make (option_and_then read_as (only_word_of arguments)) ≡ Some c →
-    ((word : List ℕ) (it : A) → Is word it → says.AreWordsOf (name ∷ word ∷ []) (make it)) → says.AreWordsOf (name ∷ arguments) c
+    ((word : List ℕ) (it : A) → Is word it → says.AreCommandWords (name ∷ word ∷ []) (make it)) → says.AreCommandWords (name ∷ arguments) c
 only_command read_as Is sound name make arguments c e said =
     let read = mapped make (option_and_then read_as (only_word_of arguments)) c e in
     let alone = only read_as Is sound arguments read.value read.was in
-    subst (λ l. says.AreWordsOf (name ∷ l) c) (sym alone.is)
-    (subst (says.AreWordsOf (name ∷ alone.word ∷ [])) read.is (said alone.word read.value alone.says))
+    subst (λ l. says.AreCommandWords (name ∷ l) c) (sym alone.is)
+    (subst (says.AreCommandWords (name ∷ alone.word ∷ [])) read.is (said alone.word read.value alone.says))
 
 id_command : (name : List ℕ) (make : ServiceId → Command) (arguments : List (List ℕ)) (c : Command) → option_map make (option_and_then service_id_of (only_word_of arguments)) ≡ Some c →
-    ((word : List ℕ) (service : ServiceId) → IsId word service → says.AreWordsOf (name ∷ word ∷ []) (make service)) → says.AreWordsOf (name ∷ arguments) c
+    ((word : List ℕ) (service : ServiceId) → IsId word service → says.AreCommandWords (name ∷ word ∷ []) (make service)) → says.AreCommandWords (name ∷ arguments) c
 id_command = only_command service_id_of IsId id_sound
 
 bundle_command : (name : List ℕ) (make : BundleId → Command) (arguments : List (List ℕ)) (c : Command) → option_map make (option_and_then bundle_id_of (only_word_of arguments)) ≡ Some c →
-    ((word : List ℕ) (bundle : BundleId) → IsBundleId word bundle → says.AreWordsOf (name ∷ word ∷ []) (make bundle)) → says.AreWordsOf (name ∷ arguments) c
+    ((word : List ℕ) (bundle : BundleId) → IsBundleId word bundle → says.AreCommandWords (name ∷ word ∷ []) (make bundle)) → says.AreCommandWords (name ∷ arguments) c
 bundle_command = only_command bundle_id_of IsBundleId bundle_id_sound
 
 -- ---- what is read says the command
 
-register_sound : (arguments : List (List ℕ)) (c : Command) → register_of arguments ≡ Some c → says.AreWordsOf (codes "register" ∷ arguments) c
+register_sound : (arguments : List (List ℕ)) (c : Command) → register_of arguments ≡ Some c → says.AreCommandWords (codes "register" ∷ arguments) c
 register_sound [] c e = absurd (cc e)
 register_sound (names ∷ []) c e = absurd (cc e)
 register_sound (names ∷ quoted ∷ words) c e =
@@ -113,7 +113,7 @@ register_sound (names ∷ quoted ∷ words) c e =
     rw (← read.is)
     (says.register (classes_sound names classes are) (quoted_sound quoted object is) (properties_sound words read.value read.was))))
 
-modify_sound : (arguments : List (List ℕ)) (c : Command) → modify_of arguments ≡ Some c → says.AreWordsOf (codes "modify" ∷ arguments) c
+modify_sound : (arguments : List (List ℕ)) (c : Command) → modify_of arguments ≡ Some c → says.AreCommandWords (codes "modify" ∷ arguments) c
 modify_sound [] c e = absurd (cc e)
 modify_sound (id ∷ words) c e =
     option_and_then_some (λ service. option_map (command.Modify service) (properties_of words)) (service_id_of id) c e
@@ -123,55 +123,55 @@ modify_sound (id ∷ words) c e =
 
 -- a command of a bundle, for good or for this time
 aimed_command : (name : List ℕ) (make : BundleId → Bool → Command) (arguments : List (List ℕ)) (c : Command) → option_map (λ (a : Aim). make a.bundle a.transient) (aim_of arguments) ≡ Some c →
-    ((words : List (List ℕ)) (a : Aim) → IsAim words a → says.AreWordsOf (name ∷ words) (make a.bundle a.transient)) → says.AreWordsOf (name ∷ arguments) c
+    ((words : List (List ℕ)) (a : Aim) → IsAim words a → says.AreCommandWords (name ∷ words) (make a.bundle a.transient)) → says.AreCommandWords (name ∷ arguments) c
 aimed_command name make arguments c e said =
     let read = mapped (λ (a : Aim). make a.bundle a.transient) (aim_of arguments) c e in
-    subst (says.AreWordsOf (name ∷ arguments)) read.is (said arguments read.value (aim_sound arguments read.value read.was))
+    subst (says.AreCommandWords (name ∷ arguments)) read.is (said arguments read.value (aim_sound arguments read.value read.was))
 
-start_said : (words : List (List ℕ)) (a : Aim) → IsAim words a → says.AreWordsOf (codes "start" ∷ words) (command.Start (Id a.bundle) a.transient)
+start_said : (words : List (List ℕ)) (a : Aim) → IsAim words a → says.AreCommandWords (codes "start" ∷ words) (command.Start (Id a.bundle) a.transient)
 start_said words a (for_good is) = says.start is
 start_said words a (this_time is) = says.start_transient is
 
-stop_said : (words : List (List ℕ)) (a : Aim) → IsAim words a → says.AreWordsOf (codes "stop" ∷ words) (command.Stop (Id a.bundle) a.transient)
+stop_said : (words : List (List ℕ)) (a : Aim) → IsAim words a → says.AreCommandWords (codes "stop" ∷ words) (command.Stop (Id a.bundle) a.transient)
 stop_said words a (for_good is) = says.stop is
 stop_said words a (this_time is) = says.stop_transient is
 
 -- a command of a bundle and of one more word
 pair_sound : {A : Type 0} (name : List ℕ) (make : BundleId → A → Command) (read_as : List ℕ → Option A) (Is : List ℕ → A → Type 0) → ((word : List ℕ) (it : A) → read_as word ≡ Some it → Is word it) →
     (id : List ℕ) (words : List (List ℕ)) (c : Command) → option_and_then (λ bundle. option_map (make bundle) (option_and_then read_as (only_word_of words))) (bundle_id_of id) ≡ Some c →
-    ((word : List ℕ) (bundle : BundleId) (it : A) → IsBundleId id bundle → Is word it → says.AreWordsOf (name ∷ id ∷ word ∷ []) (make bundle it)) → says.AreWordsOf (name ∷ id ∷ words) c
+    ((word : List ℕ) (bundle : BundleId) (it : A) → IsBundleId id bundle → Is word it → says.AreCommandWords (name ∷ id ∷ word ∷ []) (make bundle it)) → says.AreCommandWords (name ∷ id ∷ words) c
 pair_sound name make read_as Is sound id words c e said =
     option_and_then_some (λ bundle. option_map (make bundle) (option_and_then read_as (only_word_of words))) (bundle_id_of id) c e
     (λ bundle is behind.
     let read = mapped (make bundle) (option_and_then read_as (only_word_of words)) c behind in
     let alone = only read_as Is sound words read.value read.was in
-    subst (λ l. says.AreWordsOf (name ∷ id ∷ l) c) (sym alone.is)
-    (subst (says.AreWordsOf (name ∷ id ∷ alone.word ∷ [])) read.is (said alone.word bundle read.value (bundle_id_sound id bundle is) alone.says)))
+    subst (λ l. says.AreCommandWords (name ∷ id ∷ l) c) (sym alone.is)
+    (subst (says.AreCommandWords (name ∷ id ∷ alone.word ∷ [])) read.is (said alone.word bundle read.value (bundle_id_sound id bundle is) alone.says)))
 
-load_sound : (arguments : List (List ℕ)) (c : Command) → load_of arguments ≡ Some c → says.AreWordsOf (codes "load" ∷ arguments) c
+load_sound : (arguments : List (List ℕ)) (c : Command) → load_of arguments ≡ Some c → says.AreCommandWords (codes "load" ∷ arguments) c
 load_sound [] c e = absurd (cc e)
 load_sound (id ∷ words) c e =
     pair_sound (codes "load") command.Load class_of (λ word class. IsClass class × (word ≡ class)) class_sound id words c e
-    (λ word bundle class is named. subst (λ w. says.AreWordsOf (codes "load" ∷ id ∷ w ∷ []) (command.Load bundle class)) (sym named.1) (says.load is named.0))
+    (λ word bundle class is named. subst (λ w. says.AreCommandWords (codes "load" ∷ id ∷ w ∷ []) (command.Load bundle class)) (sym named.1) (says.load is named.0))
 
-bundle_level_sound : (arguments : List (List ℕ)) (c : Command) → bundle_level_of arguments ≡ Some c → says.AreWordsOf (codes "blevel" ∷ arguments) c
+bundle_level_sound : (arguments : List (List ℕ)) (c : Command) → bundle_level_of arguments ≡ Some c → says.AreCommandWords (codes "blevel" ∷ arguments) c
 bundle_level_sound [] c e = absurd (cc e)
 bundle_level_sound (id ∷ words) c e =
     pair_sound (codes "blevel") command.BundleLevel level_of says.IsLevel level_sound id words c e (λ word bundle level is of_level. says.blevel is of_level)
 
-refresh_sound : (arguments : List (List ℕ)) (c : Command) → refresh_of arguments ≡ Some c → says.AreWordsOf (codes "refresh" ∷ arguments) c
+refresh_sound : (arguments : List (List ℕ)) (c : Command) → refresh_of arguments ≡ Some c → says.AreCommandWords (codes "refresh" ∷ arguments) c
 refresh_sound arguments c e =
     let read = mapped command.Refresh (bundle_ids_of arguments) c e in
-    subst (says.AreWordsOf (codes "refresh" ∷ arguments)) read.is (says.refresh (ids_sound arguments read.value read.was))
+    subst (says.AreCommandWords (codes "refresh" ∷ arguments)) read.is (says.refresh (ids_sound arguments read.value read.was))
 
 -- a command that is its name alone
-alone_sound : (name : List ℕ) (of c : Command) (arguments : List (List ℕ)) → alone of arguments ≡ Some c → says.AreWordsOf (name ∷ []) of → says.AreWordsOf (name ∷ arguments) c
-alone_sound name of c [] e said = subst (says.AreWordsOf (name ∷ [])) (cc e) said
+alone_sound : (name : List ℕ) (of c : Command) (arguments : List (List ℕ)) → alone of arguments ≡ Some c → says.AreCommandWords (name ∷ []) of → says.AreCommandWords (name ∷ arguments) c
+alone_sound name of c [] e said = subst (says.AreCommandWords (name ∷ [])) (cc e) said
 alone_sound name of c (word ∷ rest) e said =
     absurd (cc (e, cond-false (length (word ∷ rest) == 0) (Some of) None (ne_eqb _ 0 (λ none. absurd (omega (arith, none))))))
 
 -- a command in words alone
-said_in_words : (v : Verb) (line : List ℕ) (c : Command) → verb_name v ≡ first_word line → says.AreWordsOf (verb_name v ∷ words_of (after_word line)) c → says.Says line c
+said_in_words : (v : Verb) (line : List ℕ) (c : Command) → verb_name v ≡ first_word line → says.AreCommandWords (verb_name v ∷ words_of (after_word line)) c → says.Says line c
 said_in_words v line c named are =
     let some : 0 < length (after_spaces line) = has_word v line named in
     let words : words_of line ≡ verb_name v ∷ words_of (after_word line) = (begins line some).words ∙ ap (λ l. l ∷ words_of (after_word line)) (sym named) in
@@ -202,7 +202,7 @@ said_of_location line c named e =
 record IsUpdate (text : List ℕ) (c : Command) : Type 0 where
   id : List ℕ
   location : List ℕ
-  words : says.AreWordsOf (codes "update" ∷ id ∷ location ∷ []) c
+  words : says.AreCommandWords (codes "update" ∷ id ∷ location ∷ []) c
   separated : IsSeparated AreSpaces (id ∷ location ∷ []) text
 
 update_behind : (rest : List ℕ) (c : Command) → update_of rest ≡ Some c → IsUpdate (32 ∷ rest) c
@@ -214,7 +214,7 @@ update_behind rest c e =
     record {
       id = first_word rest;
       location = read.value;
-      words = subst (says.AreWordsOf (codes "update" ∷ first_word rest ∷ read.value ∷ [])) read.is (says.update (bundle_id_sound (first_word rest) bundle is) alone.location);
+      words = subst (says.AreCommandWords (codes "update" ∷ first_word rest ∷ read.value ∷ [])) read.is (says.update (bundle_id_sound (first_word rest) bundle is) alone.location);
       separated = first_separates AreSpaces (read.value ∷ []) rest alone.separated;
     })
 
@@ -328,7 +328,7 @@ record HasVerb (words : List (List ℕ)) (c : Command) : Type 0 where
   is : words ≡ verb_name verb ∷ arguments
   read : (text : List ℕ) → IsSeparated AreSpaces arguments text → command_by verb text ≡ Some c
 
-has_verb : (words : List (List ℕ)) (c : Command) → says.AreWordsOf words c → HasVerb words c
+has_verb : (words : List (List ℕ)) (c : Command) → says.AreCommandWords words c → HasVerb words c
 has_verb words c (says.register {names = names} {quoted = quoted} {words = rest} {classes = classes} {object = object} {properties = properties} are is own) = record {
   verb = verb.Register;
   arguments = names ∷ quoted ∷ rest;

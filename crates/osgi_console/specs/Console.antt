@@ -35,56 +35,56 @@ AreBundleIds (word ∷ words) (bundle ∷ bundles) = IsBundleId word bundle × A
 AreBundleIds _ _ = ⊥
 
 -- the words of a command that is words alone
-pub data AreWordsOf : List (List ℕ) → Command → Type 0 where
+pub data AreCommandWords : List (List ℕ) → Command → Type 0 where
   -- `register CLASS[,CLASS].. "TEXT" [PROP]..`
   register : {names quoted : List ℕ} {words classes : List (List ℕ)} {object : List ℕ} {properties : List Attribute} →
       AreClasses names classes → IsQuoted quoted object → AreProperties words properties →
-      AreWordsOf (codes "register" ∷ names ∷ quoted ∷ words) (command.Register classes object properties)
+      AreCommandWords (codes "register" ∷ names ∷ quoted ∷ words) (command.Register classes object properties)
   -- `modify ID [PROP]..`
   modify : {id : List ℕ} {words : List (List ℕ)} {service : ServiceId} {properties : List Attribute} →
-      IsId id service → AreProperties words properties → AreWordsOf (codes "modify" ∷ id ∷ words) (command.Modify service properties)
+      IsId id service → AreProperties words properties → AreCommandWords (codes "modify" ∷ id ∷ words) (command.Modify service properties)
   -- `unregister ID`
-  unregister : {id : List ℕ} {service : ServiceId} → IsId id service → AreWordsOf (codes "unregister" ∷ id ∷ []) (command.Unregister service)
+  unregister : {id : List ℕ} {service : ServiceId} → IsId id service → AreCommandWords (codes "unregister" ∷ id ∷ []) (command.Unregister service)
   -- `get ID`
-  get : {id : List ℕ} {service : ServiceId} → IsId id service → AreWordsOf (codes "get" ∷ id ∷ []) (command.Get service)
+  get : {id : List ℕ} {service : ServiceId} → IsId id service → AreCommandWords (codes "get" ∷ id ∷ []) (command.Get service)
   -- `unget ID`
-  unget : {id : List ℕ} {service : ServiceId} → IsId id service → AreWordsOf (codes "unget" ∷ id ∷ []) (command.Unget service)
+  unget : {id : List ℕ} {service : ServiceId} → IsId id service → AreCommandWords (codes "unget" ∷ id ∷ []) (command.Unget service)
   -- `start ID`
-  start : {id : List ℕ} {bundle : BundleId} → IsBundleId id bundle → AreWordsOf (codes "start" ∷ id ∷ []) (command.Start (Id bundle) false)
+  start : {id : List ℕ} {bundle : BundleId} → IsBundleId id bundle → AreCommandWords (codes "start" ∷ id ∷ []) (command.Start (Id bundle) false)
   -- `start -t ID`
-  start_transient : {id : List ℕ} {bundle : BundleId} → IsBundleId id bundle → AreWordsOf (codes "start" ∷ codes "-t" ∷ id ∷ []) (command.Start (Id bundle) true)
+  start_transient : {id : List ℕ} {bundle : BundleId} → IsBundleId id bundle → AreCommandWords (codes "start" ∷ codes "-t" ∷ id ∷ []) (command.Start (Id bundle) true)
   -- `stop ID`
-  stop : {id : List ℕ} {bundle : BundleId} → IsBundleId id bundle → AreWordsOf (codes "stop" ∷ id ∷ []) (command.Stop (Id bundle) false)
+  stop : {id : List ℕ} {bundle : BundleId} → IsBundleId id bundle → AreCommandWords (codes "stop" ∷ id ∷ []) (command.Stop (Id bundle) false)
   -- `stop -t ID`
-  stop_transient : {id : List ℕ} {bundle : BundleId} → IsBundleId id bundle → AreWordsOf (codes "stop" ∷ codes "-t" ∷ id ∷ []) (command.Stop (Id bundle) true)
+  stop_transient : {id : List ℕ} {bundle : BundleId} → IsBundleId id bundle → AreCommandWords (codes "stop" ∷ codes "-t" ∷ id ∷ []) (command.Stop (Id bundle) true)
   -- `load ID CLASS`
-  load : {id class : List ℕ} {bundle : BundleId} → IsBundleId id bundle → IsClass class → AreWordsOf (codes "load" ∷ id ∷ class ∷ []) (command.Load bundle class)
+  load : {id class : List ℕ} {bundle : BundleId} → IsBundleId id bundle → IsClass class → AreCommandWords (codes "load" ∷ id ∷ class ∷ []) (command.Load bundle class)
   -- `install LOCATION`
-  install : {location : List ℕ} → IsLocation location → AreWordsOf (codes "install" ∷ location ∷ []) (command.Install location)
+  install : {location : List ℕ} → IsLocation location → AreCommandWords (codes "install" ∷ location ∷ []) (command.Install location)
   -- `update ID LOCATION`
-  update : {id location : List ℕ} {bundle : BundleId} → IsBundleId id bundle → IsLocation location → AreWordsOf (codes "update" ∷ id ∷ location ∷ []) (command.Update bundle location)
+  update : {id location : List ℕ} {bundle : BundleId} → IsBundleId id bundle → IsLocation location → AreCommandWords (codes "update" ∷ id ∷ location ∷ []) (command.Update bundle location)
   -- `uninstall ID`
-  uninstall : {id : List ℕ} {bundle : BundleId} → IsBundleId id bundle → AreWordsOf (codes "uninstall" ∷ id ∷ []) (command.Uninstall bundle)
+  uninstall : {id : List ℕ} {bundle : BundleId} → IsBundleId id bundle → AreCommandWords (codes "uninstall" ∷ id ∷ []) (command.Uninstall bundle)
   -- `resolve ID`
-  resolve : {id : List ℕ} {bundle : BundleId} → IsBundleId id bundle → AreWordsOf (codes "resolve" ∷ id ∷ []) (command.Resolve bundle)
+  resolve : {id : List ℕ} {bundle : BundleId} → IsBundleId id bundle → AreCommandWords (codes "resolve" ∷ id ∷ []) (command.Resolve bundle)
   -- `refresh [ID]..`
-  refresh : {ids : List (List ℕ)} {bundles : List BundleId} → AreBundleIds ids bundles → AreWordsOf (codes "refresh" ∷ ids) (command.Refresh bundles)
+  refresh : {ids : List (List ℕ)} {bundles : List BundleId} → AreBundleIds ids bundles → AreCommandWords (codes "refresh" ∷ ids) (command.Refresh bundles)
   -- `wires ID`
-  wires : {id : List ℕ} {bundle : BundleId} → IsBundleId id bundle → AreWordsOf (codes "wires" ∷ id ∷ []) (command.Wires bundle)
+  wires : {id : List ℕ} {bundle : BundleId} → IsBundleId id bundle → AreCommandWords (codes "wires" ∷ id ∷ []) (command.Wires bundle)
   -- `level N`
-  level : {word : List ℕ} {level : ℕ} → IsLevel word level → AreWordsOf (codes "level" ∷ word ∷ []) (command.Level level)
+  level : {word : List ℕ} {level : ℕ} → IsLevel word level → AreCommandWords (codes "level" ∷ word ∷ []) (command.Level level)
   -- `blevel ID N`
-  blevel : {id word : List ℕ} {bundle : BundleId} {level : ℕ} → IsBundleId id bundle → IsLevel word level → AreWordsOf (codes "blevel" ∷ id ∷ word ∷ []) (command.BundleLevel bundle level)
+  blevel : {id word : List ℕ} {bundle : BundleId} {level : ℕ} → IsBundleId id bundle → IsLevel word level → AreCommandWords (codes "blevel" ∷ id ∷ word ∷ []) (command.BundleLevel bundle level)
   -- `bundles`
-  bundles : AreWordsOf (codes "bundles" ∷ []) command.Bundles
+  bundles : AreCommandWords (codes "bundles" ∷ []) command.Bundles
   -- `services`
-  services : AreWordsOf (codes "services" ∷ []) command.Services
+  services : AreCommandWords (codes "services" ∷ []) command.Services
 
 -- the line says this command: it is the command's words, with spaces at both ends too, and may end with a filter where the
 -- command has one. One or more spaces stand before each word. Before the first word of a line there may be none, so one
 -- space is put before the line
 pub data Says (line : List ℕ) : Command → Type 0 where
-  in_words : {words : List (List ℕ)} {c : Command} → AreWordsOf words c → IsSeparated AreSpaces words (32 ∷ line) → Says line c
+  in_words : {words : List (List ℕ)} {c : Command} → AreCommandWords words c → IsSeparated AreSpaces words (32 ∷ line) → Says line c
   -- `find CLASS [FILTER]`
   find : {class : List ℕ} {filter : Option Filter} → IsClass class →
       IsSeparated (IsFilterEnd filter) (codes "find" ∷ class ∷ []) (32 ∷ line) → Says line (command.Find class filter)
@@ -131,13 +131,13 @@ LineReads lanes line lane Bad =
 LineReads lanes line lane (Run command) = SaysIn lanes line lane command
 
 -- the lines of these texts, numbered from here on
-abbrev pub AreReadFrom : ℕ → ℕ → List (List ℕ) → List Line → Type 0
-AreReadFrom lanes number [] [] = Unit {0}
-AreReadFrom lanes number (text ∷ texts) (line ∷ rest) =
-    (line.number ≡ number) × LineReads lanes text line.lane line.content × AreReadFrom lanes (number + 1) texts rest
-AreReadFrom lanes number _ _ = ⊥
+abbrev pub AreLinesFrom : ℕ → ℕ → List (List ℕ) → List Line → Type 0
+AreLinesFrom lanes number [] [] = Unit {0}
+AreLinesFrom lanes number (text ∷ texts) (line ∷ rest) =
+    (line.number ≡ number) × LineReads lanes text line.lane line.content × AreLinesFrom lanes (number + 1) texts rest
+AreLinesFrom lanes number _ _ = ⊥
 
 -- the lines of an input, where there are so many lanes; with none, no line names one. A line ends by LF or CRLF, which the last
 -- one need not have; lines are numbered from 1
 abbrev pub AreLinesOf : ℕ → List ℕ → List Line → Type 0
-AreLinesOf lanes bytes all = AreReadFrom lanes 1 (lines bytes) all
+AreLinesOf lanes bytes all = AreLinesFrom lanes 1 (lines bytes) all

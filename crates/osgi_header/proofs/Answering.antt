@@ -18,7 +18,7 @@ use Rattle.osgi_header.proofs.Closing.{closed_scan, is_open-scan, open_scan, sca
 use Rattle.osgi_header.proofs.Gathering.{clause_read, clause_scan, clause_sound}
 use Rattle.osgi_base.specs.Parts.{is_bare, scan}
 use Rattle.osgi_header.proofs.Splitting.{AreWhole, cut_ended, cut_is, cut_joined, cut_last, cut_some, IsCut, join-cons, joined_cut, last, more}
-use Rattle.osgi_header.specs.ClauseFaults.{bad, IsClosed, IsFaulty, more as more_behind, nothing as nothing_behind, FollowsText, unended, with_comma}
+use Rattle.osgi_header.specs.ClauseFaults.{bad, IsClosedText, IsFaulty, more as more_behind, nothing as nothing_behind, FollowsText, unended, with_comma}
 use Rattle.osgi_header.specs.computed.ClauseReader.{clause_of, clause_or_kind, ok_or_bad, read_by, read_from, read_of}
 use Rattle.osgi_header.specs.Clauses.{ArePaths, IsClause, IsPath}
 use Rattle.osgi_header.specs.computed.Cutting.{cut, is_open}
@@ -79,7 +79,7 @@ none_by : (text : List ℕ) (o : Option Clause) → clause_of text ≡ o → ((c
 none_by text None is none = refl
 none_by text (Some clause) is none = absurd (none clause (clause_sound text clause is))
 
-bad_read : (text : List ℕ) → IsClosed text → ((clause : Clause) → ¬ IsClause text clause) → clause_or_kind text ≡ Err BadClause
+bad_read : (text : List ℕ) → IsClosedText text → ((clause : Clause) → ¬ IsClause text clause) → clause_or_kind text ≡ Err BadClause
 bad_read text closed none =
     cond-false (is_open text) _ _ (not_open text (closed_scan closed)) ∙ none_by text (clause_of text) refl none
 

@@ -7,13 +7,13 @@ use Rattle.osgi_base.specs.declared.parts.QuoteState.TheVariants.{Bare, Escaped,
 use Rattle.osgi_base.specs.laws.Scans.{scan-append, scan-one, scan_more, scan_quoted, spelled_scan}
 use Rattle.osgi_base.specs.Parts.{ends_part, is_bare, state_after, scan}
 use Rattle.osgi_header.proofs.Splitting.{scan_place}
-use Rattle.osgi_header.specs.ClauseFaults.{byte, IsClosed, IsEndless, IsOpen, nothing as closed_nothing, quotes, slashed, spelled}
+use Rattle.osgi_header.specs.ClauseFaults.{byte, IsClosedText, IsEndless, IsOpen, nothing as closed_nothing, quotes, slashed, spelled}
 use Rattle.osgi_header.specs.computed.Cutting.{is_open}
 use Rattle.osgi_base.specs.Quotes.{backslash, escaped, IsQuoted, nothing, plain, Spells}
 
 -- ---- from the grammar to the scan
 
-pub closed_scan : {text : List ℕ} → IsClosed text → scan 44 Bare text ≡ Some Bare
+pub closed_scan : {text : List ℕ} → IsClosedText text → scan 44 Bare text ≡ Some Bare
 closed_scan closed_nothing = refl
 closed_scan (byte {b = b} {rest = rest} no_comma no_quote more) = scan-one 44 b rest (ne_eqb b 44 no_comma, ne_eqb b 34 no_quote) ∙ closed_scan more
 closed_scan (quotes {quoted = quoted} {text = text} {rest = rest} is more) =
@@ -25,7 +25,7 @@ pub record EndsOpen (text : List ℕ) : Type 0 where
   pub scanned : scan 44 Bare text ≡ Some end
   pub within : is_bare end ≡ false
 
-endless_by : (text prefix remainder : List ℕ) → text ≡ prefix ++ 34 ∷ remainder → IsClosed prefix → IsEndless remainder → EndsOpen text
+endless_by : (text prefix remainder : List ℕ) → text ≡ prefix ++ 34 ∷ remainder → IsClosedText prefix → IsEndless remainder → EndsOpen text
 endless_by text prefix remainder is closed (spelled spells) = record {
   end = Quoted;
   scanned = ap (scan 44 Bare) is ∙ scan-append 44 Bare Bare prefix (34 ∷ remainder) (closed_scan closed) ∙ spelled_scan 44 spells;
@@ -46,7 +46,7 @@ open_scan text is = endless_by text is.prefix is.remainder is.is is.closed is.en
 
 -- what a text is, by where a scan of it ends
 pub Ends : QuoteState → List ℕ → Type 0
-Ends Bare text = IsClosed text
+Ends Bare text = IsClosedText text
 Ends Quoted text = IsOpen text
 Ends Escaped text = IsOpen text
 
@@ -181,7 +181,7 @@ pub scan_ends : (text : List ℕ) (end : QuoteState) → scan 44 Bare text ≡ S
 unfolding Says
 scan_ends text end scanned = scan_says Bare text end scanned
 
-pub scan_closed : (text : List ℕ) → scan 44 Bare text ≡ Some Bare → IsClosed text
+pub scan_closed : (text : List ℕ) → scan 44 Bare text ≡ Some Bare → IsClosedText text
 unfolding Ends
 scan_closed text scanned = scan_ends text Bare scanned
 

@@ -9,7 +9,7 @@ use Rattle.std.proofs.lemmas.List.Sums.{prefix_len-le-length}
 use Rattle.osgi_header.specs.declared.lines.LineAt.{LineAt}
 use Rattle.osgi_header.proofs.Fronts.{fronts, prefix_len-fail, prefix_len-front, prefix_len-pass}
 use Rattle.osgi_header.specs.computed.HeaderReader.{after_end, line_seen, lines_seen, without_line_feed}
-use Rattle.osgi_header.specs.Lines.{AreLines, BeginsWithLine, cr, crlf, empty_line, EndsLine, EndsSection, is_line_byte, lf, PhysicalLine, next, no_bytes, nothing, over}
+use Rattle.osgi_header.specs.Lines.{AreLines, BeginsWithPhysicalLine, cr, crlf, empty_line, EndsLine, EndsSection, is_line_byte, lf, PhysicalLine, next, no_bytes, nothing, over}
 
 -- ---- a line split off
 
@@ -50,7 +50,7 @@ has_end [] stops = record { end = []; is = refl; ends = nothing }
 has_end (b ∷ rest) stops = end_by b rest (b == 13) (b == 10) refl refl (stops b rest refl)
 
 pub begins : (bytes : List ℕ) → 0 < prefix_len is_line_byte bytes →
-    BeginsWithLine bytes (take (prefix_len is_line_byte bytes) bytes) (after_end (drop (prefix_len is_line_byte bytes) bytes))
+    BeginsWithPhysicalLine bytes (take (prefix_len is_line_byte bytes) bytes) (after_end (drop (prefix_len is_line_byte bytes) bytes))
 begins bytes some =
     let n : ℕ = prefix_len is_line_byte bytes in
     let prefix = fronts is_line_byte bytes in
@@ -73,11 +73,11 @@ ends_section (b ∷ rest) none = ends_by b rest (is_line_byte b) refl none
 
 -- ---- the lines so far, and those of what is left
 
-pub begins-len : (bytes text left : List ℕ) (is : BeginsWithLine bytes text left) → length bytes ≡ length text + (length is.end + length left)
+pub begins-len : (bytes text left : List ℕ) (is : BeginsWithPhysicalLine bytes text left) → length bytes ≡ length text + (length is.end + length left)
 begins-len bytes text left is =
     omega (arith, ap length is.is, length-append text (is.end ++ left), length-append is.end left)
 
-pub lines_more : (bytes rest text left : List ℕ) (so_far pushed : List LineAt) (line : LineAt) → length rest ≤ length bytes → BeginsWithLine rest text left →
+pub lines_more : (bytes rest text left : List ℕ) (so_far pushed : List LineAt) (line : LineAt) → length rest ≤ length bytes → BeginsWithPhysicalLine rest text left →
     line_seen line ≡ record { at = length bytes - length rest; text = text } → pushed ≡ so_far ++ line ∷ [] →
     ((others : List PhysicalLine) → AreLines (length bytes - length rest) rest others → AreLines 0 bytes (lines_seen so_far ++ others)) →
     (others : List PhysicalLine) → AreLines (length bytes - length left) left others → AreLines 0 bytes (lines_seen pushed ++ others)
@@ -117,7 +117,7 @@ record IsFirst (bytes text left : List ℕ) : Type 0 where
   text_is : text ≡ take (prefix_len is_line_byte bytes) bytes
   left_is : left ≡ after_end (drop (prefix_len is_line_byte bytes) bytes)
 
-first_is : (bytes text left : List ℕ) → BeginsWithLine bytes text left → IsFirst bytes text left
+first_is : (bytes text left : List ℕ) → BeginsWithPhysicalLine bytes text left → IsFirst bytes text left
 first_is bytes text left is =
     let len : prefix_len is_line_byte bytes ≡ length text
     = ap (prefix_len is_line_byte) is.is ∙ prefix_len-front is_line_byte text (is.end ++ left) is.line_bytes (end_stops is.end left is.ends) in
@@ -134,7 +134,7 @@ section_len : (bytes : List ℕ) → EndsSection bytes → prefix_len is_line_by
 section_len [] no_bytes = refl
 section_len (b ∷ rest) (empty_line no_line) = prefix_len-fail is_line_byte b rest no_line
 
-not_both : (first second text left : List ℕ) → first ≡ second → EndsSection first → BeginsWithLine second text left → ⊥
+not_both : (first second text left : List ℕ) → first ≡ second → EndsSection first → BeginsWithPhysicalLine second text left → ⊥
 not_both first second text left same ends is =
     let some = is.some in
     let len = (first_is second text left is).len in

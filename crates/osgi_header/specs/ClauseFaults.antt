@@ -13,10 +13,10 @@ use Rattle.osgi_header.specs.Spaces.{is_space_or_tab}
 -- wherever it stands outside one, and ends it inside one, but not after a `\` that takes it.
 
 -- no `,` in it stands outside quotes, and each quoted text in it ends: quoted texts, and bytes other than `,` and `"`
-pub data IsClosed : List ℕ → Type 0 where
-  nothing : IsClosed []
-  byte : {b : ℕ} {rest : List ℕ} → b ≢ 44 → b ≢ 34 → IsClosed rest → IsClosed (b ∷ rest)
-  quotes : {quoted text rest : List ℕ} → IsQuoted quoted text → IsClosed rest → IsClosed (quoted ++ rest)
+pub data IsClosedText : List ℕ → Type 0 where
+  nothing : IsClosedText []
+  byte : {b : ℕ} {rest : List ℕ} → b ≢ 44 → b ≢ 34 → IsClosedText rest → IsClosedText (b ∷ rest)
+  quotes : {quoted text rest : List ℕ} → IsQuoted quoted text → IsClosedText rest → IsClosedText (quoted ++ rest)
 
 -- what follows a `"` that nothing ends: no `"` other than those that a `\` takes, and maybe a lone `\` at the end
 pub data IsEndless : List ℕ → Type 0 where
@@ -28,7 +28,7 @@ pub record IsOpen (text : List ℕ) : Type 0 where
   pub prefix : List ℕ
   pub remainder : List ℕ
   pub is : text ≡ prefix ++ 34 ∷ remainder
-  pub closed : IsClosed prefix
+  pub closed : IsClosedText prefix
   pub endless : IsEndless remainder
 
 -- what follows a text: nothing, or the `,` and other texts
@@ -40,7 +40,7 @@ pub data FollowsText : List ℕ → Type 0 where
 -- clause either, and goes to the end of the value
 pub data IsFaulty : List ℕ → List ℕ → HeaderKind → Type 0 where
   unended : {text : List ℕ} → IsOpen text → IsFaulty text [] OpenQuote
-  bad : {text rest : List ℕ} → IsClosed text → FollowsText rest → ((clause : Clause) → ¬ IsClause text clause) → IsFaulty text rest BadClause
+  bad : {text rest : List ℕ} → IsClosedText text → FollowsText rest → ((clause : Clause) → ¬ IsClause text clause) → IsFaulty text rest BadClause
 
 -- with a `,` (44) after it
 abbrev pub with_comma : List ℕ → List ℕ

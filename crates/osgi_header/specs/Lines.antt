@@ -20,7 +20,7 @@ pub data EndsLine : List ℕ → List ℕ → Type 0 where
   nothing : EndsLine [] []
 
 -- the bytes begin with this line, which is not empty, and this is left after its end
-pub record BeginsWithLine (bytes text left : List ℕ) : Type 0 where
+pub record BeginsWithPhysicalLine (bytes text left : List ℕ) : Type 0 where
   pub end : List ℕ
   pub is : bytes ≡ text ++ (end ++ left)
   pub some : 0 < length text
@@ -35,7 +35,7 @@ pub data EndsSection : List ℕ → Type 0 where
 -- the lines of the main section of these bytes, the first of which stands at this place
 pub data AreLines : ℕ → List ℕ → List PhysicalLine → Type 0 where
   over : {at : ℕ} {bytes : List ℕ} → EndsSection bytes → AreLines at bytes []
-  next : {at : ℕ} {bytes text left : List ℕ} {lines : List PhysicalLine} (begins : BeginsWithLine bytes text left) →
+  next : {at : ℕ} {bytes text left : List ℕ} {lines : List PhysicalLine} (begins : BeginsWithPhysicalLine bytes text left) →
       AreLines (at + (length text + length begins.end)) left lines → AreLines at bytes (record { at = at; text = text } ∷ lines)
 
 -- a line that begins with a space continues the line before it, also where nothing follows the space: such a line is

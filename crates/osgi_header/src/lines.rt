@@ -2,7 +2,7 @@
 
 ghost use Rattle.std.specs.Prelude.{◌≡◌, IfOk, MatchOption};
 ghost use Rattle.std.specs.List.{prefix_len};
-ghost use Rattle.osgi_header.specs.Lines.{is_line_byte, AreLines, BeginsWithLine, EndsSection};
+ghost use Rattle.osgi_header.specs.Lines.{is_line_byte, AreLines, BeginsWithPhysicalLine, EndsSection};
 ghost use Rattle.osgi_header.specs.computed.HeaderReader.{after_end, lines_seen, without_line_feed};
 
 use std::alloc::{AllocError, Global};
@@ -48,7 +48,7 @@ fn skip_end(bytes: &[u8]) -> &[u8]
 
 /// Splits off the first line: the line, and what is left after its end. None where the section is over.
 fn split_line(bytes: &[u8]) -> Option<(&[u8], &[u8])>
-    ensures line { MatchOption result (EndsSection bytes.now) (λ split. BeginsWithLine bytes.now split.0.now split.1.now) }
+    ensures line { MatchOption result (EndsSection bytes.now) (λ split. BeginsWithPhysicalLine bytes.now split.0.now split.1.now) }
 {
     let (text, remainder) = bytes.split_at(line_len(bytes));
     if text.is_empty() {

@@ -10,7 +10,7 @@ use Rattle.std.proofs.lemmas.List.Elements.{filter-append}
 use Rattle.osgi_base.specs.declared.ids.BundleId.{BundleId}
 use Rattle.osgi_base.specs.declared.ids.ServiceId.{ServiceId}
 use Rattle.osgi_ops.specs.Replies.{is_accepted, is_refusal}
-use Rattle.osgi_ops.specs.Services.{is_live, is_service, Registered, registered_after, registered_by, takes_out, uses_without_makes}
+use Rattle.osgi_ops.specs.Services.{is_live_service, is_service, Registered, registered_after, registered_by, takes_out, uses_without_makes}
 use Rattle.osgi_ops.specs.declared.op.Op.{Op}
 use Rattle.osgi_ops.specs.declared.op.Op.TheVariants.{Register}
 use Rattle.osgi_ops.specs.declared.reply.Reply.{Reply}
@@ -22,11 +22,11 @@ ids_of list = map (λ r. r.service) list
 
 -- the live services of entries that follow so many registrations
 abbrev pub live_after : ℕ → List Entry → List Registered
-live_after earlier entries = filter is_live (registered_after earlier entries)
+live_after earlier entries = filter is_live_service (registered_after earlier entries)
 
 -- what the entry registered, where the entries since leave it live
 abbrev pub newly : ℕ → Entry → List Entry → List Registered
-newly earlier e since = filter is_live (registered_by earlier e.op e.reply since)
+newly earlier e since = filter is_live_service (registered_by earlier e.op e.reply since)
 
 abbrev pub one_if : Bool → ℕ
 one_if holds = cond holds 1 0
@@ -45,13 +45,13 @@ kept_if r false = refl
 
 -- an accepted registration is live where the entries since do not take the service out
 pub newly_is : (r : Registered) (reply : Reply) (gone : Bool) → false ≡ is_refusal reply → gone ≡ list_any (λ e. takes_out r.service r.owner e.op e.reply) r.since →
-    option_to_list (then_some (not gone) r.service) ≡ ids_of (filter is_live (cond (is_accepted reply) (r ∷ []) []))
+    option_to_list (then_some (not gone) r.service) ≡ ids_of (filter is_live_service (cond (is_accepted reply) (r ∷ []) []))
 newly_is r reply gone accepted is =
-    ap (λ g. option_to_list (then_some (not g) r.service)) is ∙ kept_if r (is_live r) ∙ ap (λ refused. ids_of (filter is_live (cond (not refused) (r ∷ []) []))) accepted
+    ap (λ g. option_to_list (then_some (not g) r.service)) is ∙ kept_if r (is_live_service r) ∙ ap (λ refused. ids_of (filter is_live_service (cond (not refused) (r ∷ []) []))) accepted
 
 pub live-cons : (earlier : ℕ) (e : Entry) (since : List Entry) → live_after earlier (e ∷ since) ≡ newly earlier e since ++ live_after (earlier + one_if (is_registration e.op e.reply)) since
 live-cons earlier e since =
-    filter-append is_live (registered_by earlier e.op e.reply since) (registered_after (earlier + length (registered_by earlier e.op e.reply since)) since)
+    filter-append is_live_service (registered_by earlier e.op e.reply since) (registered_after (earlier + length (registered_by earlier e.op e.reply since)) since)
     ∙ ap (λ n. newly earlier e since ++ live_after (earlier + n) since) (count_by_one earlier e.op e.reply since)
 
 -- the slice from a place on, as the code takes it
@@ -99,15 +99,15 @@ one_uses user service r rest true (Some new) same ids is =
     first_uses user service r rest same (ap (λ (s : ServiceId). nat_eq s.0 service.0) (sym there) ∙ is)
 
 uses_with : (user : BundleId) (service : ServiceId) (r : Registered) (rest : List Registered) (accepted : Bool) (new : Option ServiceId) (same : Bool) →
-    option_to_list new ≡ ids_of (filter is_live (cond accepted (r ∷ []) [])) → is_that new service ≡ same →
-    uses_in user service (filter is_live (cond accepted (r ∷ []) []) ++ rest) ≡ cond same (held user service r.since) (uses_in user service rest)
-uses_with user service r rest true new same ids is = one_uses user service r rest (is_live r) new same ids is
+    option_to_list new ≡ ids_of (filter is_live_service (cond accepted (r ∷ []) [])) → is_that new service ≡ same →
+    uses_in user service (filter is_live_service (cond accepted (r ∷ []) []) ++ rest) ≡ cond same (held user service r.since) (uses_in user service rest)
+uses_with user service r rest true new same ids is = one_uses user service r rest (is_live_service r) new same ids is
 uses_with user service r rest false None same ids is = ap (λ b. cond b (held user service r.since) (uses_in user service rest)) is
 uses_with user service r rest false (Some new) same ids is = absurd (cc)
 
 uses_by : (user : BundleId) (service : ServiceId) (earlier : ℕ) (op : Op) (reply : Reply) (since : List Entry) (rest : List Registered) (new : Option ServiceId) (same : Bool) →
-    option_to_list new ≡ ids_of (filter is_live (registered_by earlier op reply since)) → is_that new service ≡ same →
-    uses_in user service (filter is_live (registered_by earlier op reply since) ++ rest) ≡ cond same (held user service since) (uses_in user service rest)
+    option_to_list new ≡ ids_of (filter is_live_service (registered_by earlier op reply since)) → is_that new service ≡ same →
+    uses_in user service (filter is_live_service (registered_by earlier op reply since) ++ rest) ≡ cond same (held user service since) (uses_in user service rest)
 uses_by user service earlier (Register owner classes object scope properties) reply since rest new same ids is =
     uses_with user service (record { service = record { 0 = earlier + 1 }; owner = owner; classes = classes; object = object; scope = scope; given = properties; since = since }) rest (is_accepted reply) new same ids is
 uses_by user service earlier op reply since rest None same ids is = ap (λ b. cond b (held user service since) (uses_in user service rest)) is

@@ -4,7 +4,7 @@ ghost use Rattle.std.specs.Prelude.{◌≡◌, ◌<◌, [], count_by, filter, ma
 ghost use Rattle.std.specs.List.{list_any};
 ghost use Rattle.std.specs.Option.{option_map_or, option_to_list};
 ghost use Rattle.osgi_ops.specs.Cleaning.{cleaned_by, cleans};
-ghost use Rattle.osgi_ops.specs.Services.{gets_object, is_live, is_unget, live, made_uses, registered_by, since_cleaning, takes_out, uses};
+ghost use Rattle.osgi_ops.specs.Services.{gets_object, is_live_service, is_unget, live_services, made_uses, registered_by, since_cleaning, takes_out, uses};
 ghost use Rattle.osgi_history.specs.computed.Scans.{has_failed, held, is_registration, uses_shared};
 
 use osgi_base::{BundleId, List, ServiceId};
@@ -72,7 +72,7 @@ fn registered(earlier: u64, entry: &Entry, since: &[Entry]) -> Option<ServiceId>
     requires countable { earlier < u64.MAX }
     ensures registered { option_to_list result
         ≡ map (λ r. r.service)
-        (filter is_live (registered_by earlier entry.now.op entry.now.reply since.now)) }
+        (filter is_live_service (registered_by earlier entry.now.op entry.now.reply since.now)) }
 {
     let Op::Register { owner, .. } = &entry.op else {
         return None;
@@ -86,7 +86,7 @@ fn registered(earlier: u64, entry: &Entry, since: &[Entry]) -> Option<ServiceId>
 
 /// The live services after these entries, in order of their registration.
 pub fn live(alloc: Global, entries: &[Entry]) -> Result<List<ServiceId>, AllocError>
-    ensures live { IfOk result (λ ids. ids ≡ map (λ r. r.service) (live entries.now)) }
+    ensures live { IfOk result (λ ids. ids ≡ map (λ r. r.service) (live_services entries.now)) }
 {
     let mut ids = List::new(alloc)?;
     let mut earlier = 0;

@@ -4,9 +4,9 @@ ghost use Rattle.std.specs.Prelude.{◌≡◌, ◌≢◌, ◌<◌, nat_eq};
 ghost use Rattle.std.specs.Option.{option_map};
 ghost use Rattle.osgi_history.specs.computed.States.{installs, is_live_after, number_in};
 ghost use Rattle.osgi_legal.specs.States.{resolved_at, resolves_by, state_at};
-ghost use Rattle.osgi_ops.specs.Bundles.{is_live, is_member, is_uninstall, number_of, phase, put_into, state};
+ghost use Rattle.osgi_ops.specs.Bundles.{is_live, is_uninstall, lists_bundle, number_of, phase, put_into, state};
 ghost use Rattle.osgi_legal.specs.Legal.{IsReplayed};
-ghost use Rattle.osgi_ops.specs.Replies.{is_effective};
+ghost use Rattle.osgi_ops.specs.Replies.{took_effect};
 ghost use Rattle.osgi_ops.specs.Settings.{Setting};
 ghost use Rattle.osgi_world.specs.declared.world.World.{World};
 
@@ -62,8 +62,8 @@ fn is_live(entries: &[Entry], bundle: BundleId) -> bool
 }
 
 /// Whether the reply says that a start or a stop ended, well or not.
-fn is_effective(reply: &Reply) -> bool
-    ensures effective { result ≡ is_effective reply.now }
+fn took_effect(reply: &Reply) -> bool
+    ensures effective { result ≡ took_effect reply.now }
 {
     match reply {
         Reply::Refused { refusal } => matches!(refusal, Refusal::ActivatorError),
@@ -83,10 +83,10 @@ fn put_into(entry: &Entry, bundle: BundleId) -> Option<u8>
         (Op::BeginStop { .. }, Reply::Begun { bundle: begun, .. }) => {
             (*begun == bundle).then_some(STOPPING)
         }
-        (Op::EndStart { bundle: ended, .. }, _) => (is_effective(reply)
+        (Op::EndStart { bundle: ended, .. }, _) => (took_effect(reply)
             && *ended == bundle).then_some(if reply.is_refusal() { RESOLVED } else { ACTIVE }),
         (Op::EndStop { bundle: ended, .. }, _) => {
-            (is_effective(reply) && *ended == bundle).then_some(RESOLVED)
+            (took_effect(reply) && *ended == bundle).then_some(RESOLVED)
         }
         _ => None,
     }
@@ -104,8 +104,8 @@ fn put_last(entries: &[Entry], bundle: BundleId) -> u8
 }
 
 /// Whether the bundle is among these.
-fn is_member(bundles: &[BundleId], bundle: BundleId) -> bool
-    ensures member { result ≡ is_member bundles.now bundle.0 }
+fn lists_bundle(bundles: &[BundleId], bundle: BundleId) -> bool
+    ensures member { result ≡ lists_bundle bundles.now bundle.0 }
 {
     bundles.iter().any(|member| *member == bundle)
 }
@@ -117,9 +117,9 @@ fn resolves_by(entry: &Entry, bundle: BundleId) -> Option<bool>
     let reply = &entry.reply;
     match (&entry.op, reply) {
         (Op::Resolve { .. }, Reply::Resolved { added }) => {
-            is_member(added.items(), bundle).then_some(true)
+            lists_bundle(added.items(), bundle).then_some(true)
         }
-        (Op::DropWirings, Reply::Ids { ids }) => is_member(ids.items(), bundle).then_some(false),
+        (Op::DropWirings, Reply::Ids { ids }) => lists_bundle(ids.items(), bundle).then_some(false),
         (
             Op::Update {
                 bundle: updated,

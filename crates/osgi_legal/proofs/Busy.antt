@@ -10,7 +10,7 @@ use Rattle.osgi_ops.specs.Bundles.{active, idle, is_live, is_uninstall, phase, P
 use Rattle.osgi_legal.specs.Legal.{AreAllowed, IsAllowed}
 use Rattle.osgi_ops.specs.Moments.{entries_in, Moment, moment, Told}
 use Rattle.osgi_legal.specs.Operations.{IsReply}
-use Rattle.osgi_ops.specs.Replies.{is_effective}
+use Rattle.osgi_ops.specs.Replies.{took_effect}
 use Rattle.osgi_ops.specs.Settings.{Setting}
 use Rattle.osgi_ops.specs.declared.entry.Entry.{Entry}
 use Rattle.osgi_ops.specs.declared.op.Op.{Op}
@@ -56,7 +56,7 @@ stop-up m x b target transient row r so sr =
 
 -- an end of the bundle's own bracket finds it begun
 pub end-busy : (setting : Setting) (front : List Told) (x : Told) → AreAllowed setting front → IsAllowed setting front x → (b : BundleId) → is_end x.entry.op ≡ true →
-    ends_for b x.entry.op ≡ true → is_effective x.entry.reply ≡ true → is_idle (phase b (entries_in front)) ≡ false
+    ends_for b x.entry.op ≡ true → took_effect x.entry.reply ≡ true → is_idle (phase b (entries_in front)) ≡ false
 end-busy setting front x legal a b e f g =
     let m = moment setting front x.entry.tag in
     let closed = effective-closes m x.entry.op x.entry.reply a.replied e g in

@@ -4,7 +4,7 @@ use Rattle.std.specs.Prelude.{◌==◌, cond, Option, None, Some}
 use Rattle.std.specs.Option.{option_map_or}
 use Rattle.osgi_base.specs.declared.ids.BundleId.{BundleId}
 use Rattle.osgi_ops.specs.Cleaning.{cleaned_by, cleans}
-use Rattle.osgi_ops.specs.Replies.{is_accepted, is_effective}
+use Rattle.osgi_ops.specs.Replies.{is_accepted, took_effect}
 use Rattle.osgi_ops.specs.declared.op.Op.{Op}
 use Rattle.osgi_ops.specs.declared.op.Op.TheVariants as op
 use Rattle.osgi_ops.specs.declared.refusal.Refusal.TheVariants as no
@@ -17,7 +17,7 @@ pub failed-start-cleans : (b : BundleId) (failed : Bool) → cleaned_by (op.EndS
 failed-start-cleans b failed = refl
 
 -- a stop, failed or not
-pub stop-cleans : (b : BundleId) (failed : Bool) (y : Reply) → is_effective y ≡ true → cleaned_by (op.EndStop b failed) y ≡ Some b
+pub stop-cleans : (b : BundleId) (failed : Bool) (y : Reply) → took_effect y ≡ true → cleaned_by (op.EndStop b failed) y ≡ Some b
 stop-cleans b failed y did = ap (λ k. cond k (Some b) None) did
 
 -- and each cleans exactly the bundle

@@ -11,7 +11,7 @@ use Rattle.osgi_ops.specs.Jobs.{jobs, Queued}
 use Rattle.osgi_legal.specs.Legal.{IsTold}
 use Rattle.osgi_ops.specs.Listening.{Added, event_at, handed, handed_in, handings, is_in_turn, listeners, spots_of}
 use Rattle.osgi_ops.specs.Moments.{Moment, sights_in}
-use Rattle.osgi_ops.specs.Services.{live, Registered}
+use Rattle.osgi_ops.specs.Services.{live_services, Registered}
 use Rattle.osgi_ops.specs.declared.refusal.Refusal.{Refusal}
 use Rattle.osgi_world.specs.Lists.{In}
 use Rattle.osgi_legal.proofs.Handings.{handings-within}
@@ -28,8 +28,8 @@ pub fit-at : (now : Moment) → IsTold now → (b : BundleId) → IsFit b now.be
 fit-at now t b = at-told (λ m. IsFit b m.before) (λ setting told tag legal. phases-fit setting told legal b) now t
 
 -- the owners of live services, live listeners and queued jobs are up
-pub services-up-at : (now : Moment) → IsTold now → All (λ (r : Registered). is_up (state_of now r.owner) ≡ true) (live now.before)
-services-up-at now t = at-told (λ m. All (λ (r : Registered). is_up (state_of m r.owner) ≡ true) (live m.before)) (λ setting told tag legal. services-up setting told legal) now t
+pub services-up-at : (now : Moment) → IsTold now → All (λ (r : Registered). is_up (state_of now r.owner) ≡ true) (live_services now.before)
+services-up-at now t = at-told (λ m. All (λ (r : Registered). is_up (state_of m r.owner) ≡ true) (live_services m.before)) (λ setting told tag legal. services-up setting told legal) now t
 
 pub listeners-up-at : (now : Moment) → IsTold now → All (λ (a : Added). is_up (state_of now a.owner) ≡ true) (listeners now.before)
 listeners-up-at now t = at-told (λ m. All (λ (a : Added). is_up (state_of m a.owner) ≡ true) (listeners m.before)) (λ setting told tag legal. listeners-up setting told legal) now t

@@ -12,7 +12,7 @@ use Rattle.osgi_legal.specs.Legal.{IsAllowed}
 use Rattle.osgi_ops.specs.Listening.{Added, adds, clears, heard_by, Hearing, hearing, HearingChange, is_in_turn, is_listener, is_turn_of, lets_go, listener_at, takes_off, with_heard}
 use Rattle.osgi_legal.specs.Operations.{IsReply}
 use Rattle.osgi_legal.specs.laws.Stages.{row-of}
-use Rattle.osgi_ops.specs.Replies.{is_effective, verdict}
+use Rattle.osgi_ops.specs.Replies.{took_effect, verdict}
 use Rattle.osgi_ops.specs.Settings.{Setting}
 use Rattle.osgi_ops.specs.Moments.{entries_in, Moment, Told}
 use Rattle.osgi_base.specs.Verdict.{refuses}
@@ -176,11 +176,11 @@ has-ended tag op opened e = let r = ended_first tag op (of tag.caller opened) (s
 
 -- an end that did its work was that of the innermost bracket
 refused-row : {X : Type 0} (reply : Reply) (closed : Bool) → ((f : Refusal) × ((f ≡ InvalidOperation) × (closed ≡ false)) × (verdict reply ≡ refuses f)) ⊎ (((f : Refusal) → ((f ≡ InvalidOperation) × (closed ≡ false)) → ⊥) × X) →
-    is_effective reply ≡ true → closed ≡ true
-refused-row reply closed (inl r) f = let c : true ≡ false = sym f ∙ ap is_effective (refused-of reply r.0 r.2 ∙ ap Refused r.1.0) in absurd (cc c)
+    took_effect reply ≡ true → closed ≡ true
+refused-row reply closed (inl r) f = let c : true ≡ false = sym f ∙ ap took_effect (refused-of reply r.0 r.2 ∙ ap Refused r.1.0) in absurd (cc c)
 refused-row reply closed (inr r) f = true_from_ne_false closed (λ n. r.0 InvalidOperation (refl, n))
 
-pub effective-closes : (m : Moment) (op : Op) (reply : Reply) → IsReply m op reply → is_end op ≡ true → is_effective reply ≡ true → closes m.tag op (brackets m.before) ≡ true
+pub effective-closes : (m : Moment) (op : Op) (reply : Reply) → IsReply m op reply → is_end op ≡ true → took_effect reply ≡ true → closes m.tag op (brackets m.before) ≡ true
 effective-closes m (EndHand listener) reply r e f = refused-row reply _ (row-of m (EndHand listener) reply r f) f
 effective-closes m EndJob reply r e f = refused-row reply _ (row-of m EndJob reply r f) f
 effective-closes m (EndStart bundle bad) reply r e f = refused-row reply _ (row-of m (EndStart bundle bad) reply r f) f

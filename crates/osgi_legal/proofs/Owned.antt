@@ -9,7 +9,7 @@ use Rattle.osgi_ops.specs.Conditions.{IsDeep}
 use Rattle.osgi_legal.specs.Operations.{Answers, IsReply, IsRow}
 use Rattle.osgi_legal.specs.laws.Stages.{ends-here, here-row}
 use Rattle.osgi_ops.specs.rows.Events.{IsHanding, IsNothing}
-use Rattle.osgi_ops.specs.Replies.{is_effective, verdict}
+use Rattle.osgi_ops.specs.Replies.{took_effect, verdict}
 use Rattle.osgi_ops.specs.Moments.{entries_in, Moment, Told}
 use Rattle.osgi_base.specs.Verdict.{Gives, Verdict, refuses, answers}
 use Rattle.osgi_ops.specs.declared.op.Op.{Op}
@@ -84,19 +84,19 @@ answered-of (Refused g) y e = absurd (cc e)
 answered-of reply y e = cc e
 
 -- an end of the innermost bracket did its work
-one-row : (reply : Reply) (closed : Bool) → closed ≡ true → Gives ((λ f. (f ≡ InvalidOperation) × (closed ≡ false)) ∷ []) (λ y. y ≡ Done) (verdict reply) → is_effective reply ≡ true
+one-row : (reply : Reply) (closed : Bool) → closed ≡ true → Gives ((λ f. (f ≡ InvalidOperation) × (closed ≡ false)) ∷ []) (λ y. y ≡ Done) (verdict reply) → took_effect reply ≡ true
 one-row reply closed p (inl r) = absurd (let c : true ≡ false = sym p ∙ r.1.1 in cc c)
 one-row reply closed p (inr r) =
     let a = answer-of (λ y. y ≡ Done) (verdict reply) r.1 in
-    ap is_effective (answered-of reply a.0 a.1 ∙ a.2)
+    ap took_effect (answered-of reply a.0 a.1 ∙ a.2)
 
 two-rows : (reply : Reply) (closed : Bool) (Q : Type 0) → closed ≡ true →
-    Gives ((λ f. (f ≡ InvalidOperation) × (closed ≡ false)) ∷ (λ f. (f ≡ ActivatorError) × Q) ∷ []) (λ y. y ≡ Done) (verdict reply) → is_effective reply ≡ true
+    Gives ((λ f. (f ≡ InvalidOperation) × (closed ≡ false)) ∷ (λ f. (f ≡ ActivatorError) × Q) ∷ []) (λ y. y ≡ Done) (verdict reply) → took_effect reply ≡ true
 two-rows reply closed Q p (inl r) = absurd (let c : true ≡ false = sym p ∙ r.1.1 in cc c)
-two-rows reply closed Q p (inr (n, inl r)) = ap is_effective (refused-of reply r.0 r.2 ∙ ap Refused r.1.0)
+two-rows reply closed Q p (inr (n, inl r)) = ap took_effect (refused-of reply r.0 r.2 ∙ ap Refused r.1.0)
 two-rows reply closed Q p (inr (n, inr r)) =
     let a = answer-of (λ y. y ≡ Done) (verdict reply) r.1 in
-    ap is_effective (answered-of reply a.0 a.1 ∙ a.2)
+    ap took_effect (answered-of reply a.0 a.1 ∙ a.2)
 
 -- what is no end closes nothing
 pub no-end : (op : Op) (cause : Cause) → is_end op ≡ false → ends op cause ≡ false
@@ -130,7 +130,7 @@ abbrev pub is_make_end : Op → Bool
 is_make_end (EndMake bad) = true
 is_make_end op = false
 
-pub ended-by : (m : Moment) (op : Op) (reply : Reply) → IsReply m op reply → is_make_end op ≡ false → closes m.tag op (brackets m.before) ≡ true → is_effective reply ≡ true
+pub ended-by : (m : Moment) (op : Op) (reply : Reply) → IsReply m op reply → is_make_end op ≡ false → closes m.tag op (brackets m.before) ≡ true → took_effect reply ≡ true
 ended-by m (EndHand listener) reply r n f = one-row reply _ f (here-row m (EndHand listener) reply (ends-here (EndHand listener) refl) r)
 ended-by m EndJob reply r n f = one-row reply _ f (here-row m EndJob reply (ends-here EndJob refl) r)
 ended-by m (EndStart bundle bad) reply r n f = two-rows reply _ (bad ≡ true) f (here-row m (EndStart bundle bad) reply (ends-here (EndStart bundle bad) refl) r)

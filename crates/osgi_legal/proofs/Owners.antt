@@ -16,7 +16,7 @@ use Rattle.osgi_legal.specs.Legal.{AreAllowed, IsAllowed}
 use Rattle.osgi_ops.specs.Listening.{Added, adds, clears, heard_by, Hearing, hearing, HearingChange, lets_go, listeners, takes_off, with_heard}
 use Rattle.osgi_ops.specs.Moments.{entries_in, Moment, moment, Told, world_after}
 use Rattle.osgi_ops.specs.Replies.{is_accepted}
-use Rattle.osgi_ops.specs.Services.{live, Registered, registered, registered_by, takes_out}
+use Rattle.osgi_ops.specs.Services.{live_services, Registered, registered, registered_by, takes_out}
 use Rattle.osgi_ops.specs.Settings.{Setting}
 use Rattle.osgi_ops.specs.declared.entry.Entry.{Entry}
 use Rattle.osgi_ops.specs.declared.kind.Kind.{Kind}
@@ -96,7 +96,7 @@ queued-asker o reply q e = absurd (none (cleaned_by o reply) e)
 
 -- the owners of all that is live are up
 pub record AreUp (history : List Entry) : Type 0 where
-  pub services : All (λ (r : Registered). is_up_at history r.owner ≡ true) (live history)
+  pub services : All (λ (r : Registered). is_up_at history r.owner ≡ true) (live_services history)
   pub listeners : All (λ (a : Added). is_up_at history a.owner ≡ true) (listeners history)
   pub jobs : All (λ (q : Queued). is_up_at history q.owner ≡ true) (jobs.jobs history)
 
@@ -145,13 +145,13 @@ up-step setting front x legal a up = record { services = served; listeners = hea
         go false f = All-nil (λ (r : Registered). IsUpNow r.owner)
     new-up o reply s t = All-nil (λ (r : Registered). IsUpNow r.owner)
 
-    served : All (λ (r : Registered). IsUpNow r.owner) (live (h ++ e ∷ []))
+    served : All (λ (r : Registered). IsUpNow r.owner) (live_services (h ++ e ∷ []))
     served = subst (All (λ (r : Registered). IsUpNow r.owner)) (sym (live-push h e))
-        (All-append (λ (r : Registered). IsUpNow r.owner) (map (later e) (left_by e (live h))) (registered_by (length (registered h)) e.op e.reply [])
-        (All-map (λ (r : Registered). IsUpNow r.owner) (later e) (left_by e (live h))
+        (All-append (λ (r : Registered). IsUpNow r.owner) (map (later e) (left_by e (live_services h))) (registered_by (length (registered h)) e.op e.reply [])
+        (All-map (λ (r : Registered). IsUpNow r.owner) (later e) (left_by e (live_services h))
         (all-kept (λ (r : Registered). not (takes_out r.service r.owner e.op e.reply)) (λ (r : Registered). is_up_at h r.owner ≡ true) (λ (r : Registered). IsUpNow r.owner)
         (λ r u n. kept r.owner u (not-cleaned r.owner (λ c. let bad : true ≡ false = sym (cleans-takes r.owner r.service e.op e.reply c) ∙ not-true _ n in cc bad)))
-        (live h) up.services))
+        (live_services h) up.services))
         (new-up e.op e.reply refl refl))
 
     -- listeners
@@ -225,10 +225,10 @@ owners-up setting told legal =
     (λ front x before up a. subst AreUp (sym (entries-last front x)) (up-step setting front x before a up)) told legal
 
 -- the same, of the states of bundles
-pub services-up : (setting : Setting) (told : List Told) → AreAllowed setting told → All (λ (r : Registered). is_up (state (world_after told) (entries_in told) r.owner) ≡ true) (live (entries_in told))
+pub services-up : (setting : Setting) (told : List Told) → AreAllowed setting told → All (λ (r : Registered). is_up (state (world_after told) (entries_in told) r.owner) ≡ true) (live_services (entries_in told))
 services-up setting told legal =
     All-weaker (λ (r : Registered). is_up_at (entries_in told) r.owner ≡ true) (λ (r : Registered). is_up (state (world_after told) (entries_in told) r.owner) ≡ true)
-    (λ r u. up-is (world_after told) (entries_in told) r.owner ∙ u) (live (entries_in told)) (owners-up setting told legal).services
+    (λ r u. up-is (world_after told) (entries_in told) r.owner ∙ u) (live_services (entries_in told)) (owners-up setting told legal).services
 
 pub listeners-up : (setting : Setting) (told : List Told) → AreAllowed setting told → All (λ (a : Added). is_up (state (world_after told) (entries_in told) a.owner) ≡ true) (listeners (entries_in told))
 listeners-up setting told legal =

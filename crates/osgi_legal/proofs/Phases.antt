@@ -9,11 +9,11 @@ use Rattle.osgi_ops.specs.Bundles as bundles
 use Rattle.osgi_ops.specs.Bundles.{active, begun_by, idle, is_active, is_changing, is_live, last_begin, phase, Phase, put_into, running, state, State}
 use Rattle.osgi_legal.specs.Legal.{AreAllowed, IsAllowed}
 use Rattle.osgi_ops.specs.Bundles.{row_of}
-use Rattle.osgi_ops.specs.Conditions.{is_above, state_change, state_of}
+use Rattle.osgi_ops.specs.Conditions.{is_level_too_high, state_change, state_of}
 use Rattle.osgi_legal.specs.Operations.{IsReply, IsRow}
 use Rattle.osgi_legal.specs.laws.Stages.{row-of}
 use Rattle.osgi_ops.specs.Bundles.{system}
-use Rattle.osgi_ops.specs.Replies.{is_accepted, is_effective}
+use Rattle.osgi_ops.specs.Replies.{is_accepted, took_effect}
 use Rattle.osgi_ops.specs.Settings.{Setting}
 use Rattle.osgi_ops.specs.Resolved.{is_resolved}
 use Rattle.osgi_ops.specs.Moments.{moment, entries_in, Moment, Told}
@@ -93,8 +93,8 @@ for-ended b o cause e = absurd (cc e)
 pub data Turn (b : BundleId) (o : Op) (reply : Reply) : Type 0 where
   starts : opens o reply ≡ Some (starting b) → put_into b o reply ≡ Some bundles.starting → (transient : Bool) → (row : ℕ) → (begun : BundleId) → o ≡ op.BeginStart b transient → reply ≡ answer.Begun begun row → Turn b o reply
   stops : opens o reply ≡ Some (stopping b) → put_into b o reply ≡ Some bundles.stopping → (target : Target) → (transient : Bool) → (row : ℕ) → o ≡ op.BeginStop target transient → reply ≡ answer.Begun b row → Turn b o reply
-  ends_it : is_end o ≡ true → ends_for b o ≡ true → is_effective reply ≡ true → (p : Phase) → put_into b o reply ≡ Some p → (p ≡ idle) ⊎ (p ≡ active) → Turn b o reply
-  leaves : put_into b o reply ≡ None → ((cause : Cause) → opens o reply ≡ Some cause → is_for b cause ≡ false) → (is_end o ≡ true → is_effective reply ≡ true → ends_for b o ≡ false) → Turn b o reply
+  ends_it : is_end o ≡ true → ends_for b o ≡ true → took_effect reply ≡ true → (p : Phase) → put_into b o reply ≡ Some p → (p ≡ idle) ⊎ (p ≡ active) → Turn b o reply
+  leaves : put_into b o reply ≡ None → ((cause : Cause) → opens o reply ≡ Some cause → is_for b cause ≡ false) → (is_end o ≡ true → took_effect reply ≡ true → ends_for b o ≡ false) → Turn b o reply
 
 quiet-cause : (b : BundleId) (given cause : Cause) → Some given ≡ Some cause → is_for b given ≡ false → is_for b cause ≡ false
 quiet-cause b given cause e f = let same : given ≡ cause = cc e in subst (λ c. is_for b c ≡ false) same f
@@ -123,7 +123,7 @@ rests : (k : Bool) → (cond k active idle ≡ idle) ⊎ (cond k active idle ≡
 rests true = inr refl
 rests false = inl refl
 
-end-start-turn : (b n : BundleId) (bad : Bool) (reply : Reply) (eff same : Bool) → is_effective reply ≡ eff → (n.0 == b.0) ≡ same → Turn b (op.EndStart n bad) reply
+end-start-turn : (b n : BundleId) (bad : Bool) (reply : Reply) (eff same : Bool) → took_effect reply ≡ eff → (n.0 == b.0) ≡ same → Turn b (op.EndStart n bad) reply
 end-start-turn b n bad reply true true e f =
     ends_it refl f e (cond (is_accepted reply) active idle) (λ i. cond (e i && f i) (Some (cond (is_accepted reply) active idle)) None) (rests (is_accepted reply))
 end-start-turn b n bad reply true false e f =
@@ -131,7 +131,7 @@ end-start-turn b n bad reply true false e f =
 end-start-turn b n bad reply false same e f =
     leaves (λ i. cond (e i && f i) (Some (cond (is_accepted reply) active idle)) None) (λ cause q. never b cause q) (λ q g. absurd (let c : true ≡ false = sym g ∙ e in cc c))
 
-end-stop-turn : (b n : BundleId) (bad : Bool) (reply : Reply) (eff same : Bool) → is_effective reply ≡ eff → (n.0 == b.0) ≡ same → Turn b (op.EndStop n bad) reply
+end-stop-turn : (b n : BundleId) (bad : Bool) (reply : Reply) (eff same : Bool) → took_effect reply ≡ eff → (n.0 == b.0) ≡ same → Turn b (op.EndStop n bad) reply
 end-stop-turn b n bad reply true true e f = ends_it refl f e idle (λ i. cond (e i && f i) (Some idle) None) (inl refl)
 end-stop-turn b n bad reply true false e f = leaves (λ i. cond (e i && f i) (Some idle) None) (λ cause q. never b cause q) (λ q g. f)
 end-stop-turn b n bad reply false same e f =
@@ -140,8 +140,8 @@ end-stop-turn b n bad reply false same e f =
 pub turn-of : (b : BundleId) (o : Op) (reply : Reply) → Turn b o reply
 turn-of b (op.BeginStart n transient) (answer.Begun begun row) = start-turn b n begun transient row (n.0 == b.0) refl
 turn-of b (op.BeginStop target transient) (answer.Begun n row) = stop-turn b n target transient row (n.0 == b.0) refl
-turn-of b (op.EndStart n bad) reply = end-start-turn b n bad reply (is_effective reply) (n.0 == b.0) refl refl
-turn-of b (op.EndStop n bad) reply = end-stop-turn b n bad reply (is_effective reply) (n.0 == b.0) refl refl
+turn-of b (op.EndStart n bad) reply = end-start-turn b n bad reply (took_effect reply) (n.0 == b.0) refl refl
+turn-of b (op.EndStop n bad) reply = end-stop-turn b n bad reply (took_effect reply) (n.0 == b.0) refl refl
 turn-of b op.Hand (answer.Handed listener kind owner row name event) = leaves refl (λ cause q. quiet-cause b (handing listener) cause q refl) (λ q f. absurd (cc q))
 turn-of b op.TakeJob (answer.Job owner row name) = leaves refl (λ cause q. quiet-cause b job cause q refl) (λ q f. absurd (cc q))
 turn-of b (op.EndHand listener) reply = leaves refl (λ cause q. never b cause q) (λ q f. refl)
@@ -167,7 +167,7 @@ start-by m b begun transient row (inr (n1, inr (n2, inr (n3, inr (n4, inr (n5, i
     (true_from_ne_false _ (λ e. n1 no.NoSuchBundle (refl, e)), n4, false_from_ne_true _ (λ e. go e))
   where
     go : is_active (state_of m b) ≡ true → ⊥
-    go e = let q : answer.Begun begun row ≡ answer.Active b = a ∙ ap (λ k. cond k (answer.Active b) (cond (is_above m b) (answer.Kept b) (answer.Begun b (row_of m.setting.depot m.before b)))) e in cc q
+    go e = let q : answer.Begun begun row ≡ answer.Active b = a ∙ ap (λ k. cond k (answer.Active b) (cond (is_level_too_high m b) (answer.Kept b) (answer.Begun b (row_of m.setting.depot m.before b)))) e in cc q
 
 pub start-row : (m : Moment) (b begun : BundleId) (transient : Bool) (row : ℕ) → IsReply m (op.BeginStart b transient) (answer.Begun begun row) →
     (is_live b m.before ≡ true) × ((f : Refusal) → state_change is_changing m b f → ⊥) × (is_active (state_of m b) ≡ false)
@@ -286,7 +286,7 @@ fit-step setting b front x a fit = go (turn-of b x.entry.op x.entry.reply)
     is : brackets (h ++ x.entry ∷ []) ≡ turned x.entry.tag (opens x.entry.op x.entry.reply) (closes x.entry.tag x.entry.op (brackets h)) (brackets h)
     is = brackets-last h x.entry
 
-    ends-other : (o : Op) (y : Reply) → IsReply m o y → closes x.entry.tag o (brackets h) ≡ true → (is_effective y ≡ true → ends_for b o ≡ false) → ends_for b o ≡ false
+    ends-other : (o : Op) (y : Reply) → IsReply m o y → closes x.entry.tag o (brackets h) ≡ true → (took_effect y ≡ true → ends_for b o ≡ false) → ends_for b o ≡ false
     ends-other (op.EndMake bad) y r c g = refl
     ends-other o y r c g = g (ended-by m o y r refl c)
 

@@ -24,11 +24,11 @@ use Rattle.osgi_legal.specs.Legal.{entry_of}
 use Rattle.osgi_ops.specs.Listening.{clears, handed_by, handed_in, happenings, leaving, of_bundle, heard_by, Hearing, hearing, is_handed, with_heard}
 use Rattle.osgi_ops.specs.Makes.{is_made, made_count, make_change, open_makes}
 use Rattle.osgi_ops.specs.Moments.{Moment}
-use Rattle.osgi_ops.specs.Objects.{HeldObject, is_given_back, object_by, objects, stays}
+use Rattle.osgi_ops.specs.Objects.{HeldObject, is_given_back, is_still_held, object_by, objects}
 use Rattle.osgi_legal.specs.Operations.{IsReply}
 use Rattle.osgi_ops.specs.Properties.{with_framework}
-use Rattle.osgi_ops.specs.Replies.{is_effective}
-use Rattle.osgi_ops.specs.Services.{gets, given_by, given_last, gets_object, is_service, is_unget, is_use_of, live, live_at, made_of, made_uses, Registered, registered, registered_by, scope_of, service_now, takes_out, ungets, use_by, uses, uses_with, without_user}
+use Rattle.osgi_ops.specs.Replies.{took_effect}
+use Rattle.osgi_ops.specs.Services.{gets, given_by, given_last, gets_object, is_service, is_unget, is_use_of, live_services, live_service_at, made_of, made_uses, Registered, registered, registered_by, scope_of, service_now, takes_out, ungets, use_by, uses, uses_with, without_user}
 use Rattle.osgi_ops.specs.Waiting.{waited_by, waiting}
 use Rattle.osgi_ops.specs.declared.depot.DepotRow.{DepotRow}
 use Rattle.osgi_ops.specs.declared.entry.Entry.{Entry}
@@ -93,11 +93,11 @@ filter-held p (x ∷ xs) all =
 not-cleaned : (o : Op) (y : Reply) → cleaned_by o y ≡ None → (b : BundleId) → cleans b o y ≡ false
 not-cleaned o y e b = ap (λ (u : Option BundleId). option_map_or (λ (x : BundleId). x.0 == b.0) u false) e
 
-live-quiet : (h : List Entry) (e : Entry) → QuietServices e.op e.reply → live (h ++ e ∷ []) ≡ map (kept.later e) (live h)
+live-quiet : (h : List Entry) (e : Entry) → QuietServices e.op e.reply → live_services (h ++ e ∷ []) ≡ map (kept.later e) (live_services h)
 live-quiet h e q =
     kept.live-push h e
-    ∙ ap (λ l. map (kept.later e) (kept.left_by e (live h)) ++ l) (q.registered (length (registered h)) []) ∙ append-nil (map (kept.later e) (kept.left_by e (live h)))
-    ∙ ap (map (kept.later e)) (filter-all (λ (r : Registered). not (takes_out r.service r.owner e.op e.reply)) (live h) (λ r. ap not (q.taken r.service r.owner)))
+    ∙ ap (λ l. map (kept.later e) (kept.left_by e (live_services h)) ++ l) (q.registered (length (registered h)) []) ∙ append-nil (map (kept.later e) (kept.left_by e (live_services h)))
+    ∙ ap (map (kept.later e)) (filter-all (λ (r : Registered). not (takes_out r.service r.owner e.op e.reply)) (live_services h) (λ r. ap not (q.taken r.service r.owner)))
 
 -- what says nothing of services made nothing, and cleans nobody
 made-same : (h : List Entry) (e : Entry) → QuietServices e.op e.reply → made_uses (h ++ e ∷ []) ≡ made_uses h
@@ -107,20 +107,20 @@ made-same h e q =
 
 pub services-quiet : (h : List Entry) (e : Entry) → QuietServices e.op e.reply → SameServices (h ++ e ∷ []) h
 services-quiet h e q = record {
-  services = ap (map service_now) (live-quiet h e q) ∙ map-map service_now (kept.later e) (live h) (λ r. kept.service-push r e ∙ ap (λ (a : Option (List Attribute)). record (service_now r) {
+  services = ap (map service_now) (live-quiet h e q) ∙ map-map service_now (kept.later e) (live_services h) (λ r. kept.service-push r e ∙ ap (λ (a : Option (List Attribute)). record (service_now r) {
     properties = with_framework (unwrap_or a (given_last r)) r.classes r.scope r.service r.owner;
   }) (q.given r.service));
   registered = ap (λ (l : List Registered). length l) (kept.registered-push h e ∙ ap (λ l. map (kept.later e) (registered h) ++ l) (q.registered (length (registered h)) []) ∙ append-nil (map (kept.later e) (registered h)))
       ∙ length-map (registered h) (kept.later e);
-  scopes = ap (map (λ (r : Registered). r.scope)) (live-quiet h e q) ∙ map-map (λ (r : Registered). r.scope) (kept.later e) (live h) (λ r. refl);
+  scopes = ap (map (λ (r : Registered). r.scope)) (live-quiet h e q) ∙ map-map (λ (r : Registered). r.scope) (kept.later e) (live_services h) (λ r. refl);
   scope = λ s.
       ap (λ l. option_map_or (λ (r : Registered). r.scope) (find (is_service s) l) Singleton)
       (kept.registered-push h e ∙ ap (λ l. map (kept.later e) (registered h) ++ l) (q.registered (length (registered h)) []) ∙ append-nil (map (kept.later e) (registered h)))
       ∙ find-read (is_service s) (kept.later e) (λ (r : Registered). r.scope) Singleton (registered h) (λ r. refl) (λ r. refl);
   uses = λ u s.
       ap (λ l. option_map_or (uses_with (count_by (is_use_of u s) (made_uses (h ++ e ∷ []))) u) (find (is_service s) l) 0) (live-quiet h e q)
-      ∙ ap (λ n. option_map_or (uses_with n u) (find (is_service s) (map (kept.later e) (live h))) 0) (ap (λ l. count_by (is_use_of u s) l) (made-same h e q))
-      ∙ find-read (is_service s) (kept.later e) (uses_with (count_by (is_use_of u s) (made_uses h)) u) 0 (live h) (λ r. refl)
+      ∙ ap (λ n. option_map_or (uses_with n u) (find (is_service s) (map (kept.later e) (live_services h))) 0) (ap (λ l. count_by (is_use_of u s) l) (made-same h e q))
+      ∙ find-read (is_service s) (kept.later e) (uses_with (count_by (is_use_of u s) (made_uses h)) u) 0 (live_services h) (λ r. refl)
       (λ r. (λ i. (got u r i + count_by (is_use_of u s) (made_uses h)) - gave u r i));
 }
   where
@@ -209,23 +209,23 @@ objects-quiet : (h : List Entry) (e : Entry) → QuietServices e.op e.reply → 
 objects-quiet h e s q = record {
   objects =
       objects-push h e
-      ∙ ap (λ m. filter (stays (h ++ e ∷ []) e) (objects h ++ object_by h e m)) (s.made e.tag (brackets h))
-      ∙ ap (filter (stays (h ++ e ∷ []) e)) (append-nil (objects h))
-      ∙ filter-held (stays (h ++ e ∷ []) e) (objects h) (All-weaker (IsHeldIn h) (λ o. stays (h ++ e ∷ []) e o ≡ true) still (objects h) (are-held h));
+      ∙ ap (λ m. filter (is_still_held (h ++ e ∷ []) e) (objects h ++ object_by h e m)) (s.made e.tag (brackets h))
+      ∙ ap (filter (is_still_held (h ++ e ∷ []) e)) (append-nil (objects h))
+      ∙ filter-held (is_still_held (h ++ e ∷ []) e) (objects h) (All-weaker (IsHeldIn h) (λ o. is_still_held (h ++ e ∷ []) e o ≡ true) still (objects h) (are-held h));
   made = ap (λ (l : List Entry). length l) (filter-append (λ (x : Entry). is_made x.op x.reply) h (e ∷ []) ∙ ap (λ k. filter (λ (x : Entry). is_made x.op x.reply) h ++ cond k (e ∷ []) []) q.made ∙ append-nil _);
 }
   where
-    there : (o : HeldObject) → is_some (live_at o.service (h ++ e ∷ [])) ≡ is_some (live_at o.service h)
-    there o = ap (λ l. is_some (find (is_service o.service) l)) (live-quiet h e s) ∙ find-some (is_service o.service) (kept.later e) (live h) (λ r. refl)
+    there : (o : HeldObject) → is_some (live_service_at o.service (h ++ e ∷ [])) ≡ is_some (live_service_at o.service h)
+    there o = ap (λ l. is_some (find (is_service o.service) l)) (live-quiet h e s) ∙ find-some (is_service o.service) (kept.later e) (live_services h) (λ r. refl)
 
     passed : (a d : Bool) → (a && true && true && d) ≡ (a && d)
     passed true d = refl
     passed false d = refl
 
-    still : (o : HeldObject) → IsHeldIn h o → stays (h ++ e ∷ []) e o ≡ true
+    still : (o : HeldObject) → IsHeldIn h o → is_still_held (h ++ e ∷ []) e o ≡ true
     still o held =
         (λ i. there o i && not (not-cleaned e.op e.reply s.cleaned o.user i) && not (q.given_back o i) && (o.own || nat_lt 0 ((services-quiet h e s).uses o.user o.service i)))
-        ∙ passed (is_some (live_at o.service h)) (o.own || nat_lt 0 (uses o.user o.service h)) ∙ held
+        ∙ passed (is_some (live_service_at o.service h)) (o.own || nat_lt 0 (uses o.user o.service h)) ∙ held
 
 pub brackets-quiet : (h : List Entry) (e : Entry) → opens e.op e.reply ≡ None → closes e.tag e.op (brackets h) ≡ false → brackets (h ++ e ∷ []) ≡ brackets h
 brackets-quiet h e q c = brackets-last h e ∙ (λ i. turned e.tag (q i) (c i) (brackets h))
@@ -383,11 +383,11 @@ asking-quiet (op.ListWires bundle) y e = record {
 asking-quiet o y e = absurd (cc e)
 
 -- a refusal but 11 says nothing
-cleaned-start : (f : Refusal) (b : BundleId) (failed : Bool) → is_effective (answer.Refused f) ≡ false → cleaned_by (op.EndStart b failed) (answer.Refused f) ≡ None
+cleaned-start : (f : Refusal) (b : BundleId) (failed : Bool) → took_effect (answer.Refused f) ≡ false → cleaned_by (op.EndStart b failed) (answer.Refused f) ≡ None
 cleaned-start no.ActivatorError b failed e = absurd (cc e)
 cleaned-start f b failed e = refl
 
-cleaned-refused : (o : Op) (f : Refusal) → is_effective (answer.Refused f) ≡ false → cleaned_by o (answer.Refused f) ≡ None
+cleaned-refused : (o : Op) (f : Refusal) → took_effect (answer.Refused f) ≡ false → cleaned_by o (answer.Refused f) ≡ None
 cleaned-refused (op.EndStart b failed) f e = cleaned-start f b failed e
 cleaned-refused (op.EndStop b failed) f e = ap (λ k. cond k (Some b) None) e
 cleaned-refused o f e = refl
@@ -401,7 +401,7 @@ opens-refused (op.Get user service) f = refl
 opens-refused (op.GetOwn user service) f = refl
 opens-refused o f = refl
 
-services-refused : (o : Op) (f : Refusal) → is_effective (answer.Refused f) ≡ false → QuietServices o (answer.Refused f)
+services-refused : (o : Op) (f : Refusal) → took_effect (answer.Refused f) ≡ false → QuietServices o (answer.Refused f)
 services-refused o f e = record {
   registered = λ n since. made o n since;
   taken = λ s owner. taken o s owner refl;
@@ -457,7 +457,7 @@ bundles-refused o f = record { installed = λ n since. made o n since; gone = λ
     brings (op.Update u location) = refl
     brings o = refl
 
-phases-refused : (o : Op) (f : Refusal) → is_effective (answer.Refused f) ≡ false → QuietPhases o (answer.Refused f)
+phases-refused : (o : Op) (f : Refusal) → took_effect (answer.Refused f) ≡ false → QuietPhases o (answer.Refused f)
 phases-refused (op.BeginStart n transient) f e b = refl
 phases-refused (op.BeginStop target transient) f e b = refl
 phases-refused (op.EndStart n failed) f e b = λ i. cond (e i && (n.0 == b.0)) (Some bundles.idle) None
@@ -493,12 +493,12 @@ refresh-refused op.DropWirings f before e = refl
 refresh-refused op.EndRefresh f before e = refl
 refresh-refused o f before e = refl
 
-jobs-refused : (o : Op) (f : Refusal) → is_effective (answer.Refused f) ≡ false → QuietJobs o (answer.Refused f)
+jobs-refused : (o : Op) (f : Refusal) → took_effect (answer.Refused f) ≡ false → QuietJobs o (answer.Refused f)
 jobs-refused (op.QueueJob owner name) f e = refl
 jobs-refused op.TakeJob f e = refl
 jobs-refused o f e = ap (option_map queue.clears) (cleaned-refused o f e)
 
-listeners-refused : (o : Op) (f : Refusal) → is_effective (answer.Refused f) ≡ false → QuietListeners o (answer.Refused f)
+listeners-refused : (o : Op) (f : Refusal) → took_effect (answer.Refused f) ≡ false → QuietListeners o (answer.Refused f)
 listeners-refused o f e = record { heard = heard o; handed = λ l. handed o l; counted = counted o; happens = λ past v w x. happens o past v w x }
   where
     heard : (o : Op) → heard_by o (answer.Refused f) ≡ None
@@ -564,7 +564,7 @@ waiting-refused (op.Uninstall bundle) f = refl
 waiting-refused op.DropWirings f = refl
 waiting-refused o f = refl
 
-pub refused-quiet : (o : Op) (f : Refusal) → is_effective (answer.Refused f) ≡ false → IsQuiet o (answer.Refused f)
+pub refused-quiet : (o : Op) (f : Refusal) → took_effect (answer.Refused f) ≡ false → IsQuiet o (answer.Refused f)
 refused-quiet o f e = record {
   opened = opens-refused o f;
   services = services-refused o f e;
@@ -580,7 +580,7 @@ refused-quiet o f e = record {
 }
 
 -- and what is refused so is no end of its caller's innermost bracket, where the end of a make is none
-pub refused_end_quiet : (m : Moment) (o : Op) (f : Refusal) → IsReply m o (answer.Refused f) → ((bad : Bool) → closes m.tag (op.EndMake bad) (brackets m.before) ≡ false) → is_effective (answer.Refused f) ≡ false → closes m.tag o (brackets m.before) ≡ false
+pub refused_end_quiet : (m : Moment) (o : Op) (f : Refusal) → IsReply m o (answer.Refused f) → ((bad : Bool) → closes m.tag (op.EndMake bad) (brackets m.before) ≡ false) → took_effect (answer.Refused f) ≡ false → closes m.tag o (brackets m.before) ≡ false
 refused_end_quiet m (op.EndMake bad) f r makes e = makes bad
 refused_end_quiet m o f r makes e = false_from_ne_true _ (λ c. (let bad : true ≡ false = sym (ended-by m o (answer.Refused f) r refl c) ∙ e in cc bad))
 
@@ -596,6 +596,6 @@ asking-ends-nothing o e = refl
 pub asking-alike : (m : Moment) (o : Op) (y : Reply) → is_asking o ≡ true → ReadAlike m.setting.depot (m.before ++ entry_of m o y ∷ []) m.before
 asking-alike m o y e = reads-alike m.setting.depot m.before (entry_of m o y) (asking-quiet o y e) (closes-not m.tag o (brackets m.before) (asking-ends-nothing o e))
 
-pub refused-alike : (m : Moment) (o : Op) (f : Refusal) → IsReply m o (answer.Refused f) → ((bad : Bool) → closes m.tag (op.EndMake bad) (brackets m.before) ≡ false) → is_effective (answer.Refused f) ≡ false →
+pub refused-alike : (m : Moment) (o : Op) (f : Refusal) → IsReply m o (answer.Refused f) → ((bad : Bool) → closes m.tag (op.EndMake bad) (brackets m.before) ≡ false) → took_effect (answer.Refused f) ≡ false →
     ReadAlike m.setting.depot (m.before ++ entry_of m o (answer.Refused f) ∷ []) m.before
 refused-alike m o f r makes e = reads-alike m.setting.depot m.before (entry_of m o (answer.Refused f)) (refused-quiet o f e) (refused_end_quiet m o f r makes e)

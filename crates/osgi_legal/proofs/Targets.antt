@@ -7,7 +7,7 @@ use Rattle.std.specs.declared.cmp.Ordering.TheVariants.{Equal, Greater, Less}
 use Rattle.std.proofs.lemmas.List.Elements.{All-contains}
 use Rattle.osgi_base.specs.declared.ids.BundleId.{BundleId}
 use Rattle.osgi_ops.specs.Bundles.{Bundle, bundles, is_live}
-use Rattle.osgi_ops.specs.Conditions.{at_target, IsFirstOf, IsNamed, IsTarget, no_target}
+use Rattle.osgi_ops.specs.Conditions.{at_target, IsNamed, IsPreferredTo, IsTarget, no_target}
 use Rattle.osgi_ops.specs.Moments.{Moment}
 use Rattle.osgi_ops.specs.declared.refusal.Refusal.{Refusal}
 use Rattle.osgi_ops.specs.declared.target.Target.{Target}
@@ -27,7 +27,7 @@ one-greater Greater a b = cc b
 one-higher : (a b : Parts) → is_gt (order a b) ≡ true → is_gt (order b a) ≡ true → ⊥
 one-higher a b above below = one-greater (order a b) above (sym (ap is_gt (order_total.antisymm b a)) ∙ below)
 
-first-once : (r s : Bundle) → IsFirstOf r s → IsFirstOf s r → r.bundle ≡ s.bundle
+first-once : (r s : Bundle) → IsPreferredTo r s → IsPreferredTo s r → r.bundle ≡ s.bundle
 first-once r s (inl above) (inl below) = absurd (one-higher (parts r.revision.version) (parts s.revision.version) above below)
 first-once r s (inl above) (inr low) = absurd (let bad : true ≡ false = sym above ∙ low.0 in cc bad)
 first-once r s (inr low) (inl above) = absurd (let bad : true ≡ false = sym above ∙ low.0 in cc bad)
@@ -40,8 +40,8 @@ named-once : (now : Moment) (name : List ℕ) (b c : BundleId) → IsNamed now n
 named-once now name b c m n =
     sym m.is
     ∙ first-once m.row n.row
-    (All-contains (λ (other : Bundle). other.revision.name ≡ name → IsFirstOf m.row other) (bundles now.setting.depot now.before) n.row m.first n.live n.named)
-    (All-contains (λ (other : Bundle). other.revision.name ≡ name → IsFirstOf n.row other) (bundles now.setting.depot now.before) m.row n.first m.live m.named)
+    (All-contains (λ (other : Bundle). other.revision.name ≡ name → IsPreferredTo m.row other) (bundles now.setting.depot now.before) n.row m.first n.live n.named)
+    (All-contains (λ (other : Bundle). other.revision.name ≡ name → IsPreferredTo n.row other) (bundles now.setting.depot now.before) m.row n.first m.live m.named)
     ∙ n.is
 
 -- ---- what a target names

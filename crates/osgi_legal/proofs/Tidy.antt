@@ -6,7 +6,7 @@ use Rattle.std.specs.Option.{option_map, option_map_or}
 use Rattle.std.proofs.lemmas.Bool.{and_parts, eq-eqb, eqb-true, false_from_ne_true, ne_eqb, not-true, or_cases, or_left, or_right}
 use Rattle.osgi_base.specs.declared.ids.BundleId.{BundleId}
 use Rattle.osgi_base.specs.declared.ids.RevisionId.{RevisionId}
-use Rattle.osgi_ops.specs.Bundles.{is_member, system}
+use Rattle.osgi_ops.specs.Bundles.{lists_bundle, system}
 use Rattle.osgi_ops.specs.Closures.{hosting, IsClosed, LeansOn, wired}
 use Rattle.osgi_ops.specs.Moments.{first_world}
 use Rattle.osgi_ops.specs.Resolved.{current_revision, is_current_of, is_in_use}
@@ -251,20 +251,20 @@ in-any p [] x i e = elim i [ ]
 in-any p (y ∷ ys) x (inl s) e = or_left (p y) _ (ap p (sym s) ∙ e)
 in-any p (y ∷ ys) x (inr i) e = or_right (p y) _ (in-any p ys x i e)
 
-pub member-contains : (members : List BundleId) (b : BundleId) → is_member members b.0 ≡ true → Contains members b
+pub member-contains : (members : List BundleId) (b : BundleId) → lists_bundle members b.0 ≡ true → Contains members b
 member-contains members b e =
     let r = any-in (λ (x : BundleId). x.0 == b.0) members e in
     let s : r.0 ≡ b = (let q : r.0.0 ≡ b.0 = eqb-true r.0.0 b.0 r.2 in λ i. record { 0 = q i }) in
     In-contains members b (subst (λ x. In x members) s r.1)
 
-pub contains-member : (members : List BundleId) (b : BundleId) → Contains members b → is_member members b.0 ≡ true
+pub contains-member : (members : List BundleId) (b : BundleId) → Contains members b → lists_bundle members b.0 ≡ true
 contains-member members b c = in-any (λ (x : BundleId). x.0 == b.0) members b (contains-In members b c) (eq-eqb b.0 b.0 refl)
 
 abbrev keeps : List BundleId → Known → Bool
-keeps members k = not (is_member members k.bundle.0) || k.current
+keeps members k = not (lists_bundle members k.bundle.0) || k.current
 
 abbrev stays : List Known → List BundleId → Wiring → Bool
-stays K members g = not (is_member members (bundle_of K g.revision))
+stays K members g = not (lists_bundle members (bundle_of K g.revision))
 
 pub dropped-tidy : (n : ℕ) (world : World) (members : List BundleId) → IsClosed world members → (Contains members system → ⊥) → IsTidy n world → IsTidy n (dropped members world)
 dropped-tidy n world members closed apart t = record {
@@ -296,18 +296,18 @@ dropped-tidy n world members closed apart t = record {
     there : (g : Wiring) → In g (dropped members world).wirings → In g world.wirings
     there g i = (In-filter (stays world.known members) world.wirings g i).0
 
-    kept : (k : Known) → In k world.known → is_member members k.bundle.0 ≡ false → In k (dropped members world).known
+    kept : (k : Known) → In k world.known → lists_bundle members k.bundle.0 ≡ false → In k (dropped members world).known
     kept k i e = In-kept (keeps members) world.known k i (or_left _ _ (ap not e))
 
     -- the bundle of a wiring that stays is no member
-    holder : (g : Wiring) (i : In g (dropped members world).wirings) → is_member members (t.wired g (there g i)).0.bundle.0 ≡ false
+    holder : (g : Wiring) (i : In g (dropped members world).wirings) → lists_bundle members (t.wired g (there g i)).0.bundle.0 ≡ false
     holder g i =
         let r = t.wired g (there g i) in
-        ap (λ (o : Option Known). is_member members (option_map_or (λ (k : Known). k.bundle.0) o 0)) (sym (known-bundle world.known t.once r.0 r.1 g.revision r.2))
+        ap (λ (o : Option Known). lists_bundle members (option_map_or (λ (k : Known). k.bundle.0) o 0)) (sym (known-bundle world.known t.once r.0 r.1 g.revision r.2))
         ∙ not-true _ (In-filter (stays world.known members) world.wirings g i).1
 
     -- nor is that of what it leans on
-    outside : (g : Wiring) (i : In g (dropped members world).wirings) (k : Known) → In k world.known → LeansOn world.wirings g.revision k.id → is_member members k.bundle.0 ≡ false
+    outside : (g : Wiring) (i : In g (dropped members world).wirings) (k : Known) → In k world.known → LeansOn world.wirings g.revision k.id → lists_bundle members k.bundle.0 ≡ false
     outside g i k j leans = false_from_ne_true _ (λ e.
         let r = t.wired g (there g i) in
         let c = closed k.bundle r.0.bundle
@@ -316,10 +316,10 @@ dropped-tidy n world members closed apart t = record {
         let bad : true ≡ false = sym (contains-member members r.0.bundle c) ∙ holder g i in cc bad)
 
     -- a wiring stays where its bundle is no member
-    stood : (g : Wiring) → In g world.wirings → (k : Known) → In k world.known → k.id ≡ g.revision → is_member members k.bundle.0 ≡ false → In g (dropped members world).wirings
+    stood : (g : Wiring) → In g world.wirings → (k : Known) → In k world.known → k.id ≡ g.revision → lists_bundle members k.bundle.0 ≡ false → In g (dropped members world).wirings
     stood g i k j e out =
         In-kept (stays world.known members) world.wirings g i
-        (ap not (ap (λ (o : Option Known). is_member members (option_map_or (λ (l : Known). l.bundle.0) o 0)) (known-bundle world.known t.once k j g.revision e) ∙ out))
+        (ap not (ap (λ (o : Option Known). lists_bundle members (option_map_or (λ (l : Known). l.bundle.0) o 0)) (known-bundle world.known t.once k j g.revision e) ∙ out))
 
 -- the current revision of the system bundle is its first
 pub system-current : (n : ℕ) (world : World) → IsTidy n world → current_revision world system ≡ Some known_system

@@ -13,7 +13,7 @@ use Rattle.osgi_ops.specs.Conditions.{state_change, state_of}
 use Rattle.osgi_legal.specs.Legal.{AreAllowed, IsAllowed}
 use Rattle.osgi_ops.specs.Moments.{entries_in, Moment, moment, Told, world_after}
 use Rattle.osgi_legal.specs.Operations.{IsReply}
-use Rattle.osgi_ops.specs.Replies.{is_accepted, is_effective}
+use Rattle.osgi_ops.specs.Replies.{is_accepted, took_effect}
 use Rattle.osgi_ops.specs.Resolved.{is_resolved}
 use Rattle.osgi_ops.specs.Settings.{Setting}
 use Rattle.osgi_ops.specs.declared.entry.Entry.{Entry}
@@ -127,16 +127,16 @@ up-refused setting told legal tag b apart up =
 -- ---- it stays up
 
 pub idle-cleans : (b : BundleId) (o : Op) (reply : Reply) → put_into b o reply ≡ Some idle → cleans b o reply ≡ true
-idle-cleans b (op.EndStart n bad) reply e = go (is_effective reply) (is_accepted reply) (n.0 == b.0) refl refl refl e
+idle-cleans b (op.EndStart n bad) reply e = go (took_effect reply) (is_accepted reply) (n.0 == b.0) refl refl refl e
   where
-    go : (eff acc same : Bool) → is_effective reply ≡ eff → is_accepted reply ≡ acc → (n.0 == b.0) ≡ same → cond (eff && same) (Some (cond acc active idle)) None ≡ Some idle → cleans b (op.EndStart n bad) reply ≡ true
+    go : (eff acc same : Bool) → took_effect reply ≡ eff → is_accepted reply ≡ acc → (n.0 == b.0) ≡ same → cond (eff && same) (Some (cond acc active idle)) None ≡ Some idle → cleans b (op.EndStart n bad) reply ≡ true
     go true false true f g s q = subst (λ y. cleans b (op.EndStart n bad) y ≡ true) (sym (effective-refused reply f g)) s
     go true true true f g s q = absurd (cc q)
     go true acc false f g s q = absurd (cc q)
     go false acc same f g s q = absurd (cc q)
-idle-cleans b (op.EndStop n bad) reply e = go (is_effective reply) (n.0 == b.0) refl refl e
+idle-cleans b (op.EndStop n bad) reply e = go (took_effect reply) (n.0 == b.0) refl refl e
   where
-    go : (eff same : Bool) → is_effective reply ≡ eff → (n.0 == b.0) ≡ same → cond (eff && same) (Some idle) None ≡ Some idle → cleans b (op.EndStop n bad) reply ≡ true
+    go : (eff same : Bool) → took_effect reply ≡ eff → (n.0 == b.0) ≡ same → cond (eff && same) (Some idle) None ≡ Some idle → cleans b (op.EndStop n bad) reply ≡ true
     go true true f s q = ap (λ k. option_map_or (λ (x : BundleId). x.0 == b.0) (cond k (Some n) None) false) f ∙ s
     go true false f s q = absurd (cc q)
     go false same f s q = absurd (cc q)

@@ -4,7 +4,7 @@ use Rattle.osgi_ops.specs.declared.op.Op.{Op}
 use Rattle.osgi_ops.specs.declared.reply.Reply.{Reply}
 use Rattle.osgi_session.specs.Plans as plans
 use Rattle.osgi_session.specs.Plans.{stirs}
-use Rattle.osgi_session.specs.Steps.{begin, drained_first, drained_out, draining, first_step, left_section, replied, resume, awaiting}
+use Rattle.osgi_session.specs.Steps.{begin, drained_first, drained_out, draining, first_step, left_section, replied, resume, asking}
 use Rattle.osgi_lifecycle.specs.Draining.{drained_by}
 use Rattle.osgi_lifecycle.specs.Following.{after_reply, after_section, left_of}
 use Rattle.osgi_lifecycle.specs.Pendings.{IsAnswer, last_of, pending_at, pending_of}
@@ -18,19 +18,19 @@ use Rattle.osgi_lifecycle.specs.declared.stirring.Stirring.{Stirring}
 
 -- an operation was asked, and its reply is awaited
 pub asked : (p : Plan) (o : Op) (kept : Stirring) → drained_by kept ≡ stirs o →
-    pending_at stage.Waiting (record p { stage = stage.Waiting; stirring = kept }) ≡ (first_step (left_of (head.Ask o) p.rest)).pending
-asked p o kept e = ap (λ (f : Reply → Bool). awaiting f (after_reply p.rest.at p.rest.kept)) e
+    pending_at stage.Asked (record p { stage = stage.Asked; stirring = kept }) ≡ (first_step (left_of (head.Ask o) p.rest)).pending
+asked p o kept e = ap (λ (f : Reply → Bool). asking f (after_reply p.rest.at p.rest.kept)) e
 
 begun-at : (s : Stage) (p : Plan) → IsAnswer (pending_at s p) begin → resume (pending_at s p) begin ≡ first_step (left_of p.ready p.rest)
 begun-at stage.Fresh p h = refl
-begun-at stage.Waiting p h = absurd h
+begun-at stage.Asked p h = absurd h
 begun-at stage.Draining p h = absurd h
 begun-at stage.Within p h = absurd h
 begun-at stage.Ended p h = absurd h
 
 drained-at : (s : Stage) (p : Plan) → IsAnswer (pending_at s p) drained_out → resume (pending_at s p) drained_out ≡ first_step (left_of p.ready p.rest)
 drained-at stage.Fresh p h = absurd h
-drained-at stage.Waiting p h = absurd h
+drained-at stage.Asked p h = absurd h
 drained-at stage.Draining p h = refl
 drained-at stage.Within p h = absurd h
 drained-at stage.Ended p h = absurd h
@@ -38,7 +38,7 @@ drained-at stage.Ended p h = absurd h
 replied-at : (s : Stage) (p : Plan) (reply : Reply) → IsAnswer (pending_at s p) (replied reply) →
     resume (pending_at s p) (replied reply) ≡ drained_first (drained_by p.stirring reply) (after_reply p.rest.at p.rest.kept reply)
 replied-at stage.Fresh p reply h = absurd h
-replied-at stage.Waiting p reply h = refl
+replied-at stage.Asked p reply h = refl
 replied-at stage.Draining p reply h = absurd h
 replied-at stage.Within p reply h = absurd h
 replied-at stage.Ended p reply h = absurd h
@@ -46,7 +46,7 @@ replied-at stage.Ended p reply h = absurd h
 ran-at : (s : Stage) (p : Plan) (fails : Bool) → IsAnswer (pending_at s p) (left_section fails) →
     resume (pending_at s p) (left_section fails) ≡ first_step (after_section p.rest.at p.rest.kept fails)
 ran-at stage.Fresh p fails h = absurd h
-ran-at stage.Waiting p fails h = absurd h
+ran-at stage.Asked p fails h = absurd h
 ran-at stage.Draining p fails h = absurd h
 ran-at stage.Within p fails h = refl
 ran-at stage.Ended p fails h = absurd h

@@ -1,7 +1,7 @@
 -- What is left of a plan waits for what comes of its step.
 use Rattle.std.proofs.Common.{◌≡◌, ◌∙◌, Bool, true, false, ap, subst, sym}
 use Rattle.osgi_session.specs.Plans.{Plan, ask, run, stop}
-use Rattle.osgi_session.specs.Steps.{Last, begin, replied, drained_out, left_section, Pending, fresh, awaiting, draining, within, ended, drained_first, first_step, resume, Step}
+use Rattle.osgi_session.specs.Steps.{Last, begin, replied, drained_out, left_section, Pending, fresh, asking, draining, within, ended, drained_first, first_step, resume, Step}
 use Rattle.osgi_lifecycle.specs.Pendings.{Awaits, IsNext}
 use Rattle.osgi_lifecycle.specs.declared.next.Next.{Next}
 use Rattle.osgi_lifecycle.specs.declared.next.Next.TheVariants as next
@@ -34,7 +34,7 @@ awaits-none (next.End r f b) h = tt
 
 awaits-step : (n : Next) (q : Pending) (told : Last) → IsNext n (resume q told).next → Awaits n (resume q told).pending
 awaits-step n (fresh p) begin h = awaits-first n p h
-awaits-step n (awaiting drains rest) (replied reply) h = awaits-drained n (drains reply) (rest reply) h
+awaits-step n (asking drains rest) (replied reply) h = awaits-drained n (drains reply) (rest reply) h
 awaits-step n (draining p) drained_out h = awaits-first n p h
 awaits-step n (within rest) (left_section fails) h = awaits-first n (rest fails) h
 awaits-step n _ _ h = awaits-none n h

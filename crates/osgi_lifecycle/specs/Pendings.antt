@@ -4,7 +4,7 @@ use Rattle.osgi_base.specs.declared.ids.ServiceId.{ServiceId}
 use Rattle.osgi_ops.specs.declared.reply.Reply.{Reply}
 use Rattle.osgi_session.specs.Plans.{End, done, bound, refused, failed}
 use Rattle.osgi_session.specs.Runs.{no_service}
-use Rattle.osgi_session.specs.Steps.{Last, begin, replied, drained_out, left_section, Next, do_op, do_drain, do_section, at_end, Pending, fresh, awaiting, draining, within, ended}
+use Rattle.osgi_session.specs.Steps.{Last, begin, replied, drained_out, left_section, Next, do_op, do_drain, do_section, at_end, Pending, fresh, asking, draining, within, ended}
 use Rattle.osgi_lifecycle.specs.Draining.{drained_by}
 use Rattle.osgi_lifecycle.specs.Following.{after_reply, after_section, left_of}
 use Rattle.osgi_lifecycle.specs.declared.last.Last as declared_last
@@ -17,7 +17,7 @@ use Rattle.osgi_lifecycle.specs.declared.plan.Stage.TheVariants as stage
 
 abbrev pub pending_at : Stage → Plan → Pending
 pending_at stage.Fresh plan = fresh (left_of plan.ready plan.rest)
-pending_at stage.Waiting plan = awaiting (drained_by plan.stirring) (after_reply plan.rest.at plan.rest.kept)
+pending_at stage.Asked plan = asking (drained_by plan.stirring) (after_reply plan.rest.at plan.rest.kept)
 pending_at stage.Draining plan = draining (left_of plan.ready plan.rest)
 pending_at stage.Within plan = within (after_section plan.rest.at plan.rest.kept)
 pending_at stage.Ended plan = ended
@@ -35,7 +35,7 @@ last_of (last.Ran fails) = left_section fails
 -- how the step before came out answers what that step was
 abbrev pub IsAnswer : Pending → Last → Type 0
 IsAnswer (fresh p) begin = Unit {0}
-IsAnswer (awaiting drains rest) (replied reply) = Unit {0}
+IsAnswer (asking drains rest) (replied reply) = Unit {0}
 IsAnswer (draining p) drained_out = Unit {0}
 IsAnswer (within rest) (left_section fails) = Unit {0}
 IsAnswer _ _ = ⊥

@@ -27,7 +27,7 @@ pub enum Stage {
     /// None yet.
     Fresh,
     /// An operation.
-    Waiting,
+    Asked,
     /// Events were to be handed.
     Draining,
     /// A section was to be run.
@@ -159,7 +159,7 @@ impl Plan {
     {
         match &head {
             Head::Ask { op } => {
-                self.stage = Stage::Waiting;
+                self.stage = Stage::Asked;
                 self.stirring = Stirring::of(op);
             }
             Head::Run { .. } => self.stage = Stage::Within,

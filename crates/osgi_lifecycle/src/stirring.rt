@@ -1,8 +1,8 @@
 //! After which operations events are handed.
 
 ghost use Rattle.std.specs.Prelude.{◌≡◌};
-ghost use Rattle.osgi_lifecycle.specs.Draining.{drained_by, has_begun, has_waited};
-ghost use Rattle.osgi_ops.specs.Replies.{is_effective};
+ghost use Rattle.osgi_lifecycle.specs.Draining.{begins_to_wait, drained_by, has_begun};
+ghost use Rattle.osgi_ops.specs.Replies.{took_effect};
 ghost use Rattle.osgi_session.specs.Plans.{stirs};
 
 use osgi_ops::{Op, Refusal, Reply};
@@ -30,15 +30,15 @@ fn has_begun(reply: &Reply) -> bool
 }
 
 /// Whether a bundle began to wait.
-fn has_waited(reply: &Reply) -> bool
-    ensures waited { result ≡ has_waited reply.now }
+fn begins_to_wait(reply: &Reply) -> bool
+    ensures waited { result ≡ begins_to_wait reply.now }
 {
     matches!(reply, Reply::Waiting { .. })
 }
 
 /// Whether the operation did its work: it was accepted, or refused because a section failed.
-fn is_effective(reply: &Reply) -> bool
-    ensures effective { result ≡ is_effective reply.now }
+fn took_effect(reply: &Reply) -> bool
+    ensures effective { result ≡ took_effect reply.now }
 {
     match reply {
         Reply::Refused { refusal } => matches!(refusal, Refusal::ActivatorError),
@@ -77,8 +77,8 @@ impl Stirring {
             Stirring::Never => false,
             Stirring::Accepted => !reply.is_refusal(),
             Stirring::Begun => has_begun(reply),
-            Stirring::Waiting => has_waited(reply),
-            Stirring::Effective => is_effective(reply),
+            Stirring::Waiting => begins_to_wait(reply),
+            Stirring::Effective => took_effect(reply),
             Stirring::Always => true,
         }
     }

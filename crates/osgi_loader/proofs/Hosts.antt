@@ -8,7 +8,7 @@ use Rattle.std.proofs.lemmas.List.Folds.{find-append}
 use Rattle.std.proofs.lemmas.List.Kept.{AllPairs-cons, AllPairs-from_increasing}
 use Rattle.std.proofs.lemmas.List.Elements.{All-cons, All-nil}
 use Rattle.osgi_base.specs.declared.ids.RevisionId.{RevisionId}
-use Rattle.osgi_ops.specs.Loading.{all_with_fragments, AreGiven, AreRequired, AreSearched, none, other, through, with_fragments}
+use Rattle.osgi_ops.specs.Loading.{all_with_fragments, AreRequired, AreSearched, GivesFrom, none, other, through, with_fragments}
 use Rattle.osgi_ops.specs.laws.Items.{In-contains, In-map, In-mapped, contains-In}
 use Rattle.osgi_ops.specs.laws.Members.{Contains-filter_map, Contains-mapped, AllPairs-head, AllPairs-tail}
 use Rattle.osgi_wiring.specs.States.{IsKeptWorld}
@@ -74,7 +74,7 @@ numbers-rise (x ∷ xs) rising =
         let less : x < n.0 = subst (λ k. x < k) at.2 (all at.0 n.0 at.1) in
         subst (λ (z : RevisionId). x < z.0) (sym n.2) less)
 
-pub are-given : (world : World) (issued : ℕ) → IsKeptWorld world issued → (p : List ℕ) (c : RevisionId) (xs : List ℕ) → IsStrictlyIncreasing xs → ((n : ℕ) → Contains xs n ↔ IsGiven world p (c.0 ∷ []) n) → AreGiven world p c (map numbered xs)
+pub are-given : (world : World) (issued : ℕ) → IsKeptWorld world issued → (p : List ℕ) (c : RevisionId) (xs : List ℕ) → IsStrictlyIncreasing xs → ((n : ℕ) → Contains xs n ↔ IsGiven world p (c.0 ∷ []) n) → GivesFrom world p c (map numbered xs)
 are-given world issued kept p c xs rising are = record {
   only = all-each (GivesPackage world.known world.wirings p c) (map numbered xs) (λ x at.
       let n = In-map numbered xs x (contains-In (map numbered xs) x at) in
@@ -92,7 +92,7 @@ module _ (world : World) (p : List ℕ) where
   required-none (v ∷ vs) w list fails (other not_bundle rest) = other not_bundle (required-none vs w _ fails rest)
   required-none (v ∷ vs) w list fails (through bundle given rest) = through bundle given (required-none vs w _ fails rest)
 
-  pub required-one : (ws : List Wire) (w : Wire) (list given : List RevisionId) → is_required world.known w ≡ true → AreGiven world p w.capability.provider given → AreRequired world p ws list →
+  pub required-one : (ws : List Wire) (w : Wire) (list given : List RevisionId) → is_required world.known w ≡ true → GivesFrom world p w.capability.provider given → AreRequired world p ws list →
       AreRequired world p (ws ++ w ∷ []) (list ++ all_with_fragments world given)
   required-one [] w list given passes are none = subst (AreRequired world p (w ∷ [])) (append-nil (all_with_fragments world given)) (through (sym (required-is world.known w) ∙ passes) are none)
   required-one (v ∷ vs) w list given passes are (other not_bundle rest) = other not_bundle (required-one vs w _ given passes are rest)

@@ -7,7 +7,7 @@ use Rattle.osgi_base.specs.declared.ids.BundleId.{BundleId}
 use Rattle.osgi_base.specs.declared.ids.Tag.{Tag}
 use Rattle.osgi_ops.specs.Along.{latest}
 use Rattle.osgi_ops.specs.Depots.{stored_revision, row_number}
-use Rattle.osgi_ops.specs.Replies.{is_accepted, is_effective}
+use Rattle.osgi_ops.specs.Replies.{is_accepted, took_effect}
 use Rattle.osgi_ops.specs.Resolved.{is_resolved}
 use Rattle.osgi_ops.specs.declared.depot.DepotRow.{DepotRow}
 use Rattle.osgi_ops.specs.declared.op.Op.{Op}
@@ -25,8 +25,8 @@ abbrev pub system : BundleId
 system = record { 0 = 0 }
 
 -- the bundle of this number is one of the list
-abbrev pub is_member : List BundleId → ℕ → Bool
-is_member bundles bundle = list_any (λ (b : BundleId). b.0 == bundle) bundles
+abbrev pub lists_bundle : List BundleId → ℕ → Bool
+lists_bundle bundles bundle = list_any (λ (b : BundleId). b.0 == bundle) bundles
 
 -- a bundle as its Install tells it, with the entries since
 pub record Installed : Type 0 where
@@ -136,9 +136,9 @@ pub data Phase : Type 0 where
 abbrev pub put_into : BundleId → Op → Reply → Option Phase
 put_into bundle (op.BeginStart begun transient) (answer.Begun b row) = if begun.0 == bundle.0 then Some starting else None
 put_into bundle (op.EndStart ended fails) reply =
-    if is_effective reply && (ended.0 == bundle.0) then Some (if is_accepted reply then active else idle) else None
+    if took_effect reply && (ended.0 == bundle.0) then Some (if is_accepted reply then active else idle) else None
 put_into bundle (op.BeginStop target transient) (answer.Begun begun row) = if begun.0 == bundle.0 then Some stopping else None
-put_into bundle (op.EndStop ended fails) reply = if is_effective reply && (ended.0 == bundle.0) then Some idle else None
+put_into bundle (op.EndStop ended fails) reply = if took_effect reply && (ended.0 == bundle.0) then Some idle else None
 put_into bundle _ _ = None
 
 abbrev pub phase : BundleId → List Entry → Phase

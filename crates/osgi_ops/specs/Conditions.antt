@@ -10,7 +10,7 @@ use Rattle.osgi_ops.specs.Bundles.{Active, Bundle, bundles, is_active, is_live, 
 use Rattle.osgi_ops.specs.Depots.{stored_revision, stored_at}
 use Rattle.osgi_ops.specs.Levels.{active_level, level_of, Refresh, refresh, Walk, walk}
 use Rattle.osgi_ops.specs.Moments.{Moment}
-use Rattle.osgi_ops.specs.Services.{live_at}
+use Rattle.osgi_ops.specs.Services.{live_service_at}
 use Rattle.osgi_ops.specs.declared.depot.Stored.{Stored}
 use Rattle.osgi_ops.specs.declared.depot.Stored.TheVariants as stored
 use Rattle.osgi_ops.specs.declared.limits.TheConstants.{MAX_BRACKETS, MAX_LEVEL}
@@ -104,11 +104,11 @@ asker_conditions now None = []
 
 -- the service is not live
 abbrev pub no_such_service : Moment → ServiceId → Refusal → Type 0
-no_such_service now service = Where no.NoSuchService (live_at service now.before ≡ None)
+no_such_service now service = Where no.NoSuchService (live_service_at service now.before ≡ None)
 
 -- the service is live, and its owner is another than this one
 abbrev pub not_owner : Moment → BundleId → ServiceId → Refusal → Type 0
-not_owner now owner service refusal = IsSomeAnd (live_at service now.before) (λ r. (r.owner ≢ owner) × (refusal ≡ no.NotOwner r.owner))
+not_owner now owner service refusal = IsSomeAnd (live_service_at service now.before) (λ r. (r.owner ≢ owner) × (refusal ≡ no.NotOwner r.owner))
 
 -- ---- locations
 
@@ -141,8 +141,8 @@ pub record IsDuplicate (now : Moment) (updated : Option BundleId) (location : Li
 -- ---- targets
 
 -- of two bundles of one name the first is what the name stands for: the other has no higher version, nor the same and a lower id
-abbrev pub IsFirstOf : Bundle → Bundle → Type 0
-IsFirstOf b other =
+abbrev pub IsPreferredTo : Bundle → Bundle → Type 0
+IsPreferredTo b other =
     (is_gt (order (parts b.revision.version) (parts other.revision.version)) ≡ true)
     ⊎ ((is_gt (order (parts other.revision.version) (parts b.revision.version)) ≡ false) × (b.bundle.0 ≤ other.bundle.0))
 
@@ -152,7 +152,7 @@ pub record IsNamed (now : Moment) (name : List ℕ) (bundle : BundleId) : Type 0
   pub live : Contains (bundles now.setting.depot now.before) row
   pub is : row.bundle ≡ bundle
   pub named : row.revision.name ≡ name
-  pub first : All (λ (other : Bundle). other.revision.name ≡ name → IsFirstOf row other) (bundles now.setting.depot now.before)
+  pub first : All (λ (other : Bundle). other.revision.name ≡ name → IsPreferredTo row other) (bundles now.setting.depot now.before)
 
 abbrev pub IsTarget : Moment → Target → BundleId → Type 0
 IsTarget now (Id id) bundle = (bundle ≡ id) × (is_live id now.before ≡ true)
@@ -173,12 +173,12 @@ lesser a b = if nat_lt a b then a else b
 abbrev pub highest : Moment → ℕ
 highest now = option_map_or (λ (w : Walk). lesser w.target (active_level now.before)) (walk now.before) (active_level now.before)
 
-abbrev pub is_above : Moment → BundleId → Bool
-is_above now bundle = nat_lt (highest now) (level_of bundle now.before)
+abbrev pub is_level_too_high : Moment → BundleId → Bool
+is_level_too_high now bundle = nat_lt (highest now) (level_of bundle now.before)
 
 -- it is not active, and its level is too high for it to be started now
 abbrev pub is_kept : Moment → BundleId → Bool
-is_kept now bundle = not (is_active (state_of now bundle)) && is_above now bundle
+is_kept now bundle = not (is_active (state_of now bundle)) && is_level_too_high now bundle
 
 -- a level that a bundle which was installed, and the framework, may have
 abbrev pub is_level : ℕ → Bool

@@ -102,6 +102,6 @@ IsAddedWhere world bundle class None wire = wire ≡ None
 IsAddedWhere world bundle class (Some row) wire = IsAdded true world bundle class wire
 
 -- the world with the wire of the bundle's current revision
-abbrev pub with_added : World → BundleId → Option Wire → World
-with_added world bundle None = world
-with_added world bundle (Some w) = record world { wirings = with_wire w.requirement.owner w world.wirings }
+abbrev pub world_with_wire : World → BundleId → Option Wire → World
+world_with_wire world bundle None = world
+world_with_wire world bundle (Some w) = record world { wirings = with_wire w.requirement.owner w world.wirings }

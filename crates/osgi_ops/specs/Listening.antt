@@ -16,9 +16,9 @@ use Rattle.osgi_ops.specs.Brackets.{brackets, Bracket, Cause, handing}
 use Rattle.osgi_ops.specs.Bundles.{system}
 use Rattle.osgi_ops.specs.Cleaning.{cleaned_by}
 use Rattle.osgi_ops.specs.Properties.{property}
-use Rattle.osgi_ops.specs.Replies.{is_accepted, is_effective}
+use Rattle.osgi_ops.specs.Replies.{is_accepted, took_effect}
 use Rattle.osgi_ops.specs.Resolved.{current_revision, is_resolved}
-use Rattle.osgi_ops.specs.Services.{live, live_at, service_now}
+use Rattle.osgi_ops.specs.Services.{live_service_at, live_services, service_now}
 use Rattle.osgi_ops.specs.Waiting.{is_waiting}
 use Rattle.osgi_ops.specs.Moments.{Told, Seen, Sight, entries_in}
 use Rattle.osgi_ops.specs.declared.entry.Entry.{Entry}
@@ -106,12 +106,12 @@ pub data Happening : Type 0 where
   framework : ℕ → Happening
 
 abbrev pub services_at : ServiceId → List Entry → List declared.Service
-services_at id history = map service_now (option_to_list (live_at id history))
+services_at id history = map service_now (option_to_list (live_service_at id history))
 
 -- the bundle's services go, by rising id
 abbrev pub leaving : Option BundleId → List Entry → List Happening
 leaving None history = []
-leaving (Some owner) history = map (λ r. service SERVICE_UNREGISTERING (service_now r)) (filter (λ r. r.owner.0 == owner.0) (live history))
+leaving (Some owner) history = map (λ r. service SERVICE_UNREGISTERING (service_now r)) (filter (λ r. r.owner.0 == owner.0) (live_services history))
 
 abbrev pub of_bundle : ℕ → World → World → BundleId → Happening
 of_bundle code before after b = bundle code b (elim (current_revision after b) [ Some k ↦ Some k | None ↦ current_revision before b ])
@@ -135,12 +135,12 @@ happenings past before after e (op.Resolve b) (answer.Resolved all) = map (of_bu
 happenings past before after e (op.BeginStart b transient) (answer.Begun begun row) = of_bundle BUNDLE_STARTING before after b ∷ []
 happenings past before after e (op.EndStart b fails) answer.Done = of_bundle BUNDLE_STARTED before after b ∷ []
 happenings past before after e (op.EndStart b fails) reply =
-    if is_effective reply then of_bundle BUNDLE_STOPPING before after b ∷ leaving (Some b) past ++ of_bundle BUNDLE_STOPPED before after b ∷ [] else []
+    if took_effect reply then of_bundle BUNDLE_STOPPING before after b ∷ leaving (Some b) past ++ of_bundle BUNDLE_STOPPED before after b ∷ [] else []
 happenings past before after e (op.BeginStop target transient) (answer.Begun b row) = of_bundle BUNDLE_STOPPING before after b ∷ []
 happenings past before after e (op.BeginStop target transient) (answer.Idle b) =
     if is_waiting b past then of_bundle BUNDLE_STOPPING before after b ∷ of_bundle BUNDLE_STOPPED before after b ∷ [] else []
 happenings past before after e (op.Await asked) (answer.Waiting b) = of_bundle BUNDLE_LAZY_ACTIVATION before after b ∷ []
-happenings past before after e (op.EndStop b fails) reply = if is_effective reply then leaving (Some b) past ++ of_bundle BUNDLE_STOPPED before after b ∷ [] else []
+happenings past before after e (op.EndStop b fails) reply = if took_effect reply then leaving (Some b) past ++ of_bundle BUNDLE_STOPPED before after b ∷ [] else []
 happenings past before after e (op.Update b location) reply = if is_accepted reply then unresolving before after b ++ of_bundle BUNDLE_UPDATED before after b ∷ [] else []
 happenings past before after e (op.Uninstall b) reply = if is_accepted reply then unresolving before after b ++ of_bundle BUNDLE_UNINSTALLED before after b ∷ [] else []
 happenings past before after e op.DropWirings (answer.Ids ids) = map (of_bundle BUNDLE_UNRESOLVED before after) ids
@@ -151,9 +151,9 @@ happenings past before after e _ _ = []
 -- ---- who sees them
 
 -- the filter, where one is given, matches the attributes, whose names are compared without ASCII case
-abbrev pub Passes : Option Filter → List Attribute → Type 0
-Passes None attributes = ⊤
-Passes (Some given) attributes = Matches str_eq_ignore_ascii_case attributes given
+abbrev pub LetsPass : Option Filter → List Attribute → Type 0
+LetsPass None attributes = ⊤
+LetsPass (Some given) attributes = Matches str_eq_ignore_ascii_case attributes given
 
 -- the listener asks for events of services, and of this service's classes
 abbrev pub AsksFor : World → Added → declared.Service → Type 0
@@ -172,13 +172,13 @@ attributes_of code b known = number (codes "event.type") code ∷ number (codes 
 
 -- the listener sees the happening as this event, in the world after it
 abbrev pub SeesAs : World → Added → Happening → Event → Type 0
-SeesAs world a (service code s) seen = AsksFor world a s × Passes a.given s.properties × (seen ≡ event.Service code s.service)
+SeesAs world a (service code s) seen = AsksFor world a s × LetsPass a.given s.properties × (seen ≡ event.Service code s.service)
 SeesAs world a (modified old new) seen =
     AsksFor world a new ×
-    ((Passes a.given new.properties × (seen ≡ event.Service SERVICE_MODIFIED new.service))
-    ⊎ ((¬ Passes a.given new.properties) × Passes a.given old.properties × (seen ≡ event.Service SERVICE_MODIFIED_ENDMATCH new.service)))
-SeesAs world a (bundle code b known) seen = (a.kind ≡ kind.Bundle) × Passes a.given (attributes_of code b known) × (seen ≡ event.Bundle code b)
-SeesAs world a (framework code) seen = (a.kind ≡ kind.Framework) × Passes a.given (attributes_of code system None) × (seen ≡ event.Framework code)
+    ((LetsPass a.given new.properties × (seen ≡ event.Service SERVICE_MODIFIED new.service))
+    ⊎ ((¬ LetsPass a.given new.properties) × LetsPass a.given old.properties × (seen ≡ event.Service SERVICE_MODIFIED_ENDMATCH new.service)))
+SeesAs world a (bundle code b known) seen = (a.kind ≡ kind.Bundle) × LetsPass a.given (attributes_of code b known) × (seen ≡ event.Bundle code b)
+SeesAs world a (framework code) seen = (a.kind ≡ kind.Framework) × LetsPass a.given (attributes_of code system None) × (seen ≡ event.Framework code)
 
 -- one of the list, with its place
 pub data IsAt {A : Type 0} : ℕ → List A → A → Type 0 where

@@ -17,7 +17,7 @@ pub record OpenMake : Type 0 where
 pub data MakeChange : Type 0 where
   make_begins : MakeChange
   make_ends : MakeChange
-  text_given : List ℕ → MakeChange
+  gets_text : List ℕ → MakeChange
 
 -- what is opened is a make
 abbrev pub opens_make : Option Cause → Bool
@@ -27,7 +27,7 @@ opens_make _ = false
 -- what an operation with its reply says of them, where it closes a bracket or does not
 abbrev pub make_change : Bool → Op → Reply → Option MakeChange
 make_change closed (EndMake failed) reply = if closed then Some make_ends else None
-make_change closed (Give owner text) Done = Some (text_given text)
+make_change closed (Give owner text) Done = Some (gets_text text)
 make_change closed op reply = if opens_make (opens op reply) then Some make_begins else None
 
 abbrev pub without_make : ℕ → List OpenMake → List OpenMake
@@ -42,7 +42,7 @@ abbrev pub with_make_change : ℕ → Option MakeChange → List OpenMake → Li
 with_make_change caller None makes = makes
 with_make_change caller (Some make_begins) makes = record { caller = caller; text = None } ∷ makes
 with_make_change caller (Some make_ends) makes = without_make caller makes
-with_make_change caller (Some (text_given text)) makes = with_text caller text makes
+with_make_change caller (Some (gets_text text)) makes = with_text caller text makes
 
 abbrev pub with_make : List Entry → List OpenMake → Entry → List OpenMake
 with_make before makes e = with_make_change e.tag.caller (make_change (closes e.tag e.op (brackets before)) e.op e.reply) makes

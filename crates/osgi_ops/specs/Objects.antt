@@ -7,7 +7,7 @@ use Rattle.osgi_ops.specs.Along.{carried}
 use Rattle.osgi_ops.specs.Brackets.{Making}
 use Rattle.osgi_ops.specs.Cleaning.{cleans}
 use Rattle.osgi_ops.specs.Makes.{made_count}
-use Rattle.osgi_ops.specs.Services.{live_at, made, makes_own, uses}
+use Rattle.osgi_ops.specs.Services.{live_service_at, made, makes_own, uses}
 use Rattle.osgi_ops.specs.declared.entry.Entry.{Entry}
 use Rattle.osgi_ops.specs.declared.object_id.ObjectId.{ObjectId}
 use Rattle.osgi_ops.specs.declared.op.Op.{Op}
@@ -39,12 +39,12 @@ is_given_back o _ _ = false
 
 -- an object stays, after these entries, the last of which is e: its service is live, its user was not cleaned, and the user has a use of the
 -- service, or did not give back what is its own
-abbrev pub stays : List Entry → Entry → HeldObject → Bool
-stays after e o =
-    is_some (live_at o.service after) && not (cleans o.user e.op e.reply) && not (is_given_back o e.op e.reply) && (o.own || nat_lt 0 (uses o.user o.service after))
+abbrev pub is_still_held : List Entry → Entry → HeldObject → Bool
+is_still_held after e o =
+    is_some (live_service_at o.service after) && not (cleans o.user e.op e.reply) && not (is_given_back o e.op e.reply) && (o.own || nat_lt 0 (uses o.user o.service after))
 
 abbrev pub with_object : List Entry → List HeldObject → Entry → List HeldObject
-with_object before held e = filter (stays (before ++ e ∷ []) e) (held ++ object_by before e (made before e))
+with_object before held e = filter (is_still_held (before ++ e ∷ []) e) (held ++ object_by before e (made before e))
 
 -- the objects that are held, in the order in which they were made
 abbrev pub objects : List Entry → List HeldObject

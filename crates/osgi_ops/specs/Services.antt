@@ -54,19 +54,19 @@ takes_out service owner (Unregister by taken) reply = is_accepted reply && (take
 takes_out service owner op reply = cleans owner op reply
 
 -- live from its Register on, until it is taken out
-abbrev pub is_live : Registered → Bool
-is_live r = not (list_any (λ e. takes_out r.service r.owner e.op e.reply) r.since)
+abbrev pub is_live_service : Registered → Bool
+is_live_service r = not (list_any (λ e. takes_out r.service r.owner e.op e.reply) r.since)
 
 -- the live services, in order of their registration
-abbrev pub live : List Entry → List Registered
-live history = filter is_live (registered history)
+abbrev pub live_services : List Entry → List Registered
+live_services history = filter is_live_service (registered history)
 
 abbrev pub is_service : ServiceId → Registered → Bool
 is_service service r = service.0 == r.service.0
 
 -- the live service of this id, if there is one
-abbrev pub live_at : ServiceId → List Entry → Option Registered
-live_at service history = find (is_service service) (live history)
+abbrev pub live_service_at : ServiceId → List Entry → Option Registered
+live_service_at service history = find (is_service service) (live_services history)
 
 -- ---- properties
 
@@ -91,7 +91,7 @@ service_now r = record {
 
 -- the live services as they stand
 abbrev pub services : List Entry → List declared.Service
-services history = map service_now (live history)
+services history = map service_now (live_services history)
 
 -- ---- uses
 
@@ -162,12 +162,12 @@ abbrev pub without_user : Option BundleId → List Use → List Use
 without_user None all = all
 without_user (Some user) all = filter (λ (u : Use). not (user.0 == u.user.0)) all
 
-abbrev pub with_use : List Entry → List Use → Entry → List Use
-with_use before all e = without_user (cleaned_by e.op e.reply) all ++ use_by before (made before e)
+abbrev pub with_made_use : List Entry → List Use → Entry → List Use
+with_made_use before all e = without_user (cleaned_by e.op e.reply) all ++ use_by before (made before e)
 
 -- the uses that began with the making of an object, since their user's last cleaning
 abbrev pub made_uses : List Entry → List Use
-made_uses history = carried with_use [] [] history
+made_uses history = carried with_made_use [] [] history
 
 abbrev pub is_use_of : BundleId → ServiceId → Use → Bool
 is_use_of user service u = (u.user.0 == user.0) && (u.service.0 == service.0)
@@ -178,4 +178,4 @@ uses_with from_makes user r = (gets user r + from_makes) - ungets user r
 
 -- how often the user holds the service; 0 where it is not live
 abbrev pub uses : BundleId → ServiceId → List Entry → ℕ
-uses user service history = option_map_or (uses_with (count_by (is_use_of user service) (made_uses history)) user) (live_at service history) 0
+uses user service history = option_map_or (uses_with (count_by (is_use_of user service) (made_uses history)) user) (live_service_at service history) 0

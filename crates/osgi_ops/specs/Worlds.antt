@@ -2,9 +2,9 @@
 use Rattle.std.specs.Prelude.{◌≡◌, ◌+◌, ◌||◌, not, Bool, if◌then◌else◌, ℕ, List, [], ◌∷◌, ◌++◌, true, false, Option, Some, filter, map, is_some, IsSomeAnd}
 use Rattle.osgi_base.specs.declared.ids.BundleId.{BundleId}
 use Rattle.osgi_base.specs.declared.ids.RevisionId.{RevisionId}
-use Rattle.osgi_ops.specs.Bundles.{is_member, revisions}
+use Rattle.osgi_ops.specs.Bundles.{lists_bundle, revisions}
 use Rattle.osgi_ops.specs.Depots.{stored_revision}
-use Rattle.osgi_ops.specs.Dynamic.{IsAddedWhere, with_added}
+use Rattle.osgi_ops.specs.Dynamic.{IsAddedWhere, world_with_wire}
 use Rattle.osgi_ops.specs.Levels.{refresh}
 use Rattle.osgi_ops.specs.Moments.{Moment}
 use Rattle.osgi_ops.specs.Resolved.{is_current_of, is_in_use, is_resolved}
@@ -43,8 +43,8 @@ pended bundle world = record { known = map (passed bundle) (filter (stays_known 
 -- the members' wirings are dropped, and their revisions that are not current are forgotten
 abbrev pub dropped : List BundleId → World → World
 dropped members world = record {
-  known = filter (λ (k : Known). not (is_member members k.bundle.0) || k.current) world.known;
-  wirings = filter (λ (g : Wiring). not (is_member members (bundle_of world.known g.revision))) world.wirings;
+  known = filter (λ (k : Known). not (lists_bundle members k.bundle.0) || k.current) world.known;
+  wirings = filter (λ (g : Wiring). not (lists_bundle members (bundle_of world.known g.revision))) world.wirings;
 }
 
 -- the revision that the depot has at the location is known besides, as the bundle's current one. Its id is one more than the number of
@@ -58,7 +58,7 @@ pub record Brings (now : Moment) (bundle : BundleId) (location : List ℕ) (befo
 pub record IsLeftByLoad (before : World) (bundle : BundleId) (class : List ℕ) (row : Option WireRow) (after : World) : Type 0 where
   pub wire : Option Wire
   pub added : IsAddedWhere before bundle class row wire
-  pub is : after ≡ with_added before bundle wire
+  pub is : after ≡ world_with_wire before bundle wire
 
 -- the world that an operation with this reply leaves. An accepted Install of a bundle that was not known brings its revision; an accepted
 -- Resolve brings wirings, where the bundle was not resolved; an accepted Update or Uninstall makes the bundle's revision no longer
@@ -74,12 +74,12 @@ Leaves now (op.Load bundle class) (answer.LoadedMore by row wake) after =
 Leaves now _ _ after = after ≡ now.world
 
 -- an operation with this reply changes the world: what it leaves may be another. So does a Resolve exactly where it resolved a bundle
-abbrev pub changes_world : Op → Reply → Bool
-changes_world (op.Install location) (answer.Bundle bundle known) = not known
-changes_world (op.Resolve bundle) (answer.Resolved []) = false
-changes_world (op.Resolve bundle) (answer.Resolved (first ∷ more)) = true
-changes_world (op.Update bundle location) answer.Done = true
-changes_world (op.Uninstall bundle) answer.Done = true
-changes_world op.DropWirings (answer.Ids ids) = true
-changes_world (op.Load bundle class) (answer.LoadedMore by row wake) = is_some row
-changes_world _ _ = false
+abbrev pub may_change_world : Op → Reply → Bool
+may_change_world (op.Install location) (answer.Bundle bundle known) = not known
+may_change_world (op.Resolve bundle) (answer.Resolved []) = false
+may_change_world (op.Resolve bundle) (answer.Resolved (first ∷ more)) = true
+may_change_world (op.Update bundle location) answer.Done = true
+may_change_world (op.Uninstall bundle) answer.Done = true
+may_change_world op.DropWirings (answer.Ids ids) = true
+may_change_world (op.Load bundle class) (answer.LoadedMore by row wake) = is_some row
+may_change_world _ _ = false

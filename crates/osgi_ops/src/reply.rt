@@ -260,7 +260,7 @@ fn wires(
 
 impl Reply {
     ghost use Rattle.std.specs.Prelude.{◌≡◌, IfOk};
-    ghost use Rattle.osgi_ops.specs.Replies.{active_in, ids_in, is_refusal, made_in, started_in};
+    ghost use Rattle.osgi_ops.specs.Replies.{active_in, ids_in, is_refusal, started_in, to_make_in};
 
     pub fn is_refusal(&self) -> bool
         ensures refused { result ≡ is_refusal self.now }
@@ -301,7 +301,7 @@ impl Reply {
     /// The bundle whose script makes the object that is to be made, the depot row of that script and the name of the section; None
     /// for other replies.
     pub fn into_make(self) -> Option<(BundleId, u32, Text)>
-        ensures made { result ≡ made_in self }
+        ensures made { result ≡ to_make_in self }
     {
         match self {
             Reply::Make { owner, row, name } => Some((owner, row, name)),

@@ -5,7 +5,7 @@ use Rattle.std.specs.Io.KnownBytes.{Consumes, IsAtEnd}
 use Rattle.std.proofs.lemmas.Bool.{cond-false, cond-true}
 use Rattle.std.proofs.lemmas.List.Elements.{All-cons, All-nil}
 use Rattle.std.specs.Str.Lines.{lines}
-use Rattle.osgi_console.specs.Console.{AreReadFrom, in_lane, in_no_lane, LineReads}
+use Rattle.osgi_console.specs.Console.{AreLinesFrom, in_lane, in_no_lane, LineReads}
 use Rattle.osgi_legal.specs.Legal.{AreAllowed, Legal}
 use Rattle.osgi_ops.specs.Moments.{entries_in, Told}
 use Rattle.osgi_ops.specs.Settings.{Bounds, Setting}
@@ -56,7 +56,7 @@ runs_whole ran.All script limit status lines history flat starved (made, is, lan
 runs_whole ran.Cut script limit status lines history flat starved (made, is, lane) = whole_by (IsSpentOrFull limit history) script limit status lines history made flat is (end_law limit status history) lane
 runs_whole ran.Starved script limit status lines history flat starved (made, is, lane) = whole_by Unspent script limit status lines history made flat is (starved_law limit status history (starved refl)) lane
 
-numbered_from : (number : ℕ) (texts : List (List ℕ)) (all : List Line) → AreReadFrom 0 number texts all → AreNumberedFrom number all
+numbered_from : (number : ℕ) (texts : List (List ℕ)) (all : List Line) → AreLinesFrom 0 number texts all → AreNumberedFrom number all
 numbered_from number [] [] read = tt
 numbered_from number [] (line ∷ rest) read = absurd read
 numbered_from number (text ∷ texts) [] read = absurd read
@@ -70,7 +70,7 @@ of_no_lane text lane content.Bad read = read.0
 of_no_lane text lane (content.Run command) (in_no_lane says) = refl
 of_no_lane text lane (content.Run command) (in_lane is separated) = absurd (omega (arith, is.some, is.fits))
 
-all_plain : (number : ℕ) (texts : List (List ℕ)) (all : List Line) → AreReadFrom 0 number texts all → All IsPlain all
+all_plain : (number : ℕ) (texts : List (List ℕ)) (all : List Line) → AreLinesFrom 0 number texts all → All IsPlain all
 all_plain number [] [] read = All-nil IsPlain
 all_plain number [] (line ∷ rest) read = absurd read
 all_plain number (text ∷ texts) [] read = absurd read

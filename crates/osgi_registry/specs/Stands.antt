@@ -3,7 +3,7 @@ use Rattle.std.specs.Prelude.{◌≡◌, ◌≤◌, List, [], ◌∷◌, ◌++�
 use Rattle.osgi_base.specs.declared.ids.BundleId.{BundleId}
 use Rattle.osgi_base.specs.declared.ids.Tag.{Tag}
 use Rattle.osgi_ops.specs.Cleaning.{cleaned_by}
-use Rattle.osgi_ops.specs.Services.{gets, live, Registered, registered, service_now, ungets, uses_without_makes}
+use Rattle.osgi_ops.specs.Services.{gets, live_services, Registered, registered, service_now, ungets, uses_without_makes}
 use Rattle.osgi_ops.specs.declared.entry.Entry.{Entry}
 use Rattle.osgi_ops.specs.declared.op.Op.{Op}
 use Rattle.osgi_ops.specs.declared.reply.Reply.{Reply}
@@ -23,7 +23,7 @@ AreRowsOf _ _ = ⊥
 
 -- row by row the live services of the history, and as many ids as it registered services
 pub record StandsFor (history : List Entry) (registry : RegistryRows) : Type 0 where
-  pub rows : AreRowsOf registry.rows (live history)
+  pub rows : AreRowsOf registry.rows (live_services history)
   pub issued : registry.issued ≡ length (registered history)
 
 -- if it stood for a history, it stands for that history with one more entry, of this operation and reply

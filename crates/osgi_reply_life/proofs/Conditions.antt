@@ -9,7 +9,7 @@ use Rattle.osgi_legal.proofs.Targets.{target-once}
 use Rattle.osgi_ops.specs.Bundles.{is_changing}
 use Rattle.osgi_ops.specs.Conditions.{at_target, IsTarget, state_change, state_of}
 use Rattle.osgi_ops.specs.Moments.{Moment}
-use Rattle.osgi_ops.specs.Replies.{is_effective}
+use Rattle.osgi_ops.specs.Replies.{took_effect}
 use Rattle.osgi_ops.specs.States.{is_changing as is_changing_number}
 use Rattle.osgi_ops.specs.declared.refusal.Refusal.{Refusal}
 use Rattle.osgi_ops.specs.declared.refusal.Refusal.TheVariants as no
@@ -51,9 +51,9 @@ settled_by row begun none = go (is_changing_number row.state) refl none
     go false e none = e
 
 -- it is none that comes with a clean up
-pub says_nothing : (by : Option Tag) (f : Refusal) → SaysChange by f → is_effective (answer.Refused f) ≡ false
+pub says_nothing : (by : Option Tag) (f : Refusal) → SaysChange by f → took_effect (answer.Refused f) ≡ false
 says_nothing None f is = absurd is
-says_nothing (Some tag) f is = ap (λ g. is_effective (answer.Refused g)) is
+says_nothing (Some tag) f is = ap (λ g. took_effect (answer.Refused g)) is
 
 -- so it is the one that a bundle in change calls for
 pub changed_by : (now : Moment) (b : BundleId) (row : BundleKept) (f : Refusal) → IsRowAt now b row → is_changing (state_of now b) ≡ true → SaysChange row.by f → state_change is_changing now b f

@@ -19,11 +19,11 @@ use Rattle.osgi_stage.proofs.StateReadings.{when-resolved}
 use Rattle.osgi_legal.proofs.Targets.{no-target}
 use Rattle.osgi_ops.specs.Brackets.{starting as start_of}
 use Rattle.osgi_ops.specs.Bundles.{Active, is_active, is_changing, is_live, Resolved, row_of, starting, Unresolved}
-use Rattle.osgi_ops.specs.Conditions.{at_target, invalid_where, is_above, is_kept, IsDeep, IsTarget, no_such_bundle, state_change, state_of}
+use Rattle.osgi_ops.specs.Conditions.{at_target, invalid_where, is_kept, is_level_too_high, IsDeep, IsTarget, no_such_bundle, state_change, state_of}
 use Rattle.osgi_legal.specs.Legal.{IsTold}
 use Rattle.osgi_ops.specs.Moments.{Moment}
 use Rattle.osgi_legal.specs.Operations.{IsReply}
-use Rattle.osgi_ops.specs.Replies.{is_effective, verdict}
+use Rattle.osgi_ops.specs.Replies.{took_effect, verdict}
 use Rattle.osgi_ops.specs.States.{is_changing as is_changing_number}
 use Rattle.osgi_ops.specs.Resolved.{is_fragment_bundle}
 use Rattle.osgi_ops.specs.declared.asked.Asked.{Asked}
@@ -86,7 +86,7 @@ module _ (now : Moment) (told : IsTold now) (target : Target) (transient : Bool)
 
   wish_active : is_fragment_bundle now.world b ≡ false → state_of now b ≡ Active → IsReply now (op.WishStart target transient) (answer.Active b)
   wish_active whole is =
-      wish_resting (answer.Active b) whole (ap is_changing is) (b, at, sym (ap (λ s. cond (is_active s) (answer.Active b) (cond (is_above now b) (answer.Kept b) (answer.Go b))) is))
+      wish_resting (answer.Active b) whole (ap is_changing is) (b, at, sym (ap (λ s. cond (is_active s) (answer.Active b) (cond (is_level_too_high now b) (answer.Kept b) (answer.Go b))) is))
 
   wish_go : is_fragment_bundle now.world b ≡ false → is_changing (state_of now b) ≡ false → is_active (state_of now b) ≡ false → IsReply now (op.WishStart target transient) (answer.Go b)
   wish_go whole rests down =
@@ -137,7 +137,7 @@ module _ (now : Moment) (told : IsTold now) (b : BundleId) (transient : Bool) (l
       begin_resting (answer.Active b) whole (λ unresolved. (let bad : Active ≡ Unresolved = sym is ∙ unresolved in cc bad)) (ap is_changing is)
       (inr (
         λ f called. (let bad : true ≡ false = sym (ap is_active is) ∙ called.1.0 in cc bad),
-        sym (ap (λ s. cond (is_active s) (answer.Active b) (cond (is_above now b) (answer.Kept b) (answer.Begun b (row_of now.setting.depot now.before b)))) is),
+        sym (ap (λ s. cond (is_active s) (answer.Active b) (cond (is_level_too_high now b) (answer.Kept b) (answer.Begun b (row_of now.setting.depot now.before b)))) is),
       ))
 
   begin_deep : is_fragment_bundle now.world b ≡ false → state_of now b ≡ Resolved → IsDeep now → IsReply now (op.BeginStart b transient) (answer.Refused no.TooDeep)
@@ -238,7 +238,7 @@ StartGives o v =
     (λ begun. IsSomeAnd o (λ (r : BundleKept). begun ≡ cond (r.state == ACTIVE) Already (Run r.row))) v
 
 module _ (tables : Tables) (tag : Tag) (b : BundleId) (transient : Bool) where
-  refused_begin : (f : Refusal) → is_effective (answer.Refused f) ≡ false → EachTime (begin tag b transient) tables (λ now. IsReply now (op.BeginStart b transient) (answer.Refused f)) →
+  refused_begin : (f : Refusal) → took_effect (answer.Refused f) ≡ false → EachTime (begin tag b transient) tables (λ now. IsReply now (op.BeginStart b transient) (answer.Refused f)) →
       IsReplyAndChange (begin tag b transient) tables (answer.Refused f) change.Nothing
   refused_begin f none due = decided_refused (begin tag b transient) tables f none due
 

@@ -24,7 +24,7 @@ use Rattle.osgi_legal.specs.Legal.{IsTold}
 use Rattle.osgi_ops.specs.Moments.{Moment}
 use Rattle.osgi_legal.specs.Operations.{IsReply}
 use Rattle.osgi_ops.specs.Waiting.{is_waiting}
-use Rattle.osgi_ops.specs.Replies.{is_effective, verdict}
+use Rattle.osgi_ops.specs.Replies.{took_effect, verdict}
 use Rattle.osgi_ops.specs.States.{is_changing as is_changing_number}
 use Rattle.osgi_ops.specs.declared.asked.Asked.{Asked}
 use Rattle.osgi_ops.specs.declared.op.Op.TheVariants as op
@@ -139,7 +139,7 @@ StopGives b o v =
     (λ begun. IsSomeAnd o (λ (r : BundleKept). begun ≡ cond (r.state == ACTIVE) (Run r.row) Already)) v
 
 module _ (tables : Tables) (tag : Tag) (target : Target) (transient : Bool) where
-  refused_stop : (f : Refusal) → is_effective (answer.Refused f) ≡ false → EachTime (begin_stop tag target transient) tables (λ now. IsReply now (op.BeginStop target transient) (answer.Refused f)) →
+  refused_stop : (f : Refusal) → took_effect (answer.Refused f) ≡ false → EachTime (begin_stop tag target transient) tables (λ now. IsReply now (op.BeginStop target transient) (answer.Refused f)) →
       IsReplyAndChange (begin_stop tag target transient) tables (answer.Refused f) change.Nothing
   refused_stop f none due = decided_refused (begin_stop tag target transient) tables f none due
 

@@ -16,7 +16,7 @@ use Rattle.osgi_legal.specs.Legal.{IsAskedAt, IsTold}
 use Rattle.osgi_ops.specs.Listening.{hearing, listeners}
 use Rattle.osgi_ops.specs.Moments.{Moment}
 use Rattle.osgi_legal.specs.Operations.{Answers, IsReply, own_conditions}
-use Rattle.osgi_ops.specs.Replies.{is_effective, verdict}
+use Rattle.osgi_ops.specs.Replies.{took_effect, verdict}
 use Rattle.osgi_ops.specs.declared.asked.Asked.{Asked}
 use Rattle.osgi_ops.specs.declared.kind.Kind.{Kind}
 use Rattle.osgi_ops.specs.declared.limits.TheConstants.{MAX_LISTENERS}
@@ -64,9 +64,9 @@ passed_both false false has count reply due named is e answer = inr (
 )
 
 -- such a refusal cleans up nothing
-plain : (named full : Bool) (refusal : Refusal) → option_or (cond named (Some no.InvalidOperation) None) (cond full (Some (no.TooMany many.Listeners)) None) ≡ Some refusal → is_effective (answer.Refused refusal) ≡ false
-plain true full refusal e = let f : no.InvalidOperation ≡ refusal = cc e in ap (λ g. is_effective (answer.Refused g)) (sym f)
-plain false true refusal e = let f : no.TooMany many.Listeners ≡ refusal = cc e in ap (λ g. is_effective (answer.Refused g)) (sym f)
+plain : (named full : Bool) (refusal : Refusal) → option_or (cond named (Some no.InvalidOperation) None) (cond full (Some (no.TooMany many.Listeners)) None) ≡ Some refusal → took_effect (answer.Refused refusal) ≡ false
+plain true full refusal e = let f : no.InvalidOperation ≡ refusal = cc e in ap (λ g. took_effect (answer.Refused g)) (sym f)
+plain false true refusal e = let f : no.TooMany many.Listeners ≡ refusal = cc e in ap (λ g. took_effect (answer.Refused g)) (sym f)
 plain false false refusal e = absurd (cc e)
 
 module _ (tables : Tables) (owner : BundleId) (name : List ℕ) (kind : Kind) (given : Option Filter) (asks : asker_refusal tables.bundles (Some owner) ≡ None) where

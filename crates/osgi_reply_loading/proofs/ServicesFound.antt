@@ -5,7 +5,7 @@ use Rattle.osgi_base.specs.declared.ids.BundleId.{BundleId}
 use Rattle.osgi_base.specs.declared.ids.ServiceId.{ServiceId}
 use Rattle.osgi_model.specs.declared.filter.Filter.{Filter}
 use Rattle.osgi_ops.specs.Classes.{IsFound, IsOpenTo}
-use Rattle.osgi_ops.specs.Services.{live, services}
+use Rattle.osgi_ops.specs.Services.{live_services, services}
 use Rattle.osgi_ops.specs.declared.op.Op.TheVariants as op
 use Rattle.osgi_ops.specs.declared.reply.Reply.TheVariants as answer
 use Rattle.osgi_registry.specs.Rows.{services_in}
@@ -28,6 +28,6 @@ replied_found tables asker class filter found passes is who =
       found,
       refl,
       subst (λ (w : World). IsFound (IsOpenTo w asker class filter) (services now.before) found) stood.world
-          (subst (λ list. IsFound (IsOpenTo tables.wirings.world asker class filter) list found) (rows_services tables.registry.rows (live now.before) stood.services.rows) is),
+          (subst (λ list. IsFound (IsOpenTo tables.wirings.world asker class filter) list found) (rows_services tables.registry.rows (live_services now.before) stood.services.rows) is),
     ))
     (λ now told stood before after. tt) (λ history tag stood. stands_quiet history tables.registry _ stood (quiet_find tag asker class filter found))

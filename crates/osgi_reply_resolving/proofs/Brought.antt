@@ -22,7 +22,7 @@ use Rattle.osgi_ops.specs.Depots.{stored_revision, revision_in, row_number, stor
 use Rattle.osgi_legal.specs.Legal.{IsTold}
 use Rattle.osgi_ops.specs.Moments.{later, Moment}
 use Rattle.osgi_legal.specs.Operations.{IsReply}
-use Rattle.osgi_ops.specs.Replies.{is_effective}
+use Rattle.osgi_ops.specs.Replies.{took_effect}
 use Rattle.osgi_ops.specs.Resolved.{is_in_use}
 use Rattle.osgi_ops.specs.Soundness.{IsSound}
 use Rattle.osgi_ops.specs.Worlds.{Leaves, with_revision}
@@ -95,18 +95,18 @@ given_new : (at : Option Bundle) (now : Moment) (location : List ℕ) (count : �
 given_new at now location count v none given = subst (λ a. Gives (install_refusals a now location) (λ reply. reply ≡ installs a count) v) (sym none) given
 
 -- none of the refusals of an Install cleans up
-plain_depot : (stored : Option Stored) (refusal : Refusal) → depot_refusal stored ≡ Some refusal → is_effective (answer.Refused refusal) ≡ false
-plain_depot None refusal is = let named : refusal ≡ no.NoFolder = cc (sym is) in ap (λ f. is_effective (answer.Refused f)) named
-plain_depot (Some stored.Skipped) refusal is = let named : refusal ≡ TooMany Locations = cc (sym is) in ap (λ f. is_effective (answer.Refused f)) named
-plain_depot (Some (stored.Failed before after)) refusal is = let named : refusal ≡ no.ReadError = cc (sym is) in ap (λ f. is_effective (answer.Refused f)) named
-plain_depot (Some (stored.TooLarge bytes files)) refusal is = let named : refusal ≡ no.ReadError = cc (sym is) in ap (λ f. is_effective (answer.Refused f)) named
-plain_depot (Some stored.NoFolder) refusal is = let named : refusal ≡ no.NoFolder = cc (sym is) in ap (λ f. is_effective (answer.Refused f)) named
-plain_depot (Some (stored.Bad fault)) refusal is = let named : refusal ≡ no.ManifestError fault = cc (sym is) in ap (λ f. is_effective (answer.Refused f)) named
+plain_depot : (stored : Option Stored) (refusal : Refusal) → depot_refusal stored ≡ Some refusal → took_effect (answer.Refused refusal) ≡ false
+plain_depot None refusal is = let named : refusal ≡ no.NoFolder = cc (sym is) in ap (λ f. took_effect (answer.Refused f)) named
+plain_depot (Some stored.Skipped) refusal is = let named : refusal ≡ TooMany Locations = cc (sym is) in ap (λ f. took_effect (answer.Refused f)) named
+plain_depot (Some (stored.Failed before after)) refusal is = let named : refusal ≡ no.ReadError = cc (sym is) in ap (λ f. took_effect (answer.Refused f)) named
+plain_depot (Some (stored.TooLarge bytes files)) refusal is = let named : refusal ≡ no.ReadError = cc (sym is) in ap (λ f. took_effect (answer.Refused f)) named
+plain_depot (Some stored.NoFolder) refusal is = let named : refusal ≡ no.NoFolder = cc (sym is) in ap (λ f. took_effect (answer.Refused f)) named
+plain_depot (Some (stored.Bad fault)) refusal is = let named : refusal ≡ no.ManifestError fault = cc (sym is) in ap (λ f. took_effect (answer.Refused f)) named
 plain_depot (Some (stored.Read revision manifest)) refusal is = absurd (cc is)
 
-plain_rows : (name : List ℕ) (version : Version) (rows : List BundleKept) (due : BundleKept → Type 0) (refusal : Refusal) → Gives (row_refusals name version rows) due (refuses refusal) → is_effective (answer.Refused refusal) ≡ false
-plain_rows name version rows due refusal (inl (other, twin, same)) = let named : refusal ≡ DuplicateBundle twin.other.bundle = cc same ∙ twin.says in ap (λ f. is_effective (answer.Refused f)) named
-plain_rows name version rows due refusal (inr (none, inl (other, full, same))) = let named : refusal ≡ TooMany Bundles = cc same ∙ full.0 in ap (λ f. is_effective (answer.Refused f)) named
+plain_rows : (name : List ℕ) (version : Version) (rows : List BundleKept) (due : BundleKept → Type 0) (refusal : Refusal) → Gives (row_refusals name version rows) due (refuses refusal) → took_effect (answer.Refused refusal) ≡ false
+plain_rows name version rows due refusal (inl (other, twin, same)) = let named : refusal ≡ DuplicateBundle twin.other.bundle = cc same ∙ twin.says in ap (λ f. took_effect (answer.Refused f)) named
+plain_rows name version rows due refusal (inr (none, inl (other, full, same))) = let named : refusal ≡ TooMany Bundles = cc same ∙ full.0 in ap (λ f. took_effect (answer.Refused f)) named
 plain_rows name version rows due refusal (inr (none, inr (room, given))) = absurd given
 
 -- the depot has no revision there

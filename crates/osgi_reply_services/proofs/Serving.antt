@@ -15,7 +15,7 @@ use Rattle.osgi_ops.specs.rows.Lists.{service_row}
 use Rattle.osgi_ops.specs.Conditions.{IsDeep}
 use Rattle.osgi_ops.specs.Moments.{Moment}
 use Rattle.osgi_ops.specs.Objects.{bundle_object}
-use Rattle.osgi_ops.specs.Services.{live, live_at, made_uses, Registered, registered, services, uses, uses_without_makes}
+use Rattle.osgi_ops.specs.Services.{live_service_at, live_services, made_uses, Registered, registered, services, uses, uses_without_makes}
 use Rattle.osgi_ops.specs.declared.limits.TheConstants.{MAX_SERVICES}
 use Rattle.osgi_base.specs.Verdict.{answers, Gives, refuses, Verdict, Where}
 use Rattle.osgi_ops.specs.declared.entry.Entry.{Entry}
@@ -31,7 +31,7 @@ use Rattle.osgi_ops.specs.declared.scope.Scope.TheVariants.{Singleton}
 use Rattle.osgi_ops.specs.declared.service.Service.{Service}
 use Rattle.osgi_ops.specs.declared.service.ServiceRow.{ServiceRow}
 use Rattle.osgi_ops.specs.laws.Services.{uses-plain}
-use Rattle.osgi_ops.specs.rows.Services.{got, got_as, got_reply, making_change, IsToMake, shared, to_make}
+use Rattle.osgi_ops.specs.rows.Services.{got, got_as, got_reply, make_is_open, IsToMake, shared, to_make}
 use Rattle.osgi_stage.proofs.Stage.{live-single-at, no-made-uses}
 use Rattle.osgi_registry.specs.laws.Standing.{Found, nowhere, quiet_find_all, quiet_list, quiet_refused, rows_found, rows_length, rows_services, stands_quiet, there}
 use Rattle.osgi_registry.specs.Rows.{count_of, modify_refusal, object_at, refusal_at, register_refusal, RegistryRows, LiveService, row_at, services_in, twins_refusal, use_count}
@@ -81,16 +81,16 @@ change_passed owner (Some row) (Some r) rest due v (there is) e issued = passed_
 
 -- ---- each operation
 
-found_now : (history : List Entry) (registry : RegistryRows) (service : ServiceId) → StandsFor history registry → Found (row_at service registry.rows) (live_at service history)
-found_now history registry service stands = rows_found service registry.rows (live history) stands.rows
+found_now : (history : List Entry) (registry : RegistryRows) (service : ServiceId) → StandsFor history registry → Found (row_at service registry.rows) (live_service_at service history)
+found_now history registry service stands = rows_found service registry.rows (live_services history) stands.rows
 
 -- what refuses an operation changes nothing that the registry stands for
 refused_stands : (o : Op) (old new : RegistryRows) (refusal : Refusal) → cleaned_by o (answer.Refused refusal) ≡ None → new ≡ old → StandsAfter o (answer.Refused refusal) old new
 refused_stands o old new refusal none same history tag stands = subst (StandsFor _) (sym same) (stands_quiet history old _ stands (quiet_refused tag o refusal none))
 
 -- Register
-room_is : (history : List Entry) (registry : RegistryRows) → StandsFor history registry → length registry.rows ≡ length (live history)
-room_is history registry stands = rows_length registry.rows (live history) stands.rows
+room_is : (history : List Entry) (registry : RegistryRows) → StandsFor history registry → length registry.rows ≡ length (live_services history)
+room_is history registry stands = rows_length registry.rows (live_services history) stands.rows
 
 register_refused : (properties : List Attribute) (rows : List LiveService) (count : ℕ) (refusal : Refusal) (due : Reply → Type 0) (twins full : Bool) → has_twins properties ≡ twins → nat_le MAX_SERVICES (length rows) ≡ full → length rows ≡ count →
     Some refusal ≡ option_or (cond twins (Some BadProperties) None) (cond full (Some (TooMany Services)) None) →
@@ -119,7 +119,7 @@ served_registered owner classes object scope properties old new service single n
       let is : answer.Service service ≡ answer.Service (record { 0 = length (registered now.before) + 1 }) = λ i. answer.Service (record { 0 = (id ∙ ap (λ n. n + 1) stood.issued) i }) in
       inr (
         (λ g called. called.1.0 single),
-        register_passed properties old.rows (length (live now.before)) (Answers now (op.Register owner classes object scope properties)) (answers (answer.Service service)) (has_twins properties) (nat_le MAX_SERVICES (length old.rows)) refl refl (room_is now.before old stood) none is,
+        register_passed properties old.rows (length (live_services now.before)) (Answers now (op.Register owner classes object scope properties)) (answers (answer.Service service)) (has_twins properties) (nat_le MAX_SERVICES (length old.rows)) refl refl (room_is now.before old stood) none is,
       );
   stands = stands;
 }
@@ -130,7 +130,7 @@ served_unregistered owner classes object scope properties old new refusal single
   due = λ now asked stood.
       inr (
         (λ g called. called.1.0 single),
-        register_refused properties old.rows (length (live now.before)) refusal (Answers now (op.Register owner classes object scope properties)) (has_twins properties) (nat_le MAX_SERVICES (length old.rows)) refl refl (room_is now.before old stood) some,
+        register_refused properties old.rows (length (live_services now.before)) refusal (Answers now (op.Register owner classes object scope properties)) (has_twins properties) (nat_le MAX_SERVICES (length old.rows)) refl refl (room_is now.before old stood) some,
       );
   stands = refused_stands _ old new refusal refl same;
 }
@@ -169,14 +169,14 @@ modify_passed owner at of properties due v (Some other) found is e issued = absu
 pub served_modified : (owner : BundleId) (service : ServiceId) (properties : List Attribute) (old new : RegistryRows) → None ≡ modify_refusal owner service properties old.rows →
     StandsAfter (op.Modify owner service properties) answer.Done old new → IsServedToAll (op.Modify owner service properties) old new answer.Done
 served_modified owner service properties old new none stands who = record {
-  due = λ now asked stood. modify_passed owner (row_at service old.rows) (live_at service now.before) properties (Answers now (op.Modify owner service properties)) (answers answer.Done) _ (found_now now.before old service stood) refl none refl;
+  due = λ now asked stood. modify_passed owner (row_at service old.rows) (live_service_at service now.before) properties (Answers now (op.Modify owner service properties)) (answers answer.Done) _ (found_now now.before old service stood) refl none refl;
   stands = stands;
 }
 
 pub served_unmodified : (owner : BundleId) (service : ServiceId) (properties : List Attribute) (old new : RegistryRows) (refusal : Refusal) → Some refusal ≡ modify_refusal owner service properties old.rows → new ≡ old →
     IsServedToAll (op.Modify owner service properties) old new (answer.Refused refusal)
 served_unmodified owner service properties old new refusal some same who = record {
-  due = λ now asked stood. modify_refused owner (row_at service old.rows) (live_at service now.before) properties refusal (Answers now (op.Modify owner service properties)) _ (found_now now.before old service stood) refl some;
+  due = λ now asked stood. modify_refused owner (row_at service old.rows) (live_service_at service now.before) properties refusal (Answers now (op.Modify owner service properties)) _ (found_now now.before old service stood) refl some;
   stands = refused_stands _ old new refusal refl same;
 }
 
@@ -184,19 +184,19 @@ served_unmodified owner service properties old new refusal some same who = recor
 pub served_taken : (owner : BundleId) (service : ServiceId) (old new : RegistryRows) → None ≡ refusal_at owner (row_at service old.rows) → StandsAfter (op.Unregister owner service) answer.Done old new →
     IsServedToAll (op.Unregister owner service) old new answer.Done
 served_taken owner service old new none stands who = record {
-  due = λ now asked stood. change_passed owner (row_at service old.rows) (live_at service now.before) [] (Answers now (op.Unregister owner service)) (answers answer.Done) (found_now now.before old service stood) none refl;
+  due = λ now asked stood. change_passed owner (row_at service old.rows) (live_service_at service now.before) [] (Answers now (op.Unregister owner service)) (answers answer.Done) (found_now now.before old service stood) none refl;
   stands = stands;
 }
 
 pub served_untaken : (owner : BundleId) (service : ServiceId) (old new : RegistryRows) (refusal : Refusal) → Some refusal ≡ refusal_at owner (row_at service old.rows) → new ≡ old →
     IsServedToAll (op.Unregister owner service) old new (answer.Refused refusal)
 served_untaken owner service old new refusal some same who = record {
-  due = λ now asked stood. change_refused owner (row_at service old.rows) (live_at service now.before) refusal [] (Answers now (op.Unregister owner service)) (found_now now.before old service stood) some;
+  due = λ now asked stood. change_refused owner (row_at service old.rows) (live_service_at service now.before) refusal [] (Answers now (op.Unregister owner service)) (found_now now.before old service stood) some;
   stands = refused_stands _ old new refusal refl same;
 }
 
 services_now : (history : List Entry) (registry : RegistryRows) → StandsFor history registry → services_in registry.rows ≡ services history
-services_now history registry stands = rows_services registry.rows (live history) stands.rows
+services_now history registry stands = rows_services registry.rows (live_services history) stands.rows
 
 -- FindAll
 pub served_found_all : (asker : BundleId) (class : List ℕ) (filter : Option Filter) (registry : RegistryRows) (found : List ServiceId) → AreRanked (IsOf class filter) (services_in registry.rows) found →
@@ -247,7 +247,7 @@ pub served_got : (user : BundleId) (service : ServiceId) (old new : RegistryRows
     IsServedToAll (op.Get user service) old new (answer.Object text)
 served_got user service old new text got_it stands who = record {
   due = λ now asked stood.
-      get_answers now user (row_at service old.rows) (live_at service now.before) text (making_change now user service) (IsDeep now) (live-single-at now asked.told service) (found_now now.before old service stood) got_it;
+      get_answers now user (row_at service old.rows) (live_service_at service now.before) text (make_is_open now user service) (IsDeep now) (live-single-at now asked.told service) (found_now now.before old service stood) got_it;
   stands = stands;
 }
 
@@ -255,8 +255,8 @@ pub served_ungotten : (user : BundleId) (service : ServiceId) (old new : Registr
     IsServedToAll (op.Get user service) old new (answer.Refused refusal)
 served_ungotten user service old new refusal none same who = record {
   due = λ now asked stood.
-      get_refused (row_at service old.rows) (live_at service now.before) refusal
-      ((λ f. IsToMake now false user service × making_change now user service f) ∷ Where TooDeep (IsToMake now false user service × IsDeep now) ∷ []) (Answers now (op.Get user service)) (found_now now.before old service stood) none;
+      get_refused (row_at service old.rows) (live_service_at service now.before) refusal
+      ((λ f. IsToMake now false user service × make_is_open now user service f) ∷ Where TooDeep (IsToMake now false user service × IsDeep now) ∷ []) (Answers now (op.Get user service)) (found_now now.before old service stood) none;
   stands = refused_stands _ old new refusal refl same;
 }
 
@@ -270,7 +270,7 @@ count_found user (Some row) (Some r) (there is) = is.uses user
 -- the registry counts the uses of the history, where none of them began with a make
 pub uses_now : (history : List Entry) (registry : RegistryRows) (user : BundleId) (service : ServiceId) → made_uses history ≡ [] → StandsFor history registry → use_count user service registry.rows ≡ uses user service history
 uses_now history registry user service none stands =
-    count_found user (row_at service registry.rows) (live_at service history) (found_now history registry service stands) ∙ sym (uses-plain user service history none)
+    count_found user (row_at service registry.rows) (live_service_at service history) (found_now history registry service stands) ∙ sym (uses-plain user service history none)
 
 pub served_ungot : (user : BundleId) (service : ServiceId) (old new : RegistryRows) (value : Bool) → value ≡ nat_lt 0 (use_count user service old.rows) → StandsAfter (op.Unget user service) (answer.Flag value) old new →
     IsServedToAll (op.Unget user service) old new (answer.Flag value)

@@ -21,7 +21,7 @@ use Rattle.osgi_resolver_hopeless.specs.computed.Stuck.{AreRefused, CannotBeMet}
 use Rattle.osgi_world.specs.ChoiceWords.{made_by}
 use Rattle.osgi_world.specs.Candidates.{IsProblem, candidates, matching}
 use Rattle.osgi_world.specs.Decisions.{Decision, IsMade, Made, attaching, choose, is_open, pick, value_made}
-use Rattle.osgi_world.specs.DueDecisions.{attachments, decisions_of, due, in_turn, members, next_decision, payload, queue}
+use Rattle.osgi_world.specs.DueDecisions.{attachments, decisions_of, due_decisions, in_turn, members, next_decision, payload, queue}
 use Rattle.osgi_world.specs.Lists.{In, Two}
 use Rattle.osgi_world.specs.Lookups.{is_multiple}
 use Rattle.osgi_world.specs.declared.problem.Problem.{Problem}
@@ -131,14 +131,14 @@ module _ (P : Problem) (D : Made) (m : RevisionId) (q : ReqRef) (c d : CapRef) w
     queue-stands t =
         let turn = in_turn P (payload P D m) in
         let inside = stands-parts (decisions_of P m) (pick m q c) (pick m q d) turn q (in-in_turn P (payload P D m) q x.asked.in_payload x.asked.effective) (picks-stand (is_multiple P.world.known q) x.multiple t) in
-        stands-parts (due P D) (pick m q c) (pick m q d) (members P D) m x.member
+        stands-parts (due_decisions P D) (pick m q c) (pick m q d) (members P D) m x.member
         (two-right (λ a b. (a ≡ pick m q c) × (b ≡ pick m q d)) (attachments P m) _ (choices-stand (list_any (is_open D) (attachments P m)) refl x.asked.attached inside))
 
     -- what is made stands before what is not
     made-before : IsMade D (pick m q d) → Stands (pick m q d) (pick m q c) (queue P D)
     made-before is =
         let w = queued P L D s in
-        let there : In (pick m q c) (queue P D) = in-flat_map (due P D) (members P D) m (pick m q c) x.member (is_due-in P D m (pick m q c) x.is_due) in
+        let there : In (pick m q c) (queue P D) = in-flat_map (due_decisions P D) (members P D) m (pick m q c) x.member (is_due-in P D m (pick m q c) x.is_due) in
         let old-not : In (pick m q c) (in_order D) → ⊥ = λ old. let made = (in_order-made D (pick m q c) old).1 in let none = x.is_open in cc in
         let left : In (pick m q c) w.rest = elim (in-append_cases (in_order D) w.rest (pick m q c) (subst (In (pick m q c)) w.is there)) [ inl old ↦ absurd (old-not old) | inr new ↦ new ] in
         subst (Stands (pick m q d) (pick m q c)) (sym w.is) (across (λ a b. (a ≡ pick m q d) × (b ≡ pick m q c)) (in_order D) w.rest (pick m q d) (pick m q c) (made-in_order D (pick m q d) is) left (refl, refl))

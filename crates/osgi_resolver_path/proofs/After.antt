@@ -7,7 +7,7 @@ use Rattle.osgi_base.specs.declared.ids.RevisionId.{RevisionId}
 use Rattle.osgi_world.specs.Candidates.{IsProblem, matching}
 use Rattle.osgi_world.specs.Decisions as spec
 use Rattle.osgi_world.specs.Decisions.{Made, attaching, choose, is_yes, pick, value_made}
-use Rattle.osgi_world.specs.DueDecisions.{due, fragments_of, members, next_decision}
+use Rattle.osgi_world.specs.DueDecisions.{due_decisions, fragments_of, members, next_decision}
 use Rattle.osgi_world.specs.Lists.{In}
 use Rattle.osgi_world.specs.Lookups.{is_current, is_host_of}
 use Rattle.osgi_world.specs.Payloads.{current_fragments}
@@ -39,8 +39,8 @@ get-map f (y ∷ ys) (suc n) x e = get-map f ys n x e
 -- who joins stands after those that are opened
 pub opened-longer : (P : Problem) (D : Made) (ids joined : List RevisionId) (qs : List spec.Decision) (k : ℕ) → IsOpened P D ids qs k → IsOpened P D (ids ++ joined) qs k
 opened-longer P D ids joined qs k o = record {
-  queue_is = o.queue_is ∙ ap (flat_map (due P D)) (sym (take-append-le (k + 1) ids joined (let h = o.last_in in omega (arith, h))));
-  done = subst (λ l. length (flat_map (due P D) l) ≤ length D) (sym (take-append-le k ids joined (let h = o.last_in in omega (arith, h)))) o.done;
+  queue_is = o.queue_is ∙ ap (flat_map (due_decisions P D)) (sym (take-append-le (k + 1) ids joined (let h = o.last_in in omega (arith, h))));
+  done = subst (λ l. length (flat_map (due_decisions P D) l) ≤ length D) (sym (take-append-le k ids joined (let h = o.last_in in omega (arith, h)))) o.done;
   within = o.within;
   last_in = let h = o.last_in in let e = length-append ids joined in omega (arith, h, e);
 }

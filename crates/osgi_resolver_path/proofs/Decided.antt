@@ -8,7 +8,7 @@ use Rattle.std.proofs.lemmas.List.{length-map}
 use Rattle.osgi_base.specs.declared.ids.RevisionId.{RevisionId}
 use Rattle.osgi_world.specs.Candidates.{IsProblem, candidates, matching}
 use Rattle.osgi_world.specs.Decisions.{Decision, IsMade, Made, attaching, choose, pick, value_made}
-use Rattle.osgi_world.specs.DueDecisions.{due, members, payload}
+use Rattle.osgi_world.specs.DueDecisions.{due_decisions, members, payload}
 use Rattle.osgi_world.specs.Hopeless.{IsDecided, IsSpatial}
 use Rattle.osgi_world.specs.Lists.{In}
 use Rattle.osgi_world.specs.Lookups.{is_effective, is_multiple, requirement_namespace}
@@ -106,13 +106,13 @@ record IsParted (P : Problem) (D : Made) (F : CourseLists) : Type 0 where
   left : List Decision
   queue_is : decisions_in F.queue ≡ in_order D ++ left
   left_open : (d : Decision) → In d left → value_made D d ≡ None
-  later_open : (d : Decision) → In d (flat_map (due P D) (drop (F.last + 1) F.ids)) → value_made D d ≡ None
+  later_open : (d : Decision) → In d (flat_map (due_decisions P D) (drop (F.last + 1) F.ids)) → value_made D d ≡ None
 
 parted : (P : Problem) → IsProblem P → (ms : List Mark) (F : CourseLists) → IsRight P ms F → IsParted P (made_of ms) F
 parted P L ms F r =
     let D = made_of ms in
     let q = queued P L D (right-state P ms F r) in
-    let others = flat_map (due P D) (drop (F.last + 1) F.ids) in
+    let others = flat_map (due_decisions P D) (drop (F.last + 1) F.ids) in
     let whole : (in_order D ++ q.rest) ≡ (decisions_in F.queue ++ others) = sym q.is ∙ queue-parts P D F.ids (F.last + 1) r.ids ∙ ap (λ l. l ++ others) (sym r.queue) in
     let c = cut (in_order D) q.rest (decisions_in F.queue) others whole (let a = length-in_order D in let b = length-made_of ms in let e = length-map F.queue decision_of in let h = r.within in omega (arith, a, b, e, h)) in
     record {
@@ -123,15 +123,15 @@ parted P L ms F r =
     }
 
 -- the decisions of the members before the last are made
-earlier-made : (P : Problem) → IsProblem P → (ms : List Mark) (F : CourseLists) → IsRight P ms F → (m : RevisionId) (d : Decision) → In m (take F.last F.ids) → In d (due P (made_of ms) m) → IsMade (made_of ms) d
+earlier-made : (P : Problem) → IsProblem P → (ms : List Mark) (F : CourseLists) → IsRight P ms F → (m : RevisionId) (d : Decision) → In m (take F.last F.ids) → In d (due_decisions P (made_of ms) m) → IsMade (made_of ms) d
 earlier-made P L ms F r m d i j =
     let D = made_of ms in
     let q = queued P L D (right-state P ms F r) in
-    let before = flat_map (due P D) (take F.last F.ids) in
-    let after = flat_map (due P D) (drop F.last F.ids) in
+    let before = flat_map (due_decisions P D) (take F.last F.ids) in
+    let after = flat_map (due_decisions P D) (drop F.last F.ids) in
     let whole : (before ++ after) ≡ (in_order D ++ q.rest) = sym (queue-parts P D F.ids F.last r.ids) ∙ q.is in
     let c = cut before after (in_order D) q.rest whole (let a = length-in_order D in let b = length-made_of ms in let h = r.done in omega (arith, a, b, h)) in
-    in_order-made D d (subst (In d) (sym c.1) (in-append_left before c.0 d (in-flat_map (due P D) (take F.last F.ids) m d i j)))
+    in_order-made D d (subst (In d) (sym c.1) (in-append_left before c.0 d (in-flat_map (due_decisions P D) (take F.last F.ids) m d i j)))
 
 no-made : (D : Made) (d : Decision) → value_made D d ≡ None → IsMade D d → ⊥
 no-made D d n m = let e = m.1 in cc
@@ -155,7 +155,7 @@ true-spatial P (choose h q) s = s
 true-spatial P (pick h q c) s = s
 
 -- a member's own decisions of space are made, where it is decided
-decided-own : (P : Problem) → IsProblem P → (D : Made) (m : RevisionId) → In m (members P D) → IsDecided P D m → (d : Decision) → In d (due P D m) → IsSpatial P d → IsMade D d
+decided-own : (P : Problem) → IsProblem P → (D : Made) (m : RevisionId) → In m (members P D) → IsDecided P D m → (d : Decision) → In d (due_decisions P D m) → IsSpatial P d → IsMade D d
 decided-own P L D m i (inl old) d j s = absurd (member-new P L.root_is.not_in_force D m i old)
 decided-own P L D m i (inr own) d j s = own.1 d j s
 
@@ -166,20 +166,20 @@ module _ (P : Problem) (L : IsProblem P) (ms : List Mark) (F : CourseLists) (r :
   pub decided-before : place < F.last → IsDecided P (made_of ms) m
   decided-before h = inr (member, λ d i s. earlier-made P L ms F r m d (get-take F.ids place F.last m stands h) i)
 
-  last-left : (p : IsParted P (made_of ms) F) → place ≡ F.last → (d : Decision) → In d p.left → In d (due P (made_of ms) m)
+  last-left : (p : IsParted P (made_of ms) F) → place ≡ F.last → (d : Decision) → In d p.left → In d (due_decisions P (made_of ms) m)
   last-left p h d i =
       let D = made_of ms in
-      let there = flat_map-in (due P D) (take (F.last + 1) F.ids) d (subst (In d) (sym p.queue_is ∙ r.queue) (in-append_right (in_order D) p.left d i)) in
+      let there = flat_map-in (due_decisions P D) (take (F.last + 1) F.ids) d (subst (In d) (sym p.queue_is ∙ r.queue) (in-append_right (in_order D) p.left d i)) in
       let at_last : slice_get F.ids F.last ≡ Some m = ap (slice_get F.ids) (sym h) ∙ stands in
       elim (take-suc-cases F.ids F.last m there.0 at_last (subst (λ n. In there.0 (take n F.ids)) (add-one F.last) there.1)) [
         | inl j ↦ absurd (no-made D d (p.left_open d i) (earlier-made P L ms F r there.0 d j there.2))
-        | inr same ↦ subst (λ x. In d (due P D x)) same there.2
+        | inr same ↦ subst (λ x. In d (due_decisions P D x)) same there.2
       ]
 
-  last-made : (p : IsParted P (made_of ms) F) → place ≡ F.last → (d : Decision) → In d (due P (made_of ms) m) → IsMade (made_of ms) d ⊎ In d p.left
+  last-made : (p : IsParted P (made_of ms) F) → place ≡ F.last → (d : Decision) → In d (due_decisions P (made_of ms) m) → IsMade (made_of ms) d ⊎ In d p.left
   last-made p h d i =
       let D = made_of ms in
-      elim (in-append_cases (in_order D) p.left d (subst (In d) (sym r.queue ∙ p.queue_is) (in-flat_map (due P D) (take (F.last + 1) F.ids) m d (get-take F.ids place (F.last + 1) m stands (omega (arith, h))) i))) [
+      elim (in-append_cases (in_order D) p.left d (subst (In d) (sym r.queue ∙ p.queue_is) (in-flat_map (due_decisions P D) (take (F.last + 1) F.ids) m d (get-take F.ids place (F.last + 1) m stands (omega (arith, h))) i))) [
         | inl a ↦ inl (in_order-made D d a)
         | inr b ↦ inr b
       ]
@@ -202,11 +202,11 @@ module _ (P : Problem) (L : IsProblem P) (ms : List Mark) (F : CourseLists) (r :
   left-turn : (p : IsParted P (made_of ms) F) → place ≡ F.last → InTurn (is_spatial P.world.known) p.left
   left-turn p h =
       let D = made_of ms in
-      let before = flat_map (due P D) (take F.last F.ids) in
+      let before = flat_map (due_decisions P D) (take F.last F.ids) in
       let at_last : slice_get F.ids F.last ≡ Some m = ap (slice_get F.ids) (sym h) ∙ stands in
       let is : m ≡ get_or F.ids F.last m = sym (some-inj (get_or F.ids F.last m) m (sym (get-some F.ids F.last m r.last_in) ∙ at_last)) in
-      let whole : (before ++ due P D m) ≡ (in_order D ++ p.left) = sym (r.queue ∙ one-more (due P D) F.ids F.last m r.last_in is) ∙ p.queue_is in
-      let c = cut before (due P D m) (in_order D) p.left whole (let a = length-in_order D in let b = length-made_of ms in let e = r.done in omega (arith, a, b, e)) in
+      let whole : (before ++ due_decisions P D m) ≡ (in_order D ++ p.left) = sym (r.queue ∙ one-more (due_decisions P D) F.ids F.last m r.last_in is) ∙ p.queue_is in
+      let c = cut before (due_decisions P D m) (in_order D) p.left whole (let a = length-in_order D in let b = length-made_of ms in let e = r.done in omega (arith, a, b, e)) in
       later-turn (is_spatial P.world.known) c.0 p.left (subst (InTurn (is_spatial P.world.known)) c.2 (due-turn P m D))
 
   -- at the last one that is opened: the next decision is not of space
@@ -223,9 +223,9 @@ module _ (P : Problem) (L : IsProblem P) (ms : List Mark) (F : CourseLists) (r :
       ∙ first-turn spatial p.left (left-turn p h) in
       subst (λ b. Decides (not b) (IsDecided P D m)) (sym all) (last-decides p h)
 
-  later-open : F.last < place → (d : Decision) → In d (due P (made_of ms) m) → value_made (made_of ms) d ≡ None
+  later-open : F.last < place → (d : Decision) → In d (due_decisions P (made_of ms) m) → value_made (made_of ms) d ≡ None
   later-open h d i =
-      (parted P L ms F r).later_open d (in-flat_map (due P (made_of ms)) (drop (F.last + 1) F.ids) m d (get-drop F.ids place (F.last + 1) m stands (omega (arith, h))) i)
+      (parted P L ms F r).later_open d (in-flat_map (due_decisions P (made_of ms)) (drop (F.last + 1) F.ids) m d (get-drop F.ids place (F.last + 1) m stands (omega (arith, h))) i)
 
 -- ---- a member of which nothing is decided
 
@@ -283,7 +283,7 @@ free-made P D m d lone none (picks q c i eff all mult j e) s =
     (several-asks (is_effective P.world.known q) (is_of_space (requirement_namespace P.world.known q)) (is_multiple P.world.known q) (is_none_of (candidates P q)) eff (subst (IsSpatial P) e s) (none-not (candidates P q) c j))))
 
 -- where its decisions are open, one that asks for a space is not decided
-asks-clash : (P : Problem) (D : Made) (m : RevisionId) → ((f : RevisionId) → In f (matching P m) → ⊥) → ((d : Decision) → In d (due P D m) → IsSpatial P d → ⊥) → IsTrue (list_any (asks_space P) (own_requirements P.world.known m)) → ⊥
+asks-clash : (P : Problem) (D : Made) (m : RevisionId) → ((f : RevisionId) → In f (matching P m) → ⊥) → ((d : Decision) → In d (due_decisions P D m) → IsSpatial P d → ⊥) → IsTrue (list_any (asks_space P) (own_requirements P.world.known m)) → ⊥
 asks-clash P D m lone none t =
     let a = any-in (asks_space P) (own_requirements P.world.known m) t in
     let q = a.0 in
@@ -310,7 +310,7 @@ module _ (P : Problem) (L : IsProblem P) (ms : List Mark) (F : CourseLists) (r :
             let both = and-cases (is_lone (matching P m)) (not (list_any (asks_space P) (own_requirements P.world.known m))) free in
             inr (inside, λ d i s. free-made P D m d (lone-none (matching P m) both.0) (no-false (list_any (asks_space P) (own_requirements P.world.known m)) both.1) (due-in P D m d i) s),
         λ decided.
-            let none : (d : Decision) → In d (due P D m) → IsSpatial P d → ⊥ = λ d i s. no-made D d (later-open P L ms F r place m stands h d i) (decided-own P L D m inside decided d i s) in
+            let none : (d : Decision) → In d (due_decisions P D m) → IsSpatial P d → ⊥ = λ d i s. no-made D d (later-open P L ms F r place m stands h d i) (decided-own P L D m inside decided d i s) in
             let lone : (f : RevisionId) → In f (matching P m) → ⊥ = λ f i. none (attaching m f) (in-due_attach P D m f i) tt in
             and-true (is_lone (matching P m)) (list_any (asks_space P) (own_requirements P.world.known m)) (none-lone (matching P m) lone) (not-true (list_any (asks_space P) (own_requirements P.world.known m)) (asks-clash P D m lone none)),
       )

@@ -4,7 +4,7 @@ use Rattle.std.proofs.lemmas.List.{get_or_default}
 use Rattle.osgi_base.specs.declared.ids.RevisionId.{RevisionId}
 use Rattle.osgi_world.specs.Candidates.{IsProblem, matching}
 use Rattle.osgi_world.specs.Decisions.{Decision, IsMade, Made, attaching, is_yes, value_made}
-use Rattle.osgi_world.specs.DueDecisions.{attachments, decisions_of, due, fragments_of, in_turn, members}
+use Rattle.osgi_world.specs.DueDecisions.{attachments, decisions_of, due_decisions, fragments_of, in_turn, members}
 use Rattle.osgi_world.specs.Lists.{In, Two}
 use Rattle.osgi_world.specs.Payloads.{own_requirements}
 use Rattle.osgi_world.specs.declared.problem.Problem.{Problem}
@@ -21,7 +21,7 @@ use Rattle.osgi_resolver_path.proofs.Next.{length-in_order, queue-parts}
 
 -- ---- a member of which nothing is decided
 
-new-due : (P : Problem) (D : Made) (m : RevisionId) → ((f : RevisionId) → In f (matching P m) → value_made D (attaching m f) ≡ None) → (fs : List RevisionId) → matching P m ≡ fs → due P D m ≡ first_among P m fs
+new-due : (P : Problem) (D : Made) (m : RevisionId) → ((f : RevisionId) → In f (matching P m) → value_made D (attaching m f) ≡ None) → (fs : List RevisionId) → matching P m ≡ fs → due_decisions P D m ≡ first_among P m fs
 new-due P D m none [] e =
     let no-attachments : attachments P m ≡ [] = ap (map (attaching m)) e in
     let all : (x : Decision) → In x (attachments P m) → IsMade D x = λ x i. absurd (nothing x (subst (In x) no-attachments i)) in
@@ -53,7 +53,7 @@ module _ (P : Problem) (L : IsProblem P) (D : Made) (s : State P D) (ids : List 
   all-made : qs ≡ in_order D
   all-made =
       let q = queued P L D s in
-      let others = flat_map (due P D) (drop (k + 1) ids) in
+      let others = flat_map (due_decisions P D) (drop (k + 1) ids) in
       let whole : (qs ++ others) ≡ (in_order D ++ q.rest) = ap (λ l. l ++ others) o.queue_is ∙ sym (queue-parts P D ids (k + 1) members-are) ∙ q.is in
       sym (same-front qs others (in_order D) q.rest whole (waits ∙ sym (length-in_order D))).0
 
@@ -61,7 +61,7 @@ module _ (P : Problem) (L : IsProblem P) (D : Made) (s : State P D) (ids : List 
   fresh d within f made =
       let m = get_or ids (k + 1) d in
       let there = subst (In (attaching m f)) (sym all-made ∙ o.queue_is) (made-in_order D (attaching m f) made) in
-      let x = flat_map-in (due P D) (take (k + 1) ids) (attaching m f) there in
+      let x = flat_map-in (due_decisions P D) (take (k + 1) ids) (attaching m f) there in
       let same = due-host P D x.0 (attaching m f) (due-in P D x.0 (attaching m f) x.2) in
       not-before ids (k + 1) d (subst (λ l. ¬ Two ◌≡◌ l) (sym members-are) (members-once P D)) within (subst (λ y. In y (take (k + 1) ids)) (sym same) x.1)
 
@@ -75,9 +75,9 @@ module _ (P : Problem) (L : IsProblem P) (D : Made) (s : State P D) (ids : List 
   pub opened-next : (d : RevisionId) → k + 1 < length ids → IsOpened P D ids (qs ++ first_due P (get_or ids (k + 1) d)) (k + 1)
   opened-next d within =
       let m = get_or ids (k + 1) d in
-      let first : due P D m ≡ first_due P m = new-due P D m (λ f i. none-of d within f) (matching P m) refl in
+      let first : due_decisions P D m ≡ first_due P m = new-due P D m (λ f i. none-of d within f) (matching P m) refl in
       record {
-        queue_is = ap (λ l. qs ++ l) (sym first) ∙ ap (λ l. l ++ due P D m) o.queue_is ∙ sym (one-more (due P D) ids (k + 1) m within (get_or_default ids (k + 1) d m within));
+        queue_is = ap (λ l. qs ++ l) (sym first) ∙ ap (λ l. l ++ due_decisions P D m) o.queue_is ∙ sym (one-more (due_decisions P D) ids (k + 1) m within (get_or_default ids (k + 1) d m within));
         done = let a = ap length o.queue_is in omega (arith, a, waits);
         within = let a = length-append qs (first_due P m) in omega (arith, a, waits);
         last_in = within;

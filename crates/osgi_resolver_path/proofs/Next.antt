@@ -6,7 +6,7 @@ use Rattle.std.proofs.lemmas.List.{length-map, take-append-drop, take_all}
 use Rattle.osgi_base.specs.declared.ids.RevisionId.{RevisionId}
 use Rattle.osgi_world.specs.Candidates.{IsProblem}
 use Rattle.osgi_world.specs.Decisions.{Decision, Made, is_open, value_made}
-use Rattle.osgi_world.specs.DueDecisions.{due, members, next_decision, queue}
+use Rattle.osgi_world.specs.DueDecisions.{due_decisions, members, next_decision, queue}
 use Rattle.osgi_world.specs.Lists.{In}
 use Rattle.osgi_world.specs.declared.problem.Problem.{Problem}
 use Rattle.osgi_resolver_theory.proofs.Queue.{next-queued, queued}
@@ -56,21 +56,21 @@ next-after P L D s =
     ∙ sym (ap (λ l. slice_get l (length D)) q.is ∙ ap (slice_get (in_order D ++ q.rest)) (sym (length-in_order D)) ∙ get-append_at (in_order D) q.rest)
 
 -- the queue of all members is that of the first, and of the others
-pub queue-parts : (P : Problem) (D : Made) (ids : List RevisionId) (n : ℕ) → ids ≡ members P D → queue P D ≡ flat_map (due P D) (take n ids) ++ flat_map (due P D) (drop n ids)
+pub queue-parts : (P : Problem) (D : Made) (ids : List RevisionId) (n : ℕ) → ids ≡ members P D → queue P D ≡ flat_map (due_decisions P D) (take n ids) ++ flat_map (due_decisions P D) (drop n ids)
 queue-parts P D ids n e =
-    ap (flat_map (due P D)) (sym e ∙ sym (take-append-drop n ids)) ∙ flat_map-append (due P D) (take n ids) (drop n ids)
+    ap (flat_map (due_decisions P D)) (sym e ∙ sym (take-append-drop n ids)) ∙ flat_map-append (due_decisions P D) (take n ids) (drop n ids)
 
 pub right-state : (P : Problem) (ms : List Mark) (F : CourseLists) → IsRight P ms F → State P (made_of ms)
 right-state P ms F r = subst (State P) r.is (word-state P (word_of ms) r.word)
 
-next-go : (P : Problem) (D : Made) (F : CourseLists) (n : ℕ) → decisions_in F.queue ≡ flat_map (due P D) (take (F.last + 1) F.ids) → F.ids ≡ members P D → n ≤ length F.queue → ((n < length F.queue) ⊎ (F.last + 1 ≡ length F.ids)) →
+next-go : (P : Problem) (D : Made) (F : CourseLists) (n : ℕ) → decisions_in F.queue ≡ flat_map (due_decisions P D) (take (F.last + 1) F.ids) → F.ids ≡ members P D → n ≤ length F.queue → ((n < length F.queue) ⊎ (F.last + 1 ≡ length F.ids)) →
     slice_get (queue P D) n ≡ slice_get (decisions_in F.queue) n
 next-go P D F n is ids within (inl less) =
-    let rest = flat_map (due P D) (drop (F.last + 1) F.ids) in
+    let rest = flat_map (due_decisions P D) (drop (F.last + 1) F.ids) in
     ap (λ l. slice_get l n) (queue-parts P D F.ids (F.last + 1) ids ∙ ap (λ l. l ++ rest) (sym is))
     ∙ get-append_within (decisions_in F.queue) rest n (let e = length-map F.queue decision_of in omega (arith, less, e))
 next-go P D F n is ids within (inr all) =
-    ap (λ l. slice_get l n) (ap (flat_map (due P D)) (sym ids ∙ sym (take_all (F.last + 1) F.ids (omega (arith, all)))) ∙ sym is)
+    ap (λ l. slice_get l n) (ap (flat_map (due_decisions P D)) (sym ids ∙ sym (take_all (F.last + 1) F.ids (omega (arith, all)))) ∙ sym is)
 
 -- the next decision stands at the place after those that are made
 pub next-there : (P : Problem) → IsProblem P → (ms : List Mark) (F : CourseLists) → IsRight P ms F → next_decision P (made_of ms) ≡ slice_get (decisions_in F.queue) (length ms)

@@ -7,7 +7,7 @@ use Rattle.std.proofs.lemmas.Grind.{flat_map-append}
 use Rattle.osgi_base.specs.declared.ids.RevisionId.{RevisionId}
 use Rattle.osgi_world.specs.Candidates.{candidates, matching}
 use Rattle.osgi_world.specs.Decisions.{Decision, Made, attaching, choose, is_open, pick}
-use Rattle.osgi_world.specs.DueDecisions.{attachments, decisions_of, due, in_turn, is_generic, of_kind, payload}
+use Rattle.osgi_world.specs.DueDecisions.{attachments, decisions_of, due_decisions, in_turn, is_generic, of_kind, payload}
 use Rattle.osgi_world.specs.Lists.{In}
 use Rattle.osgi_world.specs.Lookups.{is_effective, is_multiple, requirement_namespace}
 use Rattle.osgi_world.specs.Satisfaction.{is_bundle, is_package}
@@ -103,7 +103,7 @@ module _ (P : Problem) (m : RevisionId) where
   rest-turn true qs = tt
   rest-turn false qs = asked-turn qs
 
-  pub due-turn : (D : Made) → InTurn (is_spatial P.world.known) (due P D m)
+  pub due-turn : (D : Made) → InTurn (is_spatial P.world.known) (due_decisions P D m)
   due-turn D = all-turn (is_spatial P.world.known) (attachments P m) (if list_any (is_open D) (attachments P m) then [] else flat_map (decisions_of P m) (in_turn P (payload P D m)))
       (λ d i. ap (is_spatial P.world.known) (map-in (attaching m) (matching P m) d i).2)
       (rest-turn (list_any (is_open D) (attachments P m)) (payload P D m))

@@ -5,7 +5,7 @@ use Rattle.osgi_base.specs.declared.ids.RevisionId.{RevisionId}
 use Rattle.osgi_world.specs.Candidates.{IsProblem, candidates}
 use Rattle.osgi_world.specs.Consistency.{AreRivals}
 use Rattle.osgi_world.specs.Decisions.{Decision, IsMade, Made, attaching, choose, pick, value_made}
-use Rattle.osgi_world.specs.DueDecisions.{due, fragments_of, members, payload}
+use Rattle.osgi_world.specs.DueDecisions.{due_decisions, fragments_of, members, payload}
 use Rattle.osgi_world.specs.Partial.{partial}
 use Rattle.osgi_world.specs.Hopeless.{IsDecided, IsHopeless, IsSettled, IsSpatial, ReachedFrom, first, more}
 use Rattle.osgi_world.specs.Lists.{In, Two, below}
@@ -186,7 +186,7 @@ spatial-dec P (choose h q) = true-dec (is_bundle (requirement_namespace P.world.
 spatial-dec P (pick h q c) = true-dec (is_bundle (requirement_namespace P.world.known q) || is_package (requirement_namespace P.world.known q))
 
 pub closed-dec : (P : Problem) (D : Made) (c : RevisionId) → Decided (IsDecided P D c)
-closed-dec P D c = either-dec (force-dec P.world.wirings c) (both-dec (item-dec rev-dec c (members P D)) (all-dec (λ d. IsSpatial P d → IsMade D d) (λ d. if-dec (spatial-dec P d) (made-go (value_made D d))) (due P D c)))
+closed-dec P D c = either-dec (force-dec P.world.wirings c) (both-dec (item-dec rev-dec c (members P D)) (all-dec (λ d. IsSpatial P d → IsMade D d) (λ d. if-dec (spatial-dec P d) (made-go (value_made D d))) (due_decisions P D c)))
 
 reached-steps : (K : List Known) (W : List Wiring) (r : RevisionId) → Steps (BundleWire K W r) (Reexports K W) (providers W)
 reached-steps K W r = record {

@@ -3,7 +3,7 @@ use Rattle.std.proofs.Common.{◌≡◌, ℕ, ◌<◌, ◌⊎◌, inl, inr, Bool
 use Rattle.osgi_base.specs.declared.ids.RevisionId.{RevisionId}
 use Rattle.osgi_world.specs.Candidates.{IsProblem, matching}
 use Rattle.osgi_world.specs.Decisions.{Decision, IsMade, Made, arity, attaching, host, is_yes, pick, value_made}
-use Rattle.osgi_world.specs.DueDecisions.{due, fragments_of, members, next_decision, payload}
+use Rattle.osgi_world.specs.DueDecisions.{due_decisions, fragments_of, members, next_decision, payload}
 use Rattle.osgi_world.specs.Partial.{partial, wiring}
 use Rattle.osgi_world.specs.Hopeless.{Hopeless, IsDecided, IsSpatial, all_refused, clashes, no_candidate, not_offered, two_providers, two_singletons, two_versions}
 use Rattle.osgi_world.specs.Lists.{In, Two}
@@ -88,7 +88,7 @@ closed-part P L D d v s n r c k = record {
   ];
 }
 
-closed-attached : (P : Problem) (D : Made) (c : RevisionId) → ((d : Decision) → In d (due P D c) → IsSpatial P d → IsMade D d) → AllAttached P D c
+closed-attached : (P : Problem) (D : Made) (c : RevisionId) → ((d : Decision) → In d (due_decisions P D c) → IsSpatial P d → IsMade D d) → AllAttached P D c
 closed-attached P D c all f i = all (attaching c f) (in-due_attach P D c f i) tt
 
 attached-fixed : (D : Made) (d : Decision) (v : ℕ) (c f : RevisionId) → value_made D d ≡ None → IsMade D (attaching c f) → (attaching c f ≡ d) × (0 ≡ v) ⊎ (value_made D (attaching c f) ≡ Some 0) → value_made D (attaching c f) ≡ Some 0

@@ -8,7 +8,7 @@ use Rattle.osgi_world.specs.Candidates.{AreOrdered, CanBeAsked, IsCandidate, IsP
 use Rattle.osgi_world.specs.ChoiceWords.{FitsFrom, IsGood, IsWord, arity_of, decide, made_after, made_by, make, partial_of, width}
 use Rattle.osgi_world.specs.Consistency.{Extends, ExtendsWorld}
 use Rattle.osgi_world.specs.Decisions.{Decision, Made, attaching, choose, host, is_open, is_yes, menu, pick, value_made, wired_to}
-use Rattle.osgi_world.specs.DueDecisions.{attachments, decisions_of, due, fragments_of, in_turn, members, next_decision, payload, provider_of, pull_in}
+use Rattle.osgi_world.specs.DueDecisions.{attachments, decisions_of, due_decisions, fragments_of, in_turn, members, next_decision, payload, provider_of, pull_in}
 use Rattle.osgi_world.specs.Effort.{IsCounted, IsEffortAbove, IsEffortWithin, IsFirst, IsResolveOf}
 use Rattle.osgi_world.specs.Hopeless.{Hopeless, IsDecided, IsHopeless, IsSettled, IsSpatial, Settles, all_refused, clashes, no_candidate, not_offered, two_providers, two_singletons, two_versions}
 use Rattle.osgi_world.specs.Lists.{In, nth_list, item_at}
@@ -74,7 +74,7 @@ module _ (P : Problem) (cs : List Choice) (L : IsProblem P) (M : IsProblem (othe
   asked : (D : Made) (m : RevisionId) → IsTrue (is_current P.world.known m) → (q : ReqRef) → In q (in_turn P (payload P D m)) → CanBeAsked P.world.known q
   asked D m c q i = let t = in_turn-in P (payload P D m) q i in payload-asked P L D m q c t.0 t.1
 
-  due-same : (D : Made) (m : RevisionId) → IsTrue (is_current P.world.known m) → due P D m ≡ due (other P cs) D m
+  due-same : (D : Made) (m : RevisionId) → IsTrue (is_current P.world.known m) → due_decisions P D m ≡ due_decisions (other P cs) D m
   due-same D m c =
       ap (λ l. attachments P m ++ (if list_any (is_open D) (attachments P m) then [] else l))
       (flat_map-same (decisions_of P m) (decisions_of (other P cs) m) (in_turn P (payload P D m)) (λ q i. decisions-same m q (asked D m c q i)))
@@ -99,7 +99,7 @@ module _ (P : Problem) (cs : List Choice) (L : IsProblem P) (M : IsProblem (othe
   next-same : (D : Made) → State P D → next_decision P D ≡ next_decision (other P cs) D
   next-same D s =
       ap (find (is_open D))
-      (flat_map-same (due P D) (due (other P cs) D) (members P D) (λ m i. due-same D m (current D s m i)) ∙ ap (flat_map (due (other P cs) D)) (members-same D s))
+      (flat_map-same (due_decisions P D) (due_decisions (other P cs) D) (members P D) (λ m i. due-same D m (current D s m i)) ∙ ap (flat_map (due_decisions (other P cs) D)) (members-same D s))
 
   arity-same : (D : Made) → State P D → (o : Option Decision) → next_decision P D ≡ o → arity_of P o ≡ arity_of (other P cs) o
   arity-same D s None e = refl

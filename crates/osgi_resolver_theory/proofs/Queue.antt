@@ -7,7 +7,7 @@ use Rattle.std.proofs.lemmas.Bool.{false≢true}
 use Rattle.osgi_base.specs.declared.ids.RevisionId.{RevisionId}
 use Rattle.osgi_world.specs.Candidates.{IsProblem, candidates, matching}
 use Rattle.osgi_world.specs.Decisions.{Decision, IsMade, Made, attaching, choose, host, is_open, is_yes, pick, value_made}
-use Rattle.osgi_world.specs.DueDecisions.{attachments, decisions_of, due, fragments_of, in_turn, is_in_force, is_generic, members, next_decision, of_kind, payload, pull_in, pulled, queue}
+use Rattle.osgi_world.specs.DueDecisions.{attachments, decisions_of, due_decisions, fragments_of, in_turn, is_in_force, is_generic, members, next_decision, of_kind, payload, pull_in, pulled, queue}
 use Rattle.osgi_world.specs.Lists.{In, Two}
 use Rattle.osgi_world.specs.Lookups.{bundle_of, is_effective, is_host_of, is_multiple, requirement_namespace}
 use Rattle.osgi_world.specs.Payloads.{current_fragments, own_requirements}
@@ -146,7 +146,7 @@ no-attachment P D m d false i h f =
     let q = Rattle.osgi_resolver_theory.proofs.Lists.flat_map-in (decisions_of P m) (in_turn P (payload P D m)) d i in
     (decision-of P m q.0 q.0 d (is_multiple P.world.known q.0) q.2).1 h f
 
-pub due-once : (P : Problem) → IsProblem P → (D : Made) (m : RevisionId) → ¬ Two ◌≡◌ (due P D m)
+pub due-once : (P : Problem) → IsProblem P → (D : Made) (m : RevisionId) → ¬ Two ◌≡◌ (due_decisions P D m)
 due-once P L D m t = elim (two-append ◌≡◌ (attachments P m) (if list_any (is_open D) (attachments P m) then [] else flat_map (decisions_of P m) (in_turn P (payload P D m))) t) [
   | inl a ↦ attachments-once P L m a
   | inr (inl b) ↦ choices-once P L D m (list_any (is_open D) (attachments P m)) b
@@ -155,7 +155,7 @@ due-once P L D m t = elim (two-append ◌≡◌ (attachments P m) (if list_any (
 
 pub queue-once : (P : Problem) → IsProblem P → (D : Made) → ¬ Two ◌≡◌ (queue P D)
 queue-once P L D t = members-once P D
-    (two-flat_map (due P D) ◌≡◌ (due-once P L D) (λ a b y z i j e. sym (due-host P D a y (due-in P D a y i)) ∙ ap host e ∙ due-host P D b z (due-in P D b z j)) (members P D) t)
+    (two-flat_map (due_decisions P D) ◌≡◌ (due-once P L D) (λ a b y z i j e. sym (due-host P D a y (due-in P D a y i)) ∙ ap host e ∙ due-host P D b z (due-in P D b z j)) (members P D) t)
 
 -- ---- what stands before the next decision stays
 
@@ -191,7 +191,7 @@ any-false P D m all true e =
 any-false P D m all false e = e
 
 -- a host whose attachments are made has the same decisions due
-pub due-same : (P : Problem) (D : Made) (d : Decision) (v : ℕ) → value_made D d ≡ None → (m : RevisionId) → AllAttached P D m → due P ((d, v) ∷ D) m ≡ due P D m
+pub due-same : (P : Problem) (D : Made) (d : Decision) (v : ℕ) → value_made D d ≡ None → (m : RevisionId) → AllAttached P D m → due_decisions P ((d, v) ∷ D) m ≡ due_decisions P D m
 due-same P D d v n m all =
     let E : Made = (d, v) ∷ D in
     let here = any-false P D m all (list_any (is_open D) (attachments P m)) refl in
@@ -209,7 +209,7 @@ all-of P D m pre sub made f i = made (attaching m f) (sub (attaching m f) (in-ma
 assoc : {X : Type 0} (pre inner more : List X) (d : X) → (pre ++ d ∷ inner) ++ more ≡ pre ++ d ∷ (inner ++ more)
 assoc pre inner more d = append_assoc pre (d ∷ inner) more
 
-due-step : (P : Problem) (D : Made) (d : Decision) (v : ℕ) → value_made D d ≡ None → (m : RevisionId) (pre post : List Decision) → due P D m ≡ pre ++ d ∷ post → ((e : Decision) → In e pre → IsMade D e) → (more : List Decision) × (due P ((d, v) ∷ D) m ≡ pre ++ d ∷ more)
+due-step : (P : Problem) (D : Made) (d : Decision) (v : ℕ) → value_made D d ≡ None → (m : RevisionId) (pre post : List Decision) → due_decisions P D m ≡ pre ++ d ∷ post → ((e : Decision) → In e pre → IsMade D e) → (more : List Decision) × (due_decisions P ((d, v) ∷ D) m ≡ pre ++ d ∷ more)
 due-step P D d v n m pre post e made = elim (split (attachments P m) (if list_any (is_open D) (attachments P m) then [] else flat_map (decisions_of P m) (in_turn P (payload P D m))) pre d post e) [
   | inl a ↦
       let B = if list_any (is_open ((d, v) ∷ D)) (attachments P m) then [] else flat_map (decisions_of P m) (in_turn P (payload P ((d, v) ∷ D) m)) in
@@ -217,30 +217,30 @@ due-step P D d v n m pre post e made = elim (split (attachments P m) (if list_an
   | inr b ↦ (post, due-same P D d v n m (all-of P D m pre (λ x i. subst (In x) (sym b.1) (in-append_left (attachments P m) b.0 x i)) made) ∙ e)
 ]
 
-due-whole : (P : Problem) (D : Made) (m : RevisionId) → ((d : Decision) → In d (due P D m) → IsMade D d) → AllAttached P D m
-due-whole P D m made = all-of P D m (due P D m) (λ x i. in-append_left (attachments P m) (if list_any (is_open D) (attachments P m) then [] else flat_map (decisions_of P m) (in_turn P (payload P D m))) x i) made
+due-whole : (P : Problem) (D : Made) (m : RevisionId) → ((d : Decision) → In d (due_decisions P D m) → IsMade D d) → AllAttached P D m
+due-whole P D m made = all-of P D m (due_decisions P D m) (λ x i. in-append_left (attachments P m) (if list_any (is_open D) (attachments P m) then [] else flat_map (decisions_of P m) (in_turn P (payload P D m))) x i) made
 
 no-split : {X : Type 0} (pre : List X) (d : X) (post : List X) → [] ≡ (pre ++ d ∷ post) → ⊥
 no-split [] d post e = cc
 no-split (x ∷ pre) d post e = cc
 
 queue-step_go : (P : Problem) (D : Made) (d : Decision) (v : ℕ) → value_made D d ≡ None → (m : RevisionId) (ms new : List RevisionId) (pre post : List Decision) → ((e : Decision) → In e pre → IsMade D e) →
-    ((more : List Decision) → flat_map (due P D) ms ≡ more ++ d ∷ post → ((e : Decision) → In e more → IsMade D e) → (after : List Decision) × (flat_map (due P ((d, v) ∷ D)) (ms ++ new) ≡ more ++ d ∷ after)) →
-    ((inner : List Decision) × (due P D m ≡ pre ++ d ∷ inner)) ⊎ ((more : List Decision) × (pre ≡ due P D m ++ more) × (flat_map (due P D) ms ≡ more ++ d ∷ post)) →
-    (more : List Decision) × (flat_map (due P ((d, v) ∷ D)) ((m ∷ ms) ++ new) ≡ pre ++ d ∷ more)
+    ((more : List Decision) → flat_map (due_decisions P D) ms ≡ more ++ d ∷ post → ((e : Decision) → In e more → IsMade D e) → (after : List Decision) × (flat_map (due_decisions P ((d, v) ∷ D)) (ms ++ new) ≡ more ++ d ∷ after)) →
+    ((inner : List Decision) × (due_decisions P D m ≡ pre ++ d ∷ inner)) ⊎ ((more : List Decision) × (pre ≡ due_decisions P D m ++ more) × (flat_map (due_decisions P D) ms ≡ more ++ d ∷ post)) →
+    (more : List Decision) × (flat_map (due_decisions P ((d, v) ∷ D)) ((m ∷ ms) ++ new) ≡ pre ++ d ∷ more)
 queue-step_go P D d v n m ms new pre post made rest (inl a) =
     let x = due-step P D d v n m pre a.0 a.1 made in
-    let behind = flat_map (due P ((d, v) ∷ D)) (ms ++ new) in
+    let behind = flat_map (due_decisions P ((d, v) ∷ D)) (ms ++ new) in
     (x.0 ++ behind, ap (λ xs. xs ++ behind) x.1 ∙ assoc pre x.0 behind d)
 queue-step_go P D d v n m ms new pre post made rest (inr b) =
-    let same = due-same P D d v n m (due-whole P D m (λ x i. made x (subst (In x) (sym b.1) (in-append_left (due P D m) b.0 x i)))) in
-    let x = rest b.0 b.2 (λ y i. made y (subst (In y) (sym b.1) (in-append_right (due P D m) b.0 y i))) in
-    (x.0, ap₂ (λ xs ys. xs ++ ys) same x.1 ∙ sym (append_assoc (due P D m) b.0 (d ∷ x.0)) ∙ ap (λ xs. xs ++ d ∷ x.0) (sym b.1))
+    let same = due-same P D d v n m (due-whole P D m (λ x i. made x (subst (In x) (sym b.1) (in-append_left (due_decisions P D m) b.0 x i)))) in
+    let x = rest b.0 b.2 (λ y i. made y (subst (In y) (sym b.1) (in-append_right (due_decisions P D m) b.0 y i))) in
+    (x.0, ap₂ (λ xs ys. xs ++ ys) same x.1 ∙ sym (append_assoc (due_decisions P D m) b.0 (d ∷ x.0)) ∙ ap (λ xs. xs ++ d ∷ x.0) (sym b.1))
 
-pub queue-step : (P : Problem) (D : Made) (d : Decision) (v : ℕ) → value_made D d ≡ None → (ms new : List RevisionId) (pre post : List Decision) → flat_map (due P D) ms ≡ pre ++ d ∷ post → ((e : Decision) → In e pre → IsMade D e) →
-    (more : List Decision) × (flat_map (due P ((d, v) ∷ D)) (ms ++ new) ≡ pre ++ d ∷ more)
+pub queue-step : (P : Problem) (D : Made) (d : Decision) (v : ℕ) → value_made D d ≡ None → (ms new : List RevisionId) (pre post : List Decision) → flat_map (due_decisions P D) ms ≡ pre ++ d ∷ post → ((e : Decision) → In e pre → IsMade D e) →
+    (more : List Decision) × (flat_map (due_decisions P ((d, v) ∷ D)) (ms ++ new) ≡ pre ++ d ∷ more)
 queue-step P D d v n [] new pre post e made = absurd (no-split pre d post e)
-queue-step P D d v n (m ∷ ms) new pre post e made = queue-step_go P D d v n m ms new pre post made (λ more f k. queue-step P D d v n ms new more post f k) (split (due P D m) (flat_map (due P D) ms) pre d post e)
+queue-step P D d v n (m ∷ ms) new pre post e made = queue-step_go P D d v n m ms new pre post made (λ more f k. queue-step P D d v n ms new more post f k) (split (due_decisions P D m) (flat_map (due_decisions P D) ms) pre d post e)
 
 pull-go : (P : Problem) (b : Bool) (ms : List RevisionId) (x : RevisionId) → (new : List RevisionId) × ((if b then ms else ms ++ x ∷ []) ≡ ms ++ new)
 pull-go P true ms x = ([], sym (append-nil ms))
@@ -294,7 +294,7 @@ queued P L _ (step {D = D} {d = d} {v = v} s n r) =
     let first = first-open D q.rest d q.open_rest behind in
     let new = pull_in-append P (members P D) (pulled P d v) in
     let grown = queue-step P D d v x.3 (members P D) new.0 (in_order D) first.0 (q.is ∙ ap (λ l. in_order D ++ l) first.1) (in_order-made D) in
-    let is : queue P ((d, v) ∷ D) ≡ in_order ((d, v) ∷ D) ++ grown.0 = ap (flat_map (due P ((d, v) ∷ D))) new.1 ∙ grown.1 ∙ sym (append_assoc (in_order D) (d ∷ []) grown.0) in
+    let is : queue P ((d, v) ∷ D) ≡ in_order ((d, v) ∷ D) ++ grown.0 = ap (flat_map (due_decisions P ((d, v) ∷ D))) new.1 ∙ grown.1 ∙ sym (append_assoc (in_order D) (d ∷ []) grown.0) in
     record { rest = grown.0; is = is; open_rest = rest-open P L ((d, v) ∷ D) grown.0 is }
 
 -- so the next decision is the first after them

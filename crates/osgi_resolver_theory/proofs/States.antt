@@ -4,7 +4,7 @@ use Rattle.std.specs.List.{list_any}
 use Rattle.osgi_base.specs.declared.ids.RevisionId.{RevisionId}
 use Rattle.osgi_world.specs.Candidates.{CanBeAsked, IsProblem, candidates, matching}
 use Rattle.osgi_world.specs.Decisions.{Decision, IsMade, Made, Step, adds, arity, attaching, attached, choose, host, is_open, is_yes, menu, pick, same_decision, value_made, wired, wired_to}
-use Rattle.osgi_world.specs.DueDecisions.{attachments, decisions_of, due, fragments_of, in_turn, is_in_force, is_generic, members, next_decision, of_kind, payload, provider_of, pull_in, pulled, queue}
+use Rattle.osgi_world.specs.DueDecisions.{attachments, decisions_of, due_decisions, fragments_of, in_turn, is_in_force, is_generic, members, next_decision, of_kind, payload, provider_of, pull_in, pulled, queue}
 use Rattle.osgi_world.specs.Lists.{In, below}
 use Rattle.osgi_world.specs.Lookups.{is_current, is_effective, is_fragment, is_host_of, is_multiple, is_optional, requirement_count, requirement_namespace}
 use Rattle.osgi_world.specs.Payloads.{current_fragments, own_requirements}
@@ -221,13 +221,13 @@ due-choice P D h d false e i =
     let t = in_turn-in P (payload P D h) m.0 m.1 in
     requirement-due P D h m.0 d (is_multiple P.world.known m.0) refl t.0 t.1 (attached-all P D h e) m.2
 
-pub due-in : (P : Problem) (D : Made) (h : RevisionId) (d : Decision) → In d (due P D h) → IsDue P D h d
+pub due-in : (P : Problem) (D : Made) (h : RevisionId) (d : Decision) → In d (due_decisions P D h) → IsDue P D h d
 due-in P D h d i = elim (in-append_cases (attachments P h) (if list_any (is_open D) (attachments P h) then [] else flat_map (decisions_of P h) (in_turn P (payload P D h))) d i) [
   | inl a ↦ let m = map-in (attaching h) (matching P h) d a in attaches m.0 m.1 m.2
   | inr b ↦ due-choice P D h d (list_any (is_open D) (attachments P h)) refl b
 ]
 
-pub in-due_attach : (P : Problem) (D : Made) (h f : RevisionId) → In f (matching P h) → In (attaching h f) (due P D h)
+pub in-due_attach : (P : Problem) (D : Made) (h f : RevisionId) → In f (matching P h) → In (attaching h f) (due_decisions P D h)
 in-due_attach P D h f i = in-append_left (attachments P h) (if list_any (is_open D) (attachments P h) then [] else flat_map (decisions_of P h) (in_turn P (payload P D h))) (attaching h f) (in-map (attaching h) (matching P h) f i)
 
 choice-due : (P : Problem) (D : Made) (h : RevisionId) (q : ReqRef) (d : Decision) (b : Bool) → list_any (is_open D) (attachments P h) ≡ b → AllAttached P D h → In q (payload P D h) → IsTrue (is_effective P.world.known q) → In d (decisions_of P h q) →
@@ -236,7 +236,7 @@ choice-due P D h q d true e all i eff j = absurd (none-open P D h all e)
 choice-due P D h q d false e all i eff j = in-flat_map (decisions_of P h) (in_turn P (payload P D h)) q d (in-in_turn P (payload P D h) q i eff) j
 
 -- the decisions of a requirement of the payload are due, once all attachments are made
-pub in-due_of : (P : Problem) (D : Made) (h : RevisionId) (q : ReqRef) (d : Decision) → AllAttached P D h → In q (payload P D h) → IsTrue (is_effective P.world.known q) → In d (decisions_of P h q) → In d (due P D h)
+pub in-due_of : (P : Problem) (D : Made) (h : RevisionId) (q : ReqRef) (d : Decision) → AllAttached P D h → In q (payload P D h) → IsTrue (is_effective P.world.known q) → In d (decisions_of P h q) → In d (due_decisions P D h)
 in-due_of P D h q d all i eff j = in-append_right (attachments P h) (if list_any (is_open D) (attachments P h) then [] else flat_map (decisions_of P h) (in_turn P (payload P D h))) d (choice-due P D h q d (list_any (is_open D) (attachments P h)) refl all i eff j)
 
 choose-of : (P : Problem) (h : RevisionId) (q : ReqRef) (b : Bool) → (is_multiple P.world.known q) ≡ b → b ≡ false → In (choose h q) (if b then map (pick h q) (candidates P q) else choose h q ∷ [])
@@ -247,16 +247,16 @@ pick-of : (P : Problem) (h : RevisionId) (q : ReqRef) (c : CapRef) (b : Bool) �
 pick-of P h q c true e f i = in-map (pick h q) (candidates P q) c i
 pick-of P h q c false e f i = cc
 
-pub in-due_choose : (P : Problem) (D : Made) (h : RevisionId) (q : ReqRef) → AllAttached P D h → In q (payload P D h) → IsTrue (is_effective P.world.known q) → (is_multiple P.world.known q) ≡ false → In (choose h q) (due P D h)
+pub in-due_choose : (P : Problem) (D : Made) (h : RevisionId) (q : ReqRef) → AllAttached P D h → In q (payload P D h) → IsTrue (is_effective P.world.known q) → (is_multiple P.world.known q) ≡ false → In (choose h q) (due_decisions P D h)
 in-due_choose P D h q all i eff m = in-due_of P D h q (choose h q) all i eff (choose-of P h q (is_multiple P.world.known q) refl m)
 
-pub in-due_pick : (P : Problem) (D : Made) (h : RevisionId) (q : ReqRef) (c : CapRef) → AllAttached P D h → In q (payload P D h) → IsTrue (is_effective P.world.known q) → (is_multiple P.world.known q) ≡ true → In c (candidates P q) → In (pick h q c) (due P D h)
+pub in-due_pick : (P : Problem) (D : Made) (h : RevisionId) (q : ReqRef) (c : CapRef) → AllAttached P D h → In q (payload P D h) → IsTrue (is_effective P.world.known q) → (is_multiple P.world.known q) ≡ true → In c (candidates P q) → In (pick h q c) (due_decisions P D h)
 in-due_pick P D h q c all i eff m j = in-due_of P D h q (pick h q c) all i eff (pick-of P h q c (is_multiple P.world.known q) refl m j)
 
-pub is_due-in : (P : Problem) (D : Made) (h : RevisionId) (d : Decision) → IsDue P D h d → In d (due P D h)
-is_due-in P D h d (attaches f i e) = subst (λ x. In x (due P D h)) (sym e) (in-due_attach P D h f i)
-is_due-in P D h d (chooses q i eff all m e) = subst (λ x. In x (due P D h)) (sym e) (in-due_choose P D h q all i eff m)
-is_due-in P D h d (picks q c i eff all m j e) = subst (λ x. In x (due P D h)) (sym e) (in-due_pick P D h q c all i eff m j)
+pub is_due-in : (P : Problem) (D : Made) (h : RevisionId) (d : Decision) → IsDue P D h d → In d (due_decisions P D h)
+is_due-in P D h d (attaches f i e) = subst (λ x. In x (due_decisions P D h)) (sym e) (in-due_attach P D h f i)
+is_due-in P D h d (chooses q i eff all m e) = subst (λ x. In x (due_decisions P D h)) (sym e) (in-due_choose P D h q all i eff m)
+is_due-in P D h d (picks q c i eff all m j e) = subst (λ x. In x (due_decisions P D h)) (sym e) (in-due_pick P D h q c all i eff m j)
 
 pub due-host : (P : Problem) (D : Made) (h : RevisionId) (d : Decision) → IsDue P D h d → host d ≡ h
 due-host P D h d (attaches f i e) = ap host e
@@ -267,12 +267,12 @@ due-host P D h d (picks q c i eff all m j e) = ap host e
 pub next-due : (P : Problem) (D : Made) (d : Decision) → next_decision P D ≡ Some d → (m : RevisionId) × In m (members P D) × IsDue P D m d × (value_made D d ≡ None)
 next-due P D d e =
     let f = find-some (is_open D) (queue P D) d e in
-    let q = flat_map-in (due P D) (members P D) d f.0 in
+    let q = flat_map-in (due_decisions P D) (members P D) d f.0 in
     (q.0, q.1, due-in P D q.0 d q.2, open-none D d f.1)
 
 -- where none is left, each due decision is made
-pub none-left : (P : Problem) (D : Made) → next_decision P D ≡ None → (m : RevisionId) (d : Decision) → In m (members P D) → In d (due P D m) → IsMade D d
-none-left P D e m d i j = not-open_made D d (find-none (is_open D) (queue P D) d e (in-flat_map (due P D) (members P D) m d i j))
+pub none-left : (P : Problem) (D : Made) → next_decision P D ≡ None → (m : RevisionId) (d : Decision) → In m (members P D) → In d (due_decisions P D m) → IsMade D d
+none-left P D e m d i j = not-open_made D d (find-none (is_open D) (queue P D) d e (in-flat_map (due_decisions P D) (members P D) m d i j))
 
 -- ---- what holds of each decision that is made
 

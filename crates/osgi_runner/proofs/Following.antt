@@ -29,10 +29,10 @@ use Rattle.osgi_runner.specs.declared.frames.Step.TheVariants as step
 use Rattle.osgi_runs.proofs.Courses.{back-to-caller, back-to-plan, command-run, drain-hands, job-taken, no-drain, plan-asked, plan-ended, plan-runs, section-goes}
 use Rattle.osgi_runs.specs.Courses.{Ahead, Left, OnFailed, to_caller, to_hand, to_job, to_jobs, to_plan, to_section}
 use Rattle.osgi_runs.specs.Courses as course
-use Rattle.osgi_session.specs.Plans.{End, done, failed, Plan, ask, plan, run, stop, is_drained}
+use Rattle.osgi_session.specs.Plans.{End, done, failed, Plan, ask, plan, run, stop, stirs}
 use Rattle.osgi_session.specs.Runs.{bind, Binding, bound_by, Call, call, command_of, drained, ends_drain, ends_jobs, Follows, has_failed, planned, Reads, Sections, statements, taking}
 use Rattle.osgi_session.specs.declared.command.Command.{Command}
-use Rattle.osgi_session.specs.Steps.{at_end, begin, do_drain, do_op, do_section, drained_first, drained_out, draining, ended, first_step, fresh, Last, left_section, Next, Pending, replied, resume, awaiting, within}
+use Rattle.osgi_session.specs.Steps.{at_end, begin, do_drain, do_op, do_section, drained_first, drained_out, draining, ended, first_step, fresh, Last, left_section, Next, Pending, replied, resume, asking, within}
 use Rattle.osgi_session.specs.Steps as steps
 use Rattle.osgi_session.specs.declared.statement.Statement.{Statement}
 
@@ -107,8 +107,8 @@ comes-drained-first false p h = no-drain (back-to-plan done p (comes-first p h))
 
 pub comes-replied : {script : Sections} {outer : List course.Frame} {calls : List Call} (pending : Pending) (o : Op) (y : Reply) → IsWaiting pending o →
     Comes script (resume pending (replied y)) outer calls → Ahead script (planned (asked_of o pending)) outer (call o y ∷ calls)
-comes-replied {script} {outer} {calls} (awaiting drains next) o y e h =
-    plan-asked o next y (comes-drained-first (is_drained o y) (next y) (subst (λ (d : Reply → Bool). Comes script (drained_first (d y) (next y)) outer calls) e h))
+comes-replied {script} {outer} {calls} (asking drains next) o y e h =
+    plan-asked o next y (comes-drained-first (stirs o y) (next y) (subst (λ (d : Reply → Bool). Comes script (drained_first (d y) (next y)) outer calls) e h))
 comes-replied (fresh p) o y e h = absurd e
 comes-replied (draining p) o y e h = absurd e
 comes-replied (within next) o y e h = absurd e
@@ -117,7 +117,7 @@ comes-replied ended o y e h = absurd e
 pub comes-drained : (script : Sections) (outer : List course.Frame) (calls : List Call) (pending : Pending) (end : End) → IsDraining pending →
     Comes script (resume pending drained_out) outer calls → Left script (to_plan (left_of pending) ∷ outer) end calls
 comes-drained script outer calls (draining p) end e h = back-to-plan end p (comes-first p h)
-comes-drained script outer calls (awaiting drains next) end e h = absurd e
+comes-drained script outer calls (asking drains next) end e h = absurd e
 comes-drained script outer calls (fresh p) end e h = absurd e
 comes-drained script outer calls (within next) end e h = absurd e
 comes-drained script outer calls ended end e h = absurd e
@@ -126,7 +126,7 @@ pub comes-ran : (script : Sections) (outer : List course.Frame) (calls : List Ca
     Comes script (resume pending (left_section b)) outer calls → Left script (to_caller (after_section pending) ∷ outer) end calls
 comes-ran script outer calls (within next) end b e is h = back-to-caller end next (subst (λ k. Ahead script (planned (next k)) outer calls) (sym is) (comes-first (next b) h))
 comes-ran script outer calls (draining p) end b e is h = absurd e
-comes-ran script outer calls (awaiting drains next) end b e is h = absurd e
+comes-ran script outer calls (asking drains next) end b e is h = absurd e
 comes-ran script outer calls (fresh p) end b e is h = absurd e
 comes-ran script outer calls ended end b e is h = absurd e
 
@@ -152,7 +152,7 @@ drained-first-fits false p = first-fits p
 
 pub resume-fits : (pending : Pending) (l : Last) → FitsStep (resume pending l)
 resume-fits (fresh p) begin = first-fits p
-resume-fits (awaiting drains next) (replied y) = drained-first-fits (drains y) (next y)
+resume-fits (asking drains next) (replied y) = drained-first-fits (drains y) (next y)
 resume-fits (draining p) drained_out = first-fits p
 resume-fits (within next) (left_section b) = first-fits (next b)
 resume-fits _ _ = tt
@@ -166,7 +166,7 @@ first-weight (stop end) = refl
 
 pub drained-weight : (pending : Pending) → IsDraining pending → step_weight (resume pending drained_out) ≡ plan_weight (left_of pending)
 drained-weight (draining p) e = first-weight p
-drained-weight (awaiting drains next) e = absurd e
+drained-weight (asking drains next) e = absurd e
 drained-weight (fresh p) e = absurd e
 drained-weight (within next) e = absurd e
 drained-weight ended e = absurd e
@@ -178,7 +178,7 @@ one-of-two next false = rw (first-weight (next false)) (omega arith)
 pub ran-weight : (pending : Pending) (b : Bool) → IsWithin pending → step_weight (resume pending (left_section b)) ≤ section_weight pending
 ran-weight (within next) b e = one-of-two next b
 ran-weight (draining p) b e = absurd e
-ran-weight (awaiting drains next) b e = absurd e
+ran-weight (asking drains next) b e = absurd e
 ran-weight (fresh p) b e = absurd e
 ran-weight ended b e = absurd e
 

@@ -27,7 +27,7 @@ use Rattle.osgi_runs.specs.Courses.{Ahead, Left, OnFailed, to_hand, to_job}
 use Rattle.osgi_runs.specs.Courses as course
 use Rattle.osgi_session.specs.Plans.{End, done, failed, Plan, ask, plan}
 use Rattle.osgi_session.specs.Runs.{at_stop, asked, bind, bound_by, Call, call, calm, drained, empty, event_bindings, fails, Follows, goes, handed, has_failed, none, over, planned, ran, Reads, Sections, statements, taking, Task, took}
-use Rattle.osgi_session.specs.Steps.{draining, ended, fresh, Pending, awaiting, within}
+use Rattle.osgi_session.specs.Steps.{draining, ended, fresh, Pending, asking, within}
 use Rattle.osgi_ops.specs.declared.section.Section.TheVariants as section
 
 no_call : (c : Call) (more : List Call) → c ∷ more ≡ [] → ⊥
@@ -100,7 +100,7 @@ ask-reply script o next outer =
 
 plan-reply : (script : Sections) (pending : Pending) (o : Op) (outer : List course.Frame) → IsWaiting pending o →
     (reply : Reply) × (missing : List Call) × Ahead script (planned (asked_of o pending)) outer (call o reply ∷ missing)
-plan-reply script (awaiting drains next) o outer is = ask-reply script o next outer
+plan-reply script (asking drains next) o outer is = ask-reply script o next outer
 plan-reply script (fresh p) o outer is = absurd is
 plan-reply script (draining p) o outer is = absurd is
 plan-reply script (within next) o outer is = absurd is

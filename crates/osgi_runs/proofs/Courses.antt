@@ -3,7 +3,7 @@ use Rattle.std.proofs.Common.{◌≡◌, ℕ, List, [], ◌∷◌, ◌++◌, Boo
 use Rattle.osgi_base.specs.declared.ids.BundleId.{BundleId}
 use Rattle.osgi_base.specs.declared.ids.ListenerId.{ListenerId}
 use Rattle.osgi_runs.specs.Courses.{Ahead, Frame, Left, OnFailed, to_caller, to_hand, to_job, to_jobs, to_plan, to_section}
-use Rattle.osgi_session.specs.Plans.{End, done, failed, Plan, ask, run, stop, is_drained, plan}
+use Rattle.osgi_session.specs.Plans.{End, done, failed, Plan, ask, run, stop, stirs, plan}
 use Rattle.osgi_ops.specs.Bundles.{system}
 use Rattle.osgi_session.specs.Runs.{asked, bind, Binding, bound_by, Call, call, calm, command_of, drained, empty, ends_drain, ends_jobs, event_bindings, fails, Follows, goes, handed, has_failed, taking, none, over, planned, ran, Reads, Sections, statements, at_stop, took, Task}
 use Rattle.osgi_session.specs.declared.statement.Statement.{Statement}
@@ -26,7 +26,7 @@ pub plan-ended : {script : Sections} {outer : List Frame} {end : End} {calls : L
 plan-ended {end = end} {calls = calls} l = record { end = end; mid = calls; reads = at_stop; left = l }
 
 pub plan-asked : {script : Sections} {outer : List Frame} {calls : List Call} (o : Op) (next : Reply → Plan) (y : Reply) →
-    Ahead script (drained (is_drained o y)) (to_plan (next y) ∷ outer) calls → Ahead script (planned (ask o next)) outer (call o y ∷ calls)
+    Ahead script (drained (stirs o y)) (to_plan (next y) ∷ outer) calls → Ahead script (planned (ask o next)) outer (call o y ∷ calls)
 plan-asked o next y a = record { end = a.left.0; mid = a.left.1; reads = asked a.reads a.left.2; left = a.left.3 }
 
 pub plan-runs : {script : Sections} {outer : List Frame} {calls : List Call} (row : ℕ) (owner : BundleId) (which : Section) (next : Bool → Plan) →

@@ -16,7 +16,7 @@ use Rattle.osgi_legal.specs.Legal.{AreAllowed, IsAllowed}
 use Rattle.osgi_ops.specs.Listening.{Added, due, event_at, hands, handed, happenings, Happening, IsAt, IsReady, IsSight, is_in_turn, is_sight_of, is_turn_of, listener_at, seen, Spot, spots}
 use Rattle.osgi_ops.specs.Moments.{entries_in, Moment, moment, Sight, sights_in, Told, world_after}
 use Rattle.osgi_legal.specs.Operations.{IsReply}
-use Rattle.osgi_ops.specs.Replies.{is_accepted, is_effective}
+use Rattle.osgi_ops.specs.Replies.{is_accepted, took_effect}
 use Rattle.osgi_ops.specs.Settings.{Setting}
 use Rattle.osgi_ops.specs.declared.entry.Entry.{Entry}
 use Rattle.osgi_ops.specs.declared.event.Event.{Event}
@@ -72,12 +72,12 @@ happening-stirs past none before after e (op.Install location) (answer.Bundle b 
 happening-stirs past none before after e (op.Resolve b) (answer.Resolved all) x = refl
 happening-stirs past none before after e (op.BeginStart b transient) (answer.Begun begun row) x = refl
 happening-stirs past none before after e (op.EndStart b bad) answer.Done x = refl
-happening-stirs past none before after e (op.EndStart b bad) reply x = in-cond (is_effective reply) _ x
+happening-stirs past none before after e (op.EndStart b bad) reply x = in-cond (took_effect reply) _ x
 happening-stirs past none before after e (op.BeginStop target transient) (answer.Begun b row) x = refl
 happening-stirs past none before after e (op.BeginStop target transient) (answer.Idle b) x =
     absurd (let bad : true ≡ false = sym (in-cond (is_waiting b past) _ x) ∙ not-waiting b past none in cc bad)
 happening-stirs past none before after e (op.Await asked) (answer.Waiting b) x = refl
-happening-stirs past none before after e (op.EndStop b bad) reply x = in-cond (is_effective reply) _ x
+happening-stirs past none before after e (op.EndStop b bad) reply x = in-cond (took_effect reply) _ x
 happening-stirs past none before after e (op.Update b location) reply x = in-cond (is_accepted reply) _ x
 happening-stirs past none before after e (op.Uninstall b) reply x = in-cond (is_accepted reply) _ x
 happening-stirs past none before after e op.DropWirings (answer.Ids ids) x = refl

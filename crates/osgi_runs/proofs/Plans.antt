@@ -3,7 +3,7 @@ use Rattle.std.proofs.Common.{◌≡◌, List, [], ◌∷◌, ◌++◌, Bool, tr
 use Rattle.osgi_base.specs.declared.ids.BundleId.{BundleId}
 use Rattle.std.specs.Prelude.{◌==◌, cond}
 use Rattle.osgi_session.specs.Beginnings.{is_peek}
-use Rattle.osgi_session.specs.Plans.{End, done, failed, refused, Plan, ask, run, stop, is_drained, plan}
+use Rattle.osgi_session.specs.Plans.{End, done, failed, refused, Plan, ask, run, stop, stirs, plan}
 use Rattle.osgi_session.specs.Runs.{Binding, Call, call, command_of, has_failed, Task, planned, drained, statements, taking, Sections, Reads, at_stop, asked, ran, calm, empty, over, fails, none}
 use Rattle.osgi_session.specs.declared.command.Command.{Command}
 use Rattle.osgi_session.specs.declared.command.Command.TheVariants as command
@@ -30,7 +30,7 @@ drain-run : {script : Sections} (b : Bool) → (calls : List Call) × Reads scri
 drain-run true = (call op.Hand no ∷ [], empty refl)
 drain-run false = ([], calm)
 
-quiet-drain : {script : Sections} (o : Op) {left : List Call} → is_drained o no ≡ false → Reads script (drained (is_drained o no)) done left left
+quiet-drain : {script : Sections} (o : Op) {left : List Call} → stirs o no ≡ false → Reads script (drained (stirs o no)) done left left
 quiet-drain {script} o {left} quiet = subst (λ b. Reads script (drained b) done left left) (sym quiet) calm
 
 -- a plan that begins with an operation, and whose refusal ends it as refused
@@ -39,7 +39,7 @@ pub record IsShort (p : Plan) : Type 0 where
   pub next : Reply → Plan
   pub is : p ≡ ask asks next
   pub ends : next no ≡ stop refused
-  pub quiet : is_drained asks no ≡ false
+  pub quiet : stirs asks no ≡ false
 
 short-load : (console : Bool) (first second : Plan) → IsShort first → IsShort second → IsShort (cond console first second)
 short-load true first second a b = a
@@ -78,7 +78,7 @@ pub plan-done : {script : Sections} (p : Plan) → IsDone script (planned p)
 plan-done (stop end) = record { end = end; calls = []; reads = at_stop }
 plan-done {script} (ask o next) =
     let d = plan-done (next no) in
-    let n = drain-run (is_drained o no) in
+    let n = drain-run (stirs o no) in
     record { end = d.end; calls = call o no ∷ (n.0 ++ d.calls); reads = asked (then-done d.calls n.1) d.reads }
 plan-done {script} (run row owner which next) =
     let s = statements-done owner [] (script row which) in

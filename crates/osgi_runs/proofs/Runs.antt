@@ -2,7 +2,7 @@
 use Rattle.std.proofs.Common.{◌≡◌, ℕ, ◌⊎◌, inl, inr, List, [], ◌∷◌, ◌++◌, Bool, true, false, refl, sym, ap, ◌∙◌, subst}
 use Rattle.osgi_base.specs.declared.ids.BundleId.{BundleId}
 use Rattle.osgi_base.specs.declared.ids.ListenerId.{ListenerId}
-use Rattle.osgi_session.specs.Plans.{End, done, failed, Plan, ask, run, stop, is_drained, plan}
+use Rattle.osgi_session.specs.Plans.{End, done, failed, Plan, ask, run, stop, stirs, plan}
 use Rattle.osgi_session.specs.Runs.{Binding, Call, call, command_of, bind, bound_by, has_failed, event_bindings, Task, planned, drained, statements, taking, ends_drain, ends_jobs, Sections, Reads, at_stop, asked, ran, calm, empty, handed, over, fails, goes, none, took, Follows}
 use Rattle.osgi_ops.specs.declared.event.Event.{Event}
 use Rattle.osgi_ops.specs.declared.kind.Kind.{Kind}
@@ -40,7 +40,7 @@ abbrev pub Back : Sections → Task → End → List Call → List Call → Type
 Back script (planned (stop e)) end calls left = (e ≡ end) × (calls ≡ left)
 Back script (planned (ask asks next)) end calls left =
     (reply : Reply) × (quiet : End) × (more : List Call) × (mid : List Call) × (calls ≡ call asks reply ∷ more)
-    × Reads script (drained (is_drained asks reply)) quiet more mid × Reads script (planned (next reply)) end mid left
+    × Reads script (drained (stirs asks reply)) quiet more mid × Reads script (planned (next reply)) end mid left
 Back script (planned (run row owner which next)) end calls left =
     (inner : End) × (mid : List Call) × Reads script (statements owner [] (script row which)) inner calls mid × Reads script (planned (next (has_failed inner))) end mid left
 Back script (drained false) end calls left = (done ≡ end) × (calls ≡ left)
@@ -81,14 +81,14 @@ pub record Same (script : Sections) (t : Task) (end : End) (calls left : List Ca
   pub same : (e : End) (rest : List Call) → Reads script t e calls rest → (end ≡ e) × (left ≡ rest)
 
 same-asked : {script : Sections} {asks : Op} {next : Reply → Plan} {reply : Reply} {quiet end : End} {calls mid left : List Call} →
-    Same script (drained (is_drained asks reply)) quiet calls mid → Same script (planned (next reply)) end mid left →
+    Same script (drained (stirs asks reply)) quiet calls mid → Same script (planned (next reply)) end mid left →
     Same script (planned (ask asks next)) end (call asks reply ∷ calls) left
 same-asked {script} {asks} {next} {reply} {quiet} {end} {calls} {mid} {left} ih jh = record {
   same = λ e rest y.
       let b = back y in
       let r : reply ≡ b.0 = ap (λ c. c.reply) (let h : call asks reply ≡ call asks b.0 = cc (b.4) in h) in
       let c : calls ≡ b.2 = cc (b.4) in
-      let m : mid ≡ b.3 = (ih.same b.1 b.3 (subst (λ k. Reads script (drained (is_drained asks k)) b.1 calls b.3) (sym r) (subst (λ l. Reads script (drained (is_drained asks b.0)) b.1 l b.3) (sym c) b.5))).1 in
+      let m : mid ≡ b.3 = (ih.same b.1 b.3 (subst (λ k. Reads script (drained (stirs asks k)) b.1 calls b.3) (sym r) (subst (λ l. Reads script (drained (stirs asks b.0)) b.1 l b.3) (sym c) b.5))).1 in
       jh.same e rest (subst (λ k. Reads script (planned (next k)) e mid rest) (sym r) (subst (λ l. Reads script (planned (next b.0)) e l rest) (sym m) b.6));
 }
 

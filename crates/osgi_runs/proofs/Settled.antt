@@ -10,7 +10,7 @@ use Rattle.osgi_ops.specs.declared.reply.Reply.{Reply}
 use Rattle.osgi_legal.specs.laws.Stages.{hand-here}
 use Rattle.osgi_runs.specs.Bound.{AreBound, ClosesTask, finds_nothing, push}
 use Rattle.osgi_runs.specs.Turns.{is_end_of_hand, leaves_some}
-use Rattle.osgi_session.specs.Plans.{End, is_drained, Plan, stirs}
+use Rattle.osgi_session.specs.Plans.{End, Plan, stirs}
 use Rattle.osgi_session.specs.Runs.{Call, call, command_of, has_failed, Task, planned, drained, taking, Sections, Reads, at_stop, asked, ran, calm, empty, handed, over, fails, goes, none, took}
 use Rattle.osgi_runs.proofs.Balanced.{balanced, behind, behind-end}
 use Rattle.osgi_runs.proofs.Closing.{closes-plan}
@@ -60,10 +60,10 @@ HasRoom limit t own = length own < limit
 
 -- ---- which calls drains follow
 
-drained-so : (o : Op) (reply : Reply) → stirs o reply ≡ true → is_drained o reply ≡ true
+drained-so : (o : Op) (reply : Reply) → stirs o reply ≡ true → stirs o reply ≡ true
 drained-so o reply e = ap (λ k. k && stirs o reply) hand-here ∙ e
 
-some-drained : (o : Op) (reply : Reply) → is_end_of_hand o ≡ false → leaves_some o reply ≡ true → is_drained o reply ≡ true
+some-drained : (o : Op) (reply : Reply) → is_end_of_hand o ≡ false → leaves_some o reply ≡ true → stirs o reply ≡ true
 some-drained o reply n s = drained-so o reply (go (stirs o reply) (is_end_of_hand o) n s)
   where
     go : (a b : Bool) → b ≡ false → (a || b) ≡ true → a ≡ true
@@ -83,7 +83,7 @@ drains-by true d e r = r.1 tt
 drains-by false d e r = absurd (cc e)
 
 asked-none : (o : Option Cause) (w v : List Call) (asks : Op) (reply : Reply) (p : Plan) →
-    is_end_of_hand asks ≡ false → (o ≡ None → AreSettled w × (is_drained asks reply ≡ true → Settles w)) → Result o (planned p) v →
+    is_end_of_hand asks ≡ false → (o ≡ None → AreSettled w × (stirs asks reply ≡ true → Settles w)) → Result o (planned p) v →
     AreSettled (call asks reply ∷ (w ++ v))
 asked-none None w v asks reply p n d r =
     let a = d refl in ((λ m. Settles-left w v (a.1 (some-drained asks reply n m))), settled-append w v a.0 r.0)
@@ -105,15 +105,15 @@ settled limit tag after (asked {asks = asks} {next = next} {reply = y} {calls = 
     let b = push tag (opens asks y) own in
     let inside = behind limit tag after own asks y calls c.0 h in
     let r = settled limit tag after x (opens asks y) own (c.1 y) (balanced limit tag after d None b refl inside) less in
-    let quiet : opens asks y ≡ None → AreSettled (word-of d).word × (is_drained asks y ≡ true → Settles (word-of d).word) =
+    let quiet : opens asks y ≡ None → AreSettled (word-of d).word × (stirs asks y ≡ true → Settles (word-of d).word) =
     λ n. (let k = settled limit tag after d None b refl inside (subst (λ l. length l < limit) (sym (push-none tag (opens asks y) own n)) less) in
-    (k.0, λ e. drains-by (is_drained asks y) d e k)) in
+    (k.0, λ e. drains-by (stirs asks y) d e k)) in
     (asked-none (opens asks y) (word-of d).word (word-of x).word asks y (next y) (not-end-of-hand asks c.0) quiet r, (λ m. absurd m))
 settled limit tag after (asked {asks = asks} {next = next} {reply = y} {calls = calls} d x) (Some cause) own c h less =
     let e = behind-end limit tag after own cause asks y calls c.0 h in
     let k = c.1 y e.0 in
     let a = settled limit tag after d None own refl e.1 less in
-    let s = drains-by (is_drained asks y) d (drained-so asks y k.0) a in
+    let s = drains-by (stirs asks y) d (drained-so asks y k.0) a in
     let r = settled limit tag after x None own k.1 (balanced limit tag after d None own refl e.1) less in
     let all = Settles-left (word-of d).word (word-of x).word s in
     (((λ m. all), settled-append (word-of d).word (word-of x).word a.0 r.0), inr all)

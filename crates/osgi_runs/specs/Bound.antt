@@ -3,7 +3,7 @@ use Rattle.std.specs.Prelude.{◌≡◌, ◌⊎◌, ℕ, ◌≤◌, Bool, true, 
 use Rattle.osgi_base.specs.declared.ids.Tag.{Tag}
 use Rattle.osgi_ops.specs.Brackets.{Bracket, bracket, Cause, ends, is_end, opens, own_closes, own_turned}
 use Rattle.osgi_session.specs.Plans.{Plan, ask, run, stop, stirs}
-use Rattle.osgi_ops.specs.Replies.{is_effective}
+use Rattle.osgi_ops.specs.Replies.{took_effect}
 use Rattle.osgi_session.specs.Rendering.{takes_no_job}
 use Rattle.osgi_session.specs.Runs.{Call, drained, ends_drain, ends_jobs, taking, planned, statements, Task}
 use Rattle.osgi_ops.specs.declared.op.Op.{Op}
@@ -28,7 +28,7 @@ finds_nothing _ _ = false
 -- that did its work
 abbrev pub has_closed : Op → Reply → Bool
 has_closed (EndMake failed) reply = true
-has_closed op reply = is_effective reply
+has_closed op reply = took_effect reply
 
 -- what its reply is bound to: the end of the innermost bracket is not refused as none; and a Hand that ends its drain finds nothing to hand,
 -- and a TakeJob that takes no job finds none, unless as many brackets are open as there may be

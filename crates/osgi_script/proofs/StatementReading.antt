@@ -133,19 +133,19 @@ only_sound read (word ∷ []) value e = record { word = word; is = refl; was = e
 only_sound read (word ∷ second ∷ rest) value e = absurd (cc e)
 
 one_said : (name : List ℕ) (read : List ℕ → Option (List ℕ)) (make : List ℕ → Statement) (words : List (List ℕ)) (s : Statement) → option_map make (only_of read words) ≡ Some s →
-    ((word value : List ℕ) → read word ≡ Some value → is_a.AreWordsOf (name ∷ word ∷ []) (make value)) → is_a.AreWordsOf (name ∷ words) s
+    ((word value : List ℕ) → read word ≡ Some value → is_a.AreStatementWords (name ∷ word ∷ []) (make value)) → is_a.AreStatementWords (name ∷ words) s
 one_said name read make words s e said =
     let made = mapped make (only_of read words) s e in
     let only = only_sound read words made.value made.was in
-    subst (λ l. is_a.AreWordsOf (name ∷ l) s) (sym only.is)
-    (subst (is_a.AreWordsOf (name ∷ only.word ∷ [])) made.is (said only.word made.value only.was))
+    subst (λ l. is_a.AreStatementWords (name ∷ l) s) (sym only.is)
+    (subst (is_a.AreStatementWords (name ∷ only.word ∷ [])) made.is (said only.word made.value only.was))
 
 -- the argument is such a word as it stands
 as_it_stands : (name : List ℕ) (make : List ℕ → Statement) (Is : List ℕ → Type 0) (word value : List ℕ) → Is value × (word ≡ value) →
-    ((value : List ℕ) → Is value → is_a.AreWordsOf (name ∷ value ∷ []) (make value)) → is_a.AreWordsOf (name ∷ word ∷ []) (make value)
-as_it_stands name make Is word value is said = subst (λ l. is_a.AreWordsOf (name ∷ l ∷ []) (make value)) (sym is.1) (said value is.0)
+    ((value : List ℕ) → Is value → is_a.AreStatementWords (name ∷ value ∷ []) (make value)) → is_a.AreStatementWords (name ∷ word ∷ []) (make value)
+as_it_stands name make Is word value is said = subst (λ l. is_a.AreStatementWords (name ∷ l ∷ []) (make value)) (sym is.1) (said value is.0)
 
-registration_sound : (var : List ℕ) (words : List (List ℕ)) (s : Statement) → IsName var → registration_of var words ≡ Some s → is_a.AreWordsOf (codes "register" ∷ var ∷ words) s
+registration_sound : (var : List ℕ) (words : List (List ℕ)) (s : Statement) → IsName var → registration_of var words ≡ Some s → is_a.AreStatementWords (codes "register" ∷ var ∷ words) s
 registration_sound var [] s name e = absurd (cc e)
 registration_sound var (names ∷ []) s name e = absurd (cc e)
 registration_sound var (names ∷ quoted ∷ words) s name e =
@@ -157,25 +157,25 @@ registration_sound var (names ∷ quoted ∷ words) s name e =
     rw (← read.is)
     (is_a.register name (classes_sound names classes are) (quoted_sound quoted object is) (properties_sound words read.value read.was))))
 
-register_sound : (text : List ℕ) (s : Statement) → register_of text ≡ Some s → is_a.AreWordsOf (codes "register" ∷ words_of text) s
+register_sound : (text : List ℕ) (s : Statement) → register_of text ≡ Some s → is_a.AreStatementWords (codes "register" ∷ words_of text) s
 register_sound text s e =
     option_and_then_some (λ var. registration_of var (words_of (after_word text))) (name_of (first_word text)) s e
     (λ var named made.
     let prefix = begins_with_name text var named in
-    subst (λ l. is_a.AreWordsOf (codes "register" ∷ l) s) (sym prefix.words) (registration_sound var (words_of (after_word text)) s prefix.name made))
+    subst (λ l. is_a.AreStatementWords (codes "register" ∷ l) s) (sym prefix.words) (registration_sound var (words_of (after_word text)) s prefix.name made))
 
-modify_sound : (text : List ℕ) (s : Statement) → modify_of text ≡ Some s → is_a.AreWordsOf (codes "modify" ∷ words_of text) s
+modify_sound : (text : List ℕ) (s : Statement) → modify_of text ≡ Some s → is_a.AreStatementWords (codes "modify" ∷ words_of text) s
 modify_sound text s e =
     option_and_then_some (λ var. option_map (statement.Modify var) (properties_of (words_of (after_word text)))) (name_of (first_word text)) s e
     (λ var named made.
     let prefix = begins_with_name text var named in
     let read = mapped (statement.Modify var) (properties_of (words_of (after_word text))) s made in
-    subst (λ l. is_a.AreWordsOf (codes "modify" ∷ l) s) (sym prefix.words)
-    (subst (is_a.AreWordsOf (codes "modify" ∷ var ∷ words_of (after_word text))) read.is
+    subst (λ l. is_a.AreStatementWords (codes "modify" ∷ l) s) (sym prefix.words)
+    (subst (is_a.AreStatementWords (codes "modify" ∷ var ∷ words_of (after_word text))) read.is
     (is_a.modify prefix.name (properties_sound (words_of (after_word text)) read.value read.was))))
 
 -- a statement in words alone
-said_in_words : (v : Verb) (line : List ℕ) (s : Statement) → verb_word v ≡ first_word line → is_a.AreWordsOf (verb_word v ∷ words_of (after_word line)) s → IsStatement line s
+said_in_words : (v : Verb) (line : List ℕ) (s : Statement) → verb_word v ≡ first_word line → is_a.AreStatementWords (verb_word v ∷ words_of (after_word line)) s → IsStatement line s
 said_in_words v line s named are =
     is_a.in_words are
     (subst (λ l. IsSeparated AreSpaces l (32 ∷ line)) (words_begin line (verb_word v) (whole_verb v).some named) (words_separate line))
@@ -236,26 +236,26 @@ listen_sound line s named e =
     subst (IsStatement line) read.is (is_a.listen read.named (filtered_line verb.Listen line read.filter read.name (kind_word read.item) named separated))
 
 of_name : (v : Verb) (make : List ℕ → Statement) (line : List ℕ) (s : Statement) → verb_word v ≡ first_word line → option_map make (only_of name_of (words_of (after_word line))) ≡ Some s →
-    ((name : List ℕ) → IsName name → is_a.AreWordsOf (verb_word v ∷ name ∷ []) (make name)) → IsStatement line s
+    ((name : List ℕ) → IsName name → is_a.AreStatementWords (verb_word v ∷ name ∷ []) (make name)) → IsStatement line s
 of_name v make line s named e said =
     said_in_words v line s named
     (one_said (verb_word v) name_of make (words_of (after_word line)) s e (λ word value is. as_it_stands (verb_word v) make IsName word value (name_sound word value is) said))
 
 of_bundle : (v : Verb) (make : List ℕ → Statement) (line : List ℕ) (s : Statement) → verb_word v ≡ first_word line → option_map make (only_of bundle_name_of (words_of (after_word line))) ≡ Some s →
-    ((name : List ℕ) → IsBundleName name → is_a.AreWordsOf (verb_word v ∷ name ∷ []) (make name)) → IsStatement line s
+    ((name : List ℕ) → IsBundleName name → is_a.AreStatementWords (verb_word v ∷ name ∷ []) (make name)) → IsStatement line s
 of_bundle v make line s named e said =
     said_in_words v line s named
     (one_said (verb_word v) bundle_name_of make (words_of (after_word line)) s e
     (λ word value is. as_it_stands (verb_word v) make IsBundleName word value (bundle_name_sound word value is) said))
 
 of_class : (v : Verb) (make : List ℕ → Statement) (line : List ℕ) (s : Statement) → verb_word v ≡ first_word line → option_map make (only_of class_of (words_of (after_word line))) ≡ Some s →
-    ((name : List ℕ) → IsClass name → is_a.AreWordsOf (verb_word v ∷ name ∷ []) (make name)) → IsStatement line s
+    ((name : List ℕ) → IsClass name → is_a.AreStatementWords (verb_word v ∷ name ∷ []) (make name)) → IsStatement line s
 of_class v make line s named e said =
     said_in_words v line s named
     (one_said (verb_word v) class_of make (words_of (after_word line)) s e (λ word value is. as_it_stands (verb_word v) make IsClass word value (class_sound word value is) said))
 
 of_quoted : (v : Verb) (make : List ℕ → Statement) (line : List ℕ) (s : Statement) → verb_word v ≡ first_word line → option_map make (only_of quoted_of (words_of (after_word line))) ≡ Some s →
-    ((quoted text : List ℕ) → IsQuoted quoted text → is_a.AreWordsOf (verb_word v ∷ quoted ∷ []) (make text)) → IsStatement line s
+    ((quoted text : List ℕ) → IsQuoted quoted text → is_a.AreStatementWords (verb_word v ∷ quoted ∷ []) (make text)) → IsStatement line s
 of_quoted v make line s named e said =
     said_in_words v line s named
     (one_said (verb_word v) quoted_of make (words_of (after_word line)) s e (λ word value is. said word value (quoted_sound word value is)))
@@ -305,7 +305,7 @@ named_first : (IsEnd : List ℕ → Type 0) (name : List ℕ) (words : List (Lis
     (separated : IsSeparated IsEnd (name ∷ words) text) → HasFirstWord text name separated.1
 named_first IsEnd name words text end is separated = first_separated IsEnd name words text end (whole_name name is) separated
 
-has_verb : (words : List (List ℕ)) (s : Statement) → is_a.AreWordsOf words s → HasVerb words s
+has_verb : (words : List (List ℕ)) (s : Statement) → is_a.AreStatementWords words s → HasVerb words s
 has_verb words s (is_a.register {var = var} {names = names} {quoted = quoted} {words = rest} {classes = classes} {object = object} {properties = properties} name are is own) = record {
   verb = verb.Register;
   arguments = var ∷ names ∷ quoted ∷ rest;

@@ -3,7 +3,7 @@ use Rattle.std.specs.Prelude.{ℕ, zero, suc, nat_lt, ◌==◌, ◌+◌, ◌-◌
 use Rattle.osgi_base.specs.declared.ids.BundleId.{BundleId}
 use Rattle.osgi_base.specs.declared.ids.ServiceId.{ServiceId}
 use Rattle.osgi_ops.specs.Bundles.{system}
-use Rattle.osgi_ops.specs.Replies.{is_accepted, is_effective, is_refusal}
+use Rattle.osgi_ops.specs.Replies.{is_accepted, is_refusal, took_effect}
 use Rattle.osgi_session.specs.declared.command.Command.{Command}
 use Rattle.osgi_session.specs.declared.command.Command.TheVariants as command
 use Rattle.osgi_ops.specs.declared.op.Op.{Op}
@@ -45,10 +45,10 @@ stirs (op.Unregister owner service) reply = is_accepted reply
 stirs (op.Install location) reply = is_accepted reply
 stirs (op.Resolve bundle) reply = is_accepted reply
 stirs (op.BeginStart bundle transient) (answer.Begun begun row) = true
-stirs (op.EndStart bundle fails) reply = is_effective reply
+stirs (op.EndStart bundle fails) reply = took_effect reply
 stirs (op.BeginStop target transient) (answer.Begun begun row) = true
 stirs (op.BeginStop target transient) (answer.Idle bundle) = waits_here
-stirs (op.EndStop bundle fails) reply = is_effective reply
+stirs (op.EndStop bundle fails) reply = took_effect reply
 stirs (op.Await asked) (answer.Waiting bundle) = true
 stirs (op.EndMake fails) reply = true
 stirs (op.Update bundle location) reply = is_accepted reply
@@ -57,10 +57,6 @@ stirs op.DropWirings reply = is_accepted reply
 stirs op.EndRefresh reply = is_accepted reply
 stirs op.EndLevel reply = is_accepted reply
 stirs _ _ = false
-
--- a drain follows it
-abbrev pub is_drained : Op → Reply → Bool
-is_drained o reply = stirs o reply
 
 abbrev pub end_of : Bool → End
 end_of true = refused

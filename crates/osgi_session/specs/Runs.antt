@@ -4,7 +4,7 @@ use Rattle.osgi_base.specs.declared.ids.BundleId.{BundleId}
 use Rattle.osgi_base.specs.declared.ids.ListenerId.{ListenerId}
 use Rattle.osgi_base.specs.declared.ids.ServiceId.{ServiceId}
 use Rattle.std.specs.Str.{bytes_eq}
-use Rattle.osgi_session.specs.Plans.{End, done, bound, refused, failed, Plan, ask, run, stop, is_drained, plan}
+use Rattle.osgi_session.specs.Plans.{End, done, bound, refused, failed, Plan, ask, run, stop, stirs, plan}
 use Rattle.osgi_ops.specs.Bundles.{system}
 use Rattle.osgi_session.specs.declared.command.Command.{Command}
 use Rattle.osgi_session.specs.declared.command.Command.TheVariants as command
@@ -116,7 +116,7 @@ ends_jobs _ = true
 pub data Reads (script : ℕ → Section → List Statement) : Task → End → List Call → List Call → Type 0 where
   at_stop : {end : End} {left : List Call} → Reads script (planned (stop end)) end left left
   asked : {asks : Op} {next : Reply → Plan} {reply : Reply} {end quiet : End} {calls mid left : List Call} →
-      Reads script (drained (is_drained asks reply)) quiet calls mid → Reads script (planned (next reply)) end mid left →
+      Reads script (drained (stirs asks reply)) quiet calls mid → Reads script (planned (next reply)) end mid left →
       Reads script (planned (ask asks next)) end (call asks reply ∷ calls) left
   ran : {row : ℕ} {owner : BundleId} {which : Section} {next : Bool → Plan} {end inner : End} {calls mid left : List Call} →
       Reads script (statements owner [] (script row which)) inner calls mid → Reads script (planned (next (has_failed inner))) end mid left →

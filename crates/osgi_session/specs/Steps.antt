@@ -1,7 +1,7 @@
 -- A plan as a machine that is asked for its next step: what the runner's code keeps of a plan, and what it answers.
 use Rattle.std.specs.Prelude.{ℕ, Bool, true, false, List, [], ◌∷◌}
 use Rattle.osgi_base.specs.declared.ids.BundleId.{BundleId}
-use Rattle.osgi_session.specs.Plans.{End, refused, Plan, ask, run, stop, is_drained}
+use Rattle.osgi_session.specs.Plans.{End, refused, Plan, ask, run, stop, stirs}
 use Rattle.osgi_session.specs.Runs.{Call, call, drained, has_failed, Reads, Sections, statements}
 use Rattle.osgi_ops.specs.declared.op.Op.{Op}
 use Rattle.osgi_ops.specs.declared.reply.Reply.{Reply}
@@ -24,7 +24,7 @@ pub data Next : Type 0 where
 -- what is left of a plan between two steps: where it waits for a reply, whether a drain comes after the reply, and what comes then
 pub data Pending : Type 0 where
   fresh : Plan → Pending
-  awaiting : (Reply → Bool) → (Reply → Plan) → Pending
+  asking : (Reply → Bool) → (Reply → Plan) → Pending
   draining : Plan → Pending
   within : (Bool → Plan) → Pending
   ended : Pending
@@ -34,7 +34,7 @@ pub record Step : Type 0 where
   pub pending : Pending
 
 abbrev pub first_step : Plan → Step
-first_step (ask o next) = record { next = do_op o; pending = awaiting (is_drained o) next }
+first_step (ask o next) = record { next = do_op o; pending = asking (stirs o) next }
 first_step (run row owner which next) = record { next = do_section row owner which; pending = within next }
 first_step (stop end) = record { next = at_end end; pending = ended }
 
@@ -45,7 +45,7 @@ drained_first false p = first_step p
 -- the step that comes next, where the last answers the step before
 abbrev pub resume : Pending → Last → Step
 resume (fresh p) begin = first_step p
-resume (awaiting drains next) (replied reply) = drained_first (drains reply) (next reply)
+resume (asking drains next) (replied reply) = drained_first (drains reply) (next reply)
 resume (draining p) drained_out = first_step p
 resume (within next) (left_section fails) = first_step (next fails)
 resume _ _ = record { next = at_end refused; pending = ended }

@@ -8,7 +8,7 @@ use Rattle.osgi_listeners.specs.declared.row.ListenerRow.{ListenerRow}
 use Rattle.osgi_model.specs.declared.value.Attribute.{Attribute}
 use Rattle.osgi_model.specs.declared.value.Value.TheVariants as value
 use Rattle.osgi_ops.specs.Bundles.{system}
-use Rattle.osgi_ops.specs.Listening.{Added, AsksFor, ComesBefore, IsAt, number, Passes}
+use Rattle.osgi_ops.specs.Listening.{Added, AsksFor, ComesBefore, IsAt, LetsPass, number}
 use Rattle.osgi_ops.specs.Moments.{Sight}
 use Rattle.osgi_ops.specs.Properties.{property}
 use Rattle.osgi_ops.specs.declared.event.Event.{Event}
@@ -33,13 +33,13 @@ framework_attributes code = number (codes "event.type") code ∷ number (codes "
 
 -- the listener sees what is shown as this event, by the wirings of this world
 abbrev pub Sees : World → Added → Shown → Event → Type 0
-Sees world a (service code s) seen = AsksFor world a s × Passes a.given s.properties × (seen ≡ event.Service code s.service)
+Sees world a (service code s) seen = AsksFor world a s × LetsPass a.given s.properties × (seen ≡ event.Service code s.service)
 Sees world a (modified old new) seen =
     AsksFor world a new ×
-    ((Passes a.given new.properties × (seen ≡ event.Service 2 new.service))
-    ⊎ ((¬ Passes a.given new.properties) × Passes a.given old.properties × (seen ≡ event.Service 8 new.service)))
-Sees world a (bundle code b name version) seen = (a.kind ≡ kind.Bundle) × Passes a.given (bundle_attributes code b name version) × (seen ≡ event.Bundle code b)
-Sees world a (framework code) seen = (a.kind ≡ kind.Framework) × Passes a.given (framework_attributes code) × (seen ≡ event.Framework code)
+    ((LetsPass a.given new.properties × (seen ≡ event.Service 2 new.service))
+    ⊎ ((¬ LetsPass a.given new.properties) × LetsPass a.given old.properties × (seen ≡ event.Service 8 new.service)))
+Sees world a (bundle code b name version) seen = (a.kind ≡ kind.Bundle) × LetsPass a.given (bundle_attributes code b name version) × (seen ≡ event.Bundle code b)
+Sees world a (framework code) seen = (a.kind ≡ kind.Framework) × LetsPass a.given (framework_attributes code) × (seen ≡ event.Framework code)
 
 -- the listeners of the owner go with the entry, being those of the bundle that it cleans
 abbrev pub goes : Option BundleId → BundleId → Bool

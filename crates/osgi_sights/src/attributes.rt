@@ -2,7 +2,7 @@
 
 ghost use Rattle.std.specs.Prelude.{◌≡◌, ◌↔◌, [], ◌∷◌, codes, IfOk, IsTrue, OnOk};
 ghost use Rattle.std.specs.Option.{option_copied};
-ghost use Rattle.osgi_ops.specs.Listening.{number, Passes};
+ghost use Rattle.osgi_ops.specs.Listening.{LetsPass, number};
 ghost use Rattle.osgi_sights.specs.Shown.{shown};
 ghost use Rattle.osgi_sights.specs.Sights.{bundle_attributes, framework_attributes};
 ghost use Rattle.osgi_sights.specs.computed.Telling.{AreMade, attributes_of};
@@ -16,7 +16,7 @@ use std::alloc::{AllocError, Global};
 
 /// Whether the filter, where one is given, matches the attributes.
 pub fn passes(filter: &Option<Filter>, attributes: &Attributes) -> bool
-    ensures passes { IsTrue result ↔ Passes filter.now attributes.now }
+    ensures passes { IsTrue result ↔ LetsPass filter.now attributes.now }
 {
     match filter {
         Some(filter) => matches(filter, attributes, Case::Fold),
@@ -94,7 +94,7 @@ pub fn passes_made(
 ) -> Result<bool, AllocError>
     requires made { AreMade (shown happening.now) made.old }
     ensures passes { IfOk result (λ passes.
-        IsTrue passes ↔ Passes filter.now (attributes_of (shown happening.now))) }
+        IsTrue passes ↔ LetsPass filter.now (attributes_of (shown happening.now))) }
     ensures made { AreMade (shown happening.now) made.new }
 {
     if filter.is_none() {

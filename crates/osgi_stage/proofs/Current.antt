@@ -8,7 +8,7 @@ use Rattle.std.proofs.lemmas.List.Folds.{list_any-append}
 use Rattle.osgi_base.specs.declared.ids.BundleId.{BundleId}
 use Rattle.osgi_legal.specs.Quiet.{QuietBundles}
 use Rattle.osgi_ops.specs.Settings.{Setting}
-use Rattle.osgi_ops.specs.Bundles.{is_member, Bundle, bundle_from, bundles, installed, is_live, is_uninstall, is_up, live, revisions, system}
+use Rattle.osgi_ops.specs.Bundles.{lists_bundle, Bundle, bundle_from, bundles, installed, is_live, is_uninstall, is_up, live, revisions, system}
 use Rattle.osgi_ops.specs.Conditions.{state_of}
 use Rattle.osgi_legal.specs.Legal.{AreAllowed, entry_of, IsAllowed, IsTold}
 use Rattle.osgi_ops.specs.Levels.{refresh}
@@ -138,7 +138,7 @@ gone-accepted m op.DropWirings y after r acc l a =
     let some : IsSomeAnd (refresh m.before) (λ r. after ≡ dropped r.members m.world) = subst (λ z. Leaves m op.DropWirings z after) p.says l in
     let is : after ≡ dropped p.refresh.members m.world = subst (λ o. IsSomeAnd o (λ r. after ≡ dropped r.members m.world)) p.own.0 some in
     still-gone m op.DropWirings y after (record { installed = λ n since. refl; gone = λ b. refl; updated = λ b. refl; brings = refl })
-    (λ x. ap (λ w. current_revision w x) is ∙ find-kept (is_current_of x) (λ (k : Known). not (is_member p.refresh.members k.bundle.0) || k.current) m.world.known (λ k c. or_right _ _ (and_parts k.current _ c).0)) a
+    (λ x. ap (λ w. current_revision w x) is ∙ find-kept (is_current_of x) (λ (k : Known). not (lists_bundle p.refresh.members k.bundle.0) || k.current) m.world.known (λ k c. or_right _ _ (and_parts k.current _ c).0)) a
 gone-accepted m (op.Load b class) y after r acc l a =
     still-gone m (op.Load b class) y after (record { installed = λ n since. refl; gone = λ b. refl; updated = λ b. refl; brings = refl }) (λ x. ap (λ w. current_revision w x) (load-stays m b class y after r l)) a
 gone-accepted m o y after r acc l a =

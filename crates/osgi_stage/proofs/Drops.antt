@@ -5,7 +5,7 @@ use Rattle.std.specs.Option.{option_map_or}
 use Rattle.std.proofs.lemmas.Bool.{false_from_ne_true, not-true}
 use Rattle.osgi_base.specs.declared.ids.RevisionId.{RevisionId}
 use Rattle.osgi_resolver_theory.proofs.Drop.{kept-consistent, kept-world}
-use Rattle.osgi_ops.specs.Bundles.{is_member}
+use Rattle.osgi_ops.specs.Bundles.{lists_bundle}
 use Rattle.osgi_ops.specs.Closures.{DependsOn, IsClosed, LeansOn, wired}
 use Rattle.osgi_ops.specs.Levels.{Refresh, refresh}
 use Rattle.osgi_legal.specs.Legal.{IsTold}
@@ -23,7 +23,7 @@ use Rattle.osgi_legal.proofs.Tidy.{contains-member, IsTidy, known-bundle, member
 
 -- the revisions that stay: those of no member
 abbrev pub stays_put : World → List BundleId → RevisionId → Bool
-stays_put world members r = not (is_member members (bundle_of world.known r))
+stays_put world members r = not (lists_bundle members (bundle_of world.known r))
 
 -- what stays has its wires to what stays
 pub provider-stays : {n : ℕ} (world : World) (members : List BundleId) → IsTidy n world → IsClosed world members → (r : RevisionId) (w : Wire) → HasWire world.wirings r w →
@@ -45,10 +45,10 @@ provider-stays world members t closed r w h stay =
       leans = subst (λ x. LeansOn world.wirings x provider.0.id) (sym (holder.2 ∙ h.revision))
           (subst (LeansOn world.wirings r) (sym (provider.2 ∙ force.revision)) (wired h));
     } in
-    let out : is_member members provider.0.bundle.0 ≡ false = false_from_ne_true _ (λ e. (
+    let out : lists_bundle members provider.0.bundle.0 ≡ false = false_from_ne_true _ (λ e. (
     let c = closed provider.0.bundle holder.0.bundle d (member-contains members provider.0.bundle e) in
-    let bad : true ≡ false = sym (contains-member members holder.0.bundle c) ∙ sym (ap (is_member members) of_holder) ∙ not-true _ stay in cc bad)) in
-    ap not (ap (is_member members) of_provider ∙ out)
+    let bad : true ≡ false = sym (contains-member members holder.0.bundle c) ∙ sym (ap (lists_bundle members) of_holder) ∙ not-true _ stay in cc bad)) in
+    ap not (ap (lists_bundle members) of_provider ∙ out)
 
 -- with the revisions that were known before
 pub dropped-consistent : (now : Moment) → IsTold now → (r : Refresh) → refresh now.before ≡ Some r → r.dropped ≡ false → Consistent now.world.known now.world.wirings →

@@ -6,7 +6,7 @@ use Rattle.std.proofs.lemmas.List.Sums.{length-filter}
 use Rattle.osgi_base.specs.declared.ids.BundleId.{BundleId}
 use Rattle.osgi_base.specs.declared.ids.RevisionId.{RevisionId}
 use Rattle.osgi_ops.specs.Bundles.{Bundle, bundle_from, is_active, row_of}
-use Rattle.osgi_ops.specs.Conditions.{is_above, state_of}
+use Rattle.osgi_ops.specs.Conditions.{is_level_too_high, state_of}
 use Rattle.osgi_ops.specs.Jobs.{jobs, Queued}
 use Rattle.osgi_legal.specs.Legal.{AreAllowed, IsAllowed}
 use Rattle.osgi_ops.specs.Listening.{handings, is_handed}
@@ -16,7 +16,7 @@ use Rattle.osgi_legal.specs.Operations.{Answers, IsReply}
 use Rattle.osgi_ops.specs.Replies.{is_accepted}
 use Rattle.osgi_ops.specs.Resolved.{is_resolved}
 use Rattle.osgi_ops.specs.Resolving.{AnswersResolve}
-use Rattle.osgi_ops.specs.Services.{live_at, Registered}
+use Rattle.osgi_ops.specs.Services.{live_service_at, Registered}
 use Rattle.osgi_ops.specs.Settings.{Setting}
 use Rattle.osgi_legal.specs.Stages.{is_here}
 use Rattle.osgi_ops.specs.declared.entry.Entry.{Entry}
@@ -90,7 +90,7 @@ answers-same now (op.Modify owner service properties) y h a = ap is_handing a
 answers-same now (op.Unregister owner service) y h a = ap is_handing a
 answers-same now (op.Find asker class filter) y h a = ap is_handing a.1
 answers-same now (op.FindAll asker class filter) y h a = ap is_handing a.1
-answers-same now (op.Get user service) y h a = got-one now false user (live_at service now.before) y a
+answers-same now (op.Get user service) y h a = got-one now false user (live_service_at service now.before) y a
 answers-same now (op.EndMake failed) y h a = made-one (given_text now.tag.caller now.before) (made_count now.before + 1) y a
 answers-same now (op.Unget user service) y h a = ap is_handing a
 answers-same now (op.Install location) y h a = ap is_handing a ∙ installed-so (bundle_from now.setting.depot now.before location) _
@@ -107,9 +107,9 @@ answers-same now (op.EndHand listener) y h a = ap is_handing a
 answers-same now op.EndJob y h a = ap is_handing a
 answers-same now (op.Print owner text) y h a = ap is_handing a
 answers-same now (op.Fail owner text) y h a = ap is_handing a
-answers-same now (op.WishStart target transient) y h a = ap is_handing a.2 ∙ start-so (is_active (state_of now a.0)) (is_above now a.0) a.0 (answer.Go a.0) refl
+answers-same now (op.WishStart target transient) y h a = ap is_handing a.2 ∙ start-so (is_active (state_of now a.0)) (is_level_too_high now a.0) a.0 (answer.Go a.0) refl
 answers-same now (op.BeginStart bundle transient) y h a =
-    ap is_handing a ∙ start-so (is_active (state_of now bundle)) (is_above now bundle) bundle (answer.Begun bundle (row_of now.setting.depot now.before bundle)) refl
+    ap is_handing a ∙ start-so (is_active (state_of now bundle)) (is_level_too_high now bundle) bundle (answer.Begun bundle (row_of now.setting.depot now.before bundle)) refl
 answers-same now (op.EndStart bundle failed) y h a = ap is_handing a
 answers-same now (op.BeginStop target transient) y h a = ap is_handing a.2 ∙ stop-so (is_active (state_of now a.0)) a.0 (row_of now.setting.depot now.before a.0)
 answers-same now (op.EndStop bundle failed) y h a = ap is_handing a

@@ -4,7 +4,7 @@ use Rattle.std.specs.Prelude.{Option, None, Some, option_and_then}
 use Rattle.osgi_base.specs.declared.ids.BundleId.{BundleId}
 use Rattle.osgi_base.specs.declared.ids.RevisionId.{RevisionId}
 use Rattle.osgi_legal.specs.Operations.{IsReply}
-use Rattle.osgi_ops.specs.Dynamic.{with_added}
+use Rattle.osgi_ops.specs.Dynamic.{world_with_wire}
 use Rattle.osgi_ops.specs.Moments.{Moment}
 use Rattle.osgi_ops.specs.Replies.{is_accepted}
 use Rattle.osgi_ops.specs.WireRows.{wire_row}
@@ -20,7 +20,7 @@ use Rattle.osgi_legal.proofs.Accepted.{accepted}
 -- a reply that shows no wire leaves the world
 shown-none : (m : Moment) (b : BundleId) (class : List ℕ) (by : Option RevisionId) (wake : Option BundleId) (after : World) → Leaves m (op.Load b class) (loaded_with by None wake) after → after ≡ m.world
 shown-none m b class by None after l = l
-shown-none m b class by (Some woke) after l = l.is ∙ ap (with_added m.world b) l.added
+shown-none m b class by (Some woke) after l = l.is ∙ ap (world_with_wire m.world b) l.added
 
 -- what an accepted load answers shows none
 pub load-shown : (m : Moment) (b : BundleId) (class : List ℕ) (y : Reply) (a : LoadAnswers false m b class y) → y ≡ loaded_with a.by None (woken m class a.by)

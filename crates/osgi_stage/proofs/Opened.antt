@@ -14,7 +14,7 @@ use Rattle.osgi_ops.specs.Moments.{entries_in, Moment, moment, Told}
 use Rattle.osgi_legal.specs.Operations.{IsReply}
 use Rattle.osgi_ops.specs.Replies.{is_accepted}
 use Rattle.osgi_ops.specs.Objects.{bundle_object}
-use Rattle.osgi_ops.specs.Services.{live_at, made_of, Registered}
+use Rattle.osgi_ops.specs.Services.{live_service_at, made_of, Registered}
 use Rattle.osgi_ops.specs.Settings.{Setting}
 use Rattle.osgi_ops.specs.declared.entry.Entry.{Entry}
 use Rattle.osgi_ops.specs.declared.op.Op.{Op}
@@ -89,7 +89,7 @@ none-made now user service y single r = by (is_accepted y) refl
   where
     by : (k : Bool) → is_accepted y ≡ k → opens (op.Get user service) y ≡ None
     by true e =
-        let s = shares now user service y (live_at service now.before) (λ r is. live-single now.before service r single is) (accepted now (op.Get user service) y r e).1 in
+        let s = shares now user service y (live_service_at service now.before) (λ r is. live-single now.before service r single is) (accepted now (op.Get user service) y r e).1 in
         ap (opens (op.Get user service)) s.1
     by false e = let f = refused-is y e in ap (opens (op.Get user service)) f.1
 

@@ -8,7 +8,7 @@ use Rattle.osgi_base.specs.declared.ids.BundleId.{BundleId}
 use Rattle.osgi_base.specs.declared.ids.RevisionId.{RevisionId}
 use Rattle.osgi_base.specs.declared.ids.Tag.{Tag}
 use Rattle.osgi_ops.specs.Bundles as bundles
-use Rattle.osgi_ops.specs.Bundles.{is_member, Bundle, bundle_from, installed, is_live, is_up, phase, running, state, system}
+use Rattle.osgi_ops.specs.Bundles.{lists_bundle, Bundle, bundle_from, installed, is_live, is_up, phase, running, state, system}
 use Rattle.osgi_ops.specs.Conditions.{state_change, state_of}
 use Rattle.osgi_legal.specs.Legal.{AreAllowed, IsAllowed}
 use Rattle.osgi_ops.specs.Levels.{Refresh, refresh}
@@ -221,11 +221,11 @@ running-stays setting front tag o y after legal reply left b apart up run = go (
     dropping : (r : Refresh) → refresh m.before ≡ Some r → r.tag.caller ≡ tag.caller → r.dropped ≡ false → is_accepted y ≡ true → IsReply m op.DropWirings y → after ≡ dropped r.members m.world → IsRunning after b
     dropping r e own d acc rep w = subst (λ x. IsRunning x b) (sym w) (record {
       known = run.known;
-      is = find-kept (is_current_of b) (λ (x : Known). not (is_member r.members x.bundle.0) || x.current) m.world.known (λ x c. or_right _ _ (and_parts x.current _ c).0) ∙ run.is;
+      is = find-kept (is_current_of b) (λ (x : Known). not (lists_bundle r.members x.bundle.0) || x.current) m.world.known (λ x c. or_right _ _ (and_parts x.current _ c).0) ∙ run.is;
       in_force = record {
         wiring = run.in_force.wiring;
-        stands = In-kept (λ (g : Wiring). not (is_member r.members (bundle_of m.world.known g.revision))) m.world.wirings run.in_force.wiring run.in_force.stands
-            (ap not (ap (λ (z : Option Known). is_member r.members (option_map_or (λ (x : Known). x.bundle.0) z 0)) (known-bundle m.world.known k.tidy.once run.known here.0 run.in_force.wiring.revision (sym run.in_force.revision)) ∙ out));
+        stands = In-kept (λ (g : Wiring). not (lists_bundle r.members (bundle_of m.world.known g.revision))) m.world.wirings run.in_force.wiring run.in_force.stands
+            (ap not (ap (λ (z : Option Known). lists_bundle r.members (option_map_or (λ (x : Known). x.bundle.0) z 0)) (known-bundle m.world.known k.tidy.once run.known here.0 run.in_force.wiring.revision (sym run.in_force.revision)) ∙ out));
         revision = run.in_force.revision;
       };
     })
@@ -236,8 +236,8 @@ running-stays setting front tag o y after legal reply left b apart up run = go (
         of : run.known.bundle ≡ b
         of = let q : run.known.bundle.0 ≡ b.0 = eqb-true run.known.bundle.0 b.0 (and_parts run.known.current _ here.1).1 in λ i. record { 0 = q i }
 
-        out : is_member r.members run.known.bundle.0 ≡ false
-        out = false_from_ne_true _ (λ i. members-down setting front tag y r legal rep acc e own d b (member-contains r.members b (ap (λ (x : BundleId). is_member r.members x.0) (sym of) ∙ i)) up)
+        out : lists_bundle r.members run.known.bundle.0 ≡ false
+        out = false_from_ne_true _ (λ i. members-down setting front tag y r legal rep acc e own d b (member-contains r.members b (ap (λ (x : BundleId). lists_bundle r.members x.0) (sym of) ∙ i)) up)
 
     accepting : (p : Op) → is_accepted y ≡ true → IsReply m p y → Leaves m p y after → IsRunning after b
     accepting (op.Install location) acc r l = installing location (accepted m (op.Install location) y r acc).1 l

@@ -7,7 +7,7 @@ use Rattle.osgi_legal.specs.Legal.{AreAllowed, IsAllowed}
 use Rattle.osgi_legal.specs.Operations.{IsReply}
 use Rattle.osgi_ops.specs.Moments.{entries_in, Moment, moment, Told}
 use Rattle.osgi_ops.specs.Replies.{is_accepted}
-use Rattle.osgi_ops.specs.Services.{is_live, is_service, live, live_at, Registered, registered, registered_by}
+use Rattle.osgi_ops.specs.Services.{is_live_service, is_service, live_service_at, live_services, Registered, registered, registered_by}
 use Rattle.osgi_ops.specs.Settings.{Setting}
 use Rattle.osgi_ops.specs.declared.entry.Entry.{Entry}
 use Rattle.osgi_ops.specs.declared.op.Op.{Op}
@@ -65,5 +65,5 @@ found-all {X} P p (y ∷ xs) x all is = go (p y) is (found-all P p xs x (All-tai
     go false e rest = rest e
 
 -- so of a live one
-pub live-single : (history : List Entry) (service : ServiceId) (r : Registered) → AreSingle history → live_at service history ≡ Some r → r.scope ≡ Singleton
-live-single history service r single is = found-all IsSingle (is_service service) (live history) r (All-filter is_live IsSingle (registered history) single) is
+pub live-single : (history : List Entry) (service : ServiceId) (r : Registered) → AreSingle history → live_service_at service history ≡ Some r → r.scope ≡ Singleton
+live-single history service r single is = found-all IsSingle (is_service service) (live_services history) r (All-filter is_live_service IsSingle (registered history) single) is

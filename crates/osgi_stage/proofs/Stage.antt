@@ -15,14 +15,14 @@ use Rattle.osgi_legal.specs.Askers.{MayAsk}
 use Rattle.osgi_ops.specs.Brackets.{brackets, closes}
 use Rattle.osgi_ops.specs.Bundles as bundles
 use Rattle.osgi_ops.specs.Bundles.{Active, Installed, installed, is_there, is_active, is_uninstall, source, system, updated_to}
-use Rattle.osgi_ops.specs.Conditions.{is_above, is_kept, lesser, refreshing_where, state_of}
+use Rattle.osgi_ops.specs.Conditions.{is_kept, is_level_too_high, lesser, refreshing_where, state_of}
 use Rattle.osgi_ops.specs.Dynamic.{IsAdded}
 use Rattle.osgi_ops.specs.Jobs.{jobs}
 use Rattle.osgi_legal.specs.Legal.{IsTold}
 use Rattle.osgi_ops.specs.Levels.{active_level, level_of, leveled, moved_to, Refresh, refresh, refresh_by, Walk, walk, walk_by}
 use Rattle.osgi_ops.specs.Moments.{Moment}
 use Rattle.osgi_ops.specs.Objects.{objects}
-use Rattle.osgi_ops.specs.Services.{live_at, made_uses, Registered}
+use Rattle.osgi_ops.specs.Services.{live_service_at, made_uses, Registered}
 use Rattle.osgi_ops.specs.Waiting.{is_waiting, waiting}
 use Rattle.osgi_legal.specs.Operations.{IsReply, IsRow}
 use Rattle.osgi_legal.specs.Stages.{dynamics_here, is_here}
@@ -104,7 +104,7 @@ pub first-level : (now : Moment) → IsTold now → active_level now.before ≡ 
 first-level now t = ap (λ (o : Option ℕ). unwrap_or o 1) (latest-none (λ (e : Entry). moved_to e.op e.reply) now.before (each (λ e. moved_to e.op e.reply ≡ None) (λ e c. c.moved) now t))
 
 -- So no bundle's level is too high for it to be started.
-pub never-above : (now : Moment) → IsTold now → (b : BundleId) → is_above now b ≡ false
+pub never-above : (now : Moment) → IsTold now → (b : BundleId) → is_level_too_high now b ≡ false
 never-above now t b =
     (λ i. nat_lt (option_map_or (λ (w : Walk). lesser w.target (active_level now.before)) (no-walk now t i) (active_level now.before)) (level_of b now.before))
     ∙ (λ i. nat_lt (first-level now t i) (first-levels now t b i))
@@ -116,7 +116,7 @@ never-above now t b =
 
 -- Nor is one kept for its level.
 pub never-kept : (now : Moment) → IsTold now → (b : BundleId) → is_kept now b ≡ false
-never-kept now t b = and_right (not (is_active (state_of now b))) (is_above now b) (never-above now t b)
+never-kept now t b = and_right (not (is_active (state_of now b))) (is_level_too_high now b) (never-above now t b)
 
 -- ---- jobs
 
@@ -180,7 +180,7 @@ system-passes now = (refl, refl)
 pub single-at : (now : Moment) → IsTold now → AreSingle now.before
 single-at now t = at-told (λ m. AreSingle m.before) (λ setting told tag legal. all-single setting told legal) now t
 
-pub live-single-at : (now : Moment) → IsTold now → (service : ServiceId) (r : Registered) → live_at service now.before ≡ Some r → r.scope ≡ Singleton
+pub live-single-at : (now : Moment) → IsTold now → (service : ServiceId) (r : Registered) → live_service_at service now.before ≡ Some r → r.scope ≡ Singleton
 live-single-at now t service r is = live-single now.before service r (single-at now t) is
 
 -- No entry made an object.

@@ -11,7 +11,7 @@ use Rattle.osgi_base.specs.declared.ids.BundleId.{BundleId}
 use Rattle.osgi_base.specs.declared.ids.RevisionId.{RevisionId}
 use Rattle.osgi_legal.specs.Quiet.{QuietBundles, SameBundles}
 use Rattle.osgi_legal.specs.States.{resolved_at, resolves_by, state_at}
-use Rattle.osgi_ops.specs.Bundles.{is_member, Bundle, bundle_from, bundles, Installed, installed, installed_by, is_live, is_uninstall, live, phase, revisions, row_from, running, source, state, system, the_system_bundle, Active, Uninstalled, updated_to}
+use Rattle.osgi_ops.specs.Bundles.{lists_bundle, Bundle, bundle_from, bundles, Installed, installed, installed_by, is_live, is_uninstall, live, phase, revisions, row_from, running, source, state, system, the_system_bundle, Active, Uninstalled, updated_to}
 use Rattle.osgi_ops.specs.Closures.{attached, DependsOn, hosting, IsClosed}
 use Rattle.osgi_ops.specs.Conditions.{depot_refusal}
 use Rattle.osgi_ops.specs.Depots.{stored_revision, revision_in, row_number}
@@ -307,8 +307,8 @@ resolved-grows world after b known on e =
 by-search : (m : Moment) (r : BundleId) (after : World) → ((g : Wiring) → In g m.world.wirings → In g after.wirings) → after.known ≡ m.world.known → Agrees m.setting.depot m.before m.world →
     Agrees m.setting.depot (m.before ++ entry_of m (op.Resolve r) (answer.Resolved (newly_resolved m after)) ∷ []) after
 by-search m r after on known a = record {
-  agree = λ b l. one b (sym (s.live b) ∙ l) (is_member added b.0) refl;
-  given = λ b q. subst (λ n. b.0 ≤ n) (sym s.installed) (told b (is_member added b.0) refl q);
+  agree = λ b l. one b (sym (s.live b) ∙ l) (lists_bundle added b.0) refl;
+  given = λ b q. subst (λ n. b.0 ≤ n) (sym s.installed) (told b (lists_bundle added b.0) refl q);
   ids = λ b l. subst (λ n. b.0 ≤ n) (sym s.installed) (a.ids b (sym (s.live b) ∙ l));
   known = λ k i. subst (λ n. k.bundle.0 ≤ n) (sym s.installed) (a.known k (subst (In k) known i));
   rows = λ b l. (let r = a.rows b (sym (s.live b) ∙ l) in (r.0, subst (λ list. Contains list r.0) (sym s.rows) r.1, r.2));
@@ -329,23 +329,23 @@ by-search m r after on known a = record {
     s : SameBundles m.setting.depot (m.before ++ e ∷ []) m.before
     s = bundles-quiet m.setting.depot m.before e (record { installed = λ n since. refl; gone = λ b. refl; updated = λ b. refl; brings = refl })
 
-    set : (b : BundleId) → is_member added b.0 ≡ true → resolved_at b (m.before ++ e ∷ []) ≡ true
+    set : (b : BundleId) → lists_bundle added b.0 ≡ true → resolved_at b (m.before ++ e ∷ []) ≡ true
     set b q = resolved-set b m.before e true (ap (λ k. cond k (Some true) None) q) ∙ or_right _ _ refl
 
-    kept : (b : BundleId) → is_member added b.0 ≡ false → resolved_at b (m.before ++ e ∷ []) ≡ resolved_at b m.before
+    kept : (b : BundleId) → lists_bundle added b.0 ≡ false → resolved_at b (m.before ++ e ∷ []) ≡ resolved_at b m.before
     kept b q = resolved-quiet b m.before e (ap (λ k. cond k (Some true) None) q)
 
-    row : (b : BundleId) → is_member added b.0 ≡ true → (c : Bundle) × Contains rows c × (is_new c ≡ true) × (c.bundle ≡ b)
+    row : (b : BundleId) → lists_bundle added b.0 ≡ true → (c : Bundle) × Contains rows c × (is_new c ≡ true) × (c.bundle ≡ b)
     row b q =
         let f = Contains-map (λ (c : Bundle). c.bundle) (filter is_new rows) b (member-contains added b q) in
         let g = Contains-filter is_new rows f.0 f.1 in
         (f.0, g.0, g.1, f.2)
 
-    told : (b : BundleId) (k : Bool) → is_member added b.0 ≡ k → resolved_at b (m.before ++ e ∷ []) ≡ true → b.0 ≤ length (installed m.before)
+    told : (b : BundleId) (k : Bool) → lists_bundle added b.0 ≡ k → resolved_at b (m.before ++ e ∷ []) ≡ true → b.0 ≤ length (installed m.before)
     told b true q z = let c = row b q in a.ids b (ap (λ x. is_live x m.before) (sym c.3) ∙ row-live m.setting.depot m.before c.0 c.1)
     told b false q z = a.given b (sym (kept b q) ∙ z)
 
-    same : (b : BundleId) → is_live b m.before ≡ true → is_member added b.0 ≡ false → (was : Bool) → is_resolved m.world b ≡ was → is_resolved after b ≡ was
+    same : (b : BundleId) → is_live b m.before ≡ true → lists_bundle added b.0 ≡ false → (was : Bool) → is_resolved m.world b ≡ was → is_resolved after b ≡ was
     same b l q true w = resolved-grows m.world after b known on w
     same b l q false w = false_from_ne_true _ (λ z.
         let c = a.rows b l in
@@ -353,7 +353,7 @@ by-search m r after on known a = record {
         let i : Contains added b = In-contains added b (subst (λ x. In x added) c.2 (In-mapped (λ (x : Bundle). x.bundle) (filter is_new rows) c.0 (contains-In (filter is_new rows) c.0 (Contains-kept is_new rows c.0 c.1 new)))) in
         let bad : true ≡ false = sym (contains-member added b i) ∙ q in cc bad)
 
-    one : (b : BundleId) → is_live b m.before ≡ true → (k : Bool) → is_member added b.0 ≡ k → is_resolved after b ≡ resolved_at b (m.before ++ e ∷ [])
+    one : (b : BundleId) → is_live b m.before ≡ true → (k : Bool) → lists_bundle added b.0 ≡ k → is_resolved after b ≡ resolved_at b (m.before ++ e ∷ [])
     one b l true q =
         let c = row b q in
         ap (λ x. is_resolved after x) (sym c.3) ∙ (and_parts (is_resolved after c.0.bundle) _ c.2).0 ∙ sym (set b q)
@@ -472,10 +472,10 @@ by-fall : (m : Moment) (r : Refresh) (ids : List BundleId) (after : World) → I
     ((b : BundleId) → Contains ids b → Contains r.members b × (is_resolved m.world b ≡ true)) → ((b : BundleId) → Contains r.members b → is_resolved m.world b ≡ true → Contains ids b) →
     Agrees m.setting.depot m.before m.world → Agrees m.setting.depot (m.before ++ entry_of m op.DropWirings (answer.Ids ids) ∷ []) after
 by-fall m r ids after t w is only every a = subst (Agrees m.setting.depot h) (sym is) (record {
-  agree = λ b l. one b (sym (s.live b) ∙ l) (is_member ids b.0) refl;
-  given = λ b q. subst (λ n. b.0 ≤ n) (sym s.installed) (told b (is_member ids b.0) refl q);
+  agree = λ b l. one b (sym (s.live b) ∙ l) (lists_bundle ids b.0) refl;
+  given = λ b q. subst (λ n. b.0 ≤ n) (sym s.installed) (told b (lists_bundle ids b.0) refl q);
   ids = λ b l. subst (λ n. b.0 ≤ n) (sym s.installed) (a.ids b (sym (s.live b) ∙ l));
-  known = λ k i. subst (λ n. k.bundle.0 ≤ n) (sym s.installed) (a.known k (In-filter (λ (x : Known). not (is_member r.members x.bundle.0) || x.current) m.world.known k i).0);
+  known = λ k i. subst (λ n. k.bundle.0 ≤ n) (sym s.installed) (a.known k (In-filter (λ (x : Known). not (lists_bundle r.members x.bundle.0) || x.current) m.world.known k i).0);
   rows = λ b l. (let c = a.rows b (sym (s.live b) ∙ l) in (c.0, subst (λ list. Contains list c.0) (sym s.rows) c.1, c.2));
 })
   where
@@ -495,47 +495,47 @@ by-fall m r ids after t w is only every a = subst (Agrees m.setting.depot h) (sy
     closed = window-closed m.world r w
 
     stays : Wiring → Bool
-    stays g = not (is_member r.members (bundle_of m.world.known g.revision))
+    stays g = not (lists_bundle r.members (bundle_of m.world.known g.revision))
 
     of : (k : Known) → In k m.world.known → (x : RevisionId) → k.id ≡ x → bundle_of m.world.known x ≡ k.bundle.0
     of k i x q = ap (λ (o : Option Known). option_map_or (λ (y : Known). y.bundle.0) o 0) (known-bundle m.world.known t.once k i x q)
 
     -- the current revisions are the same
     current : (b : BundleId) → current_revision (dropped r.members m.world) b ≡ current_revision m.world b
-    current b = find-kept (is_current_of b) (λ (x : Known). not (is_member r.members x.bundle.0) || x.current) m.world.known (λ x c. or_right _ _ (and_parts x.current _ c).0)
+    current b = find-kept (is_current_of b) (λ (x : Known). not (lists_bundle r.members x.bundle.0) || x.current) m.world.known (λ x c. or_right _ _ (and_parts x.current _ c).0)
 
     fewer : (x : RevisionId) → is_in_use W x ≡ true → is_in_use m.world.wirings x ≡ true
     fewer x u = grows W m.world.wirings x (λ g i. (In-filter stays m.world.wirings g i).0) u
 
     -- a member's revision is in no use any more
-    fallen : (k : Known) → In k m.world.known → is_member r.members k.bundle.0 ≡ true → is_in_use W k.id ≡ false
+    fallen : (k : Known) → In k m.world.known → lists_bundle r.members k.bundle.0 ≡ true → is_in_use W k.id ≡ false
     fallen k i q = false_from_ne_true _ (λ u. go (in_use-true W k.id u))
       where
         go : InUse W k.id → ⊥
         go (inl f) =
             let p = In-filter stays m.world.wirings f.wiring f.stands in
-            let bad : true ≡ false = sym q ∙ ap (is_member r.members) (sym (of k i f.wiring.revision (sym f.revision))) ∙ not-true _ p.1 in cc bad
+            let bad : true ≡ false = sym q ∙ ap (lists_bundle r.members) (sym (of k i f.wiring.revision (sym f.revision))) ∙ not-true _ p.1 in cc bad
         go (inr (g, x)) =
             let p = In-filter stays m.world.wirings x.wiring x.stands in
             let host = t.wired x.wiring p.0 in
             let d : DependsOn m.world host.0.bundle k.bundle =
             record { k = host.0; l = k; has = host.1; there = i; of = refl; of_other = refl; leans = hosting (record { wiring = x.wiring; stands = p.0; revision = sym host.2; has = x.has }) } in
             let c = closed k.bundle host.0.bundle d (member-contains r.members k.bundle q) in
-            let bad : true ≡ false = sym (contains-member r.members host.0.bundle c) ∙ ap (is_member r.members) (sym (of host.0 host.1 x.wiring.revision host.2)) ∙ not-true _ p.1 in cc bad
+            let bad : true ≡ false = sym (contains-member r.members host.0.bundle c) ∙ ap (lists_bundle r.members) (sym (of host.0 host.1 x.wiring.revision host.2)) ∙ not-true _ p.1 in cc bad
 
     -- and any other's use stays
-    stands : (k : Known) → In k m.world.known → is_member r.members k.bundle.0 ≡ false → is_in_use m.world.wirings k.id ≡ true → is_in_use W k.id ≡ true
+    stands : (k : Known) → In k m.world.known → lists_bundle r.members k.bundle.0 ≡ false → is_in_use m.world.wirings k.id ≡ true → is_in_use W k.id ≡ true
     stands k i q u = go (in_use-true m.world.wirings k.id u)
       where
         go : InUse m.world.wirings k.id → is_in_use W k.id ≡ true
         go (inl f) = in_use-from W k.id (inl (record {
           wiring = f.wiring;
-          stands = In-kept stays m.world.wirings f.wiring f.stands (ap not (ap (is_member r.members) (of k i f.wiring.revision (sym f.revision)) ∙ q));
+          stands = In-kept stays m.world.wirings f.wiring f.stands (ap not (ap (lists_bundle r.members) (of k i f.wiring.revision (sym f.revision)) ∙ q));
           revision = f.revision;
         }))
         go (inr (g, x)) =
             let host = t.wired x.wiring x.stands in
-            let out : is_member r.members host.0.bundle.0 ≡ false = false_from_ne_true _ (λ z. (
+            let out : lists_bundle r.members host.0.bundle.0 ≡ false = false_from_ne_true _ (λ z. (
             let d : DependsOn m.world k.bundle host.0.bundle =
             record { k = k; l = host.0; has = i; there = host.1; of = refl; of_other = refl; leans = attached (record { wiring = x.wiring; stands = x.stands; revision = sym host.2; has = x.has }) } in
             let c = closed host.0.bundle k.bundle d (member-contains r.members host.0.bundle z) in
@@ -544,14 +544,14 @@ by-fall m r ids after t w is only every a = subst (Agrees m.setting.depot h) (sy
               g,
               record {
                 wiring = x.wiring;
-                stands = In-kept stays m.world.wirings x.wiring x.stands (ap not (ap (is_member r.members) (of host.0 host.1 x.wiring.revision host.2) ∙ out));
+                stands = In-kept stays m.world.wirings x.wiring x.stands (ap not (ap (lists_bundle r.members) (of host.0 host.1 x.wiring.revision host.2) ∙ out));
                 revision = x.revision;
                 has = x.has;
               },
             ))
 
     -- the bundle before and after
-    after_is : (b : BundleId) (o : Option Known) → current_revision m.world b ≡ o → (member was : Bool) → is_member r.members b.0 ≡ member → option_map_or (λ (k : Known). is_in_use m.world.wirings k.id) o false ≡ was →
+    after_is : (b : BundleId) (o : Option Known) → current_revision m.world b ≡ o → (member was : Bool) → lists_bundle r.members b.0 ≡ member → option_map_or (λ (k : Known). is_in_use m.world.wirings k.id) o false ≡ was →
         option_map_or (λ (k : Known). is_in_use W k.id) o false ≡ (was && not member)
     after_is b None q member false x y = refl
     after_is b None q member true x y = absurd (cc y)
@@ -559,39 +559,39 @@ by-fall m r ids after t w is only every a = subst (Agrees m.setting.depot h) (sy
     after_is b (Some k) q false false x y = false_from_ne_true _ (λ u. (let bad : true ≡ false = sym (fewer k.id u) ∙ y in cc bad))
     after_is b (Some k) q true true x y =
         let i = found-in (is_current_of b) m.world.known k q in
-        fallen k i.0 (ap (is_member r.members) (eqb-true k.bundle.0 b.0 (and_parts k.current _ i.1).1) ∙ x)
+        fallen k i.0 (ap (lists_bundle r.members) (eqb-true k.bundle.0 b.0 (and_parts k.current _ i.1).1) ∙ x)
     after_is b (Some k) q false true x y =
         let i = found-in (is_current_of b) m.world.known k q in
-        stands k i.0 (ap (is_member r.members) (eqb-true k.bundle.0 b.0 (and_parts k.current _ i.1).1) ∙ x) y
+        stands k i.0 (ap (lists_bundle r.members) (eqb-true k.bundle.0 b.0 (and_parts k.current _ i.1).1) ∙ x) y
 
-    now_is : (b : BundleId) (member was : Bool) → is_member r.members b.0 ≡ member → is_resolved m.world b ≡ was → is_resolved (dropped r.members m.world) b ≡ (was && not member)
+    now_is : (b : BundleId) (member was : Bool) → lists_bundle r.members b.0 ≡ member → is_resolved m.world b ≡ was → is_resolved (dropped r.members m.world) b ≡ (was && not member)
     now_is b member was x y = ap (λ o. option_map_or (λ (k : Known). is_in_use W k.id) o false) (current b) ∙ after_is b (current_revision m.world b) refl member was x y
 
-    unset : (b : BundleId) → is_member ids b.0 ≡ true → resolved_at b h ≡ false
+    unset : (b : BundleId) → lists_bundle ids b.0 ≡ true → resolved_at b h ≡ false
     unset b q =
         let inside = only b (member-contains ids b q) in
         let apart : (b.0 == 0) ≡ false = ne_eqb b.0 0 (λ z. absurd (window-outside (revisions m.before) m.world r t w (subst (Contains r.members) (λ i. record { 0 = z i }) inside.0))) in
         resolved-set b m.before e false (ap (λ k. cond k (Some false) None) q) ∙ ap (λ k. k || false) apart
 
-    kept : (b : BundleId) → is_member ids b.0 ≡ false → resolved_at b h ≡ resolved_at b m.before
+    kept : (b : BundleId) → lists_bundle ids b.0 ≡ false → resolved_at b h ≡ resolved_at b m.before
     kept b q = resolved-quiet b m.before e (ap (λ k. cond k (Some false) None) q)
 
-    told : (b : BundleId) (k : Bool) → is_member ids b.0 ≡ k → resolved_at b h ≡ true → b.0 ≤ length (installed m.before)
+    told : (b : BundleId) (k : Bool) → lists_bundle ids b.0 ≡ k → resolved_at b h ≡ true → b.0 ≤ length (installed m.before)
     told b true q z = absurd (let bad : true ≡ false = sym z ∙ unset b q in cc bad)
     told b false q z = a.given b (sym (kept b q) ∙ z)
 
-    rest : (b : BundleId) → is_member ids b.0 ≡ false → (member was : Bool) → is_member r.members b.0 ≡ member → is_resolved m.world b ≡ was → (was && not member) ≡ was
+    rest : (b : BundleId) → lists_bundle ids b.0 ≡ false → (member was : Bool) → lists_bundle r.members b.0 ≡ member → is_resolved m.world b ≡ was → (was && not member) ≡ was
     rest b q true true x y = absurd (let bad : true ≡ false = sym (contains-member ids b (every b (member-contains r.members b x) y)) ∙ q in cc bad)
     rest b q true false x y = refl
     rest b q false true x y = refl
     rest b q false false x y = refl
 
-    one : (b : BundleId) → is_live b m.before ≡ true → (k : Bool) → is_member ids b.0 ≡ k → is_resolved (dropped r.members m.world) b ≡ resolved_at b h
+    one : (b : BundleId) → is_live b m.before ≡ true → (k : Bool) → lists_bundle ids b.0 ≡ k → is_resolved (dropped r.members m.world) b ≡ resolved_at b h
     one b l true q =
         let inside = only b (member-contains ids b q) in
         now_is b true true (contains-member r.members b inside.0) inside.1 ∙ sym (unset b q)
     one b l false q =
-        now_is b (is_member r.members b.0) (is_resolved m.world b) refl refl ∙ rest b q (is_member r.members b.0) (is_resolved m.world b) refl refl ∙ a.agree b l ∙ sym (kept b q)
+        now_is b (lists_bundle r.members b.0) (is_resolved m.world b) refl refl ∙ rest b q (lists_bundle r.members b.0) (is_resolved m.world b) refl refl ∙ a.agree b l ∙ sym (kept b q)
 
 -- ---- one more entry
 

@@ -14,7 +14,7 @@ use Rattle.osgi_ops.specs.Conditions.{asker_of, state_of}
 use Rattle.osgi_legal.specs.Legal.{IsTold}
 use Rattle.osgi_ops.specs.Moments.{Moment}
 use Rattle.osgi_legal.specs.Operations.{IsReply}
-use Rattle.osgi_ops.specs.Replies.{is_effective}
+use Rattle.osgi_ops.specs.Replies.{took_effect}
 use Rattle.osgi_ops.specs.Resolved.{is_resolved}
 use Rattle.osgi_legal.specs.Stages.{is_here}
 use Rattle.osgi_ops.specs.States.{is_up}
@@ -105,16 +105,16 @@ unasked now table o refusal told stands e = by (asker_here o) refl e
         unasked_by now o b refusal here.0 here.1 (refused_at now b refusal (state_at b table) (says_state now.setting.depot now.before now.world table b stands (row-at now told)) e)
 
 -- such a refusal is none that cleans up
-plain_by : (said : Option ℕ) (refusal : Refusal) → refusal_by said ≡ Some refusal → is_effective (answer.Refused refusal) ≡ false
-plain_by None refusal e = let named : refusal ≡ NoSuchBundle = cc (sym e) in ap (λ f. is_effective (answer.Refused f)) named
+plain_by : (said : Option ℕ) (refusal : Refusal) → refusal_by said ≡ Some refusal → took_effect (answer.Refused refusal) ≡ false
+plain_by None refusal e = let named : refusal ≡ NoSuchBundle = cc (sym e) in ap (λ f. took_effect (answer.Refused f)) named
 plain_by (Some n) refusal e = by (n == UNINSTALLED) (is_up n) e
   where
-    by : (gone up : Bool) → cond gone (Some NoSuchBundle) (cond up None (Some InvalidOperation)) ≡ Some refusal → is_effective (answer.Refused refusal) ≡ false
-    by true up e = let named : refusal ≡ NoSuchBundle = cc (sym e) in ap (λ f. is_effective (answer.Refused f)) named
+    by : (gone up : Bool) → cond gone (Some NoSuchBundle) (cond up None (Some InvalidOperation)) ≡ Some refusal → took_effect (answer.Refused refusal) ≡ false
+    by true up e = let named : refusal ≡ NoSuchBundle = cc (sym e) in ap (λ f. took_effect (answer.Refused f)) named
     by false true e = absurd (cc e)
-    by false false e = let named : refusal ≡ InvalidOperation = cc (sym e) in ap (λ f. is_effective (answer.Refused f)) named
+    by false false e = let named : refusal ≡ InvalidOperation = cc (sym e) in ap (λ f. took_effect (answer.Refused f)) named
 
-pub plain_refusal : (table : TableRows) (asker : Option BundleId) (refusal : Refusal) → asker_refusal table asker ≡ Some refusal → is_effective (answer.Refused refusal) ≡ false
+pub plain_refusal : (table : TableRows) (asker : Option BundleId) (refusal : Refusal) → asker_refusal table asker ≡ Some refusal → took_effect (answer.Refused refusal) ≡ false
 plain_refusal table None refusal e = absurd (cc e)
 plain_refusal table (Some id) refusal e = plain_by (state_at id table) refusal e
 

@@ -26,7 +26,7 @@ use Rattle.osgi_legal.specs.Legal.{entry_of, IsAskedAt, IsTold}
 use Rattle.osgi_ops.specs.Listening.{handed_by, Happening, happenings, heard_by, is_handed}
 use Rattle.osgi_ops.specs.Moments.{later, Moment}
 use Rattle.osgi_legal.specs.Operations.{Answers, IsReply, own_conditions}
-use Rattle.osgi_ops.specs.Replies.{is_effective, verdict}
+use Rattle.osgi_ops.specs.Replies.{took_effect, verdict}
 use Rattle.osgi_ops.specs.Soundness.{IsSound}
 use Rattle.osgi_legal.specs.Stages.{is_here}
 use Rattle.osgi_ops.specs.Worlds.{Leaves}
@@ -192,13 +192,13 @@ refused-leaves now op.DropWirings f world same = same
 refused-leaves now o f world same = same
 
 -- what is refused, but for a section that failed, changes nothing
-still_refused : (now : Moment) (tables : Tables) (o : Op) (refusal : Refusal) → IsTold now → is_effective (answer.Refused refusal) ≡ false → IsReply now o (answer.Refused refusal) → StandsFor now tables → StandsFor (later now o (answer.Refused refusal) tables.wirings.world []) tables
+still_refused : (now : Moment) (tables : Tables) (o : Op) (refusal : Refusal) → IsTold now → took_effect (answer.Refused refusal) ≡ false → IsReply now o (answer.Refused refusal) → StandsFor now tables → StandsFor (later now o (answer.Refused refusal) tables.wirings.world []) tables
 still_refused now tables o refusal told none due stood =
     let quiet = refused-quiet o refusal none in
     still_by now tables o (answer.Refused refusal) tables.registry stood quiet.bundles quiet.phases (quiet_keeps o (answer.Refused refusal) quiet.listeners) quiet.opened (refused_end_quiet now o refusal due (no-make-ends now told) none)
     (registry.stands_quiet now.before tables.registry (entry_of now o (answer.Refused refusal)) stood.services (unsaid (entry_of now o (answer.Refused refusal)) quiet.services))
 
-pub replied_refused : (asked : Asked) (tables : Tables) (refusal : Refusal) → is_effective (answer.Refused refusal) ≡ false → EachTime asked tables (λ now. IsReply now asked.op (answer.Refused refusal)) →
+pub replied_refused : (asked : Asked) (tables : Tables) (refusal : Refusal) → took_effect (answer.Refused refusal) ≡ false → EachTime asked tables (λ now. IsReply now asked.op (answer.Refused refusal)) →
     IsAnswered asked tables tables (answer.Refused refusal) []
 replied_refused asked tables refusal none due =
     unseen asked tables tables (answer.Refused refusal) due
@@ -213,7 +213,7 @@ pub decided_same : (asked : Asked) (tables : Tables) (reply : Reply) → cleaned
 decided_same asked tables reply cleans answered = record { possible = tt; cleans = cleans; answered = λ new same. subst (λ t. IsAnswered asked tables t reply []) (sym same) answered }
 
 -- nor does a refusal, unless a section failed
-pub decided_refused : (asked : Asked) (tables : Tables) (refusal : Refusal) → is_effective (answer.Refused refusal) ≡ false → EachTime asked tables (λ now. IsReply now asked.op (answer.Refused refusal)) →
+pub decided_refused : (asked : Asked) (tables : Tables) (refusal : Refusal) → took_effect (answer.Refused refusal) ≡ false → EachTime asked tables (λ now. IsReply now asked.op (answer.Refused refusal)) →
     IsReplyAndChange asked tables (answer.Refused refusal) change.Nothing
 decided_refused asked tables refusal none due =
     decided_same asked tables (answer.Refused refusal) (refused-quiet asked.op refusal none).services.cleaned (replied_refused asked tables refusal none due)

@@ -94,7 +94,7 @@ pub record ServicesChange (change : ServiceChange) (old new : Tables) : Type 0 w
   pub is : new ≡ record old { registry = registry }
 
 -- the bundle is installed, and its revision is known
-pub record IsAdded (made : BundleKept) (revision : Revision) (old new : Tables) : Type 0 where
+pub record AddsBundle (made : BundleKept) (revision : Revision) (old new : Tables) : Type 0 where
   pub bundles : TableRows
   pub wirings : WiringState
   pub stands : StandsAfter made.location made.name made.version made.fragment made.row made.bundle old.bundles bundles
@@ -173,7 +173,7 @@ pub record Ends (phase : Phase) (cleaned : Bool) (tag : Tag) (bundle : BundleId)
 abbrev pub Changes : Change → Tables → Tables → Type 0
 Changes Nothing old new = new ≡ old
 Changes (Services change) old new = ServicesChange change old new
-Changes (Install made revision) old new = IsAdded made revision old new
+Changes (Install made revision) old new = AddsBundle made revision old new
 Changes (Resolve added resolved) old new = ArePut added resolved old new
 Changes (Listen owner name kind filter) old new = Listens owner name kind filter old new
 Changes (Unlisten owner name) old new = new ≡ record old { listeners = without_listener owner name old.listeners }

@@ -13,11 +13,11 @@ use Rattle.osgi_ops.specs.Conditions.{at_target, IsDuplicate, not_owner, not_rea
 use Rattle.osgi_legal.specs.Legal.{IsTold}
 use Rattle.osgi_ops.specs.Levels.{Refresh, refresh}
 use Rattle.osgi_ops.specs.Moments.{Moment}
-use Rattle.osgi_ops.specs.Services.{live_at, Registered}
+use Rattle.osgi_ops.specs.Services.{live_service_at, Registered}
 use Rattle.osgi_ops.specs.declared.refusal.Refusal.{Refusal}
 use Rattle.osgi_ops.specs.declared.refusal.Refusal.TheVariants as no
 use Rattle.osgi_ops.specs.declared.target.Target.{Target}
-use Rattle.osgi_ops.specs.rows.Services.{in_make, is_bundle_make, making_change, making_now}
+use Rattle.osgi_ops.specs.rows.Services.{in_make, is_bundle_make, make_is_open, making_now}
 use Rattle.osgi_world.specs.declared.revision.Revision.{Revision}
 
 pub change-one : (is_such : State → Bool) (now : Moment) (bundle : BundleId) → IsOne (state_change is_such now bundle)
@@ -35,7 +35,7 @@ refreshing-one now holds f g one other = go (refresh now.before) one other
     go (Some r) p q = p.1 ∙ sym q.1
 
 pub owner-one : (now : Moment) (owner : BundleId) (service : ServiceId) → IsOne (not_owner now owner service)
-owner-one now owner service f g one other = go (live_at service now.before) one other
+owner-one now owner service f g one other = go (live_service_at service now.before) one other
   where
     go : (o : Option Registered) → IsSomeAnd o (λ r. (r.owner ≢ owner) × (f ≡ no.NotOwner r.owner)) → IsSomeAnd o (λ r. (r.owner ≢ owner) × (g ≡ no.NotOwner r.owner)) → f ≡ g
     go None p q = absurd p
@@ -47,7 +47,7 @@ target-one now target condition each f g one other =
     each one.0 f g one.2 (subst (λ b. condition b g) (target-once now target other.0 one.0 other.1 one.1) other.2)
 
 -- the make that a Get waits for
-pub making-one : (now : Moment) (user : BundleId) (service : ServiceId) → IsOne (making_change now user service)
+pub making-one : (now : Moment) (user : BundleId) (service : ServiceId) → IsOne (make_is_open now user service)
 making-one now user service f g one other = go (find (is_bundle_make now user service) (brackets now.before)) one other
   where
     go : (o : Option Bracket) → IsSomeAnd o (λ b. f ≡ no.StateChange b.tag) → IsSomeAnd o (λ b. g ≡ no.StateChange b.tag) → f ≡ g

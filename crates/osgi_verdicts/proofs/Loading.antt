@@ -7,11 +7,11 @@ use Rattle.osgi_base.specs.declared.ids.RevisionId.{RevisionId}
 use Rattle.osgi_legal.proofs.Verdicts.{IsOne}
 use Rattle.osgi_ops.specs.Assignable.{package_of}
 use Rattle.osgi_legal.specs.Legal.{IsTold}
-use Rattle.osgi_ops.specs.Loading.{all_with_fragments, AreGiven, AreRequired, AreSearched, has_file, IsLoaded, IsLoadedBy, none, other, path_of, through, with_fragments}
+use Rattle.osgi_ops.specs.Loading.{all_with_fragments, AreRequired, AreSearched, GivesFrom, has_file, IsLoaded, IsLoadedBy, none, other, path_of, through, with_fragments}
 use Rattle.osgi_ops.specs.Moments.{Moment}
 use Rattle.osgi_ops.specs.laws.Members.{AreAmong, ordered-once}
 use Rattle.osgi_ops.specs.rows.Bundles.{loaded_with, LoadAnswers, woken}
-use Rattle.osgi_ops.specs.Dynamic.{with_added}
+use Rattle.osgi_ops.specs.Dynamic.{world_with_wire}
 use Rattle.osgi_ops.specs.laws.Dynamic.{none-added}
 use Rattle.osgi_stage.proofs.Loads.{load-shown}
 use Rattle.osgi_verdicts.proofs.Providers.{one-provider}
@@ -22,10 +22,10 @@ use Rattle.osgi_world.specs.declared.world.World.{World}
 
 -- ---- required bundles
 
-among : (world : World) (p : List ℕ) (c : RevisionId) (xs ys : List RevisionId) → AreGiven world p c xs → AreGiven world p c ys → AreAmong xs ys
+among : (world : World) (p : List ℕ) (c : RevisionId) (xs ys : List RevisionId) → GivesFrom world p c xs → GivesFrom world p c ys → AreAmong xs ys
 among world p c xs ys a b = λ x i. b.every x (All-contains (GivesPackage world.known world.wirings p c) xs x a.only i)
 
-given-one : (world : World) (p : List ℕ) (c : RevisionId) → IsOne (AreGiven world p c)
+given-one : (world : World) (p : List ℕ) (c : RevisionId) → IsOne (GivesFrom world p c)
 given-one world p c xs ys a b =
     ordered-once (λ (x y : RevisionId). x.0 < y.0) (λ x less. omega (arith, less)) (λ x y z less more. omega (arith, less, more)) xs ys a.rising b.rising
     (among world p c xs ys a b) (among world p c ys xs b a)
@@ -54,7 +54,7 @@ loaded_by-one now told r class x y a b =
 
 pub load-one : (now : Moment) → IsTold now → (bundle : BundleId) (class : List ℕ) → IsOne (LoadAnswers false now bundle class)
 load-one now told bundle class y z a b =
-    let world : (wire : Option Wire) → wire ≡ None → with_added now.world bundle wire ≡ now.world = λ wire is. ap (with_added now.world bundle) is in
+    let world : (wire : Option Wire) → wire ≡ None → world_with_wire now.world bundle wire ≡ now.world = λ wire is. ap (world_with_wire now.world bundle) is in
     let here = subst (λ w. IsLoaded w bundle class a.by) (world a.wire (none-added now.world bundle class a.wire a.added)) a.loaded in
     let there = subst (λ w. IsLoaded w bundle class b.by) (world b.wire (none-added now.world bundle class b.wire b.added)) b.loaded in
     let same : there.0 ≡ here.0 = (let e : Some there.0 ≡ Some here.0 = sym there.1 ∙ here.1 in cc e) in

@@ -16,7 +16,7 @@ use Rattle.osgi_ops.specs.Classes.{AreRanked, ids_of, IsBest, IsFound, IsOf, IsO
 use Rattle.osgi_ops.specs.Makes.{given_text, made_count}
 use Rattle.osgi_ops.specs.Moments.{Moment}
 use Rattle.osgi_ops.specs.Properties.{ranking}
-use Rattle.osgi_ops.specs.Services.{live_at, Registered, services}
+use Rattle.osgi_ops.specs.Services.{live_service_at, Registered, services}
 use Rattle.osgi_ops.specs.declared.reply.Reply.TheVariants as answer
 use Rattle.osgi_ops.specs.declared.service.Service.{Service}
 use Rattle.osgi_ops.specs.laws.Members.{AreAmong, ordered-once}
@@ -87,7 +87,7 @@ find_all-one now class filter y z one other =
     one.1 ∙ ap answer.Services (one-ranked (IsOf class filter) (services now.before) one.0 other.0 one.2 other.2) ∙ sym other.1
 
 pub get-one : (now : Moment) (own : Bool) (user : BundleId) (service : ServiceId) → IsOne (GetAnswers now own user service)
-get-one now own user service y z one other = go (live_at service now.before) one other
+get-one now own user service y z one other = go (live_service_at service now.before) one other
   where
     go : (o : Option Registered) → IsSomeAnd o (λ r. y ≡ got_reply now r (got now own user r)) → IsSomeAnd o (λ r. z ≡ got_reply now r (got now own user r)) → y ≡ z
     go None p q = absurd p

@@ -38,8 +38,8 @@ abbrev pub attachments : Problem → RevisionId → List Decision
 attachments P h = map (attaching h) (matching P h)
 
 -- the decisions of a host that are due: its attachments, and when these are made, those of its payload's requirements
-abbrev pub due : Problem → Made → RevisionId → List Decision
-due P D h = attachments P h ++ (if list_any (is_open D) (attachments P h) then [] else flat_map (decisions_of P h) (in_turn P (payload P D h)))
+abbrev pub due_decisions : Problem → Made → RevisionId → List Decision
+due_decisions P D h = attachments P h ++ (if list_any (is_open D) (attachments P h) then [] else flat_map (decisions_of P h) (in_turn P (payload P D h)))
 
 -- the providers that a value pulls in
 abbrev pub provider_of : Step → List RevisionId
@@ -63,7 +63,7 @@ members P [] = P.root ∷ []
 members P (t ∷ D) = pull_in P (members P D) (pulled P t.0 t.1)
 
 abbrev pub queue : Problem → Made → List Decision
-queue P D = flat_map (due P D) (members P D)
+queue P D = flat_map (due_decisions P D) (members P D)
 
 -- the first decision of the queue that is not made
 abbrev pub next_decision : Problem → Made → Option Decision

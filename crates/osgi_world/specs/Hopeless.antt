@@ -5,7 +5,7 @@ use Rattle.osgi_base.specs.declared.ids.RevisionId.{RevisionId}
 use Rattle.osgi_world.specs.Candidates.{candidates}
 use Rattle.osgi_world.specs.Consistency.{AreRivals}
 use Rattle.osgi_world.specs.Decisions.{Decision, attaching, choose, pick, Made, value_made, IsMade}
-use Rattle.osgi_world.specs.DueDecisions.{members, due, payload}
+use Rattle.osgi_world.specs.DueDecisions.{members, due_decisions, payload}
 use Rattle.osgi_world.specs.Partial.{partial}
 use Rattle.osgi_world.specs.Lists.{In, Two}
 use Rattle.osgi_world.specs.Lookups.{is_multiple, symbolic_name, requirement_namespace, IsNeeded}
@@ -39,7 +39,7 @@ IsSpatial P (pick h q c) = IsOfSpace P q
 
 -- in force already, or a member whose attachments, bundle requirements and imports are decided
 abbrev pub IsDecided : Problem → Made → RevisionId → Type 0
-IsDecided P D c = InForce P.world.wirings c ⊎ In c (members P D) × ((d : Decision) → In d (due P D c) → IsSpatial P d → IsMade D d)
+IsDecided P D c = InForce P.world.wirings c ⊎ In c (members P D) × ((d : Decision) → In d (due_decisions P D c) → IsSpatial P d → IsMade D d)
 
 -- r, and each revision that is reached from it, is closed
 pub record Settles (K : List Known) (W : List Wiring) (Closed : RevisionId → Type 0) (r : RevisionId) : Type 0 where

@@ -10,7 +10,7 @@ use Rattle.osgi_bundle.specs.Targets.{IsFirstRow, IsTargetRow}
 use Rattle.osgi_bundle.specs.declared.kept.BundleKept.{BundleKept}
 use Rattle.osgi_bundle.specs.laws.Standing.{contains_map, contains_of, is_bundle_of, no_row, row_of_bundle, some_row}
 use Rattle.osgi_ops.specs.Bundles.{Bundle, bundles, is_live, last_begin, number_of, row_of, state}
-use Rattle.osgi_ops.specs.Conditions.{IsFirstOf, IsTarget}
+use Rattle.osgi_ops.specs.Conditions.{IsPreferredTo, IsTarget}
 use Rattle.osgi_ops.specs.Moments.{Moment}
 use Rattle.osgi_ops.specs.Resolved.{is_fragment_bundle}
 use Rattle.osgi_ops.specs.declared.depot.DepotRow.{DepotRow}
@@ -99,7 +99,7 @@ module _ (now : Moment) (table : TableRows) (stands : StandsFor now.setting.depo
       by (Some row) (live b there same alive) some = alive
   target_of_rows (Name name) bundle rows is =
       let from = of_rows is.row is.live in
-      let each : (other : Bundle) → Contains (bundles now.setting.depot now.before) other → other.revision.name ≡ name → IsFirstOf from.0 other = λ other there named.
+      let each : (other : Bundle) → Contains (bundles now.setting.depot now.before) other → other.revision.name ≡ name → IsPreferredTo from.0 other = λ other there named.
       subst (λ (r : BundleKept). IsFirstRow r (kept_of now.world now.before other)) from.2
       (All-contains (λ (o : BundleKept). o.name ≡ name → IsFirstRow is.row o) table.rows (kept_of now.world now.before other) is.first (in_rows other there) named) in
       record {
@@ -121,7 +121,7 @@ module _ (now : Moment) (table : TableRows) (stands : StandsFor now.setting.depo
       let each : (other : BundleKept) → Contains table.rows other → other.name ≡ name → IsFirstRow (kept_of now.world now.before is.row) other = λ other there named.
       let from = of_rows other there in
       subst (λ (r : BundleKept). IsFirstRow (kept_of now.world now.before is.row) r) (sym from.2)
-      (All-contains (λ (o : Bundle). o.revision.name ≡ name → IsFirstOf is.row o) (bundles now.setting.depot now.before) from.0 is.first from.1 (ap (λ (r : BundleKept). r.name) (sym from.2) ∙ named)) in
+      (All-contains (λ (o : Bundle). o.revision.name ≡ name → IsPreferredTo is.row o) (bundles now.setting.depot now.before) from.0 is.first from.1 (ap (λ (r : BundleKept). r.name) (sym from.2) ∙ named)) in
       record {
         row = kept_of now.world now.before is.row;
         live = in_rows is.row is.live;

@@ -4,7 +4,7 @@ use Rattle.std.specs.Option.{option_map_or}
 use Rattle.osgi_base.specs.declared.ids.BundleId.{BundleId}
 use Rattle.osgi_base.specs.declared.ids.ServiceId.{ServiceId}
 use Rattle.osgi_ops.specs.Replies.{is_accepted}
-use Rattle.osgi_ops.specs.Services.{gets_object, is_unget, live_at, since_cleaning, uses_without_makes}
+use Rattle.osgi_ops.specs.Services.{gets_object, is_unget, live_service_at, since_cleaning, uses_without_makes}
 use Rattle.osgi_ops.specs.declared.op.Op.{Op}
 use Rattle.osgi_ops.specs.declared.op.Op.TheVariants.{Register}
 use Rattle.osgi_ops.specs.declared.refusal.Refusal.TheVariants.{ActivatorError}
@@ -29,4 +29,4 @@ held user service since =
 
 -- how often the user holds the service by the Gets and Ungets of these entries: the use that begins as an object is made is not counted
 abbrev pub uses_shared : BundleId → ServiceId → List Entry → ℕ
-uses_shared user service history = option_map_or (uses_without_makes user) (live_at service history) 0
+uses_shared user service history = option_map_or (uses_without_makes user) (live_service_at service history) 0

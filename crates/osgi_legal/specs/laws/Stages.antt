@@ -4,7 +4,7 @@ use Rattle.std.specs.Prelude.{MatchBool}
 use Rattle.osgi_ops.specs.Brackets.{is_end}
 use Rattle.osgi_ops.specs.Moments.{Moment}
 use Rattle.osgi_legal.specs.Operations.{IsReply, IsRow}
-use Rattle.osgi_ops.specs.Replies.{is_accepted, is_effective}
+use Rattle.osgi_ops.specs.Replies.{is_accepted, took_effect}
 use Rattle.osgi_legal.specs.Stages.{is_here}
 use Rattle.osgi_ops.specs.declared.op.Op.{Op}
 use Rattle.osgi_ops.specs.declared.op.Op.TheVariants as op
@@ -32,13 +32,13 @@ pub late-refused : (now : Moment) (o : Op) (y : Reply) → is_here o ≡ false �
 late-refused now o y e r = subst (λ k. MatchBool k (IsRow now o y) (y ≡ Refused InvalidOperation)) e r
 
 -- and so it is where the operation did its work
-pub row-of : (now : Moment) (o : Op) (y : Reply) → IsReply now o y → is_effective y ≡ true → IsRow now o y
+pub row-of : (now : Moment) (o : Op) (y : Reply) → IsReply now o y → took_effect y ≡ true → IsRow now o y
 row-of now o y r e = elim (row-or now o y r) [
   | inl p ↦ p
-  | inr p ↦ absurd (let bad : true ≡ false = sym e ∙ ap is_effective p.1 in cc bad)
+  | inr p ↦ absurd (let bad : true ≡ false = sym e ∙ ap took_effect p.1 in cc bad)
 ]
 
-effective : (y : Reply) → is_accepted y ≡ true → is_effective y ≡ true
+effective : (y : Reply) → is_accepted y ≡ true → took_effect y ≡ true
 effective (Refused f) e = absurd (cc e)
 effective y e = refl
 

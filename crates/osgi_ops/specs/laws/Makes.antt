@@ -6,7 +6,7 @@ use Rattle.osgi_base.specs.declared.ids.BundleId.{BundleId}
 use Rattle.osgi_base.specs.declared.ids.ServiceId.{ServiceId}
 use Rattle.osgi_ops.specs.Brackets.{brackets, closes, opens}
 use Rattle.osgi_ops.specs.Makes.{make_change, MakeChange, open_makes, opens_make, with_make, with_make_change}
-use Rattle.osgi_ops.specs.Objects.{bundle_object, HeldObject, object_by, objects, stays, with_object}
+use Rattle.osgi_ops.specs.Objects.{bundle_object, HeldObject, is_still_held, object_by, objects, with_object}
 use Rattle.osgi_ops.specs.Services.{made}
 use Rattle.osgi_ops.specs.declared.entry.Entry.{Entry}
 use Rattle.osgi_ops.specs.declared.op.Op.{Op}
@@ -22,7 +22,7 @@ pub open_makes-quiet : (history : List Entry) (e : Entry) → make_change (close
 open_makes-quiet history e none = open_makes-push history e ∙ ap (λ c. with_make_change e.tag.caller c (open_makes history)) none
 
 -- the objects that are left after an entry, and the one that it made
-pub objects-push : (history : List Entry) (e : Entry) → objects (history ++ e ∷ []) ≡ filter (stays (history ++ e ∷ []) e) (objects history ++ object_by history e (made history e))
+pub objects-push : (history : List Entry) (e : Entry) → objects (history ++ e ∷ []) ≡ filter (is_still_held (history ++ e ∷ []) e) (objects history ++ object_by history e (made history e))
 objects-push history e = carried-last with_object [] history e
 
 nothing-made : (before : List Entry) (e : Entry) → made before e ≡ None → object_by before e (made before e) ≡ []
@@ -33,7 +33,7 @@ pub objects-none : (history : List Entry) → All (λ (e : Entry). MakesNone e.o
 objects-none history none =
     carried-still with_object [] [] history
     (All-weaker (λ (e : Entry). MakesNone e.op e.reply) (λ e. (before : List Entry) → with_object before [] e ≡ [])
-    (λ e m before. ap (filter (stays (before ++ e ∷ []) e)) (nothing-made before e (m e.tag (brackets before)))) history none)
+    (λ e m before. ap (filter (is_still_held (before ++ e ∷ []) e)) (nothing-made before e (m e.tag (brackets before)))) history none)
 
 pub no-bundle-object : (user : BundleId) (service : ServiceId) (history : List Entry) → objects history ≡ [] → bundle_object user service history ≡ None
 no-bundle-object user service history none = ap (find _) none

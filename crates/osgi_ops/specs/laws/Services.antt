@@ -16,7 +16,7 @@ use Rattle.osgi_ops.specs.Brackets.{Bracket, brackets, Making}
 use Rattle.osgi_ops.specs.Cleaning.{cleaned_by, cleans}
 use Rattle.osgi_ops.specs.Properties.{with_framework}
 use Rattle.osgi_ops.specs.Replies.{is_accepted}
-use Rattle.osgi_ops.specs.Services.{since_cleaning, gets, given_by, given_last, gets_object, is_live, is_service, is_unget, is_use_of, live, live_at, made, made_of, made_uses, makes_own, Registered, registered, registered_after, registered_by, service_now, takes_out, ungets, Use, use_by, uses, uses_without_makes, uses_with, with_use, without_user}
+use Rattle.osgi_ops.specs.Services.{since_cleaning, gets, given_by, given_last, gets_object, is_live_service, is_service, is_unget, is_use_of, live_services, live_service_at, made, made_of, made_uses, makes_own, Registered, registered, registered_after, registered_by, service_now, takes_out, ungets, Use, use_by, uses, uses_without_makes, uses_with, with_made_use, without_user}
 use Rattle.osgi_ops.specs.declared.op.Op.{Op}
 use Rattle.osgi_ops.specs.declared.scope.Scope.{Scope}
 use Rattle.osgi_ops.specs.declared.op.Op.TheVariants.{Register}
@@ -86,9 +86,9 @@ abbrev pub left_by : Entry → List Registered → List Registered
 left_by e list = filter (λ r. not (takes_out r.service r.owner e.op e.reply)) list
 
 live_by : (e : Entry) (r : Registered) (rest more : List Registered) (gone taken : Bool) → list_any (λ x. takes_out r.service r.owner x.op x.reply) r.since ≡ gone → takes_out r.service r.owner e.op e.reply ≡ taken →
-    filter is_live (map (later e) rest) ≡ map (later e) (left_by e more) → filter is_live rest ≡ more →
-    cond (not (list_any (λ x. takes_out r.service r.owner x.op x.reply) (r.since ++ e ∷ []))) (later e r ∷ filter is_live (map (later e) rest)) (filter is_live (map (later e) rest))
-    ≡ map (later e) (left_by e (cond (not (list_any (λ x. takes_out r.service r.owner x.op x.reply) r.since)) (r ∷ filter is_live rest) (filter is_live rest)))
+    filter is_live_service (map (later e) rest) ≡ map (later e) (left_by e more) → filter is_live_service rest ≡ more →
+    cond (not (list_any (λ x. takes_out r.service r.owner x.op x.reply) (r.since ++ e ∷ []))) (later e r ∷ filter is_live_service (map (later e) rest)) (filter is_live_service (map (later e) rest))
+    ≡ map (later e) (left_by e (cond (not (list_any (λ x. takes_out r.service r.owner x.op x.reply) r.since)) (r ∷ filter is_live_service rest) (filter is_live_service rest)))
 live_by e r rest more true taken first second same is =
     rw (list_any-append (λ x. takes_out r.service r.owner x.op x.reply) r.since (e ∷ []), first, is) same
 live_by e r rest more false true first second same is =
@@ -96,27 +96,27 @@ live_by e r rest more false true first second same is =
 live_by e r rest more false false first second same is =
     rw (list_any-append (λ x. takes_out r.service r.owner x.op x.reply) r.since (e ∷ []), first, second, is) (ap (λ l. later e r ∷ l) same)
 
-live-later : (e : Entry) (list : List Registered) → filter is_live (map (later e) list) ≡ map (later e) (left_by e (filter is_live list))
+live-later : (e : Entry) (list : List Registered) → filter is_live_service (map (later e) list) ≡ map (later e) (left_by e (filter is_live_service list))
 live-later e [] = refl
-live-later e (r ∷ rest) = live_by e r rest (filter is_live rest) _ _ refl refl (live-later e rest) refl
+live-later e (r ∷ rest) = live_by e r rest (filter is_live_service rest) _ _ refl refl (live-later e rest) refl
 
 live_if : (earlier : ℕ) (owner : BundleId) (classes : List (List ℕ)) (object : List ℕ) (scope : Scope) (properties : List Attribute) (accepted : Bool) →
     let r : Registered = record { service = record { 0 = earlier + 1 }; owner = owner; classes = classes; object = object; scope = scope; given = properties; since = [] } in
-    filter is_live (cond accepted (r ∷ []) []) ≡ cond accepted (r ∷ []) []
+    filter is_live_service (cond accepted (r ∷ []) []) ≡ cond accepted (r ∷ []) []
 live_if earlier owner classes object scope properties true = refl
 live_if earlier owner classes object scope properties false = refl
 
-new_live : (earlier : ℕ) (op : Op) (reply : Reply) → filter is_live (registered_by earlier op reply []) ≡ registered_by earlier op reply []
+new_live : (earlier : ℕ) (op : Op) (reply : Reply) → filter is_live_service (registered_by earlier op reply []) ≡ registered_by earlier op reply []
 new_live earlier (Register owner classes object scope properties) reply = live_if earlier owner classes object scope properties (is_accepted reply)
 new_live earlier op reply = refl
 
 -- those that the entry leaves, and the one that it registers
-pub live-push : (history : List Entry) (e : Entry) → live (history ++ e ∷ []) ≡ map (later e) (left_by e (live history)) ++ registered_by (length (registered history)) e.op e.reply []
+pub live-push : (history : List Entry) (e : Entry) → live_services (history ++ e ∷ []) ≡ map (later e) (left_by e (live_services history)) ++ registered_by (length (registered history)) e.op e.reply []
 live-push history e =
     let new = registered_by (length (registered history)) e.op e.reply [] in
-    ap (filter is_live) (registered-push history e)
-    ∙ filter-append is_live (map (later e) (registered history)) new
-    ∙ ap (λ l. filter is_live (map (later e) (registered history)) ++ l) (new_live (length (registered history)) e.op e.reply)
+    ap (filter is_live_service) (registered-push history e)
+    ∙ filter-append is_live_service (map (later e) (registered history)) new
+    ∙ ap (λ l. filter is_live_service (map (later e) (registered history)) ++ l) (new_live (length (registered history)) e.op e.reply)
     ∙ ap (λ l. l ++ new) (live-later e (registered history))
 
 -- ---- what is known of one
@@ -199,16 +199,16 @@ uses-short : (user : BundleId) (most : ℕ) (r : Registered) → IsShort most r 
 uses-short user most r short = omega (arith, short, kept-short user [] r.since, count_by-le-length (λ (e : Entry). gets_object user r.service e.op e.reply) (since_cleaning user r.since))
 
 -- by what all share or the user has, nobody uses a service more often than there are entries
-pub held-le-length : (user : BundleId) (service : ServiceId) (history : List Entry) → option_map_or (uses_without_makes user) (live_at service history) 0 ≤ length history
+pub held-le-length : (user : BundleId) (service : ServiceId) (history : List Entry) → option_map_or (uses_without_makes user) (live_service_at service history) 0 ≤ length history
 held-le-length user service history =
-    found-le (uses_without_makes user) (length history) (is_service service) (live history)
-    (All-weaker (IsShort (length history)) (λ r. uses_without_makes user r ≤ length history) (λ r short. uses-short user (length history) r short) (live history)
-    (All-filter is_live (IsShort (length history)) (registered history) (short_after (length history) 0 history (omega arith))))
+    found-le (uses_without_makes user) (length history) (is_service service) (live_services history)
+    (All-weaker (IsShort (length history)) (λ r. uses_without_makes user r ≤ length history) (λ r short. uses-short user (length history) r short) (live_services history)
+    (All-filter is_live_service (IsShort (length history)) (registered history) (short_after (length history) 0 history (omega arith))))
 
 -- ---- uses that began with a make
 
-pub made_uses-push : (history : List Entry) (e : Entry) → made_uses (history ++ e ∷ []) ≡ with_use history (made_uses history) e
-made_uses-push history e = carried-last with_use [] history e
+pub made_uses-push : (history : List Entry) (e : Entry) → made_uses (history ++ e ∷ []) ≡ with_made_use history (made_uses history) e
+made_uses-push history e = carried-last with_made_use [] history e
 
 -- an operation with its reply made nothing
 abbrev pub MakesNone : Op → Reply → Type 0
@@ -224,15 +224,15 @@ none-without (Some user) = refl
 -- where no entry made anything, no use began with a make
 pub made_uses-none : (history : List Entry) → All (λ (e : Entry). MakesNone e.op e.reply) history → made_uses history ≡ []
 made_uses-none history none =
-    carried-still with_use [] [] history
-    (All-weaker (λ (e : Entry). MakesNone e.op e.reply) (λ e. (before : List Entry) → with_use before [] e ≡ [])
+    carried-still with_made_use [] [] history
+    (All-weaker (λ (e : Entry). MakesNone e.op e.reply) (λ e. (before : List Entry) → with_made_use before [] e ≡ [])
     (λ e m before. ap (λ l. l ++ use_by before (made before e)) (none-without (cleaned_by e.op e.reply)) ∙ no-use before (made before e) (m e.tag (brackets before))) history none)
 
 -- then the uses are those by what all share
-pub uses-plain : (user : BundleId) (service : ServiceId) (history : List Entry) → made_uses history ≡ [] → uses user service history ≡ option_map_or (uses_without_makes user) (live_at service history) 0
+pub uses-plain : (user : BundleId) (service : ServiceId) (history : List Entry) → made_uses history ≡ [] → uses user service history ≡ option_map_or (uses_without_makes user) (live_service_at service history) 0
 uses-plain user service history none =
     let no : count_by (is_use_of user service) (made_uses history) ≡ 0 = ap (count_by (is_use_of user service)) none in
-    ap (λ n. option_map_or (uses_with n user) (live_at service history) 0) no ∙ at (live_at service history)
+    ap (λ n. option_map_or (uses_with n user) (live_service_at service history) 0) no ∙ at (live_service_at service history)
   where
     at : (o : Option Registered) → option_map_or (uses_with 0 user) o 0 ≡ option_map_or (uses_without_makes user) o 0
     at None = refl
@@ -252,10 +252,10 @@ one-or-none before (Some m) = go (makes_own before m)
     go true = omega arith
     go false = omega arith
 
-made_uses-le-from : (front : List Entry) (all : List Use) (history : List Entry) → length (carried with_use front all history) ≤ length all + length history
+made_uses-le-from : (front : List Entry) (all : List Use) (history : List Entry) → length (carried with_made_use front all history) ≤ length all + length history
 made_uses-le-from front all [] = omega arith
 made_uses-le-from front all (e ∷ rest) =
-    omega (arith, made_uses-le-from (front ++ e ∷ []) (with_use front all e) rest, length-append (without_user (cleaned_by e.op e.reply) all) (use_by front (made front e)), without-le (cleaned_by e.op e.reply) all, one-or-none front (made front e))
+    omega (arith, made_uses-le-from (front ++ e ∷ []) (with_made_use front all e) rest, length-append (without_user (cleaned_by e.op e.reply) all) (use_by front (made front e)), without-le (cleaned_by e.op e.reply) all, one-or-none front (made front e))
 
 -- each entry begins one at most
 pub made_uses-le-length : (history : List Entry) → length (made_uses history) ≤ length history
@@ -270,8 +270,8 @@ uses-le-length user service history =
     let from_makes = count_by (is_use_of user service) (made_uses history) in
     let few : from_makes ≤ length history = omega (arith, count_by-le-length (is_use_of user service) (made_uses history), made_uses-le-length history) in
     let most : ℕ = length history + from_makes in
-    let all : option_map_or (uses_with from_makes user) (live_at service history) 0 ≤ most
-    = found-le (uses_with from_makes user) most (is_service service) (live history)
-    (All-weaker (IsShort (length history)) (λ r. uses_with from_makes user r ≤ most) (λ r short. uses-with-le user from_makes r (length history) short) (live history)
-    (All-filter is_live (IsShort (length history)) (registered history) (short_after (length history) 0 history (omega arith)))) in
+    let all : option_map_or (uses_with from_makes user) (live_service_at service history) 0 ≤ most
+    = found-le (uses_with from_makes user) most (is_service service) (live_services history)
+    (All-weaker (IsShort (length history)) (λ r. uses_with from_makes user r ≤ most) (λ r short. uses-with-le user from_makes r (length history) short) (live_services history)
+    (All-filter is_live_service (IsShort (length history)) (registered history) (short_after (length history) 0 history (omega arith)))) in
     omega (arith, all, few)

@@ -3,9 +3,9 @@ use Rattle.std.proofs.Common.{◌≡◌, List, [], ◌∷◌, ◌++◌, ap, ◌�
 use Rattle.std.specs.Prelude.{Bool, false, All, Option, None, Some}
 use Rattle.std.proofs.lemmas.List.Elements.{All-weaker}
 use Rattle.osgi_base.specs.declared.ids.BundleId.{BundleId}
-use Rattle.osgi_ops.specs.Bundles.{is_member}
+use Rattle.osgi_ops.specs.Bundles.{lists_bundle}
 use Rattle.osgi_ops.specs.Levels.{refresh}
-use Rattle.osgi_ops.specs.Waiting.{drops, is_waiting, leaves, members_of, WaitChange, waited_by, waiting, waits, with_wait}
+use Rattle.osgi_ops.specs.Waiting.{drops, is_waiting, members_of, wait_begins, wait_ends, WaitChange, waited_by, waiting, with_wait}
 use Rattle.osgi_ops.specs.declared.entry.Entry.{Entry}
 use Rattle.osgi_ops.specs.declared.op.Op.{Op}
 use Rattle.osgi_ops.specs.declared.reply.Reply.{Reply}
@@ -20,12 +20,12 @@ waiting-quiet history e none = waiting-push history e ∙ ap (λ c. with_wait (m
 
 -- an operation with its reply has no bundle wait
 abbrev pub NoneWaits : Op → Reply → Type 0
-NoneWaits op reply = (b : BundleId) → waited_by op reply ≡ Some (waits b) → ⊥
+NoneWaits op reply = (b : BundleId) → waited_by op reply ≡ Some (wait_begins b) → ⊥
 
-still : (members : List BundleId) (change : Option WaitChange) → ((b : BundleId) → change ≡ Some (waits b) → ⊥) → with_wait members change [] ≡ []
+still : (members : List BundleId) (change : Option WaitChange) → ((b : BundleId) → change ≡ Some (wait_begins b) → ⊥) → with_wait members change [] ≡ []
 still members None none = refl
-still members (Some (waits b)) none = absurd (none b refl)
-still members (Some (leaves b)) none = refl
+still members (Some (wait_begins b)) none = absurd (none b refl)
+still members (Some (wait_ends b)) none = refl
 still members (Some drops) none = refl
 
 -- where no entry did, nobody waits
@@ -36,4 +36,4 @@ none-waiting history none =
     (λ e m before. still (members_of (refresh before)) (waited_by e.op e.reply) m) history none)
 
 pub not-waiting : (bundle : BundleId) (history : List Entry) → waiting history ≡ [] → is_waiting bundle history ≡ false
-not-waiting bundle history none = ap (λ l. is_member l bundle.0) none
+not-waiting bundle history none = ap (λ l. lists_bundle l bundle.0) none

@@ -9,7 +9,7 @@ use Rattle.osgi_base.specs.declared.ids.RevisionId.{RevisionId}
 use Rattle.osgi_ops.specs.Assignable.{package_of}
 use Rattle.osgi_ops.specs.Bundles.{Bundle, bundle_from, bundles, installed, is_up}
 use Rattle.osgi_ops.specs.Conditions.{AnyRefresh, invalid_where, is_system, IsDuplicate, no_such_bundle, not_read, refreshing_where, state_change}
-use Rattle.osgi_ops.specs.Dynamic.{IsAdded, with_added}
+use Rattle.osgi_ops.specs.Dynamic.{IsAdded, world_with_wire}
 use Rattle.osgi_ops.specs.Loading.{IsLoaded}
 use Rattle.osgi_ops.specs.Moments.{Moment}
 use Rattle.osgi_ops.specs.Resolved.{is_fragment_bundle, is_resolved}
@@ -109,5 +109,5 @@ pub record LoadAnswers (dynamics : Bool) (now : Moment) (bundle : BundleId) (cla
   pub wire : Option Wire
   pub by : Option RevisionId
   pub added : IsAdded dynamics now.world bundle class wire
-  pub loaded : IsLoaded (with_added now.world bundle wire) bundle class by
+  pub loaded : IsLoaded (world_with_wire now.world bundle wire) bundle class by
   pub says : reply ≡ loaded_with by (option_and_then (wire_row now.world.known) wire) (woken now class by)

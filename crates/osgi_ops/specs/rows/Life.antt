@@ -3,7 +3,7 @@ use Rattle.std.specs.Prelude.{◌≡◌, ◌≢◌, ◌⊎◌, Bool, true, false
 use Rattle.osgi_base.specs.Verdict.{Where}
 use Rattle.osgi_base.specs.declared.ids.BundleId.{BundleId}
 use Rattle.osgi_ops.specs.Bundles.{is_active, is_changing, row_of, Unresolved}
-use Rattle.osgi_ops.specs.Conditions.{at_target, invalid_where, is_above, is_kept, is_system, IsDeep, IsTarget, no_own_end, no_such_bundle, no_target, refreshing_where, state_change, state_of}
+use Rattle.osgi_ops.specs.Conditions.{at_target, invalid_where, is_kept, is_level_too_high, is_system, IsDeep, IsTarget, no_own_end, no_such_bundle, no_target, refreshing_where, state_change, state_of}
 use Rattle.osgi_ops.specs.Moments.{Moment}
 use Rattle.osgi_ops.specs.Resolved.{current_revision, is_fragment_bundle}
 use Rattle.osgi_ops.specs.declared.op.Op.TheVariants.{EndStart, EndStop}
@@ -23,7 +23,7 @@ start_transient now bundle transient = Where StartTransient ((is_kept now bundle
 -- the answer to a start: the bundle is active already, its level is too high, or this
 abbrev pub StartAnswers : Moment → BundleId → Reply → Reply → Type 0
 StartAnswers now bundle goes reply =
-    reply ≡ (if is_active (state_of now bundle) then answer.Active bundle else (if is_above now bundle then answer.Kept bundle else goes))
+    reply ≡ (if is_active (state_of now bundle) then answer.Active bundle else (if is_level_too_high now bundle then answer.Kept bundle else goes))
 
 abbrev pub wish_start_refusals : Moment → Target → Bool → List (Refusal → Type 0)
 wish_start_refusals now target transient =

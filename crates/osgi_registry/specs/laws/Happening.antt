@@ -10,7 +10,7 @@ use Rattle.osgi_base.specs.declared.ids.Tag.{Tag}
 use Rattle.osgi_model.specs.declared.value.Attribute.{Attribute}
 use Rattle.osgi_ops.specs.Listening.{leaving, services_at}
 use Rattle.osgi_ops.specs.Listening as happening
-use Rattle.osgi_ops.specs.Services.{live, live_at, Registered, service_now}
+use Rattle.osgi_ops.specs.Services.{live_service_at, live_services, Registered, service_now}
 use Rattle.osgi_ops.specs.declared.entry.Entry.{Entry}
 use Rattle.osgi_ops.specs.declared.op.Op.TheVariants as op
 use Rattle.osgi_ops.specs.declared.reply.Reply.TheVariants as answer
@@ -31,7 +31,7 @@ found_services (Some row) (Some r) (there is) = ap (λ s. s ∷ []) (sym is.serv
 
 -- the service of an id is that of its row
 pub services_at-rows : (history : List Entry) (registry : RegistryRows) (service : ServiceId) → StandsFor history registry → services_at service history ≡ services_in (option_to_list (row_at service registry.rows))
-services_at-rows history registry service stands = found_services (row_at service registry.rows) (live_at service history) (rows_found service registry.rows (live history) stands.rows)
+services_at-rows history registry service stands = found_services (row_at service registry.rows) (live_service_at service history) (rows_found service registry.rows (live_services history) stands.rows)
 
 each_leaves : (rows : List LiveService) (list : List Registered) → AreRowsOf rows list → map (λ r. happening.service 4 (service_now r)) list ≡ map (happening.service 4) (services_in rows)
 each_leaves [] [] are = refl
@@ -42,8 +42,8 @@ each_leaves (row ∷ rows) (r ∷ list) are = λ i. happening.service 4 (sym are
 -- the services that leave with an owner are those of its rows
 pub leaving-rows : (history : List Entry) (registry : RegistryRows) (owner : BundleId) → StandsFor history registry → leaving (Some owner) history ≡ map (happening.service 4) (services_in (filter (is_owned owner) registry.rows))
 leaving-rows history registry owner stands =
-    each_leaves (filter (is_owned owner) registry.rows) (filter (λ r. r.owner.0 == owner.0) (live history))
-    (rows_filter (is_owned owner) (λ r. r.owner.0 == owner.0) (λ row r is. ap (λ (s : Service). s.owner.0 == owner.0) is.service) registry.rows (live history) stands.rows)
+    each_leaves (filter (is_owned owner) registry.rows) (filter (λ r. r.owner.0 == owner.0) (live_services history))
+    (rows_filter (is_owned owner) (λ r. r.owner.0 == owner.0) (λ row r is. ap (λ (s : Service). s.owner.0 == owner.0) is.service) registry.rows (live_services history) stands.rows)
 
 -- ---- a registration
 

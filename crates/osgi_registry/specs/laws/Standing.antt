@@ -15,7 +15,7 @@ use Rattle.osgi_model.specs.declared.value.Attribute.{Attribute}
 use Rattle.osgi_ops.specs.Cleaning.{cleaned_by, cleans}
 use Rattle.osgi_ops.specs.laws.Services.{gets-push, later, left_by, live-push, one_where, registered-push, service-push, ungets-push}
 use Rattle.osgi_ops.specs.Properties.{with_framework}
-use Rattle.osgi_ops.specs.Services.{gets, given_by, given_last, gets_object, is_service, is_unget, live, Registered, registered, registered_by, service_now, takes_out, ungets, uses_without_makes}
+use Rattle.osgi_ops.specs.Services.{gets, given_by, given_last, gets_object, is_service, is_unget, live_services, Registered, registered, registered_by, service_now, takes_out, ungets, uses_without_makes}
 use Rattle.osgi_ops.specs.declared.entry.Entry.{Entry}
 use Rattle.osgi_ops.specs.declared.op.Op.{Op}
 use Rattle.osgi_ops.specs.declared.op.Op.TheVariants as op
@@ -153,7 +153,7 @@ length_push history e =
     ∙ ap (λ n. n + length (registered_by (length (registered history)) e.op e.reply [])) (length-map (registered history) (later e))
 
 -- the rows stand for the history with an entry that leaves and changes services as they do
-stands_by : (history : List Entry) (old new : RegistryRows) (e : Entry) → StandsFor history old → AreRowsOf new.rows (map (later e) (left_by e (live history)) ++ registered_by (length (registered history)) e.op e.reply []) →
+stands_by : (history : List Entry) (old new : RegistryRows) (e : Entry) → StandsFor history old → AreRowsOf new.rows (map (later e) (left_by e (live_services history)) ++ registered_by (length (registered history)) e.op e.reply []) →
     new.issued ≡ old.issued + length (registered_by (length (registered history)) e.op e.reply []) → StandsFor (history ++ e ∷ []) new
 stands_by history old new e stands rows issued = record {
   rows = subst (λ l. AreRowsOf new.rows l) (sym (live-push history e)) rows;
@@ -162,20 +162,20 @@ stands_by history old new e stands rows issued = record {
 
 -- where no service is registered or taken out
 changed : (history : List Entry) (old new : RegistryRows) (e : Entry) → StandsFor history old → registered_by (length (registered history)) e.op e.reply [] ≡ [] →
-    ((service : ServiceId) (owner : BundleId) → takes_out service owner e.op e.reply ≡ false) → AreRowsOf new.rows (map (later e) (live history)) → new.issued ≡ old.issued → StandsFor (history ++ e ∷ []) new
+    ((service : ServiceId) (owner : BundleId) → takes_out service owner e.op e.reply ≡ false) → AreRowsOf new.rows (map (later e) (live_services history)) → new.issued ≡ old.issued → StandsFor (history ++ e ∷ []) new
 changed history old new e stands registers takes rows issued =
     stands_by history old new e stands
-    (subst (λ l. AreRowsOf new.rows (map (later e) (left_by e (live history)) ++ l)) (sym registers)
-    (subst (λ l. AreRowsOf new.rows l) (sym (append-nil (map (later e) (left_by e (live history)))))
-    (subst (λ l. AreRowsOf new.rows (map (later e) l)) (sym (all_left e (live history) takes)) rows)))
+    (subst (λ l. AreRowsOf new.rows (map (later e) (left_by e (live_services history)) ++ l)) (sym registers)
+    (subst (λ l. AreRowsOf new.rows l) (sym (append-nil (map (later e) (left_by e (live_services history)))))
+    (subst (λ l. AreRowsOf new.rows (map (later e) l)) (sym (all_left e (live_services history) takes)) rows)))
     (issued ∙ let same : old.issued ≡ old.issued + 0 = omega arith in same ∙ ap (λ l. old.issued + length l) (sym registers))
 
 -- an entry that says nothing of services leaves what the rows stand for
 pub stands_quiet : (history : List Entry) (registry : RegistryRows) (e : Entry) → StandsFor history registry → IsQuiet e → StandsFor (history ++ e ∷ []) registry
 stands_quiet history registry e stands quiet =
     changed history registry registry e stands (quiet.registers (length (registered history)) []) quiet.takes
-    (subst (λ rows. AreRowsOf rows (map (later e) (live history))) (map_same registry.rows)
-    (rows_map (λ row. row) (later e) (λ row r is. quiet_row e row r (none_cleaned e quiet.cleans) (λ user. quiet.gets user r.service) (λ user. quiet.ungets user r.service) (quiet.gives r.service) is) registry.rows (live history) stands.rows)) refl
+    (subst (λ rows. AreRowsOf rows (map (later e) (live_services history))) (map_same registry.rows)
+    (rows_map (λ row. row) (later e) (λ row r is. quiet_row e row r (none_cleaned e quiet.cleans) (λ user. quiet.gets user r.service) (λ user. quiet.ungets user r.service) (quiet.gives r.service) is) registry.rows (live_services history) stands.rows)) refl
 
 -- ---- a registration
 
@@ -189,12 +189,12 @@ stands_registered history old new tag owner classes object scope properties serv
     let number : length (registered history) + 1 ≡ service.0 = ap (λ n. n + 1) (sym stands.issued) ∙ sym id in
     let one : r service ∷ [] ≡ registered_by (length (registered history)) e.op e.reply [] = λ i. r (record { 0 = sym number i }) ∷ [] in
     stands_by history old new e stands
-    (subst (λ l. AreRowsOf l (map (later e) (left_by e (live history)) ++ registered_by (length (registered history)) e.op e.reply [])) (sym rows)
-    (subst (λ l. AreRowsOf (old.rows ++ new_row service owner classes object scope properties ∷ []) (map (later e) (left_by e (live history)) ++ l)) one
-    (rows_append old.rows (new_row service owner classes object scope properties ∷ []) (map (later e) (left_by e (live history))) (r service ∷ [])
-    (subst (λ l. AreRowsOf old.rows (map (later e) l)) (sym (all_left e (live history) (λ s o. refl)))
-    (subst (λ l. AreRowsOf l (map (later e) (live history))) (map_same old.rows)
-    (rows_map (λ row. row) (later e) (λ row x is. quiet_row e row x (λ user. refl) (λ user. refl) (λ user. refl) refl is) old.rows (live history) stands.rows)))
+    (subst (λ l. AreRowsOf l (map (later e) (left_by e (live_services history)) ++ registered_by (length (registered history)) e.op e.reply [])) (sym rows)
+    (subst (λ l. AreRowsOf (old.rows ++ new_row service owner classes object scope properties ∷ []) (map (later e) (left_by e (live_services history)) ++ l)) one
+    (rows_append old.rows (new_row service owner classes object scope properties ∷ []) (map (later e) (left_by e (live_services history))) (r service ∷ [])
+    (subst (λ l. AreRowsOf old.rows (map (later e) l)) (sym (all_left e (live_services history) (λ s o. refl)))
+    (subst (λ l. AreRowsOf l (map (later e) (live_services history))) (map_same old.rows)
+    (rows_map (λ row. row) (later e) (λ row x is. quiet_row e row x (λ user. refl) (λ user. refl) (λ user. refl) refl is) old.rows (live_services history) stands.rows)))
     (first, tt))))
     issued
 
@@ -218,11 +218,11 @@ pub stands_modified : (history : List Entry) (old new : RegistryRows) (tag : Tag
 stands_modified history old new tag owner service properties stands rows issued =
     let e : Entry = record { tag = tag; op = op.Modify owner service properties; reply = answer.Done } in
     changed history old new e stands refl (λ s o. refl)
-    (subst (λ l. AreRowsOf l (map (later e) (live history))) (sym rows)
+    (subst (λ l. AreRowsOf l (map (later e) (live_services history))) (sym rows)
     (rows_map (λ row. cond (is_row_of service row) (with_properties properties row) row) (later e)
     (λ row r is.
     subst (λ b. IsRowOf (cond b (with_properties properties row) row) (later e r)) (sym (same_service service row r is))
-    (modified_by e service properties row r (is_service service r) refl refl (λ user. refl) (λ user. refl) (λ user. refl) is)) old.rows (live history) stands.rows)) issued
+    (modified_by e service properties row r (is_service service r) refl refl (λ user. refl) (λ user. refl) (λ user. refl) is)) old.rows (live_services history) stands.rows)) issued
 
 -- ---- a service taken out
 
@@ -231,10 +231,10 @@ pub stands_taken : (history : List Entry) (old new : RegistryRows) (tag : Tag) (
 stands_taken history old new tag owner service stands rows issued =
     let e : Entry = record { tag = tag; op = op.Unregister owner service; reply = answer.Done } in
     stands_by history old new e stands
-    (subst (λ l. AreRowsOf new.rows l) (sym (append-nil (map (later e) (left_by e (live history)))))
-    (subst (λ l. AreRowsOf l (map (later e) (left_by e (live history)))) (map_same (without service old.rows) ∙ sym rows)
-    (rows_map (λ row. row) (later e) (λ row r is. quiet_row e row r (λ user. refl) (λ user. refl) (λ user. refl) refl is) (without service old.rows) (left_by e (live history))
-    (rows_filter (λ row. not (is_row_of service row)) (λ r. not (takes_out r.service r.owner e.op e.reply)) (λ row r is. ap not (same_service service row r is)) old.rows (live history) stands.rows))))
+    (subst (λ l. AreRowsOf new.rows l) (sym (append-nil (map (later e) (left_by e (live_services history)))))
+    (subst (λ l. AreRowsOf l (map (later e) (left_by e (live_services history)))) (map_same (without service old.rows) ∙ sym rows)
+    (rows_map (λ row. row) (later e) (λ row r is. quiet_row e row r (λ user. refl) (λ user. refl) (λ user. refl) refl is) (without service old.rows) (left_by e (live_services history))
+    (rows_filter (λ row. not (is_row_of service row)) (λ r. not (takes_out r.service r.owner e.op e.reply)) (λ row r is. ap not (same_service service row r is)) old.rows (live_services history) stands.rows))))
     (issued ∙ (let same : old.issued ≡ old.issued + 0 = omega arith in same))
 
 -- ---- uses
@@ -318,9 +318,9 @@ pub stands_used : (history : List Entry) (old new : RegistryRows) (tag : Tag) (u
 stands_used history old new tag user service text stands rows issued =
     let e : Entry = record { tag = tag; op = op.Get user service; reply = answer.Object text } in
     changed history old new e stands refl (λ s o. refl)
-    (subst (λ l. AreRowsOf l (map (later e) (live history))) (sym rows)
+    (subst (λ l. AreRowsOf l (map (later e) (live_services history))) (sym rows)
     (rows_map (λ row. cond (is_row_of service row) (used_more user row) row) (later e)
-    (λ row r is. subst (λ b. IsRowOf (cond b (used_more user row) row) (later e r)) (sym (same_service service row r is)) (used_by tag user service text row r (is_service service r) refl is)) old.rows (live history) stands.rows))
+    (λ row r is. subst (λ b. IsRowOf (cond b (used_more user row) row) (later e r)) (sym (same_service service row r is)) (used_by tag user service text row r (is_service service r) refl is)) old.rows (live_services history) stands.rows))
     issued
 
 -- ---- one use less
@@ -381,7 +381,7 @@ pub stands_returned : (history : List Entry) (old new : RegistryRows) (tag : Tag
 stands_returned history old new tag user service stands held rows issued =
     let e : Entry = record { tag = tag; op = op.Unget user service; reply = answer.Flag true } in
     changed history old new e stands refl (λ s o. refl)
-    (subst (λ l. AreRowsOf l (map (later e) (live history))) (sym rows) (rows_returned tag user service old.rows (live history) held stands.rows)) issued
+    (subst (λ l. AreRowsOf l (map (later e) (live_services history))) (sym rows) (rows_returned tag user service old.rows (live_services history) held stands.rows)) issued
 
 -- an Unget that answers false
 pub stands_unreturned : (history : List Entry) (registry : RegistryRows) (tag : Tag) (user : BundleId) (service : ServiceId) → StandsFor history registry →
@@ -481,12 +481,12 @@ stands_released history old new bundle e cleaned stands rows issued =
     let c : IsCleaning bundle e = cleaning bundle e cleaned in
     let none : [] ≡ registered_by (length (registered history)) e.op e.reply [] = sym (c.registers (length (registered history))) in
     stands_by history old new e stands
-    (subst (λ l. AreRowsOf new.rows (map (later e) (left_by e (live history)) ++ l)) none
-    (subst (λ l. AreRowsOf new.rows l) (sym (append-nil (map (later e) (left_by e (live history)))))
-    (subst (λ l. AreRowsOf l (map (later e) (left_by e (live history)))) (sym rows)
-    (rows_map (without_user bundle) (later e) (λ row r is. released_row bundle e row r c is) (others bundle old.rows) (left_by e (live history))
+    (subst (λ l. AreRowsOf new.rows (map (later e) (left_by e (live_services history)) ++ l)) none
+    (subst (λ l. AreRowsOf new.rows l) (sym (append-nil (map (later e) (left_by e (live_services history)))))
+    (subst (λ l. AreRowsOf l (map (later e) (left_by e (live_services history)))) (sym rows)
+    (rows_map (without_user bundle) (later e) (λ row r is. released_row bundle e row r c is) (others bundle old.rows) (left_by e (live_services history))
     (rows_filter (λ row. not (is_owned bundle row)) (λ r. not (takes_out r.service r.owner e.op e.reply))
-    (λ row r is. ap not (flip row.service.owner.0 bundle.0 ∙ ap (λ (s : Service). bundle.0 == s.owner.0) is.service ∙ sym (c.takes r.service r.owner))) old.rows (live history) stands.rows)))))
+    (λ row r is. ap not (flip row.service.owner.0 bundle.0 ∙ ap (λ (s : Service). bundle.0 == s.owner.0) is.service ∙ sym (c.takes r.service r.owner))) old.rows (live_services history) stands.rows)))))
     (issued ∙ (let same : old.issued ≡ old.issued + 0 = omega arith in same) ∙ ap (λ (l : List Registered). old.issued + length l) none)
 
 -- ---- nothing of this

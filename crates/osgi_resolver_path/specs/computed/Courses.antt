@@ -4,7 +4,7 @@ use Rattle.osgi_base.specs.declared.ids.RevisionId.{RevisionId}
 use Rattle.osgi_world.specs.ChoiceWords.{IsWord, made_by}
 use Rattle.osgi_world.specs.Decisions as decisions
 use Rattle.osgi_world.specs.Decisions.{Made, adds}
-use Rattle.osgi_world.specs.DueDecisions.{due, members, payload}
+use Rattle.osgi_world.specs.DueDecisions.{due_decisions, members, payload}
 use Rattle.osgi_world.specs.Lists.{In}
 use Rattle.osgi_world.specs.declared.problem.Problem.{Problem}
 use Rattle.osgi_world.specs.declared.wiring.ReqRef.{ReqRef}
@@ -56,9 +56,9 @@ pub record IsRight (P : Problem) (ms : List Mark) (F : CourseLists) : Type 0 whe
   pub is : made_by P (word_of ms) ≡ made_of ms
   pub steps : AreSteps P ms
   pub ids : F.ids ≡ members P (made_of ms)
-  pub queue : decisions_in F.queue ≡ flat_map (due P (made_of ms)) (take (F.last + 1) F.ids)
+  pub queue : decisions_in F.queue ≡ flat_map (due_decisions P (made_of ms)) (take (F.last + 1) F.ids)
   -- the decisions of the members before the last of these are made
-  pub done : length (flat_map (due P (made_of ms)) (take F.last F.ids)) ≤ length ms
+  pub done : length (flat_map (due_decisions P (made_of ms)) (take F.last F.ids)) ≤ length ms
   pub within : length ms ≤ length F.queue
   pub last_in : F.last < length F.ids
   pub pending : (length ms < length F.queue) ⊎ (F.last + 1 ≡ length F.ids)

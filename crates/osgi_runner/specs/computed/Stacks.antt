@@ -5,8 +5,8 @@ use Rattle.osgi_ops.specs.declared.op.Op.{Op}
 use Rattle.osgi_ops.specs.declared.op.Op.TheVariants as op
 use Rattle.osgi_ops.specs.declared.reply.Reply.{Reply}
 use Rattle.osgi_ops.specs.declared.reply.Reply.TheVariants as answer
-use Rattle.osgi_session.specs.Plans.{is_drained}
-use Rattle.osgi_session.specs.Steps.{Pending, awaiting, draining, within}
+use Rattle.osgi_session.specs.Plans.{stirs}
+use Rattle.osgi_session.specs.Steps.{Pending, asking, draining, within}
 use Rattle.osgi_runner.specs.declared.frames.Frame.{Frame}
 use Rattle.osgi_runner.specs.declared.frames.Frame.TheVariants as frame
 use Rattle.osgi_runner.specs.declared.frames.Now.{Now}
@@ -31,7 +31,7 @@ IsWithin (within next) = Unit {0}
 IsWithin pending = ⊥
 
 abbrev pub IsWaiting : Pending → Op → Type 0
-IsWaiting (awaiting drains next) o = drains ≡ is_drained o
+IsWaiting (asking drains next) o = drains ≡ stirs o
 IsWaiting pending o = ⊥
 
 -- a plan waits for what was begun in it; the outermost frame is the end of a hand or of a job, or the jobs after a line

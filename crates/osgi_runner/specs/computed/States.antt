@@ -16,7 +16,7 @@ use Rattle.osgi_runs.specs.Courses as course
 use Rattle.osgi_session.specs.Plans.{End, done, bound, failed, refused, Plan, ask, stop}
 use Rattle.osgi_session.specs.Runs.{Call, drained, event_word, has_failed, planned, Sections, statements, taking}
 use Rattle.osgi_session.specs.Runs as runs
-use Rattle.osgi_session.specs.Steps.{Pending, awaiting, draining, within, Next, do_op, do_drain, do_section, at_end}
+use Rattle.osgi_session.specs.Steps.{Pending, asking, draining, within, Next, do_op, do_drain, do_section, at_end}
 use Rattle.osgi_session.specs.Steps as steps
 use Rattle.osgi_runner.specs.declared.frames.Frame.{Frame}
 use Rattle.osgi_runner.specs.declared.frames.Frame.TheVariants as frame
@@ -61,7 +61,7 @@ first_bindings (Some service) = record { var = event_word; service = service } �
 
 -- the plan that waits for the reply to this operation
 abbrev pub asked_of : Op → Pending → Plan
-asked_of o (awaiting drains next) = ask o next
+asked_of o (asking drains next) = ask o next
 asked_of o pending = stop refused
 
 -- the plan that is left after a drain

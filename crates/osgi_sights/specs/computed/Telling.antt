@@ -4,7 +4,7 @@ use Rattle.osgi_base.specs.declared.ids.BundleId.{BundleId}
 use Rattle.osgi_base.specs.declared.ids.ListenerId.{ListenerId}
 use Rattle.osgi_listeners.specs.Rows.{Listening}
 use Rattle.osgi_model.specs.declared.value.Attribute.{Attribute}
-use Rattle.osgi_ops.specs.Listening.{Added, AsksFor, Passes}
+use Rattle.osgi_ops.specs.Listening.{Added, AsksFor, LetsPass}
 use Rattle.osgi_ops.specs.Moments.{Sight}
 use Rattle.osgi_ops.specs.declared.event.Event.{Event}
 use Rattle.osgi_ops.specs.declared.event.Event.TheVariants as event
@@ -37,7 +37,7 @@ IsEventAsked world a code s answer = MatchOption answer (¬ AsksFor world a s) (
 -- the event, or that the listener is of another kind or its filter does not match the attributes
 abbrev pub IsEventPassed : Added → Kind → List Attribute → Event → Option Event → Type 0
 IsEventPassed a of_kind attributes its answer =
-    MatchOption answer (¬ ((a.kind ≡ of_kind) × Passes a.given attributes)) (λ (seen : Event). (a.kind ≡ of_kind) × Passes a.given attributes × (seen ≡ its))
+    MatchOption answer (¬ ((a.kind ≡ of_kind) × LetsPass a.given attributes)) (λ (seen : Event). (a.kind ≡ of_kind) × LetsPass a.given attributes × (seen ≡ its))
 
 -- the event that the listener sees, or that it sees none, of the live listener of an id
 abbrev pub IsAnswerOf : Listening → Option BundleId → World → Shown → ListenerId → Option Event → Type 0
