@@ -1,4 +1,4 @@
-//! The open brackets of each caller: the hands, starts, stops and jobs that it began and has not ended.
+//! The open brackets of each caller: the hands, starts, stops, jobs and makes that it began and has not ended.
 #![tactic(auto)]
 
 mod bracket;

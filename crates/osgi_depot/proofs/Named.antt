@@ -12,7 +12,8 @@ use Rattle.std.proofs.lemmas.List.{take_more}
 use Rattle.std.proofs.lemmas.List.Elements.{filter_map-append}
 use Rattle.std.proofs.lemmas.List.Folds.{list_any-append}
 use Rattle.std.proofs.lemmas.Map.Text.{is_eq-slice_cmp}
-use Rattle.osgi_depot.specs.Depots.{firsts, is_among, location_in}
+use Rattle.osgi_depot.specs.Depots.{firsts, location_in}
+use Rattle.osgi_base.specs.Texts.{is_among}
 use Rattle.osgi_depot.specs.computed.Locations.{AreSeen}
 use Rattle.osgi_ops.specs.laws.Along.{along-last}
 use Rattle.osgi_session.specs.declared.line.Line.{Line}

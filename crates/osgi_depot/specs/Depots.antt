@@ -1,7 +1,7 @@
 -- The depot of a session with its scripts: which locations its lines name, and what comes of reading their folders.
-use Rattle.std.specs.Prelude.{ℕ, ◌≡◌, ◌≤◌, Bool, if◌then◌else◌, List, [], ◌∷◌, Option, None, Some, All, IsSomeAnd, drop, map, take}
-use Rattle.std.specs.List.{AllZip, filter_map, list_any}
-use Rattle.std.specs.Str.{bytes_eq}
+use Rattle.std.specs.Prelude.{ℕ, ◌≡◌, ◌≤◌, if◌then◌else◌, List, [], ◌∷◌, Option, None, Some, All, IsSomeAnd, drop, map, take}
+use Rattle.std.specs.List.{AllZip, filter_map}
+use Rattle.osgi_base.specs.Texts.{is_among}
 use Rattle.osgi_base.specs.declared.folder.File.{File}
 use Rattle.osgi_base.specs.declared.folder.Folder.{Folder}
 use Rattle.osgi_manifest.specs.Manifests.{file_at, IsManifestFault, IsMeaning, manifest_path}
@@ -26,9 +26,6 @@ abbrev pub location_in : Content → Option (List ℕ)
 location_in (Run (command.Install location)) = Some location
 location_in (Run (command.Update bundle location)) = Some location
 location_in _ = None
-
-abbrev pub is_among : List (List ℕ) → List ℕ → Bool
-is_among texts text = list_any (λ t. bytes_eq t text) texts
 
 -- the texts without those that stand earlier, too
 abbrev pub firsts : List (List ℕ) → List (List ℕ)

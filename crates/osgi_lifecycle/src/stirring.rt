@@ -36,7 +36,7 @@ fn begins_to_wait(reply: &Reply) -> bool
     matches!(reply, Reply::Waiting { .. })
 }
 
-/// Whether the operation did its work: it was accepted, or refused because a section failed.
+/// Whether the operation took effect: it was accepted, or refused because the section of a start or a stop failed.
 fn took_effect(reply: &Reply) -> bool
     ensures effective { result ≡ took_effect reply.now }
 {

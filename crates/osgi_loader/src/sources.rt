@@ -9,8 +9,7 @@ ghost use Rattle.osgi_world.specs.Sources.{Sources};
 use crate::givers::has_export;
 use crate::reach::given;
 use crate::wires::{provider_of, required_by};
-use osgi_base::RevisionId;
-use osgi_ops::rising;
+use osgi_base::{RevisionId, rising};
 use osgi_wiring::Wirings;
 use std::alloc::{AllocError, Global};
 

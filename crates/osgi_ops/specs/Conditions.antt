@@ -140,7 +140,7 @@ pub record IsDuplicate (now : Moment) (updated : Option BundleId) (location : Li
 
 -- ---- targets
 
--- of two bundles of one name the first is what the name stands for: the other has no higher version, nor the same and a lower id
+-- of two bundles of one name the first is preferred to the other, which has no higher version, nor the same and a lower id
 abbrev pub IsPreferredTo : Bundle → Bundle → Type 0
 IsPreferredTo b other =
     (is_gt (order (parts b.revision.version) (parts other.revision.version)) ≡ true)

@@ -63,13 +63,13 @@ pub record IsDynamicWire (world : World) (r : RevisionId) (pack : List ℕ) (w :
   pub offered : OnOffer world.known world.wirings w.capability
   pub consistent : Consistent world.known (with_wire r w world.wirings)
 
--- of two capabilities of providers in force the first is preferred: its version is higher, else its provider's bundle id is lower, else its
--- owner's revision id, else its place
-abbrev pub IsPreferredInForce : List Known → CapRef → CapRef → Type 0
-IsPreferredInForce K c d =
-    IsTrue (is_higher K c d)
-    ⊎ (¬ IsTrue (is_higher K d c)) × ((bundle_of K c.provider < bundle_of K d.provider)
-    ⊎ (c.provider ≡ d.provider) × ((c.owner.0 < d.owner.0) ⊎ (c.owner ≡ d.owner) × (c.index < d.index)))
+-- of two capabilities of providers in force the first is preferred: its version is higher; or that of the other is not, and the bundle id of
+-- its provider is lower, or both have one provider and its owner's revision id is lower, or both have one owner and it stands before
+pub data IsPreferredInForce (K : List Known) (c d : CapRef) : Type 0 where
+  higher_version : IsTrue (is_higher K c d) → IsPreferredInForce K c d
+  lower_bundle : ¬ IsTrue (is_higher K d c) → bundle_of K c.provider < bundle_of K d.provider → IsPreferredInForce K c d
+  lower_owner : ¬ IsTrue (is_higher K d c) → c.provider ≡ d.provider → c.owner.0 < d.owner.0 → IsPreferredInForce K c d
+  lower_place : ¬ IsTrue (is_higher K d c) → c.provider ≡ d.provider → c.owner ≡ d.owner → c.index < d.index → IsPreferredInForce K c d
 
 -- of two wires of dynamic imports of one revision the first comes first: by clause, then by preference
 abbrev pub IsEarlierWire : List Known → Wire → Wire → Type 0
@@ -96,7 +96,8 @@ abbrev pub IsAdded : Bool → World → BundleId → List ℕ → Option Wire �
 IsAdded dynamics world bundle class wire =
     MatchBool dynamics ((k : Known) × (current_revision world bundle ≡ Some k) × IsWireToAdd world k.id (package_of class) wire) (wire ≡ None)
 
--- the wire that a load has added whose reply shows this row, if it shows one
+-- what wire a load has added: where its reply shows a row of a wire, one that the load adds, and where it shows none, none. That the row is
+-- that of the wire, the answer of a Load says
 abbrev pub IsAddedWhere : World → BundleId → List ℕ → Option WireRow → Option Wire → Type 0
 IsAddedWhere world bundle class None wire = wire ≡ None
 IsAddedWhere world bundle class (Some row) wire = IsAdded true world bundle class wire

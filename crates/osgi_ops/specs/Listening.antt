@@ -124,7 +124,7 @@ abbrev pub modifications : List declared.Service → List declared.Service → L
 modifications (old ∷ []) (new ∷ []) = modified old new ∷ []
 modifications _ _ = []
 
--- what happens at an operation that did its work, after these entries and between these worlds, in order
+-- what happens at an operation that took effect, after these entries and between these worlds, in order
 abbrev pub happenings : List Entry → World → World → Entry → Op → Reply → List Happening
 happenings past before after e (op.Register owner classes object scope properties) (answer.Service id) = map (service SERVICE_REGISTERED) (services_at id (past ++ e ∷ []))
 happenings past before after e (op.Modify owner id properties) reply =

@@ -112,7 +112,7 @@ is_unget user service _ _ = false
 abbrev pub since_cleaning : BundleId → List Entry → List Entry
 since_cleaning bundle entries = carry (λ kept e. if cleans bundle e.op e.reply then [] else kept ++ e ∷ []) [] entries
 
--- how often the user got the service since the service's Register and the user's last cleaning
+-- how often the user got the service, by Gets and GetOwns that made nothing, since the service's Register and the user's last cleaning
 abbrev pub gets : BundleId → Registered → ℕ
 gets user r = count_by (λ e. gets_object user r.service e.op e.reply) (since_cleaning user r.since)
 

@@ -54,7 +54,8 @@ pub record Brings (now : Moment) (bundle : BundleId) (location : List ℕ) (befo
   pub read : stored_revision now.setting.depot location ≡ Some revision
   pub is : after ≡ with_revision before (record { 0 = revisions now.before + 1 }) bundle revision
 
--- the world with the wire that a load has added whose reply shows this row, or none where it shows none
+-- the world that a load leaves: where its reply shows a row of a wire, the one before with a wire that the load adds; where it shows
+-- none, the one before
 pub record IsLeftByLoad (before : World) (bundle : BundleId) (class : List ℕ) (row : Option WireRow) (after : World) : Type 0 where
   pub wire : Option Wire
   pub added : IsAddedWhere before bundle class row wire
@@ -73,7 +74,8 @@ Leaves now (op.Load bundle class) (answer.LoadedMore by row wake) after =
     IsLeftByLoad now.world bundle class row after
 Leaves now _ _ after = after ≡ now.world
 
--- an operation with this reply changes the world: what it leaves may be another. So does a Resolve exactly where it resolved a bundle
+-- the world that an operation with this reply leaves may be another than before; where this is false, it is the same. Of a Resolve it is
+-- true exactly where it resolved a bundle
 abbrev pub may_change_world : Op → Reply → Bool
 may_change_world (op.Install location) (answer.Bundle bundle known) = not known
 may_change_world (op.Resolve bundle) (answer.Resolved []) = false

@@ -1,23 +1,12 @@
 //! Lists of bundles by their ids, each bundle once.
 
-ghost use Rattle.std.specs.Prelude.{◌≡◌, ◌↔◌, ℕ, Contains, IfOk, map};
-ghost use Rattle.std.specs.List.Sorted.{IsStrictlyIncreasing};
+ghost use Rattle.std.specs.Prelude.{◌≡◌, Contains, IfOk, map};
 ghost use Rattle.osgi_ops.specs.Closures.{Rises};
 ghost use Rattle.osgi_ops.specs.Conditions.{AreThose, Falls};
 ghost use Rattle.osgi_ops.specs.computed.Numbered.{numbered};
 
-use osgi_base::{BundleId, List};
+use osgi_base::{BundleId, List, rising};
 use std::alloc::{AllocError, Global};
-
-/// The same numbers, each once and rising.
-pub fn rising(mut numbers: Vec<u32>) -> Vec<u32>
-    ensures rising { IsStrictlyIncreasing result.items }
-    ensures same { (n : ℕ) → Contains result.items n ↔ Contains numbers.items n }
-{
-    numbers.sort_unstable();
-    numbers.dedup();
-    numbers
-}
 
 fn bundles_of(alloc: Global, numbers: &[u32]) -> Result<Vec<BundleId>, AllocError>
     ensures bundles { IfOk result (λ list. list.items ≡ map numbered numbers.now) }

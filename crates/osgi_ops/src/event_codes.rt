@@ -6,7 +6,7 @@ pub const SERVICE_REGISTERED: u8 = 1;
 /// The properties of the service were changed.
 pub const SERVICE_MODIFIED: u8 = 2;
 
-/// The service is being unregistered.
+/// The service was unregistered.
 pub const SERVICE_UNREGISTERING: u8 = 4;
 
 /// The properties of the service were changed so that the listener's filter does not match them any more.
@@ -39,7 +39,7 @@ pub const BUNDLE_STARTING: u16 = 128;
 /// The bundle is being stopped.
 pub const BUNDLE_STOPPING: u16 = 256;
 
-/// The bundle is to be started when one of its classes is loaded.
+/// The bundle is to be started when a class that its policy names is loaded.
 pub const BUNDLE_LAZY_ACTIVATION: u16 = 512;
 
 /// A refresh has ended.

@@ -22,7 +22,7 @@ mod state;
 mod target;
 
 pub use asked::Asked;
-pub use bundle_lists::{rising, those, those_falling};
+pub use bundle_lists::{those, those_falling};
 pub use depot::{Depot, DepotRow, Stored};
 pub use entry::Entry;
 pub use event::{Busy, Event};

@@ -7,6 +7,6 @@ pub enum Scope {
     Singleton,
     /// Each bundle that uses the service has an object of its own.
     Bundle,
-    /// A bundle may ask for objects of its own; one that does not gets the one of its bundle.
+    /// A bundle may ask for objects of its own; else it has one for all its uses.
     Prototype,
 }

@@ -12,7 +12,8 @@ use Rattle.osgi_registry_index.specs.declared.place.Place.{Place}
 use Rattle.osgi_registry.specs.computed.Kept.{AreKept, IsBefore, IsUnder}
 use Rattle.osgi_registry.specs.computed.LivePlaces.{is_placed, IsIndexOf}
 use Rattle.osgi_registry_index.specs.Places.{Classes, holds, HoldsSame, IsFresh, Moves, place_of, Puts, same_place, StandsUnder}
-use Rattle.osgi_ops.specs.Classes.{has_class, is_among}
+use Rattle.osgi_ops.specs.Classes.{has_class}
+use Rattle.osgi_base.specs.Texts.{is_among}
 use Rattle.osgi_registry.specs.Rows.{change, service_number, is_service, LiveService, services_in, without}
 use Rattle.osgi_registry.proofs.Changed.{others_differ, uses_set}
 use Rattle.osgi_registry.proofs.Entries.{pairs_head, pairs_tail}

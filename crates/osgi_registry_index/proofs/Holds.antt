@@ -16,7 +16,7 @@ use Rattle.std.proofs.lemmas.List.{take-append-drop, take_all}
 use Rattle.std.proofs.lemmas.List.Folds.{list_any-append}
 use Rattle.osgi_registry_index.specs.Places.{Classes, holds, HoldsSame, IsFresh, Moves, place_cmp, Puts, same_place, StandsUnder}
 use Rattle.osgi_registry_index.proofs.Exact.{place_exact}
-use Rattle.osgi_ops.specs.Classes.{is_among}
+use Rattle.osgi_base.specs.Texts.{is_among}
 
 abbrev pub at : Classes → List ℕ → Option (BTreeSet Place)
 at classes class = get (slice_cmp nat_cmp) classes class

@@ -9,7 +9,7 @@ use Rattle.std.specs.Ordering.{int_cmp, is_eq, nat_cmp, ordering_then}
 use Rattle.std.specs.declared.cmp.Ordering.{Ordering}
 use Rattle.osgi_base.specs.declared.ids.ServiceId.{ServiceId}
 use Rattle.osgi_model.specs.declared.value.Attribute.{Attribute}
-use Rattle.osgi_ops.specs.Classes.{is_among}
+use Rattle.osgi_base.specs.Texts.{is_among}
 use Rattle.osgi_ops.specs.Properties.{ranking}
 use Rattle.osgi_ops.specs.declared.service.Service.{Service}
 use Rattle.osgi_registry_index.specs.declared.class_index.ClassIndex.{ClassIndex}

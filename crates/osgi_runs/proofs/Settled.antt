@@ -1,13 +1,12 @@
 -- After each call that may leave something to be handed, a run below the greatest depth comes to a Hand that finds nothing.
-use Rattle.std.proofs.Common.{◌≡◌, ◌⊎◌, inl, inr, ◌<◌, ◌+◌, ℕ, List, [], ◌∷◌, ◌++◌, length, Bool, true, false, refl, sym, ap, ◌∙◌, subst, arith}
-use Rattle.std.specs.Prelude.{Option, None, Some, ◌||◌, ◌&&◌, ⊤}
+use Rattle.std.proofs.Common.{◌≡◌, ◌⊎◌, inl, inr, ◌<◌, ◌+◌, ℕ, List, [], ◌∷◌, ◌++◌, length, Bool, true, false, refl, sym, ◌∙◌, subst, arith}
+use Rattle.std.specs.Prelude.{Option, None, Some, ◌||◌, ⊤}
 use Rattle.std.proofs.lemmas.Bool.{eq-eqb}
 use Rattle.osgi_base.specs.declared.ids.Tag.{Tag}
 use Rattle.osgi_ops.specs.Brackets.{Bracket, bracket, Cause, handing, is_end, job, opens}
 use Rattle.osgi_ops.specs.declared.op.Op.{Op}
 use Rattle.osgi_ops.specs.declared.op.Op.TheVariants.{Hand, EndHand, EndJob}
 use Rattle.osgi_ops.specs.declared.reply.Reply.{Reply}
-use Rattle.osgi_legal.specs.laws.Stages.{hand-here}
 use Rattle.osgi_runs.specs.Bound.{AreBound, ClosesTask, finds_nothing, push}
 use Rattle.osgi_runs.specs.Turns.{is_end_of_hand, leaves_some}
 use Rattle.osgi_session.specs.Plans.{End, Plan, stirs}
@@ -60,11 +59,8 @@ HasRoom limit t own = length own < limit
 
 -- ---- which calls drains follow
 
-drained-so : (o : Op) (reply : Reply) → stirs o reply ≡ true → stirs o reply ≡ true
-drained-so o reply e = ap (λ k. k && stirs o reply) hand-here ∙ e
-
 some-drained : (o : Op) (reply : Reply) → is_end_of_hand o ≡ false → leaves_some o reply ≡ true → stirs o reply ≡ true
-some-drained o reply n s = drained-so o reply (go (stirs o reply) (is_end_of_hand o) n s)
+some-drained o reply n s = go (stirs o reply) (is_end_of_hand o) n s
   where
     go : (a b : Bool) → b ≡ false → (a || b) ≡ true → a ≡ true
     go true b n s = refl
@@ -113,7 +109,7 @@ settled limit tag after (asked {asks = asks} {next = next} {reply = y} {calls = 
     let e = behind-end limit tag after own cause asks y calls c.0 h in
     let k = c.1 y e.0 in
     let a = settled limit tag after d None own refl e.1 less in
-    let s = drains-by (stirs asks y) d (drained-so asks y k.0) a in
+    let s = drains-by (stirs asks y) d k.0 a in
     let r = settled limit tag after x None own k.1 (balanced limit tag after d None own refl e.1) less in
     let all = Settles-left (word-of d).word (word-of x).word s in
     (((λ m. all), settled-append (word-of d).word (word-of x).word a.0 r.0), inr all)

@@ -20,25 +20,20 @@ use Rattle.osgi_model.specs.laws.Made.{mapped}
 use Rattle.osgi_ops.specs.declared.section.Section.{Section}
 use Rattle.osgi_ops.specs.declared.section.Section.TheVariants.{Start, Stop, On, Job, Make}
 use Rattle.osgi_session.specs.declared.statement.Statement.{Statement}
-use Rattle.osgi_script.specs.computed.ScriptReader.{add_statement, has_section, is_taken, same_section, with_statement}
+use Rattle.osgi_script.specs.computed.ScriptReader.{add_statement, has_section, is_taken, with_statement}
+use Rattle.osgi_session.specs.Scripts.{is_section}
+use Rattle.osgi_session.specs.laws.Sections.{is_section-self}
 use Rattle.osgi_session.specs.declared.script.Part.{Part}
 use Rattle.osgi_script.specs.declared.taken.Taken.{Taken}
 use Rattle.osgi_script.specs.declared.script.TheConstants.{MAX_STATEMENTS}
 
-pub same_sound : (s t : Section) → same_section s t ≡ true → s ≡ t
+pub same_sound : (s t : Section) → is_section s t ≡ true → s ≡ t
 same_sound Start Start e = refl
 same_sound Stop Stop e = refl
 same_sound (On name) (On other) e = ap On ((bytes_eq-Decides name other).0 e)
 same_sound (Job name) (Job other) e = ap Job ((bytes_eq-Decides name other).0 e)
 same_sound (Make name) (Make other) e = ap Make ((bytes_eq-Decides name other).0 e)
 same_sound s t e = absurd (cc e)
-
-pub same_self : (s : Section) → same_section s s ≡ true
-same_self Start = refl
-same_self Stop = refl
-same_self (On name) = (bytes_eq-Decides name name).1 refl
-same_self (Job name) = (bytes_eq-Decides name name).1 refl
-same_self (Make name) = (bytes_eq-Decides name name).1 refl
 
 abbrev section_of : Part → Section
 section_of part = part.section
@@ -49,7 +44,7 @@ AreApart parts = AllPairs (λ (p q : Part). p.section ≢ q.section) parts
 
 pub has_at : (parts : List Part) (section : Section) (k : ℕ) (d : Part) → k < length parts → (get_or parts k d).section ≡ section → has_section parts section ≡ true
 has_at parts section k d below is =
-    list_any_at (λ (p : Part). same_section section p.section) parts k d below (ap (same_section section) is ∙ same_self section)
+    list_any_at (λ (p : Part). is_section section p.section) parts k d below (ap (is_section section) is ∙ is_section-self section)
 
 -- a part of another section may follow
 pub apart_push : (parts : List Part) (part : Part) → AreApart parts → has_section parts part.section ≡ false → AreApart (parts ++ part ∷ [])
@@ -60,7 +55,7 @@ apart_push parts part apart new =
 found_by : (parts rest : List Part) (part : Part) (test : Bool) → has_section parts part.section ≡ test → AreApart (parts ++ part ∷ rest) → test ≡ false
 found_by parts rest part false e apart = refl
 found_by parts rest part true e apart =
-    let (k, x, below, is, passes) = Any-from_list_any (λ (p : Part). same_section part.section p.section) parts e in
+    let (k, x, below, is, passes) = Any-from_list_any (λ (p : Part). is_section part.section p.section) parts e in
     let same : x.section ≡ part.section = sym (same_sound part.section x.section passes) in
     let within : length parts < length (parts ++ part ∷ rest) = omega (arith, length-append parts (part ∷ rest)) in
     absurd (apart k (length parts) x below within
@@ -99,7 +94,7 @@ name_taken old new key name same updates q =
 
 pub on_taken : (taken : Taken) (new : BTreeSet (List ℕ)) (section : Section) (key name : List ℕ) → section ≡ On name → key ≡ name →
     ((q : List ℕ) → contains (slice_cmp nat_cmp) new q ≡ cond (is_at (slice_cmp nat_cmp key) q) true (contains (slice_cmp nat_cmp) taken.on q)) →
-    (other : Section) → is_taken (record { start = taken.start; stop = taken.stop; on = new; job = taken.job; make = taken.make }) other ≡ (same_section other section || is_taken taken other)
+    (other : Section) → is_taken (record { start = taken.start; stop = taken.stop; on = new; job = taken.job; make = taken.make }) other ≡ (is_section other section || is_taken taken other)
 on_taken taken new section key name is same updates Start = rw is refl
 on_taken taken new section key name is same updates Stop = rw is refl
 on_taken taken new section key name is same updates (On q) = rw is (name_taken taken.on new key name same updates q)
@@ -108,7 +103,7 @@ on_taken taken new section key name is same updates (Make q) = rw is refl
 
 pub job_taken : (taken : Taken) (new : BTreeSet (List ℕ)) (section : Section) (key name : List ℕ) → section ≡ Job name → key ≡ name →
     ((q : List ℕ) → contains (slice_cmp nat_cmp) new q ≡ cond (is_at (slice_cmp nat_cmp key) q) true (contains (slice_cmp nat_cmp) taken.job q)) →
-    (other : Section) → is_taken (record { start = taken.start; stop = taken.stop; on = taken.on; job = new; make = taken.make }) other ≡ (same_section other section || is_taken taken other)
+    (other : Section) → is_taken (record { start = taken.start; stop = taken.stop; on = taken.on; job = new; make = taken.make }) other ≡ (is_section other section || is_taken taken other)
 job_taken taken new section key name is same updates Start = rw is refl
 job_taken taken new section key name is same updates Stop = rw is refl
 job_taken taken new section key name is same updates (On q) = rw is refl
@@ -117,7 +112,7 @@ job_taken taken new section key name is same updates (Make q) = rw is refl
 
 pub make_taken : (taken : Taken) (new : BTreeSet (List ℕ)) (section : Section) (key name : List ℕ) → section ≡ Make name → key ≡ name →
     ((q : List ℕ) → contains (slice_cmp nat_cmp) new q ≡ cond (is_at (slice_cmp nat_cmp key) q) true (contains (slice_cmp nat_cmp) taken.make q)) →
-    (other : Section) → is_taken (record { start = taken.start; stop = taken.stop; on = taken.on; job = taken.job; make = new }) other ≡ (same_section other section || is_taken taken other)
+    (other : Section) → is_taken (record { start = taken.start; stop = taken.stop; on = taken.on; job = taken.job; make = new }) other ≡ (is_section other section || is_taken taken other)
 make_taken taken new section key name is same updates Start = rw is refl
 make_taken taken new section key name is same updates Stop = rw is refl
 make_taken taken new section key name is same updates (On q) = rw is refl
@@ -132,7 +127,7 @@ same_sections s (p ∷ []) new e section =
     ap (λ l. has_section l section) (sym read.1)
 same_sections s (p ∷ next ∷ parts) new e section =
     let read = mapped (λ rest. p ∷ rest) (add_statement s (next ∷ parts)) new e in
-    ap (λ l. has_section l section) (sym read.is) ∙ ap (λ t. same_section section p.section || t) (same_sections s (next ∷ parts) read.value read.was section)
+    ap (λ l. has_section l section) (sym read.is) ∙ ap (λ t. is_section section p.section || t) (same_sections s (next ∷ parts) read.value read.was section)
 
 pub none_apart : AreApart []
 none_apart i j d less below = absurd (omega arith)

@@ -2,7 +2,8 @@
 
 ghost use Rattle.std.specs.Prelude.{◌≡◌, ◌||◌, not, false, IfOk};
 ghost use Rattle.osgi_ops.specs.declared.section.Section.{Section};
-ghost use Rattle.osgi_script.specs.computed.ScriptReader.{is_taken, same_section};
+ghost use Rattle.osgi_script.specs.computed.ScriptReader.{is_taken};
+ghost use Rattle.osgi_session.specs.Scripts.{is_section};
 
 use osgi_base::Text;
 use osgi_ops::Section;
@@ -22,7 +23,8 @@ pub struct Taken {
 impl Taken {
     ghost use Rattle.std.specs.Prelude.{◌≡◌, ◌||◌, not, false, IfOk};
     ghost use Rattle.osgi_ops.specs.declared.section.Section.{Section};
-    ghost use Rattle.osgi_script.specs.computed.ScriptReader.{is_taken, same_section};
+    ghost use Rattle.osgi_script.specs.computed.ScriptReader.{is_taken};
+    ghost use Rattle.osgi_session.specs.Scripts.{is_section};
 
     pub fn new(alloc: Global) -> Taken
         ensures none { (section : Section) → is_taken result section ≡ false }
@@ -42,7 +44,7 @@ impl Taken {
         ensures taken { IfOk result (λ first.
             (other : Section)
             → is_taken self.new other
-            ≡ (same_section other section.now || is_taken self.old other)) }
+            ≡ (is_section other section.now || is_taken self.old other)) }
     {
         match section {
             Section::Start => {

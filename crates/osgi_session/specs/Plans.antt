@@ -32,12 +32,12 @@ pub data Plan : Type 0 where
   stop : End → Plan
 
 -- bundles may wait for a load of one of their classes. Then a stop that finds nothing to stop may have ended such a waiting, of which
--- there are events, and a reply that says so does not tell whether it did: a drain follows each. This has to say what `is_here` says of
--- Await, which stands above: where Await has come and this is false, the events of a waiting that ended are not handed
+-- there are events, and a reply that says so does not tell whether it did: a drain follows each. This has to say what `is_here` of
+-- `osgi_legal` says of Await: where Await has come and this is false, the events of a waiting that ended are not handed
 abbrev pub waits_here : Bool
 waits_here = false
 
--- after this operation with this reply something may wait to be handed to a listener
+-- after this operation with this reply something may wait to be handed to a listener, and a drain follows
 abbrev pub stirs : Op → Reply → Bool
 stirs (op.Register owner classes object scope properties) reply = is_accepted reply
 stirs (op.Modify owner service properties) reply = is_accepted reply

@@ -58,7 +58,7 @@ lanes_from zero lane lines = []
 lanes_from (suc more) lane lines =
     unless_empty (of_lane lane lines) ++ lanes_from more (lane + 1) lines
 
--- lanes are numbered from 1; there are no more than so many
+-- lanes are numbered from 1 to MAX_LANES
 abbrev pub lanes_of : List Line → List (List Line)
 lanes_of lines = lanes_from MAX_LANES 1 lines
 

@@ -11,7 +11,7 @@ use std::alloc::{AllocError, Global};
 pub enum Content {
     /// Nothing, or a comment.
     Empty,
-    /// That the lanes before it are to end before the lines after it begin. No line says so yet.
+    /// That the lanes before it are to end before the lines after it begin.
     Join,
     /// Something outside the grammar.
     Bad,
@@ -31,8 +31,8 @@ impl Content {
     }
 }
 
-/// A line of the input. Lines are numbered from 1. A lane is one of the callers that run beside one another;
-/// it is 0 so far.
+/// A line of the input. Lines are numbered from 1. A lane is one of the callers that run beside one another, numbered from 1; it
+/// is 0 where the line names none.
 pub struct Line {
     pub number: u32,
     pub lane: u32,

@@ -9,6 +9,7 @@ use Rattle.osgi_ops.specs.Assignable.{IsAssignable}
 use Rattle.osgi_ops.specs.Listening.{Added, AsksFor, LetsPass}
 use Rattle.osgi_ops.specs.declared.event.Event.{Event}
 use Rattle.osgi_ops.specs.declared.event.Event.TheVariants as event
+use Rattle.osgi_ops.specs.declared.event_codes.TheConstants.{SERVICE_MODIFIED, SERVICE_MODIFIED_ENDMATCH}
 use Rattle.osgi_ops.specs.declared.kind.Kind.{Kind}
 use Rattle.osgi_ops.specs.declared.service.Service.{Service}
 use Rattle.osgi_ops.specs.declared.kind.Kind.TheVariants as kind
@@ -21,8 +22,8 @@ pub sees_once : (world : World) (a : Added) (shown : Shown) (one other : Event) 
 sees_once world a (service code s) one other here there = here.2 ∙ sym there.2
 sees_once world a (modified old new) one other here there = go here.1 there.1
   where
-    go : (LetsPass a.given new.properties × (one ≡ event.Service 2 new.service)) ⊎ ((¬ LetsPass a.given new.properties) × LetsPass a.given old.properties × (one ≡ event.Service 8 new.service)) →
-        (LetsPass a.given new.properties × (other ≡ event.Service 2 new.service)) ⊎ ((¬ LetsPass a.given new.properties) × LetsPass a.given old.properties × (other ≡ event.Service 8 new.service)) → one ≡ other
+    go : (LetsPass a.given new.properties × (one ≡ event.Service SERVICE_MODIFIED new.service)) ⊎ ((¬ LetsPass a.given new.properties) × LetsPass a.given old.properties × (one ≡ event.Service SERVICE_MODIFIED_ENDMATCH new.service)) →
+        (LetsPass a.given new.properties × (other ≡ event.Service SERVICE_MODIFIED new.service)) ⊎ ((¬ LetsPass a.given new.properties) × LetsPass a.given old.properties × (other ≡ event.Service SERVICE_MODIFIED_ENDMATCH new.service)) → one ≡ other
     go (inl x) (inl y) = x.1 ∙ sym y.1
     go (inl x) (inr y) = absurd (y.0 x.0)
     go (inr x) (inl y) = absurd (x.0 y.0)

@@ -13,6 +13,7 @@ use Rattle.osgi_ops.specs.Moments.{Sight}
 use Rattle.osgi_ops.specs.Properties.{property}
 use Rattle.osgi_ops.specs.declared.event.Event.{Event}
 use Rattle.osgi_ops.specs.declared.event.Event.TheVariants as event
+use Rattle.osgi_ops.specs.declared.event_codes.TheConstants.{SERVICE_MODIFIED, SERVICE_MODIFIED_ENDMATCH}
 use Rattle.osgi_ops.specs.declared.kind.Kind.TheVariants as kind
 use Rattle.osgi_sights.specs.Shown.{Shown, service, modified, bundle, framework}
 use Rattle.osgi_version.specs.declared.version.Version.{Version}
@@ -36,8 +37,8 @@ abbrev pub Sees : World → Added → Shown → Event → Type 0
 Sees world a (service code s) seen = AsksFor world a s × LetsPass a.given s.properties × (seen ≡ event.Service code s.service)
 Sees world a (modified old new) seen =
     AsksFor world a new ×
-    ((LetsPass a.given new.properties × (seen ≡ event.Service 2 new.service))
-    ⊎ ((¬ LetsPass a.given new.properties) × LetsPass a.given old.properties × (seen ≡ event.Service 8 new.service)))
+    ((LetsPass a.given new.properties × (seen ≡ event.Service SERVICE_MODIFIED new.service))
+    ⊎ ((¬ LetsPass a.given new.properties) × LetsPass a.given old.properties × (seen ≡ event.Service SERVICE_MODIFIED_ENDMATCH new.service)))
 Sees world a (bundle code b name version) seen = (a.kind ≡ kind.Bundle) × LetsPass a.given (bundle_attributes code b name version) × (seen ≡ event.Bundle code b)
 Sees world a (framework code) seen = (a.kind ≡ kind.Framework) × LetsPass a.given (framework_attributes code) × (seen ≡ event.Framework code)
 

@@ -15,9 +15,8 @@ ghost use Rattle.osgi_space_rows.specs.Worlds.{AreRowsIn};
 ghost use Rattle.osgi_world.specs.Lists.{In};
 ghost use Rattle.osgi_world.specs.declared.wiring.Wiring.{Wiring};
 
-use crate::naming::rising;
 use crate::violation::Violation;
-use osgi_base::{RevisionId, Text};
+use osgi_base::{RevisionId, Text, rising};
 use osgi_space_rows::{Names, WorldRows};
 use osgi_space_sources::{Among, Given, clashes, constraints_of};
 use std::alloc::{AllocError, Global};

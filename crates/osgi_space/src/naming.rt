@@ -1,25 +1,15 @@
 //! Packages by their names, and sources as revisions.
 
-ghost use Rattle.std.specs.Prelude.{◌≡◌, ◌↔◌, ℕ, Any, Contains, IfOk, map};
+ghost use Rattle.std.specs.Prelude.{◌≡◌, ◌↔◌, Any, IfOk, map};
 ghost use Rattle.std.specs.List.Sorted.{IsStrictlyIncreasing};
 ghost use Rattle.osgi_base.specs.declared.ids.RevisionId.{RevisionId};
 ghost use Rattle.osgi_space_rows.specs.Agree.{id};
 ghost use Rattle.osgi_world.specs.Lists.{In};
 ghost use Rattle.osgi_space_sources.specs.declared.given.Given.{Given};
 
-use osgi_base::{List, RevisionId};
+use osgi_base::{List, RevisionId, rising};
 use osgi_space_sources::Given;
 use std::alloc::{AllocError, Global};
-
-/// The same numbers, each once and rising.
-pub fn rising(mut numbers: Vec<u32>) -> Vec<u32>
-    ensures rising { IsStrictlyIncreasing result.items }
-    ensures same { (x : ℕ) → Contains result.items x ↔ Contains numbers.items x }
-{
-    numbers.sort_unstable();
-    numbers.dedup();
-    numbers
-}
 
 fn sources(alloc: Global, givens: &[Given]) -> Result<Vec<u32>, AllocError>
     ensures sources { IfOk result (λ numbers.

@@ -17,8 +17,8 @@ pub begin-one : (now : Moment) (named : List BundleId) → IsOne (BeginRefreshAn
 begin-one now named y z a b =
     let all : b.all ≡ a.all = closure-one now.world (IsAsked now.world named) b.all a.all b.closure a.closure in
     let there : AreThose (λ x. Contains a.all x × (state_of now x ≡ Active)) (IsStopOrder now) b.active =
-    subst (λ (l : List BundleId). AreThose (λ x. Contains l x × (state_of now x ≡ Active)) (IsStopOrder now) b.active) all b.stopped in
-    let active : a.active ≡ b.active = stopped-one now (λ x. Contains a.all x × (state_of now x ≡ Active)) a.active b.active a.stopped there in
+    subst (λ (l : List BundleId). AreThose (λ x. Contains l x × (state_of now x ≡ Active)) (IsStopOrder now) b.active) all b.to_be_stopped in
+    let active : a.active ≡ b.active = stopped-one now (λ x. Contains a.all x × (state_of now x ≡ Active)) a.active b.active a.to_be_stopped there in
     a.says ∙ (λ i. answer.Closure (sym all i) (active i)) ∙ sym b.says
 
 own-one : (now : Moment) (dropped : Bool) → IsOne (IsOwnRefresh now dropped)

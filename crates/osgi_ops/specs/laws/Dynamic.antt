@@ -3,7 +3,7 @@ use Rattle.std.proofs.Common.{◌≡◌, ◌≢◌, ◌⊎◌, ◌<◌, ◌+◌,
 use Rattle.std.specs.Prelude.{IsTrue, false, Option, None, Some}
 use Rattle.osgi_base.specs.declared.ids.BundleId.{BundleId}
 use Rattle.osgi_base.specs.declared.ids.RevisionId.{RevisionId}
-use Rattle.osgi_ops.specs.Dynamic.{IsAdded, IsWireToAdd, IsEarlierWire, IsPreferredInForce}
+use Rattle.osgi_ops.specs.Dynamic.{higher_version, IsAdded, IsWireToAdd, IsEarlierWire, IsPreferredInForce, lower_bundle, lower_owner, lower_place}
 use Rattle.osgi_world.specs.Candidates.{is_higher}
 use Rattle.osgi_world.specs.Lookups.{bundle_of}
 use Rattle.osgi_world.specs.declared.wiring.CapRef.{CapRef}
@@ -29,16 +29,22 @@ less-both : (m n : ℕ) → (m < n) → (n < m) → ⊥
 less-both m n a b = omega (arith, a, b)
 
 preferred-one : (K : List Known) → IsOneWay K → (c d : CapRef) → IsPreferredInForce K c d → IsPreferredInForce K d c → ⊥
-preferred-one K one c d (inl up) (inl down) = one c d up down
-preferred-one K one c d (inl up) (inr (not, rest)) = not up
-preferred-one K one c d (inr (not, rest)) (inl down) = not down
-preferred-one K one c d (inr (n, inl a)) (inr (m, inl b)) = less-both (bundle_of K c.provider) (bundle_of K d.provider) a b
-preferred-one K one c d (inr (n, inl a)) (inr (m, inr (same, rest))) = not-below (bundle_of K d.provider) (subst (λ p. bundle_of K p < bundle_of K d.provider) (sym same) a)
-preferred-one K one c d (inr (n, inr (same, rest))) (inr (m, inl b)) = not-below (bundle_of K c.provider) (subst (λ p. bundle_of K p < bundle_of K c.provider) (sym same) b)
-preferred-one K one c d (inr (n, inr (same, inl a))) (inr (m, inr (same', inl b))) = less-both c.owner.0 d.owner.0 a b
-preferred-one K one c d (inr (n, inr (same, inl a))) (inr (m, inr (same', inr (o, j)))) = not-below d.owner.0 (subst (λ (p : RevisionId). p.0 < d.owner.0) (sym o) a)
-preferred-one K one c d (inr (n, inr (same, inr (o, i)))) (inr (m, inr (same', inl b))) = not-below c.owner.0 (subst (λ (p : RevisionId). p.0 < c.owner.0) (sym o) b)
-preferred-one K one c d (inr (n, inr (same, inr (o, i)))) (inr (m, inr (same', inr (o', j)))) = less-both c.index d.index i j
+preferred-one K one c d (higher_version up) (higher_version down) = one c d up down
+preferred-one K one c d (higher_version up) (lower_bundle not b) = not up
+preferred-one K one c d (higher_version up) (lower_owner not same b) = not up
+preferred-one K one c d (higher_version up) (lower_place not same o j) = not up
+preferred-one K one c d (lower_bundle not a) (higher_version down) = not down
+preferred-one K one c d (lower_owner not same a) (higher_version down) = not down
+preferred-one K one c d (lower_place not same o i) (higher_version down) = not down
+preferred-one K one c d (lower_bundle n a) (lower_bundle m b) = less-both (bundle_of K c.provider) (bundle_of K d.provider) a b
+preferred-one K one c d (lower_bundle n a) (lower_owner m same b) = not-below (bundle_of K d.provider) (subst (λ p. bundle_of K p < bundle_of K d.provider) (sym same) a)
+preferred-one K one c d (lower_bundle n a) (lower_place m same o j) = not-below (bundle_of K d.provider) (subst (λ p. bundle_of K p < bundle_of K d.provider) (sym same) a)
+preferred-one K one c d (lower_owner n same a) (lower_bundle m b) = not-below (bundle_of K c.provider) (subst (λ p. bundle_of K p < bundle_of K c.provider) (sym same) b)
+preferred-one K one c d (lower_place n same o i) (lower_bundle m b) = not-below (bundle_of K c.provider) (subst (λ p. bundle_of K p < bundle_of K c.provider) (sym same) b)
+preferred-one K one c d (lower_owner n same a) (lower_owner m same' b) = less-both c.owner.0 d.owner.0 a b
+preferred-one K one c d (lower_owner n same a) (lower_place m same' o j) = not-below d.owner.0 (subst (λ (p : RevisionId). p.0 < d.owner.0) (sym o) a)
+preferred-one K one c d (lower_place n same o i) (lower_owner m same' b) = not-below c.owner.0 (subst (λ (p : RevisionId). p.0 < c.owner.0) (sym o) b)
+preferred-one K one c d (lower_place n same o i) (lower_place m same' o' j) = less-both c.index d.index i j
 
 earlier-one : (K : List Known) → IsOneWay K → (v w : Wire) → IsEarlierWire K v w → IsEarlierWire K w v → ⊥
 earlier-one K one v w (inl a) (inl b) = less-both v.requirement.index w.requirement.index a b

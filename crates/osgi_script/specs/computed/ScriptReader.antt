@@ -5,9 +5,9 @@ use Rattle.std.specs.Cmp.Lexicographic.{slice_cmp}
 use Rattle.std.specs.List.{list_any}
 use Rattle.std.specs.Option.{option_map}
 use Rattle.std.specs.Ordering.{nat_cmp}
-use Rattle.std.specs.Str.{bytes_eq}
 use Rattle.osgi_ops.specs.declared.section.Section.{Section}
 use Rattle.osgi_ops.specs.declared.section.Section.TheVariants.{Start, Stop, On, Job, Make}
+use Rattle.osgi_session.specs.Scripts.{is_section}
 use Rattle.osgi_session.specs.declared.statement.Statement.{Statement}
 use Rattle.osgi_script.specs.declared.lines.ScriptLine.{ScriptLine}
 use Rattle.osgi_script.specs.declared.lines.ScriptLine.TheVariants as line
@@ -36,16 +36,8 @@ line_of text = if is_silent (after_spaces text) then line.Empty else statement_o
 
 -- ---- sections
 
-abbrev pub same_section : Section → Section → Bool
-same_section Start Start = true
-same_section Stop Stop = true
-same_section (On name) (On other) = bytes_eq name other
-same_section (Job name) (Job other) = bytes_eq name other
-same_section (Make name) (Make other) = bytes_eq name other
-same_section _ _ = false
-
 abbrev pub has_section : List Part → Section → Bool
-has_section parts section = list_any (λ (part : Part). same_section section part.section) parts
+has_section parts section = list_any (λ (part : Part). is_section section part.section) parts
 
 -- whether a section has a head already
 abbrev pub is_taken : Taken → Section → Bool
