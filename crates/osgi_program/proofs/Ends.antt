@@ -109,7 +109,9 @@ session_from bounds input shelf how session status left run all within starved i
       within = within;
       lines = run.lines;
       depot = run.depot;
-      legal = run.legal;
+      told = run.legal.1.told;
+      tells = run.legal.1.tells;
+      legal = run.legal.1.allowed;
       sound = run.sound;
       handed = all_handed how setting session status run.legal.1.told run.legal.1.allowed run.legal.1.tells starved is run.runs;
       whole = whole;

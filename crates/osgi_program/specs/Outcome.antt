@@ -2,11 +2,12 @@
 use Rattle.std.specs.Prelude.{ℕ, ◌≡◌, ◌≤◌, ◌⊎◌, ◌||◌, if◌then◌else◌, Bool, true, false, List, [], Option, IfSome, length, take, All}
 use Rattle.std.specs.List.{count_by, list_any}
 use Rattle.std.specs.Io.KnownBytes.{Appends}
-use Rattle.osgi_legal.specs.Legal.{Legal}
+use Rattle.osgi_legal.specs.Legal.{AreAllowed}
 use Rattle.osgi_session.specs.Rendering.{is_full, render, IsFullWhereCut}
 use Rattle.osgi_ops.specs.Replies.{is_refusal}
 use Rattle.osgi_session.specs.Scripts.{sections_of}
 use Rattle.osgi_session.specs.Sessions.{IsWhole}
+use Rattle.osgi_ops.specs.Moments.{entries_in, Told}
 use Rattle.osgi_ops.specs.Settings.{Bounds}
 use Rattle.osgi_ops.specs.declared.entry.Entry.{Entry}
 use Rattle.osgi_ops.specs.declared.op.Op.{Op}
@@ -46,24 +47,34 @@ pub record Shelved : Type 0 where
   pub before : ℕ
   pub after : ℕ
 
--- `input` is what the source had left, if the source exposes it, and within the limit. The session's lines are all lines of the input,
--- read with no lanes. Its depot is what these lines name, as the shelf told it, each row with its script. Its
--- history replays from the empty framework, and is what these lines make under the limits. After every step of it, as it replays, the
--- wirings in force are consistent, and each bundle that it refuses as unresolvable is so. What each listener was handed is a beginning
--- of what is due to it; on the statuses 0 and 1 it is all of that, for each listener that is live in the end. No line peeks: there is no
--- word for it yet
+-- a session that a run made of an input and a shelf
 pub record IsSession (asked : Request) (status : ℕ) (left : Option (List ℕ)) (shelf : Shelved) (session : Session) : Type 0 where
   pub input : List ℕ
+  -- the input is what the source had left, if the source exposes it
   pub all : IfSome left (λ bytes. input ≡ bytes)
+  -- it is within the limit
   pub within : length input ≤ MAX_INPUT
+  -- the session's lines are all lines of the input, read with no lanes
   pub lines : AreLinesOf 0 input session.lines
+  -- the depot is what these lines name, as the shelf told it, each row with its script
   pub depot : IsDepotOf session.lines shelf.told shelf.before shelf.after session.depot.rows session.scripts.rows
-  pub legal : Legal (record { bounds = bounds_in asked; depot = session.depot.rows }) session.entries
-  pub sound : IsSoundTelling legal.1.told
-  pub handed : IsDoneStatus status → AllHanded legal.1.told
+  -- the history is told: each entry with the world after it and what the listeners saw of it, from the empty framework on
+  pub told : List Told
+  pub tells : entries_in told ≡ session.entries
+  -- what is told is legal: step after step, each entry has the reply that is due, and leaves a world that it may leave
+  pub legal : AreAllowed (record { bounds = bounds_in asked; depot = session.depot.rows }) told
+  -- it is sound: after every step the wirings in force are consistent, each bundle that is refused as unresolvable is so, and what each
+  -- listener was handed is a beginning of what is due to it
+  pub sound : IsSoundTelling told
+  -- on the statuses 0 and 1 each listener that is live in the end was handed all that is due to it
+  pub handed : IsDoneStatus status → AllHanded told
+  -- the history is what the lines make, each a whole run of its command, or a cut one where it may be cut
   pub whole : IsWhole (sections_of session.scripts) (bounds_in asked).entries status session.lines session.entries
+  -- a line with a command says `full` exactly where its entries are no caller's whole run of it
   pub full : All (IsFullWhereCut (sections_of session.scripts) session.entries) session.lines
+  -- the handings are those of the history
   pub handings : session.handings ≡ count_by (λ e. is_handing e.reply) session.entries
+  -- no line peeks: there is no word for it yet
   pub peeks : session.peeks ≡ []
 
 abbrev pub is_bad : Content → Bool
