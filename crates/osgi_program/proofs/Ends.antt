@@ -15,6 +15,7 @@ use Rattle.osgi_runs.proofs.Handed.{lane-handed}
 use Rattle.osgi_runs.proofs.Plain.{lane-weaker, lane-whole}
 use Rattle.osgi_runs.specs.Handed.{AllHanded}
 use Rattle.osgi_runs.specs.Plain.{AreNumberedFrom, commands_in, IsPlain}
+use Rattle.osgi_session.specs.Rendering.{render}
 use Rattle.osgi_session.specs.Runs.{Sections}
 use Rattle.osgi_session.specs.Scripts.{sections_of}
 use Rattle.osgi_session.specs.Sessions.{IsWhole, Lane, MayBeCut, Never}
@@ -23,8 +24,8 @@ use Rattle.osgi_session.specs.declared.line.Content.TheVariants as content
 use Rattle.osgi_session.specs.declared.line.Line.{Line}
 use Rattle.osgi_program.proofs.Limits.{handed_all, hands_are, lane_end, some_spent}
 use Rattle.osgi_program.specs.computed.Ended.{IsRun, status_by}
-use Rattle.osgi_program.specs.Outcome.{is_handing, is_troubled, IsAtLimit, IsDoneStatus, IsSession, IsUncut, IsWrittenStatus, Shelved, status_of}
-use Rattle.osgi_program.specs.Words.{replies}
+use Rattle.osgi_program.specs.Outcome.{is_handing, is_troubled, IsAtLimit, IsDoneStatus, IsPartlyWritten, IsSession, IsUncut, IsWritten, IsWrittenStatus, Shelved, status_of, text_of}
+use Rattle.osgi_program.specs.Words.{replies, Request}
 use Rattle.osgi_program.specs.declared.session.TheConstants.{CUT, DONE, MAX_INPUT, NO_MEMORY, TROUBLED, WRITE_FAILED}
 use Rattle.osgi_program.specs.computed.Running.{IsSpentOrFull, RunsLines, Unspent}
 use Rattle.osgi_program.specs.declared.lines.Ran.{Ran}
@@ -96,9 +97,9 @@ all_handed ran.Cut setting session status told legal tells starved is runs done 
     absurd (not_done status (let e : status ≡ 7 = is (done_written status done) in omega (arith, e)) done)
 all_handed ran.Starved setting session status told legal tells starved is runs done = absurd (not_done status (let e : status ≡ 5 = starved refl in omega (arith, e)) done)
 
-pub session_from : (bounds : Bounds) (input : List ℕ) (shelf : Shelved) (how : Ran) (session : Session) (status : ℕ) (left : Option (List ℕ)) → IsRun bounds input shelf how session → IfSome left (λ all. input ≡ all) → length input ≤ MAX_INPUT →
+session_by : (bounds : Bounds) (input : List ℕ) (shelf : Shelved) (how : Ran) (session : Session) (status : ℕ) (left : Option (List ℕ)) → IsRun bounds input shelf how session → IfSome left (λ all. input ≡ all) → length input ≤ MAX_INPUT →
     (how ≡ ran.Starved → status ≡ 5) → (IsWrittenStatus status → status ≡ status_by how session) → IsSession (replies bounds) status left shelf session
-session_from bounds input shelf how session status left run all within starved is =
+session_by bounds input shelf how session status left run all within starved is =
     let script = sections_of session.scripts in
     let setting : Setting = record { bounds = bounds; depot = session.depot.rows } in
     let flat = all_plain 1 (lines input) session.lines run.lines in
@@ -119,6 +120,22 @@ session_from bounds input shelf how session status left run all within starved i
       handings = run.handings ∙ hands_are session.entries;
       peeks = run.peeks;
     }
+
+pub session_from : (asked : Request) (bounds : Bounds) (input : List ℕ) (shelf : Shelved) (how : Ran) (session : Session) (status : ℕ) (left : Option (List ℕ)) → replies bounds ≡ asked → IsRun bounds input shelf how session →
+    IfSome left (λ all. input ≡ all) → length input ≤ MAX_INPUT → (how ≡ ran.Starved → status ≡ 5) → (IsWrittenStatus status → status ≡ status_by how session) → IsSession asked status left shelf session
+session_from asked bounds input shelf how session status left same run all within starved is =
+    subst (λ (a : Request). IsSession a status left shelf session) same (session_by bounds input shelf how session status left run all within starved is)
+
+-- ---- the text
+
+-- a session's lines as they are rendered are the text of what was asked for
+pub part_for : (before after : Option (List ℕ)) (session : Session) (bounds : Bounds) (asked : Request) → replies bounds ≡ asked →
+    IsPartlyWritten before after (render session.lines session.entries session.peeks) → IsPartlyWritten before after (text_of asked session)
+part_for before after session bounds asked same part = subst (λ (a : Request). IsPartlyWritten before after (text_of a session)) same part
+
+pub whole_for : (before after flushed : Option (List ℕ)) (session : Session) (bounds : Bounds) (asked : Request) → replies bounds ≡ asked →
+    IsWritten before after flushed (render session.lines session.entries session.peeks) → IsWritten before after flushed (text_of asked session)
+whole_for before after flushed session bounds asked same whole = subst (λ (a : Request). IsWritten before after flushed (text_of a session)) same whole
 
 -- ---- the status
 

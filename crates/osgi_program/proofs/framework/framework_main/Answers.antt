@@ -2,8 +2,8 @@
 use Rattle.std.proofs.Common.{◌≡◌, inr, subst}
 use Rattle.osgi_ops.specs.Settings.{bounds_of}
 use Rattle.osgi_ops.specs.declared.limits.Limits.{Limits}
-use Rattle.osgi_program.proofs.Ends.{all_taken, completed, limit_from, not_asked, not_cut_by, session_from, status_from}
-use Rattle.osgi_program.specs.Outcome.{IsAtLimit, IsPartlyWritten, IsSession, IsWritten, text_of}
+use Rattle.osgi_program.proofs.Ends.{all_taken, completed, limit_from, not_asked, not_cut_by, part_for, session_from, status_from, whole_for}
+use Rattle.osgi_program.specs.Outcome.{IsAtLimit}
 use Rattle.osgi_program.specs.Words.{bounds_in, replies, Request}
 use Rattle.osgi_program.proofs.framework.framework_main.Goals as goal
 
@@ -12,17 +12,16 @@ returns-in-Ok-clause-session g c = λ asked asks.
     let bounds = bounds_of c.in-Some.limits in
     let same : replies bounds ≡ asked = c.in-Some.ensures.only asked asks in
     let read = rw c.in-Ok-All.field-0-is at c.in-Ok-All.ensures.input in
-    subst (λ (a : Request). IsSession a c.write_session-status.result _ _ c.in-Ok.session) same
-    (session_from bounds c.bytes.result.now _ c.in-Ok.ran c.in-Ok.session c.write_session-status.result _ c.in-Ok.ensures.run
-    (rw c.bytes.ensures.bytes (all_taken _ _ _ read.0 read.1)) (rw c.bytes.ensures.bytes read.2) c.write_session-status.ensures.starved c.write_session-status.ensures.status)
+    session_from asked bounds c.bytes.result.now _ c.in-Ok.ran c.in-Ok.session c.write_session-status.result _ same c.in-Ok.ensures.run
+    (rw c.bytes.ensures.bytes (all_taken _ _ _ read.0 read.1)) (rw c.bytes.ensures.bytes read.2) c.write_session-status.ensures.starved c.write_session-status.ensures.status
 
 pub returns-in-Ok-clause-part_written : goal.returns-in-Ok-clause-part_written
 returns-in-Ok-clause-part_written g c = λ asked asks failed.
-    subst (λ (a : Request). IsPartlyWritten _ _ (text_of a c.in-Ok.session)) (c.in-Some.ensures.only asked asks) (c.write_session-status.ensures.part failed)
+    part_for _ _ c.in-Ok.session (bounds_of c.in-Some.limits) asked (c.in-Some.ensures.only asked asks) (c.write_session-status.ensures.part failed)
 
 pub returns-in-Ok-clause-written : goal.returns-in-Ok-clause-written
 returns-in-Ok-clause-written g c = λ asked asks written.
-    subst (λ (a : Request). IsWritten _ _ _ (text_of a c.in-Ok.session)) (c.in-Some.ensures.only asked asks) (c.write_session-status.ensures.whole written)
+    whole_for _ _ _ c.in-Ok.session (bounds_of c.in-Some.limits) asked (c.in-Some.ensures.only asked asks) (c.write_session-status.ensures.whole written)
 
 pub returns-in-Ok-clause-status_by_session : goal.returns-in-Ok-clause-status_by_session
 returns-in-Ok-clause-status_by_session g c = λ written. status_from (bounds_of c.in-Some.limits) c.bytes.result.now _ c.in-Ok.ran c.in-Ok.session c.write_session-status.result c.in-Ok.ensures.run c.write_session-status.ensures.starved written (c.write_session-status.ensures.status written)
