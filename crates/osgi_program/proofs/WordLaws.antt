@@ -8,10 +8,10 @@ use Rattle.std.specs.Prelude.{◌==◌, true, false, is_some, nat_eq, IfSome, Is
 use Rattle.osgi_syntax.specs.Words.{IsId}
 use Rattle.osgi_ops.specs.Settings.{Bounds, bounds_of, standard_bounds}
 use Rattle.osgi_ops.specs.declared.limits.Limits.{Limits}
-use Rattle.osgi_program.specs.Words.{AreOptions, Asks, AsksRun, for_replies, Given, GivesNumber, HasNumber, IsChosen, IsNumberUpTo, IsOneOf, IsOption, leads, none, numbers_of, replies, Request, run_options}
+use Rattle.osgi_program.specs.Words.{AreOptions, Asks, AsksRun, for_replies, GivenOption, GivesNumber, IsGivenSo, IsChosen, IsNumberUpTo, IsOneOf, IsOption, leads, none, numbers_of, replies, Request, run_options}
 use Rattle.osgi_program.specs.computed.Options.{AsksMore, budget_with, given_as, greatest_of, handings_with, held, so_far}
-use Rattle.osgi_program.specs.declared.words.Choice.{Choice}
-use Rattle.osgi_program.specs.declared.words.Choice.TheVariants.{Budget, Handings}
+use Rattle.osgi_program.specs.declared.words.RunOption.{RunOption}
+use Rattle.osgi_program.specs.declared.words.RunOption.TheVariants.{Budget, Handings}
 use Rattle.osgi_ops.specs.declared.limits.TheConstants.{MAX_BUDGET, MAX_HANDINGS}
 
 -- ---- numbers
@@ -65,7 +65,7 @@ nothing_given (word, inr one, number) = cc one
 -- ---- the option that the words begin with
 
 -- an option that has a number gives it
-gives : (greatest : ℕ) (number : Option ℕ) (name : List ℕ) (words rest : List (List ℕ)) → HasNumber (Some greatest) number name words rest →
+gives : (greatest : ℕ) (number : Option ℕ) (name : List ℕ) (words rest : List (List ℕ)) → IsGivenSo (Some greatest) number name words rest →
     (given : ℕ) × (number ≡ Some given) × GivesNumber name greatest words given rest
 gives greatest None name words rest has = absurd has
 gives greatest (Some given) name words rest has = (given, refl, has)
@@ -85,12 +85,12 @@ apart words rest left word other (inl a) (inr b) = differ (codes "--budget") (co
 apart words rest left word other (inr a) (inl b) = differ (codes "--budget" ++ codes "=" ++ word) (codes "--handings") refl refl (first_same (sym a ∙ b))
 apart words rest left word other (inr a) (inr b) = differ (codes "--budget" ++ codes "=" ++ word) (codes "--handings" ++ codes "=" ++ other) refl refl (first_same (sym a ∙ b))
 
-same_given : (name : List ℕ) (number : ℕ) (given : Given) (other : ℕ) → given.name ≡ name → given.number ≡ Some other → number ≡ other → record { name = name; number = Some number } ≡ given
+same_given : (name : List ℕ) (number : ℕ) (given : GivenOption) (other : ℕ) → given.name ≡ name → given.number ≡ Some other → number ≡ other → record { name = name; number = Some number } ≡ given
 same_given name number given other named numbered same = λ i. record { name = sym named i; number = (ap Some same ∙ sym numbered) i }
 
 -- what is known of an option that the words begin with: it is the only one
-abbrev pub IsOnly : Choice → ℕ → List (List ℕ) → List (List ℕ) → Type 0
-IsOnly choice number words rest = (given : Given) (left : List (List ℕ)) → IsOneOf run_options words given left → (given_as choice number ≡ given) × (rest ≡ left)
+abbrev pub IsOnly : RunOption → ℕ → List (List ℕ) → List (List ℕ) → Type 0
+IsOnly choice number words rest = (given : GivenOption) (left : List (List ℕ)) → IsOneOf run_options words given left → (given_as choice number ≡ given) × (rest ≡ left)
 
 pub budget_only : (words rest : List (List ℕ)) (number : ℕ) → GivesNumber (codes "--budget") MAX_BUDGET words number rest →
     ((other : ℕ) (left : List (List ℕ)) → GivesNumber (codes "--budget") MAX_BUDGET words other left → (number ≡ other) × (rest ≡ left)) → IsOnly Budget number words rest
@@ -110,7 +110,7 @@ handings_only words rest number no_budget only given left (inr (inl is)) =
 handings_only words rest number no_budget only given left (inr (inr never)) = absurd never
 
 pub neither : (words : List (List ℕ)) → ((other : ℕ) (left : List (List ℕ)) → GivesNumber (codes "--budget") MAX_BUDGET words other left → ⊥) →
-    ((other : ℕ) (left : List (List ℕ)) → GivesNumber (codes "--handings") MAX_HANDINGS words other left → ⊥) → (given : Given) (left : List (List ℕ)) → IsOneOf run_options words given left → ⊥
+    ((other : ℕ) (left : List (List ℕ)) → GivesNumber (codes "--handings") MAX_HANDINGS words other left → ⊥) → (given : GivenOption) (left : List (List ℕ)) → IsOneOf run_options words given left → ⊥
 neither words no_budget no_handings given left (inl is) = let k = gives MAX_BUDGET given.number (codes "--budget") words left is.1 in no_budget k.0 left k.2
 neither words no_budget no_handings given left (inr (inl is)) = let k = gives MAX_HANDINGS given.number (codes "--handings") words left is.1 in no_handings k.0 left k.2
 neither words no_budget no_handings given left (inr (inr never)) = never
@@ -122,7 +122,7 @@ not_given None is = refl
 not_given (Some number) is = absurd (cc is)
 
 -- what is asked for with the option that the words begin with, and with all words
-pub more_asked : (choice : Choice) (number : ℕ) (words rest : List (List ℕ)) (budget handings : Option ℕ) (bounds : Bounds) → is_some (so_far choice budget handings) ≡ false →
+pub more_asked : (choice : RunOption) (number : ℕ) (words rest : List (List ℕ)) (budget handings : Option ℕ) (bounds : Bounds) → is_some (so_far choice budget handings) ≡ false →
     IsOneOf run_options words (given_as choice number) rest → AsksMore (budget_with choice number budget) (handings_with choice number handings) rest bounds → AsksMore budget handings words bounds
 more_asked Budget number words rest budget handings bounds free is asks =
     subst (λ b. AsksMore b handings words bounds) (sym (not_given budget free))
@@ -132,18 +132,18 @@ more_asked Handings number words rest budget handings bounds free is asks =
     (record { given = given_as Handings number ∷ asks.given; are = leads is asks.are; one_budget = asks.one_budget; one_limit = asks.one_limit; entries = asks.entries })
 
 -- words that are options are the first of them and others
-record Begins (choice : Choice) (number : ℕ) (rest : List (List ℕ)) (given : List Given) : Type 0 where
-  pub more : List Given
+record Begins (choice : RunOption) (number : ℕ) (rest : List (List ℕ)) (given : List GivenOption) : Type 0 where
+  pub more : List GivenOption
   pub is : given ≡ given_as choice number ∷ more
   pub are : AreOptions run_options rest more
 
-begins : (choice : Choice) (number : ℕ) (words rest : List (List ℕ)) (given : List Given) → AreOptions run_options words given → words ≢ [] → IsOnly choice number words rest → Begins choice number rest given
+begins : (choice : RunOption) (number : ℕ) (words rest : List (List ℕ)) (given : List GivenOption) → AreOptions run_options words given → words ≢ [] → IsOnly choice number words rest → Begins choice number rest given
 begins choice number words rest given none some only = absurd (some refl)
 begins choice number words rest given (leads {rest = left} {first = first} {more = more} is are) some only =
     let same = only first left is in
     record { more = more; is = ap (λ g. g ∷ more) (sym same.0); are = subst (λ r. AreOptions run_options r more) (sym same.1) are }
 
-pub more_only : (choice : Choice) (number : ℕ) (words rest : List (List ℕ)) (budget handings : Option ℕ) (bounds : Bounds) → is_some (so_far choice budget handings) ≡ false →
+pub more_only : (choice : RunOption) (number : ℕ) (words rest : List (List ℕ)) (budget handings : Option ℕ) (bounds : Bounds) → is_some (so_far choice budget handings) ≡ false →
     IsOnly choice number words rest → words ≢ [] → AsksMore budget handings words bounds → AsksMore (budget_with choice number budget) (handings_with choice number handings) rest bounds
 more_only Budget number words rest budget handings bounds free only some asks =
     let k = begins Budget number words rest asks.given asks.are some only in
@@ -171,7 +171,7 @@ chosen_twice standard None given more number some is = cc some
 chosen_twice standard (Some before) given more number some is = is
 
 -- an option that was given before is not given again
-pub twice : (choice : Choice) (number : ℕ) (words rest : List (List ℕ)) (budget handings : Option ℕ) (bounds : Bounds) → is_some (so_far choice budget handings) ≡ true →
+pub twice : (choice : RunOption) (number : ℕ) (words rest : List (List ℕ)) (budget handings : Option ℕ) (bounds : Bounds) → is_some (so_far choice budget handings) ≡ true →
     IsOnly choice number words rest → words ≢ [] → AsksMore budget handings words bounds → ⊥
 twice Budget number words rest budget handings bounds before only some asks =
     let k = begins Budget number words rest asks.given asks.are some only in
@@ -184,10 +184,10 @@ twice Handings number words rest budget handings bounds before only some asks =
 
 -- words that begin with no option ask for nothing
 pub no_more : (words : List (List ℕ)) (budget handings : Option ℕ) (bounds : Bounds) → words ≢ [] →
-    ((given : Given) (left : List (List ℕ)) → IsOneOf run_options words given left → ⊥) → AsksMore budget handings words bounds → ⊥
+    ((given : GivenOption) (left : List (List ℕ)) → IsOneOf run_options words given left → ⊥) → AsksMore budget handings words bounds → ⊥
 no_more words budget handings bounds some never asks = by words asks.given asks.are some never
   where
-    by : (words : List (List ℕ)) (given : List Given) → AreOptions run_options words given → words ≢ [] → ((given : Given) (left : List (List ℕ)) → IsOneOf run_options words given left → ⊥) → ⊥
+    by : (words : List (List ℕ)) (given : List GivenOption) → AreOptions run_options words given → words ≢ [] → ((given : GivenOption) (left : List (List ℕ)) → IsOneOf run_options words given left → ⊥) → ⊥
     by words given none some never = some refl
     by words given (leads {rest = rest} {first = first} is are) some never = never first rest is
 
@@ -219,7 +219,7 @@ chosen_only standard (Some given) number is = cc is
 pub all_read : (budget handings : Option ℕ) → AsksMore budget handings [] (limits_of budget handings)
 all_read budget handings = record { given = []; are = none; one_budget = chosen standard_bounds.budget budget; one_limit = chosen standard_bounds.handings handings; entries = refl }
 
-none_given : (words : List (List ℕ)) (given : List Given) → AreOptions run_options words given → words ≡ [] → given ≡ []
+none_given : (words : List (List ℕ)) (given : List GivenOption) → AreOptions run_options words given → words ≡ [] → given ≡ []
 none_given words given none empty = refl
 none_given words given (leads {rest = rest} {first = first} is are) empty =
     absurd (neither [] (λ other left bad. nothing_given bad) (λ other left bad. nothing_given bad) first rest (subst (λ w. IsOneOf run_options w first rest) empty is))

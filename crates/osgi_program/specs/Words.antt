@@ -30,33 +30,33 @@ pub record Offered : Type 0 where
   pub greatest : Option ℕ
 
 -- an option that is given: its name, and its number, where it has one
-pub record Given : Type 0 where
+pub record GivenOption : Type 0 where
   pub name : List ℕ
   pub number : Option ℕ
 
 -- an option without a number is its name alone
-abbrev pub HasNumber : Option ℕ → Option ℕ → List ℕ → List (List ℕ) → List (List ℕ) → Type 0
-HasNumber None None name words rest = words ≡ name ∷ rest
-HasNumber (Some greatest) (Some number) name words rest = GivesNumber name greatest words number rest
-HasNumber _ _ name words rest = ⊥
+abbrev pub IsGivenSo : Option ℕ → Option ℕ → List ℕ → List (List ℕ) → List (List ℕ) → Type 0
+IsGivenSo None None name words rest = words ≡ name ∷ rest
+IsGivenSo (Some greatest) (Some number) name words rest = GivesNumber name greatest words number rest
+IsGivenSo _ _ name words rest = ⊥
 
 -- the words begin with one of the options that there are, given so, and these stand after it
-abbrev pub IsOneOf : List Offered → List (List ℕ) → Given → List (List ℕ) → Type 0
+abbrev pub IsOneOf : List Offered → List (List ℕ) → GivenOption → List (List ℕ) → Type 0
 IsOneOf [] words given rest = ⊥
-IsOneOf (offered ∷ others) words given rest = ((given.name ≡ offered.name) × HasNumber offered.greatest given.number offered.name words rest) ⊎ IsOneOf others words given rest
+IsOneOf (offered ∷ others) words given rest = ((given.name ≡ offered.name) × IsGivenSo offered.greatest given.number offered.name words rest) ⊎ IsOneOf others words given rest
 
 -- the options of a run
 abbrev pub run_options : List Offered
 run_options = record { name = codes "--budget"; greatest = Some MAX_BUDGET } ∷ record { name = codes "--handings"; greatest = Some MAX_HANDINGS } ∷ []
 
 -- the words are options, given so, one after another in any order
-pub data AreOptions (all : List Offered) : List (List ℕ) → List Given → Type 0 where
+pub data AreOptions (all : List Offered) : List (List ℕ) → List GivenOption → Type 0 where
   none : AreOptions all [] []
-  leads : {words rest : List (List ℕ)} {first : Given} {more : List Given} → IsOneOf all words first rest → AreOptions all rest more → AreOptions all words (first ∷ more)
+  leads : {words rest : List (List ℕ)} {first : GivenOption} {more : List GivenOption} → IsOneOf all words first rest → AreOptions all rest more → AreOptions all words (first ∷ more)
 
 -- the numbers that the options of this name give
-abbrev pub numbers_of : List ℕ → List Given → List (Option ℕ)
-numbers_of name given = map (λ (g : Given). g.number) (filter (λ (g : Given). bytes_eq g.name name) given)
+abbrev pub numbers_of : List ℕ → List GivenOption → List (Option ℕ)
+numbers_of name given = map (λ (g : GivenOption). g.number) (filter (λ (g : GivenOption). bytes_eq g.name name) given)
 
 -- the option is given at most once, and its number counts; where it is not given, the standard one does
 abbrev pub IsChosen : ℕ → List (Option ℕ) → ℕ → Type 0
@@ -69,7 +69,7 @@ IsChosen standard (given ∷ other ∷ more) number = ⊥
 -- `run`, and after it at most one budget for each resolve, and at most one limit of handings: these are the limits of the run
 pub record AsksRun (words : List (List ℕ)) (bounds : Bounds) : Type 0 where
   pub options : List (List ℕ)
-  pub given : List Given
+  pub given : List GivenOption
   pub run : words ≡ codes "run" ∷ options
   pub are : AreOptions run_options options given
   pub one_budget : IsChosen standard_bounds.budget (numbers_of (codes "--budget") given) bounds.budget

@@ -4,7 +4,7 @@ ghost use Rattle.std.specs.Prelude.{◌≡◌, ◌≢◌, ◌≤◌, ◌<◌, �
 ghost use Rattle.std.specs.Option.{ForSome};
 ghost use Rattle.osgi_ops.specs.Settings.{Bounds, bounds_of, standard_bounds};
 ghost use Rattle.osgi_ops.specs.declared.limits.TheConstants.{MAX_BUDGET, MAX_HANDINGS};
-ghost use Rattle.osgi_program.specs.Words.{replies, run_options, Asks, Given, GivesNumber, IsNumberUpTo, IsOneOf, IsOption, Request};
+ghost use Rattle.osgi_program.specs.Words.{replies, run_options, Asks, GivenOption, GivesNumber, IsNumberUpTo, IsOneOf, IsOption, Request};
 ghost use Rattle.osgi_program.specs.computed.Options.{budget_with, given_as, greatest_of, handings_with, so_far, AsksMore};
 
 use osgi_base::{ServiceId, Text};
@@ -64,7 +64,7 @@ fn numbered<'a>(words: &'a [Text], name: &[u8], most: u64) -> Option<(u64, &'a [
 
 /// An option of a run.
 #[derive(Clone, Copy)]
-enum Choice {
+enum RunOption {
     /// `--budget`
     Budget,
     /// `--handings`
@@ -72,18 +72,18 @@ enum Choice {
 }
 
 /// The option that the words begin with, its number, and the words after it.
-fn option_at(words: &[Text]) -> Option<(Choice, u64, &[Text])>
+fn option_at(words: &[Text]) -> Option<(RunOption, u64, &[Text])>
     ensures fits { IfSome result (λ r. r.1 ≤ greatest_of r.0) }
     ensures reads { IfSome result (λ r. IsOneOf run_options words.now (given_as r.0 r.1) r.2.now) }
-    ensures only { (given : Given) (rest : List (List ℕ)) → IsOneOf run_options words.now given rest
+    ensures only { (given : GivenOption) (rest : List (List ℕ)) → IsOneOf run_options words.now given rest
         → IsSomeAnd result (λ r. (given_as r.0 r.1 ≡ given) × (r.2.now ≡ rest)) }
     ensures fewer { IfSome result (λ r. length r.2.now < length words.now) }
 {
     match numbered(words, BUDGET, MAX_BUDGET) {
-        Some((number, rest)) => Some((Choice::Budget, number, rest)),
+        Some((number, rest)) => Some((RunOption::Budget, number, rest)),
         None => {
             let (number, rest) = numbered(words, HANDINGS, MAX_HANDINGS)?;
-            Some((Choice::Handings, number, rest))
+            Some((RunOption::Handings, number, rest))
         }
     }
 }
@@ -110,7 +110,7 @@ impl Chosen {
     }
 
     /// With the number of one more option. None where the option was given before.
-    fn with(self, choice: Choice, number: u64) -> Option<Chosen>
+    fn with(self, choice: RunOption, number: u64) -> Option<Chosen>
         requires fits { number ≤ greatest_of choice }
         ensures once { MatchOption result
             (is_some (so_far choice self.budget self.handings) ≡ true)
@@ -121,7 +121,7 @@ impl Chosen {
             more.handings ≡ handings_with choice number self.handings) }
     {
         match choice {
-            Choice::Budget => {
+            RunOption::Budget => {
                 if self.budget.is_some() {
                     return None;
                 }
@@ -130,7 +130,7 @@ impl Chosen {
                     handings: self.handings,
                 })
             }
-            Choice::Handings => {
+            RunOption::Handings => {
                 if self.handings.is_some() {
                     return None;
                 }
