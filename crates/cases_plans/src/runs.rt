@@ -1,6 +1,6 @@
 //! Commands and drains as a runner runs them, by a caller that is answered as a case says, and counts the sections that begin.
 
-ghost use Rattle.std.specs.Prelude.{◌≡◌};
+ghost use Rattle.std.specs.Prelude.{◌≡◌, ⊤};
 ghost use Rattle.std.specs.Bool.{OnTrue};
 ghost use Rattle.osgi_runner.specs.Calls.{says_full, says_spent};
 ghost use Rattle.cases_plans.specs.declared.runs.TheConstants.{MAX_CALLS};
@@ -68,6 +68,13 @@ impl Caller for Answered {
     ghost full = { λ caller. caller.is_full };
 
     ghost number = { λ _. 0 };
+
+    // It is lent nothing.
+    ghost goes_on = { λ _ _. ⊤ };
+
+    ghost stays = { λ _. tt };
+
+    ghost goes_further = { λ _ _ _ _ _. tt };
 
     fn call(&mut self, command: u32, op: Op) -> Result<Reply, AllocError> {
         let Some(reply) = self.replies.pop() else {

@@ -1,6 +1,6 @@
 //! The console as the only caller of a machine.
 
-ghost use Rattle.std.specs.Prelude.{◌≡◌, ◌≤◌, ◌==◌, length};
+ghost use Rattle.std.specs.Prelude.{◌≡◌, ◌≤◌, ◌==◌, ⊤, length};
 ghost use Rattle.osgi_ops.specs.Settings.{Setting};
 ghost use Rattle.osgi_model.specs.contracts.filter.Filter as filter;
 ghost use Rattle.osgi_model.specs.contracts.value.Value as value;
@@ -62,6 +62,13 @@ impl<U: Under> Caller for Alone<U> {
     ghost full = { λ caller. length caller.core.entries == U.setting.bounds.entries };
 
     ghost number = { λ _. 0 };
+
+    // It is lent nothing.
+    ghost goes_on = { λ _ _. ⊤ };
+
+    ghost stays = { λ _. tt };
+
+    ghost goes_further = { λ _ _ _ _ _. tt };
 
     fn call(&mut self, command: u32, op: Op) -> Result<Reply, AllocError> {
         // What holds of the machine at all times is said where it is asked for.

@@ -47,6 +47,7 @@ fn finish<'s, C: Caller>(
     requires can { CanStep step (reverse stack.old.items) }
     ensures number { C.number caller.new ≡ C.number caller.old }
     ensures limit { C.limit caller.new ≡ C.limit caller.old }
+    ensures goes { C.goes_on caller.old caller.new }
     ensures ended { IfOk result (λ how.
         Ends (λ calls. After (sections_of scripts.now) step.entry (frames_of stack.old.items) calls)
         how (record { caller = C.number caller.old; command = number }) (C.full caller.new)
@@ -104,6 +105,7 @@ fn run<C: Caller>(
 ) -> Result<Ended, AllocError>
     ensures number { C.number caller.new ≡ C.number caller.old }
     ensures limit { C.limit caller.new ≡ C.limit caller.old }
+    ensures goes { C.goes_on caller.old caller.new }
     ensures ended { IfOk result (λ how.
         Ends (Follows (sections_of scripts.now) command.now) how
         (record { caller = C.number caller.old; command = number }) (C.full caller.new)
@@ -151,6 +153,7 @@ impl<'a, C: Caller> Runner<'a, C> {
         ensures scripts { self.new.scripts.now ≡ self.old.scripts.now }
         ensures number { C.number self.new.caller.now ≡ C.number self.old.caller.now }
         ensures limit { C.limit self.new.caller.now ≡ C.limit self.old.caller.now }
+        ensures goes { C.goes_on self.old.caller.now self.new.caller.now }
         ensures done { IfOk result (λ how.
             how ≡ ended.Done
             → Adds
@@ -183,6 +186,7 @@ impl<'a, C: Caller> Runner<'a, C> {
         ensures scripts { self.new.scripts.now ≡ self.old.scripts.now }
         ensures number { C.number self.new.caller.now ≡ C.number self.old.caller.now }
         ensures limit { C.limit self.new.caller.now ≡ C.limit self.old.caller.now }
+        ensures goes { C.goes_on self.old.caller.now self.new.caller.now }
         ensures done { IfOk result (λ how.
             how ≡ ended.Done
             → Adds

@@ -217,6 +217,7 @@ impl<'s> Now<'s> {
         requires can { CanGo self (reverse stack.old.items) }
         ensures number { C.number caller.new ≡ C.number caller.old }
         ensures limit { C.limit caller.new ≡ C.limit caller.old }
+        ensures goes { C.goes_on caller.old caller.new }
         ensures made { C.made caller.new ≡ C.made caller.old }
         ensures fit { IfOk result (λ step. AllFit (reverse stack.new.items)) }
         ensures can { IfOk result (λ step. CanStep step (reverse stack.new.items)) }
@@ -252,6 +253,7 @@ impl<'s> Step<'s> {
         requires can { CanStep self (reverse stack.old.items) }
         ensures number { C.number caller.new ≡ C.number caller.old }
         ensures limit { C.limit caller.new ≡ C.limit caller.old }
+        ensures goes { C.goes_on caller.old caller.new }
         ensures made { C.made caller.new ≡ C.made caller.old }
         ensures fit { IfOk result (λ asked. AllFit (reverse stack.new.items)) }
         ensures asked { IfOk result (λ asked. IsAskedIn asked (reverse stack.new.items)) }

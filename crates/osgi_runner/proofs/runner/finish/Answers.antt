@@ -1,5 +1,5 @@
 -- One call more is one of the run; and where nothing more is called, something was left to call.
-use Rattle.std.proofs.Common.{List, ◌∷◌, subst, sym, ◌∙◌, reverse}
+use Rattle.std.proofs.Common.{List, ◌∷◌, refl, rules, subst, sym, ◌∙◌, reverse}
 use Rattle.std.specs.Prelude.{Option}
 use Rattle.osgi_ops.specs.declared.op.Op.{Op}
 use Rattle.osgi_runner.proofs.Loops.{one-call, one-cut, one-falls, starved}
@@ -36,6 +36,16 @@ returns-then-is_cut-clause-ended g c = one-cut (g.C.Caller.limit c.advance.new.c
     (subst (λ (a : Option (Op × Wait)). IsAskedIn a (reverse c.advance.new.stack.items)) c.in-Some.is c.in_ok-op.ensures.asked)
     (subst (λ (a : Option (Op × Wait)). Reaches (sections_of c.args.scripts.now) a (frames_of c.advance.new.stack.items) c.loop-op.step (frames_of c.loop-op.stack.items)) c.in-Some.is c.in_ok-op.ensures.on))
 
+pub loop-op-init : goal.loop-op-init
+loop-op-init g c = record {
+  number = refl;
+  limit = refl;
+  goes = g.met.C.Caller.stays c.args.caller.now;
+  fit = c.requires.fit;
+  can = c.requires.can;
+  way = search rules;
+}
+
 pub loop-op-preserved : goal.loop-op-preserved
 loop-op-preserved g c =
     let asked = subst (λ (a : Option (Op × Wait)). IsAskedIn a (reverse c.advance.new.stack.items)) c.in-Some.is c.in_ok-op.ensures.asked in
@@ -47,6 +57,7 @@ loop-op-preserved g c =
     record {
       number = c.call.ensures.number ∙ c.advance.ensures.number ∙ c.loop-op.invariant.number;
       limit = c.call.ensures.limit ∙ c.advance.ensures.limit ∙ c.loop-op.invariant.limit;
+      goes = g.met.C.Caller.goes_further c.args.caller.now c.advance.new.caller c.call.new.self (g.met.C.Caller.goes_further c.args.caller.now c.loop-op.caller c.advance.new.caller c.loop-op.invariant.goes c.advance.ensures.goes) c.call.ensures.goes;
       fit = c.answered-step.ensures.fit;
       can = c.answered-step.ensures.can;
       way = one-call (g.C.Caller.limit c.advance.new.caller) c.args.number (g.C.Caller.number c.args.caller.now) (g.C.Caller.number c.advance.new.caller) (g.C.Caller.made c.args.caller.now)

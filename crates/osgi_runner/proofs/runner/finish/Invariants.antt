@@ -11,6 +11,7 @@ abbrev pub invariant-loop-op : goal.invariant-loop-op
 invariant-loop-op g l = record {
   number : g.C.Caller.number l.caller ≡ g.C.Caller.number l.initial.caller;
   limit : g.C.Caller.limit l.caller ≡ g.C.Caller.limit l.initial.caller;
+  goes : g.C.Caller.goes_on l.initial.caller l.caller;
   fit : AllFit (reverse l.stack.items);
   can : CanStep l.step (reverse l.stack.items);
   way : IsOnTheWay (λ (calls : List Call). After (sections_of l.scripts) l.initial.step (frames_of l.initial.stack.items) calls) (record { caller = g.C.Caller.number l.initial.caller; command = l.number })

@@ -13,6 +13,7 @@ invariant-loop-step g l = record {
   number : g.C.Caller.number l.caller ≡ g.C.Caller.number l.initial.caller;
   limit : g.C.Caller.limit l.caller ≡ g.C.Caller.limit l.initial.caller;
   made : g.C.Caller.made l.caller ≡ g.C.Caller.made l.initial.caller;
+  goes : g.C.Caller.goes_on l.initial.caller l.caller;
   fit : AllFit (reverse l.stack.items);
   can : CanStep l.step (reverse l.stack.items);
   left : (calls : List Call) → After (sections_of l.scripts) l.step (frames_of l.stack.items) calls → After (sections_of l.scripts) l.initial.step (frames_of l.initial.stack.items) calls;
