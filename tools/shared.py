@@ -3,6 +3,7 @@ import argparse
 import os
 import re
 import shutil
+import signal
 import subprocess
 import sys
 
@@ -12,7 +13,9 @@ MOST_HANDINGS = 1_000_000
 
 
 def end_quietly(main):
-    """Runs a tool and ends with its status. Ctrl-C ends it with 130, and a pipe that nobody reads any more with 141."""
+    """Runs a tool and ends with its status. Ctrl-C ends it with 130, a pipe that nobody reads any more with 141, and
+    SIGTERM with 143, each after its files are removed."""
+    signal.signal(signal.SIGTERM, lambda *_: sys.exit(143))
     try:
         try:
             status = main()
@@ -57,9 +60,15 @@ def refuse_jars(parser, paths):
 
 
 def find_program(parser, path):
-    """The program at this path. It is asked once, so that no other command is taken for it."""
+    """The program at this path, or the one that the launcher would run: that is asked of it once, since it looks at all
+    sources each time. The program is asked once too, so that no other command is taken for it."""
     program = shutil.which(os.path.abspath(path)) or parser.error(f"no program: {path}")
     try:
+        if os.path.realpath(program) == OSGI:
+            ran = subprocess.run([program, "--program"], stdin=subprocess.DEVNULL, stdout=subprocess.PIPE, check=False)
+            if ran.returncode != 0:
+                parser.exit(ran.returncode, f"{parser.prog}: the launcher ended with status {ran.returncode}\n")
+            program = os.fsdecode(ran.stdout).rstrip("\n")
         ran = subprocess.run([program, "run"], input=b"bundles\n", stdout=subprocess.PIPE, check=False)
     except OSError as fault:
         parser.exit(2, f"{parser.prog}: {path} cannot be run: {fault.strerror}\n")
