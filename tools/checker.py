@@ -146,7 +146,15 @@ class Checker:
             bundle.why = reason(bundle, self.offers, self.lost, below) or self.explained(bundle) or alone
 
     def explained(self, bundle):
-        """Why a bundle is refused, as tools/why finds it by asking the program of copies."""
+        """Why a bundle is refused, as tools/why finds it by asking the program of copies; empty where it finds nothing."""
+        try:
+            return self.summary(bundle)
+        except SystemExit as end:
+            if isinstance(end.code, str):  # a copy could not be installed
+                return ""
+            raise
+
+    def summary(self, bundle):
         with tempfile.TemporaryDirectory(dir=self.room) as room:
             world = World(self.program, room, self.limit or MOST)
             others = [it for it in self.left() if it is not bundle and it.read not in self.offers.gone]

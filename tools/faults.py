@@ -17,7 +17,7 @@ TOO_OLD = "no bundle of OSGi R4 or later: its manifest has no Bundle-ManifestVer
 
 
 class Fault:
-    """What a refusal means: `told` says it in words, if there is more to say than the reply, and `lines` show the text."""
+    """What a refusal means: `told` says it, if there is more to say than the reply, and `lines` show the text."""
 
     def __init__(self, told="", lines=()):
         self.told, self.lines = told, list(lines)

@@ -7,9 +7,9 @@ from worlds import without
 class Grounds:
     """Why the root of a world is refused.
 
-    `core` has the requirements that are refused together and not without any one of them, `more` those of the root that are
-    refused by themselves too; `lacks` has for each of both what has its name, and why that does not meet it; `unknown`
-    those of the core without which the budget is spent.
+    `core` has the requirements that are refused together and not without any one of them, `more` those of the root that
+    are refused by themselves too; `lacks` has for each of both what has its name, and why that does not meet it;
+    `unknown` those of the core without which the budget is spent.
     """
 
     def __init__(self, summary, core=(), more=(), lacks=None, unknown=()):

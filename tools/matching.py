@@ -16,7 +16,7 @@ def version(text):
 
 
 def limits(text):
-    """Whether the least version counts, the least one, the greatest one, and whether it counts; none if it is no range."""
+    """Whether the least version counts, that and the greatest one, and whether it counts; none if it is no range."""
     it = RANGE.fullmatch(text)
     least, most = (version(it[2]), version(it[3])) if it else (version(text), (float("inf"),))
     return least and most and (not it or it[1] == "[", least, most, bool(it) and it[4] == "]")
@@ -78,7 +78,8 @@ def is_met(tree, attributes):
 def is_so(operator, kind, value, told):
     """Whether one value of an attribute compares so with the text of a filter."""
     if operator == "=" and "*" in told:
-        pattern = re.sub(r"\\(.)|(\*)|(.)", lambda it: ".*" if it[2] else re.escape(it[1] or it[3]), told, flags=re.DOTALL)
+        pattern = "".join(".*" if it[2] else re.escape(it[1] or it[3])
+                          for it in re.finditer(r"\\(.)|(\*)|(.)", told, re.DOTALL))
         return told == "*" or kind not in ("Version", "Long") and bool(re.fullmatch(pattern, value, re.DOTALL))
     told = re.sub(r"\\(.)", r"\1", told)
     read = {"Version": version, "Long": lambda it: int(it) if re.fullmatch(r"\s*[+-]?\d+\s*", it) else None}

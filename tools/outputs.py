@@ -1,4 +1,4 @@
-"""What tools write besides texts: JSON, of which docs/TOOLS.md has the schema, JUnit's XML, and a counter at a terminal."""
+"""What tools write besides lines: JSON, of which docs/TOOLS.md has the schema, JUnit's XML, a counter at a terminal."""
 import json
 import re
 import sys
@@ -37,14 +37,14 @@ def of_set(bundles, first, causes, notes, counts):
         rows.append({"file": said(it.word), "name": name, "version": version, "state": it.state, "why": said(it.why),
                      "fault": [said(line) for line in it.fault], "needs": [requirement(need) for need in it.needs],
                      "causes": [at for at, cause in enumerate(causes) if it in cause.fallen]})
-    told = [{"texts": [said(text) for text in it.texts], "falls": len(it.fallen), "bundles": [said(one.title) for one in it.fallen],
-             "alone": [said(one.title) for one in it.alone]} for it in causes]
+    told = [{"texts": [said(text) for text in it.texts], "falls": len(it.fallen),
+             "bundles": [one.title for one in it.fallen], "alone": [one.title for one in it.alone]} for it in causes]
     return {"bundles": rows, "causes": told, "first": [it.title for it in first], "notes": notes, "counts": counts}
 
 
 def write_junit(path, bundles):
-    """Writes a file that shows each bundle as a test: one that is refused as failed, another one that is not resolved as
-    an error."""
+    """Writes a file that shows each bundle as a test: one that is refused as failed, another one that is not resolved
+    as an error."""
     states = [it.state for it in bundles]
     errors = len(states) - states.count("resolved") - states.count("refused")
     suites = xml.Element("testsuites")
@@ -53,13 +53,14 @@ def write_junit(path, bundles):
     for it in bundles:
         case = xml.SubElement(suite, "testcase", classname=said(it.word), name=said(it.title))
         if it.state != "resolved":
-            fault = xml.SubElement(case, "failure" if it.state == "refused" else "error", type=it.state, message=said(it.why))
+            kind = "failure" if it.state == "refused" else "error"
+            fault = xml.SubElement(case, kind, type=it.state, message=said(it.why))
             fault.text = said("\n".join([it.why, *it.fault]))
     xml.ElementTree(suites).write(path, encoding="utf-8", xml_declaration=True)
 
 
 class Counter:
-    """A line at a terminal that says how far a tool is; each replaces the one before, and nothing is left of the last."""
+    """A line at a terminal that says how far a tool is. Each replaces the one before; nothing is left of the last."""
 
     def __init__(self, tool):
         self.tool, self.is_shown = tool, sys.stderr.isatty()

@@ -86,7 +86,8 @@ def reason(bundle, offers, lost, below):
             lost = [str(it) for it in owners if it.host]
             return f"{bundle.title} needs {need} of {lost[0]}, a fragment that no bundle here takes" if lost else ""
         told = near(need, offers, lost)
-        return f"{bundle.title} needs {need}{of_environment(bundle, need)}, which nothing offers" + f": {told}" * bool(told)
+        needed = f"{bundle.title} needs {need}{of_environment(bundle, need)}"
+        return f"{needed}, which nothing offers" + f": {told}" * bool(told)
     return ""
 
 

@@ -15,8 +15,8 @@ importlib.machinery.SourceFileLoader("unpack", f"{HERE}/unpack").exec_module(unp
 
 
 def words_of(parser, words):
-    """The jars and folders that words stand for: `@FILE` for the lines of a file, `-` for those of standard input, and a
-    folder that is no bundle's for the jars in it."""
+    """The jars and folders that words stand for: `@FILE` for the lines of a file, `-` for those of standard input, and
+    a folder that is no bundle's for the jars in it."""
     found = []
     for word in words:
         if word == "-" or word.startswith("@"):
