@@ -76,6 +76,10 @@ class Checker:
             till = next((at for at, it in enumerate(replies, 1) if it.startswith("resolved")), len(replies))
             found.update(zip(waiting[:till], replies))
             waiting = waiting[till:]
+        return self.accept(found)
+
+    def accept(self, found):
+        """Takes the replies to resolving some bundles as the first. Returns whether one of them is refused."""
         self.alone.update(found)
         self.counter.say(f"{len(self.bundles)} bundles, {len(self.alone)} asked about alone")
         refused = {it: reply for it, reply in found.items() if reply.startswith("refused 9 ")}
@@ -87,13 +91,49 @@ class Checker:
         self.offers.drop(it.read for it in refused)
         return bool(refused)
 
+    def layers(self):
+        """The bundles that need what nothing offers, by their manifests; those that need one of these; and so on."""
+        offers, found = self.offers.copy(), []
+        left = [it for it in self.left() if not it.host and it not in self.alone]
+        while True:
+            lacking = [it for it in left if offers.lacks(it.read)]
+            if not lacking:
+                return found
+            found.append(lacking)
+            left = [it for it in left if it not in lacking]
+            offers.drop(it.read for it in lacking)
+
+    def ask_layers(self, layers):
+        """Asks about layers in one session: the bundles of each are installed after those of the layers that need it,
+        so that a layer is asked about while those that it needs are not there. They are known to be refused then, so that
+        this decides for the whole set. Where a bundle is resolved after all, the first layer is asked about by itself.
+        """
+        late = {it for layer in layers for it in layer}
+        lines, numbers, asked = [], {}, []
+        for layer in [None, *reversed(layers)]:
+            for it in layer or [it for it in self.left() if it not in late]:
+                numbers[it] = len(numbers) + 1
+                lines.append(f"install {it.place}")
+                asked.append(None)
+            for it in layer or []:
+                lines.append(f"resolve {numbers[it]}")
+                asked.append(it)
+        replies = {it: reply for it, reply in zip(asked, self.ask([], lines)[1]) if it}
+        if any(it.startswith("resolved") for it in replies.values()):
+            return self.ask_each(layers[0])
+        is_found = False
+        for layer in layers:
+            is_found = self.accept({it: replies[it] for it in layer}) or is_found
+            if not all(replies[it].startswith("refused 9 ") for it in layer):
+                break
+        return is_found
+
     def peel(self):
-        """Finds the bundles that need what nothing offers, by their manifests, and has the program refuse them; then
-        those that need one of these, and so on."""
-        asked = True
-        while asked:
-            lacking = [it for it in self.left() if not it.host and it not in self.alone and self.offers.lacks(it.read)]
-            asked = bool(lacking) and self.ask_each(lacking)
+        """Finds the bundles that are refused for want of something, as far as manifests tell them."""
+        found = True
+        while found:
+            layers = self.layers()
+            found = bool(layers) and self.ask_layers(layers)
 
     def ask_refused(self, refused):
         """Asks of the bundles that were refused after others, from the bottom up: not yet of one that needs another one
@@ -146,20 +186,7 @@ class Checker:
             bundle.why = reason(bundle, self.offers, self.lost, below) or self.explained(bundle) or alone
 
     def explained(self, bundle):
-        """Why a bundle is refused, as tools/why finds it by asking the program of copies; empty where it finds nothing."""
-        try:
-            return self.summary(bundle)
-        except SystemExit as end:
-            if isinstance(end.code, str):  # a copy could not be installed
-                return ""
-            raise
-
-    def summary(self, bundle):
+        """Why a bundle is refused, as tools/why finds it by asking the program of copies."""
+        others = [it.folder for it in self.left() if it is not bundle and it.read not in self.offers.gone]
         with tempfile.TemporaryDirectory(dir=self.room) as room:
-            world = World(self.program, room, self.limit or MOST)
-            others = [it for it in self.left() if it is not bundle and it.read not in self.offers.gone]
-            world.install([it.folder for it in [*others, bundle]])
-            world.choose(next(it for it in world.bundles if it.folder == bundle.folder))
-            if not world.resolved([world.root])[0].startswith("refused 9"):
-                return ""
-            return grounds.find(world).summary
+            return grounds.explained(World(self.program, room, self.limit or MOST), others, bundle.folder)

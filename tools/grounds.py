@@ -28,6 +28,19 @@ def find(world):
     return Grounds(summary(world.root, core, lacks, met), core, more, lacks, unknown)
 
 
+def explained(world, others, folder):
+    """Why the bundle in a folder is refused with others, in one line; empty where that is not found out."""
+    try:
+        world.install([*others, folder])
+        world.choose(next(it for it in world.bundles if it.folder == folder))
+        is_refused = world.resolved([world.root])[0].startswith("refused 9")
+        return find(world).summary if is_refused else ""
+    except SystemExit as end:
+        if isinstance(end.code, str):  # a copy could not be installed
+            return ""
+        raise
+
+
 def summary(root, core, lacks, met):
     """What is wrong, in one line."""
     for need in (it for it in core if not met[it]):

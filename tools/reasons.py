@@ -1,5 +1,6 @@
 """Why bundles of a set are refused, by their manifests: a part of `tools/check-bundles`."""
 import collections
+import copy
 
 from manifests import Bundle as Manifest
 from matching import is_in, is_near, lack
@@ -24,6 +25,12 @@ class Offers:
         self.hosts = {it.read: [host.read for host in bundles if not host.host and host.read.name == it.host
                                 and not no_host(host.read, it.read)] for it in bundles if it.host}
         self.drop([])
+
+    def copy(self):
+        """The same, from which others can be dropped."""
+        other = copy.copy(self)
+        other.gone = set(self.gone)
+        return other
 
     def met_by(self, need):
         """The bundles of which something meets a requirement."""
