@@ -7,18 +7,27 @@ import signal
 import subprocess
 import sys
 
-OSGI = os.path.join(os.path.dirname(os.path.dirname(os.path.realpath(__file__))), "osgi")
+TOP = os.path.dirname(os.path.dirname(os.path.realpath(__file__)))
+OSGI = os.path.join(TOP, "osgi")
 MOST = 1_000_000_000  # the greatest budget
 MOST_HANDINGS = 1_000_000
 
 
+def version():
+    """The version of what stands here: the day of the newest changes that CHANGELOG.md tells of."""
+    with open(os.path.join(TOP, "CHANGELOG.md"), encoding="utf-8") as it:
+        day = re.search(r"^## (\d+)-(\d+)-(\d+)$", it.read(), re.MULTILINE)
+    return ".".join(str(int(part)) for part in day.groups())
+
+
 def end_quietly(main):
     """Runs a tool and ends with its status. Ctrl-C ends it with 130, a pipe that nobody reads any more with 141, and
-    SIGTERM with 143, each after its files are removed."""
+    SIGTERM with 143, each after its files are removed. The word `--version` alone has the version written.
+    """
     signal.signal(signal.SIGTERM, lambda *_: sys.exit(143))
     try:
         try:
-            status = main()
+            status = main() if sys.argv[1:] != ["--version"] else print(version())
         finally:
             sys.stdout.flush()
     except KeyboardInterrupt:
@@ -77,3 +86,20 @@ def find_program(parser, path):
     if not re.fullmatch(rb"bundle 0 32 0 system\.bundle \S+\n", ran.stdout):
         parser.exit(2, f"{parser.prog}: {path} is another program: it does not reply as this framework does\n")
     return program
+
+
+# Prints the path of the program that was proved from the sources that stand here, as the launcher chooses it.
+CHOICE = """here=$1; stop() { exit 70; }; source "$here/tools/sources.bash"; read_crates; digest=$(digest_sources)
+for it in "$own" "$shipped"; do is_proved_from "$it" "$digest" && echo "$it" && exit; done; exit 70"""
+
+
+def without_launcher(program):
+    """The program that the launcher runs, which is quicker without it; another program is itself.
+
+    The launcher has run before, so that there is one; where none is found even so, it is the launcher.
+    """
+    if os.path.realpath(program) != os.path.realpath(OSGI):
+        return program
+    ran = subprocess.run(["bash", "-c", CHOICE, "bash", TOP], stdin=subprocess.DEVNULL, stdout=subprocess.PIPE,
+                         stderr=subprocess.DEVNULL, check=False)
+    return os.fsdecode(ran.stdout).rstrip("\n") if ran.returncode == 0 else program
