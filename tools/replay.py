@@ -15,7 +15,11 @@ ENDINGS = {3: "the session could not be read", 4: "the replies could not be writ
 
 
 class Stopped(Exception):
-    """The program ended without running the session, and why."""
+    """The program ended without running the session: why, and with which status."""
+
+    def __init__(self, status):
+        super().__init__(ENDINGS.get(status, f"the program ended with status {status}"))
+        self.status = status
 
 
 class Program:
@@ -24,15 +28,14 @@ class Program:
     def __init__(self, path, folder, budget=None, handings=None):
         limits = {"budget": budget, "handings": handings}
         self.command = [path, "run", *(f"--{name}={value}" for name, value in limits.items() if value is not None)]
-        self.folder, self.status = folder, 0
+        self.folder = folder
 
     def __call__(self, text):
         """What the program writes on a session."""
         ran = subprocess.run(self.command, cwd=self.folder, input=text, stdout=subprocess.PIPE,
                              stderr=subprocess.DEVNULL, check=False)
-        self.status = ran.returncode
         if ran.returncode not in (0, 1, 7):
-            raise Stopped(ENDINGS.get(ran.returncode, f"the program ended with status {ran.returncode}"))
+            raise Stopped(ran.returncode)
         return ran.stdout
 
 
