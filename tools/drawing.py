@@ -5,7 +5,9 @@ import shutil
 import subprocess
 
 MOST = 2  # names at an edge
-SECONDS = 60  # for graphviz, which takes long for large pictures
+SECONDS = 30  # for graphviz
+MANY = 300  # edges, above which graphviz is to look less for the best places: it takes minutes otherwise
+LESS = ["-Gnslimit=0.5", "-Gnslimit1=0.5", "-Gmclimit=0.1"]
 STYLES = {"fragment": "dotted", "bundle": "bold", "package": "solid", "capability": "dashed"}
 GAP, HEIGHT, STEP, LETTER = 150, 36, 60, 7.5
 
@@ -26,8 +28,9 @@ def draw(bundles, edges, mark):
     program = shutil.which("dot")
     if program:
         try:
-            ran = subprocess.run([program, "-Tsvg"], input=dot(bundles, edges, mark).encode(), stdout=subprocess.PIPE,
-                                 stderr=subprocess.DEVNULL, timeout=SECONDS, check=True)
+            ran = subprocess.run([program, "-Tsvg", *LESS * (len(edges) > MANY)], timeout=SECONDS, check=True,
+                                 input=dot(bundles, edges, mark).encode(), stdout=subprocess.PIPE,
+                                 stderr=subprocess.DEVNULL)
             return re.sub(r"<title>.*?</title>\n?", "", ran.stdout.decode()[ran.stdout.decode().index("<svg"):])
         except (subprocess.SubprocessError, OSError, ValueError):
             pass
