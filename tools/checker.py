@@ -105,8 +105,9 @@ class Checker:
 
     def ask_layers(self, layers):
         """Asks about layers in one session: the bundles of each are installed after those of the layers that need it,
-        so that a layer is asked about while those that it needs are not there. They are known to be refused then, so that
-        this decides for the whole set. Where a bundle is resolved after all, the first layer is asked about by itself.
+        so that a layer is asked about while those that it needs are not there. They are known to be refused then, so
+        that this decides for the whole set. Where a bundle is resolved after all, the first layer is asked about by
+        itself.
         """
         late = {it for layer in layers for it in layer}
         lines, numbers, asked = [], {}, []

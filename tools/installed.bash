@@ -20,16 +20,3 @@ begin_build() {
 verify() {
     begin_build
 }
-
-# What tools ask, which run the program without the launcher.
-read_crates() {
-    :
-}
-
-digest_sources() {
-    echo installed
-}
-
-is_proved_from() {
-    [[ -x $1 ]]
-}

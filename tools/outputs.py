@@ -8,9 +8,10 @@ SCHEMA = 1
 
 
 def write_json(tool, status, **parts):
-    """Writes what a tool found as JSON, to standard output."""
+    """Writes what a tool found as JSON, to standard output, and gives the status."""
     json.dump({"tool": tool, "schema": SCHEMA, "status": status, **parts}, sys.stdout, indent=1)
     print()
+    return status
 
 
 def said(text):

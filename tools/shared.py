@@ -86,20 +86,3 @@ def find_program(parser, path):
     if not re.fullmatch(rb"bundle 0 32 0 system\.bundle \S+\n", ran.stdout):
         parser.exit(2, f"{parser.prog}: {path} is another program: it does not reply as this framework does\n")
     return program
-
-
-# Prints the path of the program that was proved from the sources that stand here, as the launcher chooses it.
-CHOICE = """here=$1; stop() { exit 70; }; source "$here/tools/sources.bash"; read_crates; digest=$(digest_sources)
-for it in "$own" "$shipped"; do is_proved_from "$it" "$digest" && echo "$it" && exit; done; exit 70"""
-
-
-def without_launcher(program):
-    """The program that the launcher runs, which is quicker without it; another program is itself.
-
-    The launcher has run before, so that there is one; where none is found even so, it is the launcher.
-    """
-    if os.path.realpath(program) != os.path.realpath(OSGI):
-        return program
-    ran = subprocess.run(["bash", "-c", CHOICE, "bash", TOP], stdin=subprocess.DEVNULL, stdout=subprocess.PIPE,
-                         stderr=subprocess.DEVNULL, check=False)
-    return os.fsdecode(ran.stdout).rstrip("\n") if ran.returncode == 0 else program
