@@ -3,10 +3,8 @@ use Rattle.std.specs.Prelude.{Bool, true, false}
 use Rattle.osgi_ops.specs.declared.op.Op.{Op}
 use Rattle.osgi_ops.specs.declared.op.Op.TheVariants as op
 
--- The end of a job, and that of a make, are here before what opens them: while none is open, their own conditions refuse them. So is
--- TakeJob, which finds no job while none can be queued
+-- The end of a make is here before what opens one: while none is open, its own condition refuses it
 abbrev pub is_here : Op → Bool
-is_here (op.QueueJob owner name) = false
 is_here (op.Update bundle location) = false
 is_here (op.Uninstall bundle) = false
 is_here (op.BeginRefresh bundles) = false

@@ -1,18 +1,13 @@
 -- What an entry of a legal history says while these operations have not come: each is of an operation that has come, or is refused as an
--- invalid operation. So none updates or uninstalls a bundle, sets a level, begins a walk or a refresh, queues a job, or has a bundle wait;
--- and since there is no job, none is cleared or taken.
+-- invalid operation. So none updates or uninstalls a bundle, sets a level, begins a walk or a refresh, or has a bundle wait.
 use Rattle.std.proofs.Common.{◌≡◌, ◌+◌, ◌⊎◌, inl, inr, ℕ, length, Bool, true, false, List, [], ◌∷◌, refl, sym, ap, ◌∙◌, subst}
 use Rattle.std.specs.Prelude.{All, Option, None, Some}
 use Rattle.std.specs.List.{cons_option, filter_map, last_or}
-use Rattle.std.specs.Option.{option_map}
 use Rattle.std.proofs.lemmas.List.Elements.{All-append, All-cons, All-head, All-nil, All-push, All-tail, All-weaker}
 use Rattle.osgi_base.specs.declared.ids.BundleId.{BundleId}
 use Rattle.osgi_legal.specs.Quiet.{QuietRefresh}
 use Rattle.osgi_ops.specs.Along.{carry, latest}
 use Rattle.osgi_ops.specs.Bundles.{Installed, installed_after, installed_by, is_uninstall, updated_to}
-use Rattle.osgi_ops.specs.Cleaning.{cleaned_by}
-use Rattle.osgi_ops.specs.Jobs as queue
-use Rattle.osgi_ops.specs.Jobs.{jobs, Queued, queued_by, with_jobs}
 use Rattle.osgi_legal.specs.Legal.{AreAllowed, IsAllowed}
 use Rattle.osgi_ops.specs.Levels.{leveled, moved_to, Refresh, refresh_by, Walk, walk_by}
 use Rattle.osgi_ops.specs.Moments.{entries_in, Moment, moment, Told}
@@ -65,26 +60,15 @@ since-all P (e ∷ since) n all =
 
 -- ---- what has come says nothing of these
 
--- the operation with its reply changes no level, begins no walk and no refresh, and uninstalls and updates no bundle; where there is no job
--- it leaves none
+-- the operation with its reply changes no level, begins no walk and no refresh, and uninstalls and updates no bundle
 pub record IsCalm (o : Op) (y : Reply) : Type 0 where
   pub level : (b : BundleId) → leveled b o y ≡ None
   pub moved : moved_to o y ≡ None
   pub walk : (before : Option Walk) (e : Entry) → walk_by before e o y ≡ before
   pub refresh : QuietRefresh o y
-  pub jobs : with_jobs (queued_by o y) [] ≡ []
   pub gone : (b : BundleId) → is_uninstall b o y ≡ false
   pub updated : (b : BundleId) → updated_to b o y ≡ None
   pub waits : NoneWaits o y
-
--- a clean up finds no job
-cleared-jobs : (cleaned : Option BundleId) → with_jobs (option_map queue.clears cleaned) [] ≡ []
-cleared-jobs None = refl
-cleared-jobs (Some b) = refl
-
-taken-jobs : (y : Reply) → with_jobs (queued_by op.TakeJob y) [] ≡ []
-taken-jobs (answer.Job owner row name) = refl
-taken-jobs y = refl
 
 -- a begin has nobody wait
 start-waits : (asked : BundleId) (transient : Bool) (y : Reply) → NoneWaits (op.BeginStart asked transient) y
@@ -111,7 +95,6 @@ here-calm o y here = record {
   moved = moved o here;
   walk = λ before e. walks o before e here;
   refresh = λ before e. refreshes o before e here;
-  jobs = queued o here;
   gone = λ b. gone o b here;
   updated = λ b. updated o b here;
   waits = waits o here;
@@ -135,13 +118,6 @@ here-calm o y here = record {
     refreshes op.DropWirings before e h = absurd (cc h)
     refreshes op.EndRefresh before e h = absurd (cc h)
     refreshes o before e h = refl
-
-    queued : (o : Op) → is_here o ≡ true → with_jobs (queued_by o y) [] ≡ []
-    queued (op.QueueJob owner name) h = absurd (cc h)
-    queued op.TakeJob h = taken-jobs y
-    queued (op.EndStart bundle failed) h = cleared-jobs (cleaned_by (op.EndStart bundle failed) y)
-    queued (op.EndStop bundle failed) h = cleared-jobs (cleaned_by (op.EndStop bundle failed) y)
-    queued o h = refl
 
     gone : (o : Op) (b : BundleId) → is_here o ≡ true → is_uninstall b o y ≡ false
     gone (op.Uninstall bundle) b h = absurd (cc h)
@@ -169,7 +145,6 @@ invalid-calm o =
       moved = q.levels.moved;
       walk = q.levels.walk;
       refresh = q.refresh;
-      jobs = ap (λ c. with_jobs c []) q.jobs;
       gone = q.bundles.gone;
       updated = q.bundles.updated;
       waits = λ b is. refused-waits o b is;
@@ -195,12 +170,6 @@ due-early now o y r = by (is_here o) refl
 
 -- ---- histories
 
--- where each entry is such, no job is queued
-early-unqueued : (history : List Entry) → All IsEarly history → jobs history ≡ []
-early-unqueued history early =
-    carry-still (λ (s : List Queued) (e : Entry). with_jobs (queued_by e.op e.reply) s) [] history
-    (All-weaker IsEarly (λ e. with_jobs (queued_by e.op e.reply) [] ≡ []) (λ e is. (early-calm e is).jobs) history early)
-
 -- each entry of a legal history is such
 pub all-early : (setting : Setting) (told : List Told) → AreAllowed setting told → All IsEarly (entries_in told)
 all-early setting told legal =
@@ -210,11 +179,7 @@ all-early setting told legal =
     (All-push IsEarly (entries_in front) x.entry early (due-early (moment setting front x.entry.tag) x.entry.op x.entry.reply a.replied)))
     told legal
 
--- so no job is queued in one
-pub none-queued : (setting : Setting) (told : List Told) → AreAllowed setting told → jobs (entries_in told) ≡ []
-none-queued setting told legal = early-unqueued (entries_in told) (all-early setting told legal)
-
--- and nobody waits
+-- so nobody waits in one
 pub nobody-waits : (setting : Setting) (told : List Told) → AreAllowed setting told → waiting (entries_in told) ≡ []
 nobody-waits setting told legal =
     none-waiting (entries_in told) (All-weaker IsEarly (λ e. NoneWaits e.op e.reply) (λ e is. (early-calm e is).waits) (entries_in told) (all-early setting told legal))

@@ -95,6 +95,7 @@ answers-same now (op.EndMake failed) y h a = made-one (given_text now.tag.caller
 answers-same now (op.Unget user service) y h a = ap is_handing a
 answers-same now (op.Install location) y h a = ap is_handing a ∙ installed-so (bundle_from now.setting.depot now.before location) _
 answers-same now (op.Resolve bundle) y h a = resolved-so (is_resolved now.world bundle) now bundle y a
+answers-same now (op.QueueJob owner name) y h a = ap is_handing a
 answers-same now op.TakeJob y h a = ap is_handing a ∙ taken-so now (jobs now.before)
 answers-same now (op.Load bundle class) y h a = ap is_handing (load-shown now bundle class y a) ∙ loaded-so a.by (woken now class a.by)
 answers-same now op.ListBundles y h a = ap is_handing a

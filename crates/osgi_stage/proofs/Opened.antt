@@ -1,5 +1,5 @@
--- Which brackets are open while neither jobs nor factories have come: each is for a hand, a start or a stop, and none for a job or a make.
--- So no end of a job and of a make ends one.
+-- Which brackets are open while factories have not come: each is for a hand, a job, a start or a stop, and none for a make. So no end of a
+-- make ends one.
 use Rattle.std.proofs.Common.{◌≡◌, ℕ, Bool, true, false, List, [], ◌∷◌, refl, sym, ap, ◌∙◌, subst}
 use Rattle.std.specs.Prelude.{◌==◌, ◌&&◌, cond, All, Option, None, Some, IsSomeAnd}
 use Rattle.std.proofs.lemmas.List.Elements.{All-cons, All-head, All-nil, All-push, All-tail}
@@ -8,7 +8,6 @@ use Rattle.osgi_base.specs.declared.ids.ServiceId.{ServiceId}
 use Rattle.osgi_base.specs.declared.ids.Tag.{Tag}
 use Rattle.osgi_ops.specs.Brackets as cause
 use Rattle.osgi_ops.specs.Brackets.{Bracket, bracket, brackets, Cause, closes, ends, opens, turned, without_innermost}
-use Rattle.osgi_ops.specs.Jobs.{jobs}
 use Rattle.osgi_legal.specs.Legal.{AreAllowed, IsAllowed}
 use Rattle.osgi_ops.specs.Moments.{entries_in, Moment, moment, Told}
 use Rattle.osgi_legal.specs.Operations.{IsReply}
@@ -29,19 +28,16 @@ use Rattle.osgi_ops.specs.declared.target.Target.{Target}
 use Rattle.osgi_ops.specs.laws.Along.{holds}
 use Rattle.osgi_ops.specs.laws.Brackets.{brackets-last}
 use Rattle.osgi_ops.specs.laws.Services.{MakesNone}
-use Rattle.osgi_ops.specs.rows.Jobs.{taken}
 use Rattle.osgi_ops.specs.rows.Services.{got, got_as, got_reply}
 use Rattle.osgi_legal.specs.laws.Stages.{late-refused}
 use Rattle.osgi_legal.proofs.Accepted.{accepted}
-use Rattle.osgi_stage.proofs.Early.{none-queued}
 use Rattle.osgi_stage.proofs.Singletons.{all-single, AreSingle, live-single}
 use Rattle.osgi_legal.proofs.Owned.{entries-last}
 use Rattle.osgi_legal.proofs.Quiet.{opens-refused}
 use Rattle.osgi_stage.proofs.Windows.{refused-is}
 
--- it is for a job or for a make
+-- it is for a make
 abbrev pub is_late : Cause → Bool
-is_late cause.job = true
 is_late (cause.making m) = true
 is_late c = false
 
@@ -60,6 +56,10 @@ hand-opens : (y : Reply) (c : Cause) → opens op.Hand y ≡ Some c → is_late 
 hand-opens (answer.Handed listener kind owner row name event) c is = given-cause (cause.handing listener) c refl is
 hand-opens y c is = absurd (cc is)
 
+take-opens : (y : Reply) (c : Cause) → opens op.TakeJob y ≡ Some c → is_late c ≡ false
+take-opens (answer.Job owner row name) c is = given-cause cause.job c refl is
+take-opens y c is = absurd (cc is)
+
 start-opens : (b : BundleId) (transient : Bool) (y : Reply) (c : Cause) → opens (op.BeginStart b transient) y ≡ Some c → is_late c ≡ false
 start-opens b transient (answer.Begun begun row) c is = given-cause (cause.starting b) c refl is
 start-opens b transient y c is = absurd (cc is)
@@ -67,14 +67,6 @@ start-opens b transient y c is = absurd (cc is)
 stop-opens : (target : Target) (transient : Bool) (y : Reply) (c : Cause) → opens (op.BeginStop target transient) y ≡ Some c → is_late c ≡ false
 stop-opens target transient (answer.Begun begun row) c is = given-cause (cause.stopping begun) c refl is
 stop-opens target transient y c is = absurd (cc is)
-
--- where no job is queued none is taken
-none-taken : (now : Moment) (y : Reply) → jobs now.before ≡ [] → IsReply now op.TakeJob y → opens op.TakeJob y ≡ None
-none-taken now y none r = by (is_accepted y) refl
-  where
-    by : (k : Bool) → is_accepted y ≡ k → opens op.TakeJob y ≡ None
-    by true e = ap (opens op.TakeJob) ((accepted now op.TakeJob y r e).1 ∙ ap (taken now) none)
-    by false e = let f = refused-is y e in ap (opens op.TakeJob) f.1 ∙ opens-refused op.TakeJob f.0
 
 -- where every service has one object for all, a Get answers that
 shares : (now : Moment) (user : BundleId) (service : ServiceId) (y : Reply) (at : Option Registered) → ((r : Registered) → at ≡ Some r → r.scope ≡ Singleton) →
@@ -93,16 +85,16 @@ none-made now user service y single r = by (is_accepted y) refl
         ap (opens (op.Get user service)) s.1
     by false e = let f = refused-is y e in ap (opens (op.Get user service)) f.1
 
--- so what is due opens a bracket for a hand, a start or a stop alone
-due-opens : (now : Moment) (o : Op) (y : Reply) → jobs now.before ≡ [] → AreSingle now.before → IsReply now o y → (c : Cause) → opens o y ≡ Some c → is_late c ≡ false
-due-opens now op.Hand y none single r c is = hand-opens y c is
-due-opens now op.TakeJob y none single r c is = none-cause (opens op.TakeJob y) c (none-taken now y none r) is
-due-opens now (op.BeginStart b transient) y none single r c is = start-opens b transient y c is
-due-opens now (op.BeginStop target transient) y none single r c is = stop-opens target transient y c is
-due-opens now (op.Get user service) y none single r c is = none-cause (opens (op.Get user service) y) c (none-made now user service y single r) is
-due-opens now (op.GetOwn user service) y none single r c is =
+-- so what is due opens a bracket for a hand, a job, a start or a stop alone
+due-opens : (now : Moment) (o : Op) (y : Reply) → AreSingle now.before → IsReply now o y → (c : Cause) → opens o y ≡ Some c → is_late c ≡ false
+due-opens now op.Hand y single r c is = hand-opens y c is
+due-opens now op.TakeJob y single r c is = take-opens y c is
+due-opens now (op.BeginStart b transient) y single r c is = start-opens b transient y c is
+due-opens now (op.BeginStop target transient) y single r c is = stop-opens target transient y c is
+due-opens now (op.Get user service) y single r c is = none-cause (opens (op.Get user service) y) c (none-made now user service y single r) is
+due-opens now (op.GetOwn user service) y single r c is =
     none-cause (opens (op.GetOwn user service) y) c (ap (opens (op.GetOwn user service)) (late-refused now (op.GetOwn user service) y refl r)) is
-due-opens now o y none single r c is = absurd (cc is)
+due-opens now o y single r c is = absurd (cc is)
 
 -- ---- histories
 
@@ -130,7 +122,7 @@ opened-so setting told legal =
     let e = x.entry in
     let opened = brackets (entries_in front) in
     subst AreNotLate (sym (ap brackets (entries-last front x) ∙ brackets-last (entries_in front) e))
-    (turned-so e.tag (opens e.op e.reply) (closes e.tag e.op opened) opened (due-opens (moment setting front e.tag) e.op e.reply (none-queued setting front before) (all-single setting front before) a.replied) all))
+    (turned-so e.tag (opens e.op e.reply) (closes e.tag e.op opened) opened (due-opens (moment setting front e.tag) e.op e.reply (all-single setting front before) a.replied) all))
     told legal
 
 -- ---- what ends none of them
@@ -145,15 +137,7 @@ ends-none tag o (x ∷ outer) other all =
     by true false rest = refl
     by false l rest = rest
 
--- no end of a job ends one
-pub job-ends-none : (tag : Tag) (opened : List Bracket) → AreNotLate opened → closes tag op.EndJob opened ≡ false
-job-ends-none tag opened all = ends-none tag op.EndJob opened other all
-  where
-    other : (c : Cause) → is_late c ≡ false → ends op.EndJob c ≡ false
-    other cause.job is = absurd (cc is)
-    other c is = refl
-
--- and no end of a make
+-- no end of a make ends one
 pub make-ends-none : (tag : Tag) (failed : Bool) (opened : List Bracket) → AreNotLate opened → closes tag (op.EndMake failed) opened ≡ false
 make-ends-none tag failed opened all = ends-none tag (op.EndMake failed) opened other all
   where

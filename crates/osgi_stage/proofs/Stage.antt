@@ -1,6 +1,6 @@
--- What holds while these operations have not come: no walk over levels and no refresh is open, no job is queued, each bundle stays and
--- keeps its revision and its level, no open bracket is for a job or a make, nothing was made, nobody waits, each service has one object for
--- all, and no load adds a wire. Each fact holds at each moment of a legal history.
+-- What holds while these operations have not come: no walk over levels and no refresh is open, each bundle stays and keeps its revision and
+-- its level, no open bracket is for a make, nothing was made, nobody waits, each service has one object for all, and no load adds a wire.
+-- Each fact holds at each moment of a legal history.
 use Rattle.std.proofs.Common.{◌≡◌, inl, Bool, true, false, List, [], ◌∷◌, refl, sym, ap, ◌∙◌, subst}
 use Rattle.std.specs.Prelude.{◌==◌, ◌&&◌, find, not, cond, nat_lt, ℕ, All, filter, IsSomeAnd, MatchBool, Option, None, Some, unwrap_or}
 use Rattle.std.specs.Option.{option_map, option_map_or}
@@ -17,7 +17,6 @@ use Rattle.osgi_ops.specs.Bundles as bundles
 use Rattle.osgi_ops.specs.Bundles.{Active, Installed, installed, is_there, is_active, is_uninstall, source, system, updated_to}
 use Rattle.osgi_ops.specs.Conditions.{is_kept, is_level_too_high, lesser, refreshing_where, state_of}
 use Rattle.osgi_ops.specs.Dynamic.{IsAdded}
-use Rattle.osgi_ops.specs.Jobs.{jobs}
 use Rattle.osgi_legal.specs.Legal.{IsTold}
 use Rattle.osgi_ops.specs.Levels.{active_level, level_of, leveled, moved_to, Refresh, refresh, refresh_by, Walk, walk, walk_by}
 use Rattle.osgi_ops.specs.Moments.{Moment}
@@ -44,10 +43,10 @@ use Rattle.osgi_world.specs.declared.wiring.Wire.{Wire}
 use Rattle.osgi_world.specs.declared.world.Known.{Known}
 use Rattle.osgi_world.specs.declared.world.World.{World}
 use Rattle.osgi_legal.specs.laws.Stages.{row-here}
-use Rattle.osgi_stage.proofs.Early.{all-early, carry-still, early-calm, IsCalm, IsEarly, latest-none, none-queued, since-all}
+use Rattle.osgi_stage.proofs.Early.{all-early, carry-still, early-calm, IsCalm, IsEarly, latest-none, since-all}
 use Rattle.osgi_legal.proofs.Legal.{at-told}
 use Rattle.osgi_stage.proofs.Singletons.{all-single, AreSingle, live-single}
-use Rattle.osgi_stage.proofs.Opened.{AreNotLate, job-ends-none, make-ends-none, makes-none, opened-so}
+use Rattle.osgi_stage.proofs.Opened.{AreNotLate, make-ends-none, makes-none, opened-so}
 
 -- ---- entries
 
@@ -64,7 +63,7 @@ each P says now t = All-weaker (λ (e : Entry). IsCalm e.op e.reply) P says now.
 
 -- ---- brackets
 
--- No open bracket is for a job or for a make.
+-- No open bracket is for a make.
 pub opened-at : (now : Moment) → IsTold now → AreNotLate (brackets now.before)
 opened-at now t = at-told (λ m. AreNotLate (brackets m.before)) (λ setting told tag legal. opened-so setting told legal) now t
 
@@ -73,10 +72,6 @@ opened-at now t = at-told (λ m. AreNotLate (brackets m.before)) (λ setting tol
 -- An operation that has not come is refused as an invalid operation, at every moment.
 pub late-due : (now : Moment) (o : Op) → is_here o ≡ false → IsReply now o (answer.Refused InvalidOperation)
 late-due now o late = subst (λ k. MatchBool k (IsRow now o (answer.Refused InvalidOperation)) (answer.Refused InvalidOperation ≡ answer.Refused InvalidOperation)) (sym late) refl
-
--- So is the end of a job.
-pub job-end-due : (now : Moment) → IsTold now → IsReply now op.EndJob (answer.Refused InvalidOperation)
-job-end-due now t = row-here now op.EndJob (answer.Refused InvalidOperation) refl (inl (InvalidOperation, (refl, job-ends-none now.tag (brackets now.before) (opened-at now t)), refl))
 
 -- ---- refreshes
 
@@ -117,12 +112,6 @@ never-above now t b =
 -- Nor is one kept for its level.
 pub never-kept : (now : Moment) → IsTold now → (b : BundleId) → is_kept now b ≡ false
 never-kept now t b = and_right (not (is_active (state_of now b))) (is_level_too_high now b) (never-above now t b)
-
--- ---- jobs
-
--- No job is queued.
-pub no-jobs : (now : Moment) → IsTold now → jobs now.before ≡ []
-no-jobs now t = at-told (λ m. jobs m.before ≡ []) (λ setting told tag legal. none-queued setting told legal) now t
 
 -- ---- which bundles there are
 
