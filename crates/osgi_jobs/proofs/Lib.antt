@@ -1,0 +1,3 @@
+-- Lemmas on what stands in the queue.
+mod Counting
+mod Standings
