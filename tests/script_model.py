@@ -8,6 +8,7 @@ and the value. Nothing is taken from the program's own output.
 """
 FRAMEWORK = "org.osgi.framework"
 MAX_BRACKETS = 64
+MAX_JOBS = 10_000
 MISSING = "none.such"  # a package that nobody exports
 STATES = {"installed": 2, "resolved": 4, "starting": 8, "stopping": 16, "active": 32}
 UP = ["starting", "stopping", "active"]
@@ -74,6 +75,7 @@ class Session:
         self.waiting = []  # what is still to be handed, the earliest first: a listener, an event, and its service or 0
         self.turns = []  # the listeners that are being handed an event
         self.handings = handings
+        self.jobs = []  # those that are queued, the oldest first: a bundle and a name
         self.depth = 0
         self.number = 0
         self.written = []
@@ -180,6 +182,7 @@ class Session:
         self.uses = {pair: count for pair, count in self.uses.items() if pair[0] != bundle}
         for it in [it for it, row in self.listeners.items() if row.owner == bundle]:
             self.remove_listener(it)
+        self.jobs = [it for it in self.jobs if it[0] != bundle]
         return gone
 
     def load(self, bundle, name):
@@ -318,6 +321,22 @@ class Session:
         self.depth -= 1
         self.turns.remove(listener)
 
+    # ---- jobs
+
+    def queue_job(self, owner, name):
+        self.refuse_where(len(self.jobs) >= MAX_JOBS, "17 TooMany Jobs")
+        self.jobs.append((owner, name))
+        self.tell("queued")
+
+    def take_jobs(self):
+        """Takes one job after another, the oldest first, until there is none. It makes no difference whether its section fails."""
+        while self.jobs:
+            bundle, name = self.jobs.pop(0)
+            self.tell(f"job {bundle} {name}")
+            self.depth += 1
+            self.run_section(bundle, f"job {name}", {})
+            self.depth -= 1
+
     # ---- commands and statements
 
     def run_section(self, bundle, section, held):
@@ -350,6 +369,8 @@ class Session:
             self.load(owner, *words)
         elif word in ("listen", "unlisten"):
             {"listen": self.listen, "unlisten": self.unlisten}[word](owner, *words)
+        elif word == "job":
+            self.queue_job(owner, *words)
         elif word == "print":
             self.tell(*words)
         elif word == "fail":
@@ -385,13 +406,18 @@ class Session:
     def run_line(self, line):
         try:
             if not self.is_spent:
-                self.do_command(line[0], line[1:])
-        except Refused:
-            pass
+                self.run_plan(line)
+                self.take_jobs()
         except Spent:
             self.is_spent = True
         if self.is_spent:
             self.written.append("full")
+
+    def run_plan(self, line):
+        try:
+            self.do_command(line[0], line[1:])
+        except Refused:
+            pass
 
     def status(self):
         return 7 if self.is_spent else 1 if self.is_troubled else 0

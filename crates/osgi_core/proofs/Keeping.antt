@@ -66,8 +66,8 @@ minus_zero n = omega (arith)
 
 -- the tables of the empty history
 pub kept_none : (setting : Setting) (tables : Tables) → tables.depot.rows ≡ setting.depot → tables.budget ≡ setting.bounds.budget → registry.StandsFor [] tables.registry → StandsForNone tables.bundles → callers.StandsFor [] tables.brackets → tables.listeners ≡ no_listeners →
-    tables.handings_left ≡ setting.bounds.handings → tables.wirings.world ≡ first_world → tables.wirings.issued ≡ 0 → IsKeptWorld tables.wirings.world tables.wirings.issued → IsKept setting [] tables
-kept_none setting tables depot budget services bundles brackets listeners handings world issued kept =
+    tables.handings_left ≡ setting.bounds.handings → tables.wirings.world ≡ first_world → tables.wirings.issued ≡ 0 → IsKeptWorld tables.wirings.world tables.wirings.issued → tables.jobs ≡ [] → IsKept setting [] tables
+kept_none setting tables depot budget services bundles brackets listeners handings world issued kept jobs =
     let sound : IsSound tables.wirings.world = record { consistent = kept.consistent; is_world = kept.is_world; ordered = kept.ordered } in
     record {
       told = record {
@@ -86,6 +86,7 @@ kept_none setting tables depot budget services bundles brackets listeners handin
         listeners = subst (hearing.StandsFor [] []) (sym listeners) stands-at-first;
         small = All-nil (λ (s : Seen). s.place < 4294967296);
         handings = handings ∙ minus_zero setting.bounds.handings;
+        jobs = jobs;
       };
     }
 
@@ -172,6 +173,7 @@ kept_push setting history old new tag o reply sights kept room replied =
         listeners = subst (λ (all : List Seen). hearing.StandsFor all (history ++ record { tag = tag; op = o; reply = reply } ∷ []) new.listeners) (sym (sights_push kept tag o reply new.wirings.world sights)) stands.listeners;
         small = subst AreSmall (sym (sights_push kept tag o reply new.wirings.world sights)) stands.small;
         handings = stands.handings;
+        jobs = stands.jobs;
       };
     }
 
@@ -203,6 +205,7 @@ still_kept setting history old new kept still =
           listeners = again.listeners;
           small = again.small;
           handings = again.handings;
+          jobs = again.jobs;
         };
       },
     )

@@ -22,4 +22,4 @@ replied_bundles tables who =
     (λ now told stood. stood.world) (λ past before after e. refl)
     (λ now told stood.
     still_tables now tables op.ListBundles reply stood
-    (of_services op.ListBundles reply (λ n since. refl) (λ b. refl) (λ b. refl) refl (λ b. refl) refl refl refl (λ l. refl) refl (λ now world same. same)) (quiet_bundles (map row_of tables.bundles.rows)))
+    (of_services op.ListBundles reply (λ n since. refl) (λ b. refl) (λ b. refl) refl (λ b. refl) refl refl refl (λ l. refl) refl refl (λ now world same. same)) (quiet_bundles (map row_of tables.bundles.rows)))

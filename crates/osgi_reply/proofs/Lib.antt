@@ -1,6 +1,4 @@
 -- Lemmas on the one match of all operations.
 pub mod BundlesListed
-pub mod JobEnds
-pub mod JobsTaken
 pub mod Matching
 pub mod TextsWritten

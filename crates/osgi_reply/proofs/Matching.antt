@@ -1,7 +1,7 @@
 -- What is decided of each operation is decided for who asks.
 use Rattle.std.proofs.Common.{◌≡◌, ap, map, sym, subst, ◌∙◌, refl}
 use Rattle.std.specs.Prelude.{true, false, List, [], ◌∷◌, None, Option, option_to_list, Some}
-use Rattle.osgi_stage.proofs.Stage.{job-end-due, late-due, make-end-due}
+use Rattle.osgi_stage.proofs.Stage.{late-due, make-end-due}
 use Rattle.osgi_ops.specs.Cleaning.{cleaned_by}
 use Rattle.osgi_legal.specs.Legal.{entry_of, IsTold}
 use Rattle.osgi_ops.specs.Listening as happening
@@ -89,9 +89,8 @@ pub decided_unasked : (asked : Asked) (tables : Tables) (refusal : Refusal) → 
 decided_unasked asked tables refusal is =
     decided_refused asked tables refusal (plain_refusal tables.bundles (asker_here asked.op) refusal is) (λ now told stood. unasked now tables.bundles asked.op refusal told.told stood.bundles is)
 
--- an operation that is not decided has not come, or is the end of a job or of a make, of which none is open
+-- an operation that is not decided has not come, or is the end of a make, of which none is open
 pub undecided_due : (now : Moment) → IsTold now → (o : Op) → is_decided o ≡ false → IsReply now o (answer.Refused InvalidOperation)
-undecided_due now told op.EndJob undecided = job-end-due now told
 undecided_due now told (op.EndMake failed) undecided = make-end-due now told failed
 undecided_due now told o undecided = late-due now o undecided
 

@@ -33,9 +33,9 @@ done tables o here quiet of due passes who =
 pub replied_printed : (tables : Tables) (owner : BundleId) (text : List ℕ) → asker_refusal tables.bundles (Some owner) ≡ None → IsAnsweredToAll (op.Print owner text) tables answer.Done
 replied_printed tables owner text passes =
     let quiet : IsQuiet (op.Print owner text) answer.Done = asking-quiet (op.Print owner text) answer.Done refl in
-    done tables (op.Print owner text) refl quiet (record { bundles = quiet.bundles; phases = quiet.phases; opened = quiet.opened; no_end = refl; keeps = quiet_keeps _ answer.Done quiet.listeners; leaves = λ now world same. same }) (λ now. refl) passes
+    done tables (op.Print owner text) refl quiet (record { bundles = quiet.bundles; phases = quiet.phases; opened = quiet.opened; no_end = refl; keeps = quiet_keeps _ answer.Done quiet.listeners; jobs = quiet.jobs; leaves = λ now world same. same }) (λ now. refl) passes
 
 pub replied_failed : (tables : Tables) (owner : BundleId) (text : List ℕ) → asker_refusal tables.bundles (Some owner) ≡ None → IsAnsweredToAll (op.Fail owner text) tables answer.Done
 replied_failed tables owner text passes =
     let quiet : IsQuiet (op.Fail owner text) answer.Done = asking-quiet (op.Fail owner text) answer.Done refl in
-    done tables (op.Fail owner text) refl quiet (record { bundles = quiet.bundles; phases = quiet.phases; opened = quiet.opened; no_end = refl; keeps = quiet_keeps _ answer.Done quiet.listeners; leaves = λ now world same. same }) (λ now. refl) passes
+    done tables (op.Fail owner text) refl quiet (record { bundles = quiet.bundles; phases = quiet.phases; opened = quiet.opened; no_end = refl; keeps = quiet_keeps _ answer.Done quiet.listeners; jobs = quiet.jobs; leaves = λ now world same. same }) (λ now. refl) passes

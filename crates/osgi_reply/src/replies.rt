@@ -6,15 +6,15 @@
 ghost use Rattle.std.specs.Prelude.{◌≡◌, ◌<◌, ℕ, false, true, All, None, IfOk, IsOk, map, OnErr};
 ghost use Rattle.osgi_listeners.specs.Sights.{IsOfEarlier, sights_of};
 ghost use Rattle.osgi_ops.specs.declared.op.Op.TheVariants as op;
-ghost use Rattle.osgi_reply_listening.specs.Hands.{end_reply};
 ghost use Rattle.osgi_tables.specs.Asked.{asker_here, asker_refusal, is_hand_or_job_end, is_decided};
 ghost use Rattle.osgi_tables.specs.Changes.{IsReplyAndChange};
-ghost use Rattle.osgi_tables.specs.Replied.{HasRoom, IsReplied, StandsStill};
+ghost use Rattle.osgi_tables.specs.Replied.{end_reply, HasRoom, IsReplied, StandsStill};
 
 use crate::listing::list_bundles;
 use osgi_base::{ListenerId, Tag};
 use osgi_listeners::Sight;
 use osgi_ops::{Asked, Op, Refusal, Reply};
+use osgi_reply_jobs::{end_job, queue_job, take_job};
 use osgi_reply_life::{begin_start, begin_stop, end_start, end_stop, wish_start};
 use osgi_reply_listening::{add_listener, end_hand, hand, remove_listener};
 use osgi_reply_loading::{find, load};
@@ -23,7 +23,7 @@ use osgi_reply_services::{ServiceChange, services};
 use osgi_tables::{Change, Tables, asker_refusal};
 use std::alloc::{AllocError, Global};
 
-/// The refusal of an operation that the framework does not have yet, or of the end of a job or of a make, which nothing begins yet.
+/// The refusal of an operation that the framework does not have yet, or of the end of a make, which nothing begins yet.
 fn not_yet(tables: &Tables, asked: &Asked) -> (Reply, Change)
     requires unknown { is_decided asked.now.op ≡ false }
     ensures decided { IsReplyAndChange asked.now tables.now result.0 result.1 }
@@ -122,8 +122,8 @@ fn decide_by(
         Op::Hand => hand(alloc, tables, asked.tag),
         Op::EndHand { .. } => unreachable!(),
         Op::EndJob => unreachable!(),
-        // No job can be queued yet.
-        Op::TakeJob => Ok(unchanging(Reply::NoJob)),
+        Op::QueueJob { owner, name } => queue_job(alloc, tables, *owner, name),
+        Op::TakeJob => take_job(alloc, tables, asked.tag),
         Op::Print { .. } => Ok(unchanging(Reply::Done)),
         Op::Fail { .. } => Ok(unchanging(Reply::Done)),
         Op::Install { location } => install(alloc, tables, location),
@@ -202,7 +202,7 @@ fn end_reply(ended: bool) -> Reply
 }
 
 /// Carries out the end of a hand. It takes no memory.
-fn end_by(alloc: Global, tables: &mut Tables, tag: Tag, listener: ListenerId) -> Replied
+fn end_of_hand(alloc: Global, tables: &mut Tables, tag: Tag, listener: ListenerId) -> Replied
     ensures copied { result.kept ≡ result.reply }
     ensures replied { (entries : ℕ)
         → IsReplied entries (record { tag = tag; op = op.EndHand listener }) tables.old tables.new
@@ -216,16 +216,17 @@ fn end_by(alloc: Global, tables: &mut Tables, tag: Tag, listener: ListenerId) ->
     }
 }
 
-/// The end of a job. It is refused, since none has begun, and takes no memory.
-fn end_job(alloc: Global, tables: &Tables, tag: Tag) -> Replied
+/// Carries out the end of a job. It takes no memory.
+fn end_of_job(alloc: Global, tables: &mut Tables, tag: Tag) -> Replied
     ensures copied { result.kept ≡ result.reply }
     ensures replied { (entries : ℕ)
-        → IsReplied entries (record { tag = tag; op = op.EndJob }) tables.now tables.now result.reply
+        → IsReplied entries (record { tag = tag; op = op.EndJob }) tables.old tables.new result.reply
         (sights_of result.told.items) }
 {
+    let ended = end_job(tables, tag);
     Replied {
-        reply: end_reply(false),
-        kept: end_reply(false),
+        reply: end_reply(ended),
+        kept: end_reply(ended),
         told: Vec::new(alloc),
     }
 }
@@ -248,8 +249,8 @@ pub fn reply_to(
     ensures unchanged { OnErr result (StandsStill tables.old tables.new) }
 {
     match &asked.op {
-        Op::EndHand { listener } => Ok(end_by(alloc, tables, asked.tag, *listener)),
-        Op::EndJob => Ok(end_job(alloc, tables, asked.tag)),
+        Op::EndHand { listener } => Ok(end_of_hand(alloc, tables, asked.tag, *listener)),
+        Op::EndJob => Ok(end_of_job(alloc, tables, asked.tag)),
         _ => change_by(alloc, tables, asked, entries),
     }
 }

@@ -136,6 +136,7 @@ is_end_start b true = record {
   bundles = start_bundles b true (reply_of true);
   cleans = refl;
   hears = refl;
+  jobs = refl;
   hands = record { handed = λ l. refl; counted = refl };
   no_turn = λ l. refl;
   opened = refl;
@@ -146,6 +147,7 @@ is_end_start b false = record {
   bundles = start_bundles b false (reply_of false);
   cleans = record { registered = λ n since. refl; taken = λ s owner. refl; given = λ s. refl; got = λ u s. refl; let_go = λ u s. refl; cleaned = refl; made = λ tag opened. refl };
   hears = refl;
+  jobs = refl;
   hands = record { handed = λ l. refl; counted = refl };
   no_turn = λ l. refl;
   opened = refl;
@@ -158,6 +160,7 @@ is_end_stop b true = record {
   bundles = stop_bundles b true (reply_of true);
   cleans = refl;
   hears = refl;
+  jobs = refl;
   hands = record { handed = λ l. refl; counted = refl };
   no_turn = λ l. refl;
   opened = refl;
@@ -168,6 +171,7 @@ is_end_stop b false = record {
   bundles = stop_bundles b false (reply_of false);
   cleans = refl;
   hears = refl;
+  jobs = refl;
   hands = record { handed = λ l. refl; counted = refl };
   no_turn = λ l. refl;
   opened = refl;

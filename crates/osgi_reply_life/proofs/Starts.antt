@@ -160,7 +160,7 @@ wish tag target transient = record { tag = tag; op = op.WishStart target transie
 
 idle_wish : (target : Target) (transient : Bool) (reply : Reply) → IsIdle (op.WishStart target transient) reply
 idle_wish target transient reply = record {
-  others = of_services (op.WishStart target transient) reply (λ n since. refl) (λ b. refl) (λ b. refl) refl (λ b. refl) refl refl refl (λ l. refl) refl (λ now world same. same);
+  others = of_services (op.WishStart target transient) reply (λ n since. refl) (λ b. refl) (λ b. refl) refl (λ b. refl) refl refl refl (λ l. refl) refl refl (λ now world same. same);
   services = record { registered = λ n since. refl; taken = λ s owner. refl; given = λ s. refl; got = λ u s. refl; let_go = λ u s. refl; cleaned = refl; made = λ tag opened. refl };
   none = λ now told after e. refl;
 }
@@ -211,7 +211,7 @@ begin_services b transient reply = record { registered = λ n since. refl; taken
 
 idle_begin : (b : BundleId) (transient : Bool) → IsIdle (op.BeginStart b transient) (answer.Active b)
 idle_begin b transient = record {
-  others = of_services (op.BeginStart b transient) (answer.Active b) (λ n since. refl) (λ c. refl) (λ c. refl) refl (λ c. refl) refl refl refl (λ l. refl) refl (λ now world same. same);
+  others = of_services (op.BeginStart b transient) (answer.Active b) (λ n since. refl) (λ c. refl) (λ c. refl) refl (λ c. refl) refl refl refl (λ l. refl) refl refl (λ now world same. same);
   services = begin_services b transient (answer.Active b);
   none = λ now told after e. refl;
 }
@@ -222,6 +222,7 @@ begins_start b transient row = record {
   bundles = record { installed = λ n since. refl; gone = λ c. refl; updated = λ c. refl; brings = refl };
   services = begin_services b transient (answer.Begun b row);
   keeps = record { heard = refl; hands = record { handed = λ l. refl; counted = refl } };
+  jobs = refl;
   opened = refl;
   no_end = refl;
   leaves = λ now world same. same;

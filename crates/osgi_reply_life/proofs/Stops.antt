@@ -112,7 +112,7 @@ begin_services target transient reply = record { registered = λ n since. refl; 
 
 idle_stop : (target : Target) (transient : Bool) (b : BundleId) → IsIdle (op.BeginStop target transient) (answer.Idle b)
 idle_stop target transient b = record {
-  others = of_services (op.BeginStop target transient) (answer.Idle b) (λ n since. refl) (λ c. refl) (λ c. refl) refl (λ c. refl) refl refl refl (λ l. refl) refl (λ now world same. same);
+  others = of_services (op.BeginStop target transient) (answer.Idle b) (λ n since. refl) (λ c. refl) (λ c. refl) refl (λ c. refl) refl refl refl (λ l. refl) refl refl (λ now world same. same);
   services = begin_services target transient (answer.Idle b);
   none = λ now told after e. cond-false (is_waiting b now.before) _ [] (never-waits now told b);
 }
@@ -123,6 +123,7 @@ begins_stop target transient b row = record {
   bundles = record { installed = λ n since. refl; gone = λ c. refl; updated = λ c. refl; brings = refl };
   services = begin_services target transient (answer.Begun b row);
   keeps = record { heard = refl; hands = record { handed = λ l. refl; counted = refl } };
+  jobs = refl;
   opened = refl;
   no_end = refl;
   leaves = λ now world same. same;

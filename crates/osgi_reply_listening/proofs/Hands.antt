@@ -36,15 +36,14 @@ use Rattle.osgi_ops.specs.declared.reply.Reply.{Reply}
 use Rattle.osgi_ops.specs.declared.reply.Reply.TheVariants as answer
 use Rattle.osgi_legal.specs.laws.Stages.{row-here}
 use Rattle.osgi_ops.specs.rows.Events.{HandAnswers, hand_refusals, IsAnyReady, IsHanding}
-use Rattle.osgi_reply_listening.specs.Hands.{end_reply, handed_reply}
+use Rattle.osgi_reply_listening.specs.Hands.{handed_reply}
 use Rattle.osgi_tables.proofs.DepotRows.{shown_row}
-use Rattle.osgi_sights.specs.laws.Standing.{nothing_seen}
 use Rattle.osgi_tables.proofs.Heard.{ended_stands, handed_stands, nothing_stands, with_end}
 use Rattle.osgi_tables.proofs.Living.{deep_at, own_end_at, shallow_at}
 use Rattle.osgi_tables.proofs.Premises.{handed-first, turns-apart}
-use Rattle.osgi_tables.proofs.Replying.{decided_refused, decided_same, replied_refused, unseen}
+use Rattle.osgi_tables.proofs.Replying.{decided_refused, decided_same, replied_refused, replied_unseen, unseen}
 use Rattle.osgi_tables.specs.Changes.{CanBeHanded, IsReplyAndChange}
-use Rattle.osgi_tables.specs.Replied.{EachTime, EachTimeAt, IsAnswered, IsReplied, StandsFor}
+use Rattle.osgi_tables.specs.Replied.{EachTime, EachTimeAt, end_reply, IsAnswered, IsReplied, StandsFor}
 use Rattle.osgi_world.specs.declared.world.World.{World}
 use Rattle.osgi_tables.specs.declared.change.Change.TheVariants as change
 use Rattle.osgi_tables.specs.declared.tables.Tables.{Tables}
@@ -147,15 +146,6 @@ module _ (tables : Tables) (tag : Tag) (listener : ListenerId) (event : Event) (
 
 abbrev pub end_by : Tag → ListenerId → Asked
 end_by tag listener = record { tag = tag; op = op.EndHand listener }
-
--- what is answered, where nothing happens, is replied where nobody is told
-pub replied_unseen : (entries : ℕ) (asked : Asked) (old new : Tables) (reply : Reply) → ((past : List Entry) (before after : World) (e : Entry) → e.op ≡ asked.op → e.reply ≡ reply → happenings past before after e e.op e.reply ≡ []) → IsAnswered asked old new reply [] → IsReplied entries asked old new reply []
-replied_unseen entries asked old new reply none answered = record {
-  due = λ now at number stood. answered.due now at stood;
-  left = λ now at number stood. answered.left now at stood;
-  seen = λ now at number stood. nothing_seen now.before now.world new.wirings.world (entry_of now asked.op reply) (none now.before now.world new.wirings.world (entry_of now asked.op reply) refl refl);
-  stands = λ now at number stood. answered.stands now at stood;
-}
 
 end_happens : (listener : ListenerId) (y : Reply) (past : List Entry) (before after : World) (e : Entry) → e.op ≡ op.EndHand listener → e.reply ≡ y → happenings past before after e e.op e.reply ≡ []
 end_happens listener y past before after e is says = ap (λ o. happenings past before after e o e.reply) is

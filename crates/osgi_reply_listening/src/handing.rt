@@ -1,31 +1,17 @@
 //! Events that are handed, and hands that end.
 
 ghost use Rattle.std.specs.Prelude.{◌≡◌, ℕ, [], IfOk};
-ghost use Rattle.std.specs.Option.{option_map_or};
-ghost use Rattle.osgi_bundle.specs.Rows.{row_at};
-ghost use Rattle.osgi_bundle.specs.declared.kept.BundleKept.{BundleKept};
 ghost use Rattle.osgi_ops.specs.declared.op.Op.TheVariants as op;
-ghost use Rattle.osgi_reply_listening.specs.Hands.{end_reply, handed_reply};
+ghost use Rattle.osgi_reply_listening.specs.Hands.{handed_reply};
 ghost use Rattle.osgi_tables.specs.Changes.{IsReplyAndChange};
-ghost use Rattle.osgi_tables.specs.Replied.{IsReplied};
+ghost use Rattle.osgi_tables.specs.Replied.{end_reply, IsReplied};
 
-use osgi_base::{BundleId, ListenerId, Tag};
+use osgi_base::{ListenerId, Tag};
 use osgi_bundle::Table;
 use osgi_listeners::ListenerRow;
 use osgi_ops::{Event, Op, Refusal, Reply};
-use osgi_tables::{Change, Tables};
+use osgi_tables::{Change, Tables, depot_row};
 use std::alloc::{AllocError, Global};
-
-/// The row of the depot that a live bundle comes from; 0 where there is no such bundle.
-fn depot_row(bundles: &Table, bundle: BundleId) -> u32
-    ensures row { result
-        ≡ option_map_or (λ (row : BundleKept). row.row) (row_at bundle bundles.now.rows) 0 }
-{
-    match bundles.row(bundle) {
-        Some(row) => row.row,
-        None => 0,
-    }
-}
 
 /// The reply of a hand of this event to this listener.
 fn handed(

@@ -97,4 +97,4 @@ load_answered tables b k class by is barred loaded who =
     )))
     (λ now told stood. stood.world) (λ past before after e. refl)
     (λ now told stood.
-    still_tables now tables (op.Load b class) reply stood (of_services (op.Load b class) reply (λ n since. refl) (λ c. refl) (λ c. refl) refl (λ c. refl) refl refl refl (λ l. refl) refl (λ now world same. same)) (quiet_load b class by))
+    still_tables now tables (op.Load b class) reply stood (of_services (op.Load b class) reply (λ n since. refl) (λ c. refl) (λ c. refl) refl (λ c. refl) refl refl refl (λ l. refl) refl refl (λ now world same. same)) (quiet_load b class by))

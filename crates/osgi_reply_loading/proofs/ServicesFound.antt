@@ -23,7 +23,7 @@ replied_found tables asker class filter found passes is who =
     let o = op.Find asker class filter in
     let reply = answer.Best found in
     replied_by (record { tag = who; op = o }) tables tables.registry reply [] refl
-    (of_services o reply (λ n since. refl) (λ b. refl) (λ b. refl) refl (λ b. refl) refl refl refl (λ l. refl) refl (λ now world same. same)) passes
+    (of_services o reply (λ n since. refl) (λ b. refl) (λ b. refl) refl (λ b. refl) refl refl refl (λ l. refl) refl refl (λ now world same. same)) passes
     (λ now told may stood. (
       found,
       refl,

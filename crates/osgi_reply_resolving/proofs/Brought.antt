@@ -12,6 +12,7 @@ use Rattle.osgi_bundle.specs.Stands as bundle
 use Rattle.osgi_bundle.specs.Stands.{IsNewBundle, kept_of, StandsAfter}
 use Rattle.osgi_bundle.specs.declared.kept.BundleKept.{BundleKept}
 use Rattle.osgi_bundle.specs.laws.Standing as table
+use Rattle.osgi_jobs.specs.laws.Standing.{stands-quiet}
 use Rattle.osgi_legal.specs.Quiet.{QuietServices}
 use Rattle.osgi_stage.proofs.Current.{fresh-at}
 use Rattle.osgi_stage.proofs.Fresh.{never-given}
@@ -79,7 +80,7 @@ replied_known tables location id is who =
     (sym (table.from_location now.setting.depot now.before now.world tables.bundles location stood.bundles) ∙ is))
     (λ now told stood. stood.world) (λ past before after e. refl)
     (λ now told stood.
-    still_tables now tables (op.Install location) reply stood (of_services (op.Install location) reply (λ n since. refl) (λ b. refl) (λ b. refl) refl (λ b. refl) refl refl refl (λ l. refl) refl (λ now world same. same)) (quiet_known location id true))
+    still_tables now tables (op.Install location) reply stood (of_services (op.Install location) reply (λ n since. refl) (λ b. refl) (λ b. refl) refl (λ b. refl) refl refl refl (λ l. refl) refl refl (λ now world same. same)) (quiet_known location id true))
 
 -- ---- a location that no live bundle has
 
@@ -243,6 +244,7 @@ module _ (old : Tables) (new : TableRows) (after : WiringState) (location : List
         listeners = heard.listeners;
         small = heard.small;
         handings = heard.handings;
+        jobs = stands-quiet now.before e old.jobs refl stood.jobs;
       }
 
   -- what happens is that it is installed

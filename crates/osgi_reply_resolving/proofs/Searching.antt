@@ -10,6 +10,7 @@ use Rattle.osgi_bundle.specs.Rows.{AreInOrder, IsSettable, TableRows}
 use Rattle.osgi_bundle.specs.Stands as bundle
 use Rattle.osgi_bundle.specs.Stands.{kept_of}
 use Rattle.osgi_bundle.specs.laws.Standing as table
+use Rattle.osgi_jobs.specs.laws.Standing.{stands-quiet}
 use Rattle.osgi_legal.specs.Quiet.{QuietBundles, QuietServices}
 use Rattle.osgi_stage.proofs.Current.{dead-at, live-at, up-resolved}
 use Rattle.osgi_legal.proofs.Quiet.{bundles-quiet}
@@ -202,6 +203,7 @@ replied_resolved tables b whole resolved who =
           listeners = heard.listeners;
           small = heard.small;
           handings = heard.handings;
+          jobs = stands-quiet now.before e tables.jobs refl stood.jobs;
         }
 
 -- ---- refusals of the search
@@ -348,6 +350,7 @@ module _ (tables : Tables) (b : BundleId) (root : RevisionId) (kept : IsKeptWorl
             listeners = heard.listeners;
             small = heard.small;
             handings = heard.handings;
+            jobs = stands-quiet now.before e tables.jobs refl stood.jobs;
           }
 
       pub replied_found : All (λ c. IsSettable c tables.bundles.rows) (listed tables.wirings.world wirings tables.bundles.rows) → (who : Tag) →

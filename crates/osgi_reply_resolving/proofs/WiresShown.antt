@@ -102,4 +102,4 @@ wires_listed tables b k rows fragments is are who =
     inr ((λ other called. let bad : true ≡ false = sym (live-at (at now tables) told b k is) ∙ called.1 in cc bad), (rows, fragments, refl, are))))
     (λ now told stood. stood.world) (λ past before after e. refl)
     (λ now told stood.
-    still_tables now tables (op.ListWires b) reply stood (of_services (op.ListWires b) reply (λ n since. refl) (λ c. refl) (λ c. refl) refl (λ c. refl) refl refl refl (λ l. refl) refl (λ now world same. same)) (quiet_wires b rows fragments))
+    still_tables now tables (op.ListWires b) reply stood (of_services (op.ListWires b) reply (λ n since. refl) (λ c. refl) (λ c. refl) refl (λ c. refl) refl refl refl (λ l. refl) refl refl (λ now world same. same)) (quiet_wires b rows fragments))

@@ -11,13 +11,17 @@ use Rattle.osgi_brackets.specs.laws.Following.{closed-after, opened-after}
 use Rattle.osgi_bundle.specs.Rows.{TableRows}
 use Rattle.osgi_bundle.specs.Stands.{Puts, StandsPut}
 use Rattle.osgi_bundle.specs.Stands as bundle
-use Rattle.osgi_legal.specs.Quiet.{QuietBundles, QuietServices}
+use Rattle.osgi_legal.specs.Quiet.{QuietBundles, QuietJobs, QuietServices}
+use Rattle.osgi_jobs.specs.Queue as queue
+use Rattle.osgi_jobs.specs.laws.Standing.{stands-after, stands-quiet}
 use Rattle.osgi_legal.proofs.Owned.{closes-not}
 use Rattle.osgi_legal.proofs.Quiet.{bundles-quiet}
 use Rattle.osgi_ops.specs.Brackets.{brackets, brackets_of, Cause, is_end, is_own_end, opens, own_closes}
 use Rattle.osgi_ops.specs.Bundles.{Phase, put_into}
 use Rattle.osgi_ops.specs.Cleaning.{cleaned_by}
 use Rattle.osgi_ops.specs.Conditions.{IsDeep}
+use Rattle.osgi_ops.specs.Jobs as jobs
+use Rattle.osgi_ops.specs.Jobs.{Queued, queued_by}
 use Rattle.osgi_legal.specs.Legal.{entry_of, IsAskedAt}
 use Rattle.osgi_ops.specs.Listening.{clears, happenings, heard_by}
 use Rattle.osgi_ops.specs.Moments.{later, Moment}
@@ -38,7 +42,7 @@ use Rattle.osgi_world.specs.declared.world.World.{World}
 use Rattle.osgi_sights.specs.Shown.{AreShown, Shown}
 use Rattle.osgi_tables.proofs.Hearing.{closes_none, HandsNothing, heard_cleaned, heard_kept, HearsAfter, KeepsListeners}
 use Rattle.osgi_tables.proofs.Replying.{kept_closes, unsaid}
-use Rattle.osgi_tables.specs.Changes.{Begins, Cleans, Ends, without_listeners}
+use Rattle.osgi_tables.specs.Changes.{Begins, Cleans, Ends, without_jobs, without_listeners}
 use Rattle.osgi_tables.specs.Replied.{EachTime, IsAnswered, StandsFor}
 use Rattle.osgi_tables.specs.declared.tables.Tables.{Tables}
 
@@ -79,6 +83,7 @@ pub record IsBeginOf (phase : Phase) (cause : Cause) (b : BundleId) (o : Op) (re
   pub bundles : QuietBundles o reply
   pub services : QuietServices o reply
   pub keeps : KeepsListeners o reply
+  pub jobs : QuietJobs o reply
   pub opened : opens o reply ≡ Some cause
   pub no_end : is_end o ≡ false
   pub leaves : (now : Moment) (world : World) → world ≡ now.world → Leaves now o reply world
@@ -100,6 +105,7 @@ begun_stands asked old new reply phase cause b is resolved begins now at stood =
       listeners = heard.listeners;
       small = heard.small;
       handings = heard.handings;
+      jobs = stands-quiet now.before e old.jobs is.jobs stood.jobs;
     }
 
 -- this happens at the operation with this reply, which leaves the world
@@ -125,6 +131,7 @@ pub record IsEndOf (phase : Phase) (cleaned : Bool) (b : BundleId) (o : Op) (rep
   pub bundles : QuietBundles o reply
   pub cleans : MatchBool cleaned (cleaned_by o reply ≡ Some b) (QuietServices o reply)
   pub hears : heard_by o reply ≡ option_map clears (cleaned_by o reply)
+  pub jobs : queued_by o reply ≡ option_map jobs.clears (cleaned_by o reply)
   pub hands : HandsNothing o reply
   pub no_turn : (l : ListenerId) → ends_turn l o ≡ false
   pub opened : opens o reply ≡ None
@@ -137,13 +144,19 @@ services_after now o reply false b old new stood says same =
     subst (registries.StandsFor (now.before ++ entry_of now o reply ∷ [])) (sym same) (registry.stands_quiet now.before old (entry_of now o reply) stood (unsaid (entry_of now o reply) says))
 
 abbrev ended_tables : {phase : Phase} {cleaned : Bool} {tag : Tag} {b : BundleId} {old new : Tables} → Ends phase cleaned tag b old new → Tables
-ended_tables {phase} {cleaned} {tag} {b} {old} {new} ends = record old { registry = ends.registry; bundles = ends.bundles; brackets = ends.brackets; listeners = without_listeners cleaned b old.listeners }
+ended_tables {phase} {cleaned} {tag} {b} {old} {new} ends = record old { registry = ends.registry; bundles = ends.bundles; brackets = ends.brackets; listeners = without_listeners cleaned b old.listeners; jobs = without_jobs cleaned b old.jobs }
 
 -- the listeners after it: those of the bundle go, if it is cleaned
 heard_after : (now : Moment) (tables : Tables) (o : Op) (reply : Reply) (cleaned : Bool) (b : BundleId) → StandsFor now tables → MatchBool cleaned (cleaned_by o reply ≡ Some b) (QuietServices o reply) → heard_by o reply ≡ option_map clears (cleaned_by o reply) →
     HandsNothing o reply → ((l : ListenerId) → ends_turn l o ≡ false) → HearsAfter now o reply (without_listeners cleaned b tables.listeners) tables.handings_left
 heard_after now tables o reply true b stood says hears hands no_turn = heard_cleaned now tables o reply b stood says hands
 heard_after now tables o reply false b stood says hears hands no_turn = heard_kept now tables o reply stood (record { heard = hears ∙ ap (option_map clears) says.cleaned; hands = hands }) (λ l closed. no_turn l)
+
+-- the jobs after it: those of the bundle go, if it is cleaned
+jobs_after : (now : Moment) (o : Op) (reply : Reply) (cleaned : Bool) (b : BundleId) (queued : List Queued) → queue.StandsFor now.before queued → MatchBool cleaned (cleaned_by o reply ≡ Some b) (QuietServices o reply) →
+    queued_by o reply ≡ option_map jobs.clears (cleaned_by o reply) → queue.StandsFor (now.before ++ entry_of now o reply ∷ []) (without_jobs cleaned b queued)
+jobs_after now o reply true b queued stood says are = stands-after now.before (entry_of now o reply) queued (Some (jobs.clears b)) (are ∙ ap (option_map jobs.clears) says) stood
+jobs_after now o reply false b queued stood says are = stands-quiet now.before (entry_of now o reply) queued (are ∙ ap (option_map jobs.clears) says.cleaned) stood
 
 ended_stands : (asked : Asked) (old new : Tables) (reply : Reply) (phase : Phase) (cleaned : Bool) (b : BundleId) → IsEndOf phase cleaned b asked.op reply → own_closes asked.tag asked.op (open_of old.brackets asked.tag.caller) ≡ true →
     EachTime asked old (λ now. is_resolved now.world b ≡ true) → (ends : Ends phase cleaned asked.tag b old new) →
@@ -164,6 +177,7 @@ ended_stands asked old new reply phase cleaned b is own resolved ends now at sto
       listeners = heard.listeners;
       small = heard.small;
       handings = heard.handings;
+      jobs = jobs_after now asked.op reply cleaned b old.jobs stood.jobs is.cleans is.jobs;
     }
 
 -- where its reply is due, it is the end of its caller's innermost bracket and this happens, it is answered so

@@ -12,16 +12,18 @@ use Rattle.osgi_bundle.specs.Rows.{TableRows}
 use Rattle.osgi_bundle.specs.Stands as bundle
 use Rattle.osgi_bundle.specs.laws.Standing as table
 use Rattle.osgi_legal.specs.Askers.{MayAsk}
-use Rattle.osgi_legal.specs.Quiet.{QuietBundles, QuietPhases, QuietServices}
+use Rattle.osgi_legal.specs.Quiet.{QuietBundles, QuietJobs, QuietPhases, QuietServices}
 use Rattle.osgi_legal.proofs.Askers.{asker-passes}
 use Rattle.osgi_legal.proofs.Owned.{closes-not, closes-own}
 use Rattle.osgi_legal.proofs.Quiet.{bundles-quiet, refused-quiet, refused_end_quiet}
 use Rattle.osgi_stage.proofs.Stage.{no-make-ends}
+use Rattle.osgi_jobs.specs.laws.Standing.{stands-quiet}
 use Rattle.osgi_listeners.specs.Rows.{Listening}
 use Rattle.osgi_ops.specs.Brackets.{brackets, closes, is_end, opens, own_closes}
 use Rattle.osgi_ops.specs.Bundles.{brings_revision, installed_by, is_uninstall, put_into, updated_to}
 use Rattle.osgi_ops.specs.Cleaning.{cleaned_by}
 use Rattle.osgi_ops.specs.Conditions.{asker_of}
+use Rattle.osgi_ops.specs.Jobs.{Queued, queued_by}
 use Rattle.osgi_legal.specs.Legal.{entry_of, IsAskedAt, IsTold}
 use Rattle.osgi_ops.specs.Listening.{handed_by, Happening, happenings, heard_by, is_handed}
 use Rattle.osgi_ops.specs.Moments.{later, Moment}
@@ -42,12 +44,13 @@ use Rattle.osgi_registry.specs.Rows.{RegistryRows}
 use Rattle.osgi_registry.specs.Stands as registries
 use Rattle.osgi_registry.specs.laws.Standing as registry
 use Rattle.osgi_sights.specs.Shown.{AreShown, Shown}
+use Rattle.osgi_sights.specs.laws.Standing.{nothing_seen}
 use Rattle.osgi_wiring.specs.States.{WiringState}
 use Rattle.osgi_world.specs.declared.world.World.{World}
 use Rattle.osgi_tables.proofs.Asking.{here_asks, passed_by}
 use Rattle.osgi_tables.proofs.Hearing.{closes_none, heard_kept, KeepsListeners, quiet_keeps}
 use Rattle.osgi_tables.specs.Asked.{asker_here, asker_refusal}
-use Rattle.osgi_tables.specs.Replied.{EachTime, IsAnswered, IsAnsweredToAll, IsSame, StandsFor, StandsStill}
+use Rattle.osgi_tables.specs.Replied.{EachTime, IsAnswered, IsAnsweredToAll, IsReplied, IsSame, StandsFor, StandsStill}
 use Rattle.osgi_tables.specs.Changes.{IsReplyAndChange, IsReplyAndChangeToAll}
 use Rattle.osgi_tables.specs.declared.change.Change.{Change}
 use Rattle.osgi_tables.specs.declared.change.Change.TheVariants as change
@@ -60,18 +63,20 @@ pub record IsOfServices (o : Op) (reply : Reply) : Type 0 where
   pub opened : opens o reply ≡ None
   pub no_end : is_end o ≡ false
   pub keeps : KeepsListeners o reply
+  pub jobs : QuietJobs o reply
   pub leaves : (now : Moment) (world : World) → world ≡ now.world → Leaves now o reply world
 
 -- where no view of bundles, phases and brackets mentions the operation
 pub of_services : (o : Op) (reply : Reply) → ((n : ℕ) (since : List Entry) → installed_by n o reply since ≡ []) → ((b : BundleId) → is_uninstall b o reply ≡ false) → ((b : BundleId) → updated_to b o reply ≡ None) → brings_revision o reply ≡ false →
-    ((b : BundleId) → put_into b o reply ≡ None) → opens o reply ≡ None → is_end o ≡ false → heard_by o reply ≡ None → ((l : ListenerId) → handed_by l o reply ≡ []) → is_handed o reply ≡ false →
+    ((b : BundleId) → put_into b o reply ≡ None) → opens o reply ≡ None → is_end o ≡ false → heard_by o reply ≡ None → ((l : ListenerId) → handed_by l o reply ≡ []) → is_handed o reply ≡ false → queued_by o reply ≡ None →
     ((now : Moment) (world : World) → world ≡ now.world → Leaves now o reply world) → IsOfServices o reply
-of_services o reply installs gone updated brings phases opened no_end heard handed counted leaves = record {
+of_services o reply installs gone updated brings phases opened no_end heard handed counted queued leaves = record {
   bundles = record { installed = installs; gone = gone; updated = updated; brings = brings };
   phases = phases;
   opened = opened;
   no_end = no_end;
   keeps = record { heard = heard; hands = record { handed = handed; counted = counted } };
+  jobs = queued;
   leaves = leaves;
 }
 
@@ -107,6 +112,15 @@ pub unseen : (asked : Asked) (old new : Tables) (reply : Reply) → EachTime ask
 unseen asked old new reply due left none stands =
     unseen_then asked old new reply due left (λ now told stood. none now.before now.world new.wirings.world (entry_of now asked.op reply)) stands
 
+-- what is answered, where nothing happens, is replied where nobody is told
+pub replied_unseen : (entries : ℕ) (asked : Asked) (old new : Tables) (reply : Reply) → ((past : List Entry) (before after : World) (e : Entry) → e.op ≡ asked.op → e.reply ≡ reply → happenings past before after e e.op e.reply ≡ []) → IsAnswered asked old new reply [] → IsReplied entries asked old new reply []
+replied_unseen entries asked old new reply none answered = record {
+  due = λ now at number stood. answered.due now at stood;
+  left = λ now at number stood. answered.left now at stood;
+  seen = λ now at number stood. nothing_seen now.before now.world new.wirings.world (entry_of now asked.op reply) (none now.before now.world new.wirings.world (entry_of now asked.op reply) refl refl);
+  stands = λ now at number stood. answered.stands now at stood;
+}
+
 -- ---- operations that say nothing of bundles: one law for all tables
 
 abbrev pub with_services : RegistryRows → Tables → Tables
@@ -128,9 +142,9 @@ pub brackets_left : (now : Moment) (o : Op) (reply : Reply) (kept : Brackets) �
 brackets_left now o reply kept stood opened no_end = brackets_unsaid now o reply kept stood opened (closes-not now.tag o (brackets now.before) no_end)
 
 -- the tables after an entry that changes no more than the registry
-still_by : (now : Moment) (tables : Tables) (o : Op) (reply : Reply) (services : RegistryRows) → StandsFor now tables → QuietBundles o reply → QuietPhases o reply → KeepsListeners o reply → opens o reply ≡ None → closes now.tag o (brackets now.before) ≡ false →
+still_by : (now : Moment) (tables : Tables) (o : Op) (reply : Reply) (services : RegistryRows) → StandsFor now tables → QuietBundles o reply → QuietPhases o reply → KeepsListeners o reply → QuietJobs o reply → opens o reply ≡ None → closes now.tag o (brackets now.before) ≡ false →
     registries.StandsFor (now.before ++ entry_of now o reply ∷ []) services → StandsFor (later now o reply tables.wirings.world []) (with_services services tables)
-still_by now tables o reply services stood quiet phases keeps opened stays stands =
+still_by now tables o reply services stood quiet phases keeps queued opened stays stands =
     let e : Entry = entry_of now o reply in
     let depot = now.setting.depot in
     let heard = heard_kept now tables o reply stood keeps (closes_none now o stays) in
@@ -148,11 +162,12 @@ still_by now tables o reply services stood quiet phases keeps opened stays stand
       listeners = heard.listeners;
       small = heard.small;
       handings = heard.handings;
+      jobs = stands-quiet now.before e tables.jobs queued stood.jobs;
     }
 
 pub still_world : (now : Moment) (tables : Tables) (o : Op) (reply : Reply) (services : RegistryRows) → StandsFor now tables → IsOfServices o reply → registries.StandsFor (now.before ++ entry_of now o reply ∷ []) services →
     StandsFor (later now o reply tables.wirings.world []) (with_services services tables)
-still_world now tables o reply services stood quiet stands = still_by now tables o reply services stood quiet.bundles quiet.phases quiet.keeps quiet.opened (closes-not now.tag o (brackets now.before) quiet.no_end) stands
+still_world now tables o reply services stood quiet stands = still_by now tables o reply services stood quiet.bundles quiet.phases quiet.keeps quiet.jobs quiet.opened (closes-not now.tag o (brackets now.before) quiet.no_end) stands
 
 pub unsaid : (e : Entry) → QuietServices e.op e.reply → registry.IsQuiet e
 unsaid e quiet = record { registers = quiet.registered; takes = quiet.taken; gives = quiet.given; gets = quiet.got; ungets = quiet.let_go; cleans = quiet.cleaned }
@@ -195,7 +210,7 @@ refused-leaves now o f world same = same
 still_refused : (now : Moment) (tables : Tables) (o : Op) (refusal : Refusal) → IsTold now → took_effect (answer.Refused refusal) ≡ false → IsReply now o (answer.Refused refusal) → StandsFor now tables → StandsFor (later now o (answer.Refused refusal) tables.wirings.world []) tables
 still_refused now tables o refusal told none due stood =
     let quiet = refused-quiet o refusal none in
-    still_by now tables o (answer.Refused refusal) tables.registry stood quiet.bundles quiet.phases (quiet_keeps o (answer.Refused refusal) quiet.listeners) quiet.opened (refused_end_quiet now o refusal due (no-make-ends now told) none)
+    still_by now tables o (answer.Refused refusal) tables.registry stood quiet.bundles quiet.phases (quiet_keeps o (answer.Refused refusal) quiet.listeners) quiet.jobs quiet.opened (refused_end_quiet now o refusal due (no-make-ends now told) none)
     (registry.stands_quiet now.before tables.registry (entry_of now o (answer.Refused refusal)) stood.services (unsaid (entry_of now o (answer.Refused refusal)) quiet.services))
 
 pub replied_refused : (asked : Asked) (tables : Tables) (refusal : Refusal) → took_effect (answer.Refused refusal) ≡ false → EachTime asked tables (λ now. IsReply now asked.op (answer.Refused refusal)) →
@@ -249,9 +264,10 @@ asked_ok (Err e) asked o tables is decided = tt
 pub still_same : (old new : Tables) → new ≡ old → StandsStill old new
 still_same old new same = λ now stood. subst (StandsFor now) (sym same) stood
 
--- so do those where registry and listeners are the same
-pub still_uncleaned : (tables : Tables) (services : RegistryRows) (l : Listening) → (services ≡ tables.registry) × (l ≡ tables.listeners) → StandsStill tables (record tables { registry = services; listeners = l })
-still_uncleaned tables services l same = still_same tables (record tables { registry = services; listeners = l }) (λ i. record tables { registry = same.0 i; listeners = same.1 i })
+-- so do those where registry, listeners and jobs are the same
+pub still_uncleaned : (tables : Tables) (services : RegistryRows) (l : Listening) (jobs : List Queued) → (services ≡ tables.registry) × (l ≡ tables.listeners) × (jobs ≡ tables.jobs) →
+    StandsStill tables (record tables { registry = services; listeners = l; jobs = jobs })
+still_uncleaned tables services l jobs same = still_same tables (record tables { registry = services; listeners = l; jobs = jobs }) (λ i. record tables { registry = same.0 i; listeners = same.1 i; jobs = same.2 i })
 
 -- what holds, holds where a call fails
 pub on_err : {T E : Type 0} (r : Result T E) {P : Type 0} → P → OnErr r P
@@ -273,6 +289,7 @@ stays_same tables rows after same is = λ now stood. record {
   listeners = stood.listeners;
   small = stood.small;
   handings = stood.handings;
+  jobs = stood.jobs;
 }
 
 -- where each caller has the brackets that it had
@@ -289,4 +306,5 @@ stays_open tables kept same = λ now stood. record {
   listeners = stood.listeners;
   small = stood.small;
   handings = stood.handings;
+  jobs = stood.jobs;
 }

@@ -64,6 +64,7 @@ tables_alike tables l alike now stood = record {
   listeners = stands_alike now.sights now.before tables.listeners l alike stood.listeners;
   small = stood.small;
   handings = stood.handings;
+  jobs = stood.jobs;
 }
 
 -- ---- the listeners that are left by a clean up
@@ -181,6 +182,8 @@ can_alike (change.Listen owner name kind given) tables l alike can = record {
 }
 can_alike (change.Hand tag listener) tables l alike can = record { event = can.event; next = handed_alike tables.listeners l alike listener can.event can.next; left = can.left }
 can_alike (change.Unlisten owner name) tables l alike can = can
+can_alike (change.Queue owner name) tables l alike can = can
+can_alike (change.TakeJob tag) tables l alike can = can
 can_alike change.Nothing tables l alike can = can
 can_alike (change.Services c) tables l alike can = can
 can_alike (change.Install made revision) tables l alike can = can
@@ -207,6 +210,12 @@ module _ (old new : Tables) (r : Listening) (alike : HearsAlike old.listeners r)
 
   pub changed_so : (c : Change) → Changes c (with_listeners r old) new → IsChangedSo c old new
   changed_so change.Nothing is = record { listeners = old.listeners; alike = kept (ap (λ (t : Tables). t.listeners) is); changes = put_back is }
+  changed_so (change.Queue owner name) is = record { listeners = old.listeners; alike = kept (ap (λ (t : Tables). t.listeners) is); changes = put_back is }
+  changed_so (change.TakeJob tag) is = record {
+    listeners = old.listeners;
+    alike = kept (ap (λ (t : Tables). t.listeners) is.is);
+    changes = record { brackets = is.brackets; opened = is.opened; is = put_back is.is };
+  }
   changed_so (change.Services c) is = record {
     listeners = old.listeners;
     alike = kept (ap (λ (t : Tables). t.listeners) is.is);

@@ -65,6 +65,8 @@ world_left (change.Resolve added resolved) old new is some = no_service (bundles
 world_left (change.Listen owner name kind given) old new is some = ap (λ (t : Tables). t.wirings.world) (sym is)
 world_left (change.Unlisten owner name) old new is some = ap (λ (t : Tables). t.wirings.world) (sym is)
 world_left (change.Hand tag listener) old new is some = ap (λ (t : Tables). t.wirings.world) (sym is.is)
+world_left (change.Queue owner name) old new is some = ap (λ (t : Tables). t.wirings.world) (sym is)
+world_left (change.TakeJob tag) old new is some = ap (λ (t : Tables). t.wirings.world) (sym is.is)
 world_left (change.BeginStart tag b) old new is some = ap (λ (t : Tables). t.wirings.world) (sym is.is)
 world_left (change.EndStart tag b failed) old new is some = ap (λ (t : Tables). t.wirings.world) (sym is.is)
 world_left (change.BeginStop tag b) old new is some = ap (λ (t : Tables). t.wirings.world) (sym is.is)
@@ -95,6 +97,7 @@ told_stands now o reply world sights tables told none small stood = record {
       (subst (λ (all : List Seen). hearing.StandsFor all (now.before ++ entry_of now o reply ∷ []) tables.listeners) (append-nil now.sights) stood.listeners);
   small = small-more now.sights (length now.before) sights (subst AreSmall (append-nil now.sights) stood.small) small;
   handings = stood.handings;
+  jobs = stood.jobs;
 }
 
 -- where nothing is told, no listener has more than it had
@@ -171,6 +174,8 @@ stays_all P (change.Resolve added resolved) old new lasts is all = subst (λ (t 
 stays_all P (change.Listen owner name kind given) old new lasts is all = subst (λ (t : Tables). All P t.listeners.rows) (sym is) (All-push P old.listeners.rows _ all (lasts.fresh refl _))
 stays_all P (change.Unlisten owner name) old new lasts is all = subst (λ (t : Tables). All P t.listeners.rows) (sym is) (All-filter (λ row. not (is_named owner name row)) P old.listeners.rows all)
 stays_all P (change.Hand tag listener) old new lasts is all = subst (λ (t : Tables). All P t.listeners.rows) (sym is.is) (fewer_all P lasts.fewer listener old.listeners.rows all)
+stays_all P (change.Queue owner name) old new lasts is all = subst (λ (t : Tables). All P t.listeners.rows) (sym is) all
+stays_all P (change.TakeJob tag) old new lasts is all = subst (λ (t : Tables). All P t.listeners.rows) (sym is.is) all
 stays_all P (change.BeginStart tag b) old new lasts is all = subst (λ (t : Tables). All P t.listeners.rows) (sym is.is) all
 stays_all P (change.BeginStop tag b) old new lasts is all = subst (λ (t : Tables). All P t.listeners.rows) (sym is.is) all
 stays_all P (change.EndStart tag b true) old new lasts is all = subst (λ (t : Tables). All P t.listeners.rows) (sym is.is) (All-filter (λ row. not (is_owned b row)) P old.listeners.rows all)

@@ -17,9 +17,8 @@ is_hand_or_job_end (EndHand listener) = true
 is_hand_or_job_end EndJob = true
 is_hand_or_job_end op = false
 
--- the operation has come, and is not the end of a job or of a make, which nothing begins yet
+-- the operation has come, and is not the end of a make, which nothing begins yet
 abbrev pub is_decided : Op → Bool
-is_decided EndJob = false
 is_decided (EndMake failed) = false
 is_decided op = is_here op
 

@@ -19,6 +19,7 @@ use Rattle.osgi_ops.specs.Brackets.{Cause}
 use Rattle.osgi_ops.specs.Brackets as bracket
 use Rattle.osgi_ops.specs.Bundles.{idle, Phase, starting, stopping}
 use Rattle.osgi_ops.specs.Cleaning.{cleaned_by}
+use Rattle.osgi_ops.specs.Jobs.{clears, Queued, queues, takes, with_jobs}
 use Rattle.osgi_ops.specs.Resolved.{current_revision}
 use Rattle.osgi_ops.specs.declared.asked.Asked.{Asked}
 use Rattle.osgi_model.specs.declared.filter.Filter.{Filter}
@@ -36,7 +37,7 @@ use Rattle.osgi_world.specs.declared.revision.Revision.{Revision}
 use Rattle.osgi_world.specs.declared.wiring.Wiring.{Wiring}
 use Rattle.osgi_tables.specs.Replied.{IsAnswered, IsBrought}
 use Rattle.osgi_tables.specs.declared.change.Change.{Change}
-use Rattle.osgi_tables.specs.declared.change.Change.TheVariants.{BeginStart, BeginStop, EndStart, EndStop, Hand, Install, Listen, Nothing, Resolve, Services, Unlisten}
+use Rattle.osgi_tables.specs.declared.change.Change.TheVariants.{BeginStart, BeginStop, EndStart, EndStop, Hand, Install, Listen, Nothing, Queue, Resolve, Services, TakeJob, Unlisten}
 use Rattle.osgi_tables.specs.declared.tables.Tables.{Tables}
 use Rattle.osgi_reply_services.specs.Changes as services
 use Rattle.osgi_reply_services.specs.declared.change.ServiceChange.{ServiceChange}
@@ -82,6 +83,8 @@ CanBeMade (Resolve added resolved) old = CanBePut added resolved old.bundles old
 CanBeMade (Listen owner name kind filter) old = CanBeHeard owner name old.listeners
 CanBeMade (Unlisten owner name) old = Unit {0}
 CanBeMade (Hand tag listener) old = CanBeHanded listener old
+CanBeMade (Queue owner name) old = Unit {0}
+CanBeMade (TakeJob tag) old = Unit {0}
 CanBeMade (BeginStart tag bundle) old = IsStartable bundle old.bundles.rows
 CanBeMade (EndStart tag bundle failed) old = IsInChange STARTING tag bundle old.bundles.rows
 CanBeMade (BeginStop tag bundle) old = IsStoppable bundle old.bundles.rows
@@ -141,6 +144,16 @@ pub record Hands (tag : Tag) (listener : ListenerId) (old new : Tables) : Type 0
   pub opened : Opens old.brackets brackets tag (bracket.handing listener)
   pub is : new ≡ record old { brackets = brackets; listeners = with_turn tag listener old.listeners; handings_left = old.handings_left - 1 }
 
+-- the job is queued, behind the others
+abbrev pub IsQueued : BundleId → List ℕ → Tables → Tables → Type 0
+IsQueued owner name old new = new ≡ record old { jobs = with_jobs (Some (queues (record { owner = owner; name = name }))) old.jobs }
+
+-- the oldest job, where there is one, is no longer queued, and a bracket of the tag's caller is open for a job
+pub record Takes (tag : Tag) (old new : Tables) : Type 0 where
+  pub brackets : Brackets
+  pub opened : Opens old.brackets brackets tag bracket.job
+  pub is : new ≡ record old { brackets = brackets; jobs = with_jobs (Some takes) old.jobs }
+
 -- the bundle is put into the phase, and a bracket of the tag's caller is open for that
 pub record Begins (phase : Phase) (cause : Cause) (tag : Tag) (bundle : BundleId) (old new : Tables) : Type 0 where
   pub bundles : TableRows
@@ -158,8 +171,13 @@ abbrev pub without_listeners : Bool → BundleId → Listening → Listening
 without_listeners true bundle l = record { rows = filter (λ row. not (listening.is_owned bundle row)) l.rows; turns = l.turns; issued = l.issued }
 without_listeners false bundle l = l
 
--- the bundle is put into the phase, its services, uses and listeners are let go if it is cleaned, and the innermost bracket of the tag's
--- caller is closed
+-- and its jobs
+abbrev pub without_jobs : Bool → BundleId → List Queued → List Queued
+without_jobs true bundle jobs = with_jobs (Some (clears bundle)) jobs
+without_jobs false bundle jobs = jobs
+
+-- the bundle is put into the phase, its services, uses, listeners and jobs are let go if it is cleaned, and the innermost bracket of the
+-- tag's caller is closed
 pub record Ends (phase : Phase) (cleaned : Bool) (tag : Tag) (bundle : BundleId) (old new : Tables) : Type 0 where
   pub registry : RegistryRows
   pub bundles : TableRows
@@ -167,7 +185,7 @@ pub record Ends (phase : Phase) (cleaned : Bool) (tag : Tag) (bundle : BundleId)
   pub cleans : Cleans cleaned bundle old.registry registry
   pub put : StandsPut phase tag bundle old.bundles bundles
   pub closed : Closes old.brackets brackets tag.caller
-  pub is : new ≡ record old { registry = registry; bundles = bundles; brackets = brackets; listeners = without_listeners cleaned bundle old.listeners }
+  pub is : new ≡ record old { registry = registry; bundles = bundles; brackets = brackets; listeners = without_listeners cleaned bundle old.listeners; jobs = without_jobs cleaned bundle old.jobs }
 
 -- and then these are the tables
 abbrev pub Changes : Change → Tables → Tables → Type 0
@@ -178,6 +196,8 @@ Changes (Resolve added resolved) old new = ArePut added resolved old new
 Changes (Listen owner name kind filter) old new = Listens owner name kind filter old new
 Changes (Unlisten owner name) old new = new ≡ record old { listeners = without_listener owner name old.listeners }
 Changes (Hand tag listener) old new = Hands tag listener old new
+Changes (Queue owner name) old new = IsQueued owner name old new
+Changes (TakeJob tag) old new = Takes tag old new
 Changes (BeginStart tag bundle) old new = Begins starting (bracket.starting bundle) tag bundle old new
 Changes (EndStart tag bundle failed) old new = Ends (started_phase failed) failed tag bundle old new
 Changes (BeginStop tag bundle) old new = Begins stopping (bracket.stopping bundle) tag bundle old new
@@ -215,6 +235,8 @@ happened (Resolve added resolved) registry bundles = bundles_shown BUNDLE_RESOLV
 happened (Listen owner name kind filter) registry bundles = []
 happened (Unlisten owner name) registry bundles = []
 happened (Hand tag listener) registry bundles = []
+happened (Queue owner name) registry bundles = []
+happened (TakeJob tag) registry bundles = []
 happened (BeginStart tag bundle) registry bundles = bundles_shown BUNDLE_STARTING (bundle ∷ []) bundles.rows
 happened (EndStart tag bundle true) registry bundles =
     bundles_shown BUNDLE_STOPPING (bundle ∷ []) bundles.rows ++ leaving bundle registry ++ bundles_shown BUNDLE_STOPPED (bundle ∷ []) bundles.rows
@@ -231,6 +253,8 @@ cleaned_in (Resolve added resolved) = None
 cleaned_in (Listen owner name kind filter) = None
 cleaned_in (Unlisten owner name) = None
 cleaned_in (Hand tag listener) = None
+cleaned_in (Queue owner name) = None
+cleaned_in (TakeJob tag) = None
 cleaned_in (BeginStart tag bundle) = None
 cleaned_in (EndStart tag bundle failed) = if failed then Some bundle else None
 cleaned_in (BeginStop tag bundle) = None

@@ -1,9 +1,10 @@
 -- What an operation does to the tables, and answers by them.
-use Rattle.std.specs.Prelude.{ℕ, ◌≡◌, ◌<◌, ◌+◌, ◌-◌, ◌^◌, true, List, [], None, length}
+use Rattle.std.specs.Prelude.{ℕ, ◌≡◌, ◌<◌, ◌+◌, ◌-◌, ◌^◌, Bool, true, false, List, [], None, length}
 use Rattle.osgi_base.specs.declared.ids.BundleId.{BundleId}
 use Rattle.osgi_base.specs.declared.ids.Tag.{Tag}
 use Rattle.osgi_brackets.specs.Open as callers
 use Rattle.osgi_bundle.specs.Stands as table
+use Rattle.osgi_jobs.specs.Queue as queue
 use Rattle.osgi_listeners.specs.Stands as hearing
 use Rattle.osgi_listeners.specs.Stands.{AreSmall}
 use Rattle.osgi_ops.specs.Bundles.{revisions}
@@ -16,7 +17,9 @@ use Rattle.osgi_ops.specs.Soundness.{IsSound}
 use Rattle.osgi_ops.specs.Worlds.{Leaves, with_revision}
 use Rattle.osgi_ops.specs.declared.asked.Asked.{Asked}
 use Rattle.osgi_ops.specs.declared.op.Op.{Op}
+use Rattle.osgi_ops.specs.declared.refusal.Refusal.TheVariants.{InvalidOperation}
 use Rattle.osgi_ops.specs.declared.reply.Reply.{Reply}
+use Rattle.osgi_ops.specs.declared.reply.Reply.TheVariants.{Done, Refused}
 use Rattle.osgi_registry.specs.Stands as registry
 use Rattle.osgi_wiring.specs.States.{BecomesKnown, IsKeptWorld, WiringState}
 use Rattle.osgi_world.specs.declared.revision.Revision.{Revision}
@@ -39,6 +42,7 @@ pub record StandsFor (now : Moment) (tables : Tables) : Type 0 where
   pub listeners : hearing.StandsFor now.sights now.before tables.listeners
   pub small : AreSmall now.sights
   pub handings : tables.handings_left ≡ now.setting.bounds.handings - handings now.before
+  pub jobs : queue.StandsFor now.before tables.jobs
 
 -- so it is at each moment at which it is asked for and that the tables stand for
 abbrev pub EachTime : Asked → Tables → (Moment → Type 0) → Type 0
@@ -67,6 +71,11 @@ pub record IsReplied (entries : ℕ) (asked : Asked) (old new : Tables) (reply :
   pub left : EachTimeAt entries asked old (λ now. Leaves now asked.op reply new.wirings.world)
   pub seen : EachTimeAt entries asked old (λ now. AreSights now.before now.world new.wirings.world (entry_of now asked.op reply) sights)
   pub stands : EachTimeAt entries asked old (λ now. StandsFor (later now asked.op reply new.wirings.world sights) new)
+
+-- the reply to the end of a hand or of a job, by whether it ended one
+abbrev pub end_reply : Bool → Reply
+end_reply true = Done
+end_reply false = Refused InvalidOperation
 
 -- the registry has room, ids of bundles, of revisions and of listeners are left to be given, and the next bundle has no current
 -- revision. One more than the budget can be counted

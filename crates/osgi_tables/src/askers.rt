@@ -19,7 +19,9 @@ fn asker(op: &Op) -> Option<BundleId>
         Op::Find { asker, .. } | Op::FindAll { asker, .. } => Some(*asker),
         Op::Get { user, .. } | Op::Unget { user, .. } => Some(*user),
         Op::AddListener { owner, .. } | Op::RemoveListener { owner, .. } => Some(*owner),
-        Op::Print { owner, .. } | Op::Fail { owner, .. } => Some(*owner),
+        Op::QueueJob { owner, .. } | Op::Print { owner, .. } | Op::Fail { owner, .. } => {
+            Some(*owner)
+        }
         _ => None,
     }
 }

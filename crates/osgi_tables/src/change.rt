@@ -51,13 +51,22 @@ pub enum Change {
         tag: Tag,
         listener: ListenerId,
     },
+    /// A job of the owner is queued, by the name of its section.
+    Queue {
+        owner: BundleId,
+        name: Text,
+    },
+    /// The oldest job is taken, for the line of the tag.
+    TakeJob {
+        tag: Tag,
+    },
     /// The start of the bundle begins, for the line of the tag.
     BeginStart {
         tag: Tag,
         bundle: BundleId,
     },
-    /// The start that the line of the tag began ends. Where it failed, the bundle's services, uses and
-    /// listeners go.
+    /// The start that the line of the tag began ends. Where it failed, the bundle's services, uses,
+    /// listeners and jobs go.
     EndStart {
         tag: Tag,
         bundle: BundleId,
@@ -68,7 +77,7 @@ pub enum Change {
         tag: Tag,
         bundle: BundleId,
     },
-    /// The stop that the line of the tag began ends, and the bundle's services, uses and listeners go.
+    /// The stop that the line of the tag began ends, and the bundle's services, uses, listeners and jobs go.
     EndStop {
         tag: Tag,
         bundle: BundleId,
@@ -101,6 +110,8 @@ impl Drop for Change {
                 tag: _,
                 listener: _,
             } => {}
+            Change::Queue { owner: _, name: _ } => {}
+            Change::TakeJob { tag: _ } => {}
             Change::BeginStart { tag: _, bundle: _ } => {}
             Change::EndStart {
                 tag: _,
@@ -149,6 +160,8 @@ impl Change {
                 Ok(())
             }
             Change::Hand { tag, listener } => tables.hand(tag, listener),
+            Change::Queue { owner, name } => tables.jobs.queue(owner, name),
+            Change::TakeJob { tag } => tables.take_job(tag),
             Change::BeginStart { tag, bundle } => tables.begin_start(tag, bundle),
             Change::EndStart {
                 tag,

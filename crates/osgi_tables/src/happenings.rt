@@ -99,8 +99,12 @@ pub(crate) fn happenings<'t>(
 {
     let mut happened = Happened::new(alloc);
     match change {
-        Change::Nothing | Change::Listen { .. } | Change::Unlisten { .. } | Change::Hand { .. } =>
-            {}
+        Change::Nothing
+        | Change::Listen { .. }
+        | Change::Unlisten { .. }
+        | Change::Hand { .. }
+        | Change::Queue { .. }
+        | Change::TakeJob { .. } => {}
         Change::Services { change } => {
             if let Some(happening) = of_service(change, registry) {
                 happened.push(happening)?;

@@ -4,6 +4,7 @@
 
 mod askers;
 mod change;
+mod depot_rows;
 mod handing;
 mod happenings;
 mod life;
@@ -12,4 +13,5 @@ mod tables;
 
 pub use askers::asker_refusal;
 pub use change::Change;
+pub use depot_rows::depot_row;
 pub use tables::Tables;

@@ -2,6 +2,7 @@
 
 use osgi_brackets::Brackets;
 use osgi_bundle::{IndexedDepot, Table};
+use osgi_jobs::Jobs;
 use osgi_listeners::Listeners;
 use osgi_ops::Depot;
 use osgi_registry::Registry;
@@ -9,7 +10,7 @@ use osgi_resolver::IndexedWirings;
 
 /// The depot and the limit on the effort of a resolve, which never change; the services that are live, the bundles, the
 /// wirings in force, the starts and stops that callers have begun and not ended, the live listeners with the events that wait
-/// for them, and how many hands may still hand one.
+/// for them, how many hands may still hand one, and the jobs that are queued.
 pub struct Tables {
     pub depot: IndexedDepot,
     pub budget: u64,
@@ -19,6 +20,7 @@ pub struct Tables {
     pub brackets: Brackets,
     pub listeners: Listeners,
     pub handings_left: u64,
+    pub jobs: Jobs,
 }
 
 /// Not derived, so that each exit at which one is dropped is a single call, which is cheap to prove.
@@ -33,6 +35,7 @@ impl Drop for Tables {
             brackets: _,
             listeners: _,
             handings_left: _,
+            jobs: _,
         } = self;
     }
 }
@@ -53,6 +56,7 @@ impl Tables {
             brackets: _,
             listeners: _,
             handings_left: _,
+            jobs: _,
         } = self;
         depot.into_depot()
     }

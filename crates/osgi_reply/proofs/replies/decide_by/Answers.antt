@@ -1,7 +1,6 @@
 -- What is decided of each operation is decided for who asks.
 use Rattle.std.proofs.Common.{refl, subst, sym}
 use Rattle.osgi_reply.proofs.BundlesListed.{replied_bundles}
-use Rattle.osgi_reply.proofs.JobsTaken.{replied_no_job}
 use Rattle.osgi_reply.proofs.Matching.{in_registry, served_all}
 use Rattle.osgi_reply.proofs.TextsWritten.{replied_failed, replied_printed}
 use Rattle.osgi_tables.proofs.Replying.{asked_ok, decided_own, of_services, own_ok, unchanging}
@@ -12,23 +11,23 @@ use Rattle.osgi_reply.proofs.replies.decide_by.Goals as goal
 
 pub returns-in_ok-register-in-Register-clause-decided : goal.returns-in_ok-register-in-Register-clause-decided
 returns-in_ok-register-in-Register-clause-decided c =
-    in_registry c.args.asked.now (op.Register c.in-Register.owner c.in-Register.classes c.in-Register.object c.in-Register.scope c.in-Register.properties) c.args.tables.now c.in_registry.result c.in_ok-register-in-Register.field-0 c.in_registry.ensures.same c.in-Register.is refl refl (of_services _ _ (λ n since. refl) (λ b. refl) (λ b. refl) refl (λ b. refl) refl refl refl (λ l. refl) refl (λ now world same. same)) c.requires.asker c.in_ok-register-in-Register.ensures.decided
+    in_registry c.args.asked.now (op.Register c.in-Register.owner c.in-Register.classes c.in-Register.object c.in-Register.scope c.in-Register.properties) c.args.tables.now c.in_registry.result c.in_ok-register-in-Register.field-0 c.in_registry.ensures.same c.in-Register.is refl refl (of_services _ _ (λ n since. refl) (λ b. refl) (λ b. refl) refl (λ b. refl) refl refl refl (λ l. refl) refl refl (λ now world same. same)) c.requires.asker c.in_ok-register-in-Register.ensures.decided
 
 pub returns-in_ok-modify-in-Modify-clause-decided : goal.returns-in_ok-modify-in-Modify-clause-decided
 returns-in_ok-modify-in-Modify-clause-decided c =
-    in_registry c.args.asked.now (op.Modify c.in-Modify.owner c.in-Modify.service c.in-Modify.properties) c.args.tables.now c.in_registry-in-Modify.result c.in_ok-modify-in-Modify.field-0 c.in_registry-in-Modify.ensures.same c.in-Modify.is refl refl (of_services _ _ (λ n since. refl) (λ b. refl) (λ b. refl) refl (λ b. refl) refl refl refl (λ l. refl) refl (λ now world same. same)) c.requires.asker c.in_ok-modify-in-Modify.ensures.decided
+    in_registry c.args.asked.now (op.Modify c.in-Modify.owner c.in-Modify.service c.in-Modify.properties) c.args.tables.now c.in_registry-in-Modify.result c.in_ok-modify-in-Modify.field-0 c.in_registry-in-Modify.ensures.same c.in-Modify.is refl refl (of_services _ _ (λ n since. refl) (λ b. refl) (λ b. refl) refl (λ b. refl) refl refl refl (λ l. refl) refl refl (λ now world same. same)) c.requires.asker c.in_ok-modify-in-Modify.ensures.decided
 
 pub returns-in-Unregister-clause-decided : goal.returns-in-Unregister-clause-decided
 returns-in-Unregister-clause-decided c =
-    in_registry c.args.asked.now (op.Unregister c.in-Unregister.owner c.in-Unregister.service) c.args.tables.now c.in_registry-in-Unregister.result c.unregister.result c.in_registry-in-Unregister.ensures.same c.in-Unregister.is refl refl (of_services _ _ (λ n since. refl) (λ b. refl) (λ b. refl) refl (λ b. refl) refl refl refl (λ l. refl) refl (λ now world same. same)) c.requires.asker c.unregister.ensures.decided
+    in_registry c.args.asked.now (op.Unregister c.in-Unregister.owner c.in-Unregister.service) c.args.tables.now c.in_registry-in-Unregister.result c.unregister.result c.in_registry-in-Unregister.ensures.same c.in-Unregister.is refl refl (of_services _ _ (λ n since. refl) (λ b. refl) (λ b. refl) refl (λ b. refl) refl refl refl (λ l. refl) refl refl (λ now world same. same)) c.requires.asker c.unregister.ensures.decided
 
 pub returns-in_ok-get-in-Get-clause-decided : goal.returns-in_ok-get-in-Get-clause-decided
 returns-in_ok-get-in-Get-clause-decided c =
-    in_registry c.args.asked.now (op.Get c.in-Get.user c.in-Get.service) c.args.tables.now c.in_registry-in-Get.result c.in_ok-get-in-Get.field-0 c.in_registry-in-Get.ensures.same c.in-Get.is refl refl (of_services _ _ (λ n since. refl) (λ b. refl) (λ b. refl) refl (λ b. refl) c.in_ok-get-in-Get.ensures.unopened refl refl (λ l. refl) refl (λ now world same. same)) c.requires.asker c.in_ok-get-in-Get.ensures.decided
+    in_registry c.args.asked.now (op.Get c.in-Get.user c.in-Get.service) c.args.tables.now c.in_registry-in-Get.result c.in_ok-get-in-Get.field-0 c.in_registry-in-Get.ensures.same c.in-Get.is refl refl (of_services _ _ (λ n since. refl) (λ b. refl) (λ b. refl) refl (λ b. refl) c.in_ok-get-in-Get.ensures.unopened refl refl (λ l. refl) refl refl (λ now world same. same)) c.requires.asker c.in_ok-get-in-Get.ensures.decided
 
 pub returns-in-Unget-clause-decided : goal.returns-in-Unget-clause-decided
 returns-in-Unget-clause-decided c =
-    in_registry c.args.asked.now (op.Unget c.in-Unget.user c.in-Unget.service) c.args.tables.now c.in_registry-in-Unget.result c.unget.result c.in_registry-in-Unget.ensures.same c.in-Unget.is refl refl (of_services _ _ (λ n since. refl) (λ b. refl) (λ b. refl) refl (λ b. refl) refl refl refl (λ l. refl) refl (λ now world same. same)) c.requires.asker c.unget.ensures.decided
+    in_registry c.args.asked.now (op.Unget c.in-Unget.user c.in-Unget.service) c.args.tables.now c.in_registry-in-Unget.result c.unget.result c.in_registry-in-Unget.ensures.same c.in-Unget.is refl refl (of_services _ _ (λ n since. refl) (λ b. refl) (λ b. refl) refl (λ b. refl) refl refl refl (λ l. refl) refl refl (λ now world same. same)) c.requires.asker c.unget.ensures.decided
 
 pub find-requires : goal.find-requires
 find-requires c = record { asker = rw c.in-Find.is at c.requires.asker }
@@ -40,11 +39,16 @@ returns-in_ok-find-in-Find-clause-decided c =
 pub returns-in_ok-find_all-in-FindAll-clause-decided : goal.returns-in_ok-find_all-in-FindAll-clause-decided
 returns-in_ok-find_all-in-FindAll-clause-decided c =
     unchanging c.args.asked.now (op.FindAll c.in-FindAll.asker c.in-FindAll.class c.in-FindAll.filter) c.args.tables.now c.unchanging-in-FindAll.result c.in_ok-find_all-in-FindAll.field-0 c.unchanging-in-FindAll.ensures.same c.in-FindAll.is refl
-    (served_all (op.FindAll c.in-FindAll.asker c.in-FindAll.class c.in-FindAll.filter) c.args.tables.now c.in_ok-find_all-in-FindAll.field-0 refl (of_services _ c.in_ok-find_all-in-FindAll.field-0 (λ n since. refl) (λ b. refl) (λ b. refl) refl (λ b. refl) refl refl refl (λ l. refl) refl (λ now world same. same)) (rw c.in-FindAll.is at c.requires.asker) c.in_ok-find_all-in-FindAll.ensures.served (λ past before after e. refl))
+    (served_all (op.FindAll c.in-FindAll.asker c.in-FindAll.class c.in-FindAll.filter) c.args.tables.now c.in_ok-find_all-in-FindAll.field-0 refl (of_services _ c.in_ok-find_all-in-FindAll.field-0 (λ n since. refl) (λ b. refl) (λ b. refl) refl (λ b. refl) refl refl refl (λ l. refl) refl refl (λ now world same. same)) (rw c.in-FindAll.is at c.requires.asker) c.in_ok-find_all-in-FindAll.ensures.served (λ past before after e. refl))
+
+pub queue_job-requires : goal.queue_job-requires
+queue_job-requires c = record { asker = rw c.in-QueueJob.is at c.requires.asker }
+
+pub returns-in-QueueJob-clause-decided : goal.returns-in-QueueJob-clause-decided
+returns-in-QueueJob-clause-decided c = asked_ok c.queue_job.result c.args.asked.now (op.QueueJob c.in-QueueJob.owner c.in-QueueJob.name) c.args.tables.now c.in-QueueJob.is c.queue_job.ensures.decided
 
 pub returns-in-TakeJob-clause-decided : goal.returns-in-TakeJob-clause-decided
-returns-in-TakeJob-clause-decided c =
-    unchanging c.args.asked.now op.TakeJob c.args.tables.now c.unchanging-in-TakeJob.result answer.NoJob c.unchanging-in-TakeJob.ensures.same c.in-TakeJob.is refl (replied_no_job c.args.tables.now)
+returns-in-TakeJob-clause-decided c = own_ok c.take_job.result c.args.asked.now op.TakeJob c.args.tables.now c.in-TakeJob.is c.take_job.ensures.decided
 
 pub returns-in-Print-clause-decided : goal.returns-in-Print-clause-decided
 returns-in-Print-clause-decided c =
@@ -61,7 +65,7 @@ returns-in_ok-load-in-Load-clause-decided c =
 pub returns-in_ok-list_services-in-ListServices-clause-decided : goal.returns-in_ok-list_services-in-ListServices-clause-decided
 returns-in_ok-list_services-in-ListServices-clause-decided c =
     unchanging c.args.asked.now op.ListServices c.args.tables.now c.unchanging-in-ListServices.result c.in_ok-list_services-in-ListServices.field-0 c.unchanging-in-ListServices.ensures.same c.in-ListServices.is refl
-    (served_all op.ListServices c.args.tables.now c.in_ok-list_services-in-ListServices.field-0 refl (of_services _ c.in_ok-list_services-in-ListServices.field-0 (λ n since. refl) (λ b. refl) (λ b. refl) refl (λ b. refl) refl refl refl (λ l. refl) refl (λ now world same. same)) (rw c.in-ListServices.is at c.requires.asker) c.in_ok-list_services-in-ListServices.ensures.served (λ past before after e. refl))
+    (served_all op.ListServices c.args.tables.now c.in_ok-list_services-in-ListServices.field-0 refl (of_services _ c.in_ok-list_services-in-ListServices.field-0 (λ n since. refl) (λ b. refl) (λ b. refl) refl (λ b. refl) refl refl refl (λ l. refl) refl refl (λ now world same. same)) (rw c.in-ListServices.is at c.requires.asker) c.in_ok-list_services-in-ListServices.ensures.served (λ past before after e. refl))
 
 pub returns-in-Install-clause-decided : goal.returns-in-Install-clause-decided
 returns-in-Install-clause-decided c = asked_ok c.install.result c.args.asked.now (op.Install c.in-Install.location) c.args.tables.now c.in-Install.is c.install.ensures.decided

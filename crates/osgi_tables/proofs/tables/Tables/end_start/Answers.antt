@@ -1,13 +1,11 @@
 -- The bundle is in its phase and cleaned if it is to be, and the bracket is closed.
-use Rattle.std.proofs.Common.{ap}
 use Rattle.osgi_bundle.proofs.Begins.{in_state}
-use Rattle.osgi_listeners.specs.Rows.{Listening}
 use Rattle.osgi_ops.specs.declared.state.TheConstants.{STARTING}
 use Rattle.osgi_tables.proofs.Replying.{on_err, still_uncleaned}
 use Rattle.osgi_tables.proofs.tables.Tables.end_start.Goals as goal
 
 pub returns-in_err-clean-clause-unchanged : goal.returns-in_err-clean-clause-unchanged
-returns-in_err-clean-clause-unchanged c = on_err c.from_residual.result (still_uncleaned c.args.self.now c.clean.new.registry c.clean.new.listeners c.in_err-clean.ensures.unchanged)
+returns-in_err-clean-clause-unchanged c = on_err c.from_residual.result (still_uncleaned c.args.self.now c.clean.new.registry c.clean.new.listeners c.clean.new.jobs c.in_err-clean.ensures.unchanged)
 
 pub set_started-requires : goal.set_started-requires
 set_started-requires c = record { starting = in_state c.args.bundle c.args.self.now.bundles.rows STARTING c.args.tag c.requires.possible }
@@ -20,5 +18,5 @@ returns-clause-ended c = record {
   cleans = c.in_ok-clean.ensures.cleans;
   put = c.set_started.ensures.stands c.args.tag;
   closed = c.pop.ensures.closed;
-  is = ap (λ (l : Listening). record c.args.self.now { registry = c.clean.new.registry; bundles = c.set_started.new.self; brackets = c.pop.new.self; listeners = l }) c.in_ok-clean.ensures.listeners;
+  is = λ i. record c.args.self.now { registry = c.clean.new.registry; bundles = c.set_started.new.self; brackets = c.pop.new.self; listeners = c.in_ok-clean.ensures.listeners i; jobs = c.in_ok-clean.ensures.jobs i };
 }

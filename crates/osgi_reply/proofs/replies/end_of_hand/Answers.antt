@@ -4,9 +4,8 @@ use Rattle.osgi_listeners.specs.Sights.{sights_of}
 use Rattle.osgi_listeners.specs.declared.sight.Sight.{Sight}
 use Rattle.osgi_ops.specs.declared.op.Op.TheVariants as op
 use Rattle.osgi_ops.specs.declared.reply.Reply.{Reply}
-use Rattle.osgi_reply_listening.specs.Hands.{end_reply}
-use Rattle.osgi_tables.specs.Replied.{IsReplied}
-use Rattle.osgi_reply.proofs.replies.end_by.Goals as goal
+use Rattle.osgi_tables.specs.Replied.{end_reply, IsReplied}
+use Rattle.osgi_reply.proofs.replies.end_of_hand.Goals as goal
 
 pub returns-clause-replied : goal.returns-clause-replied
 returns-clause-replied c entries =

@@ -1,0 +1,14 @@
+-- Nobody is told of the end of a job.
+use Rattle.std.proofs.Common.{List, subst, sym}
+use Rattle.osgi_listeners.specs.Sights.{sights_of}
+use Rattle.osgi_listeners.specs.declared.sight.Sight.{Sight}
+use Rattle.osgi_ops.specs.declared.op.Op.TheVariants as op
+use Rattle.osgi_ops.specs.declared.reply.Reply.{Reply}
+use Rattle.osgi_tables.specs.Replied.{end_reply, IsReplied}
+use Rattle.osgi_reply.proofs.replies.end_of_job.Goals as goal
+
+pub returns-clause-replied : goal.returns-clause-replied
+returns-clause-replied c entries =
+    subst (λ (y : Reply). IsReplied entries (record { tag = c.args.tag; op = op.EndJob }) c.args.tables.now c.end_job-ended.new.tables y (sights_of c.new.result.items)) (sym c.end_reply.ensures.reply)
+    (subst (λ (told : List Sight). IsReplied entries (record { tag = c.args.tag; op = op.EndJob }) c.args.tables.now c.end_job-ended.new.tables (end_reply c.end_job-ended.result) (sights_of told)) (sym c.new.ensures.items)
+    (c.end_job-ended.ensures.replied entries))

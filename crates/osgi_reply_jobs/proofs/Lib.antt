@@ -1,0 +1,2 @@
+-- Lemmas on jobs.
+mod Jobs
