@@ -1,4 +1,4 @@
-//! Operations that the framework does not have yet, which no command of the console says.
+//! Operations that no command of the console says: those that the framework does not have yet, and those on jobs.
 
 use cases_text::text_of;
 use osgi_base::{BundleId, List, ServiceId, Text};
