@@ -1,2 +1,0 @@
--- Lemmas for the slow program.
-pub mod Pieces
