@@ -56,7 +56,7 @@ fn is_same<T: Copied + PartialEq>(
 }
 
 /// Adds a name, and whether something holds of it.
-pub fn put_named(out: &mut String, name: &str, holds: bool) -> Result<(), AllocError> {
+fn put_named(out: &mut String, name: &str, holds: bool) -> Result<(), AllocError> {
     put(out, name)?;
     put(out, " ")?;
     put_shown(out, &holds)?;

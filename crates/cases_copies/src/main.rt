@@ -1,4 +1,4 @@
-//! Copies values of the shared data and of the module layer, on each line of standard input, and prints what came of it.
+//! Copies values of the shared data and a problem, on each line of standard input, and prints what came of it.
 //!
 //! A line is a case, and is printed again with its answer: `CASE => ANSWER`. An empty line, or one that begins with `#`, is
 //! printed as it is.
@@ -7,11 +7,13 @@
 //! |---|---|
 //! | `order TEXT TEXT` | how two texts compare |
 //! | `copies` | whether values of each shared type equal their copies |
-//! | `module-copies` | whether copies of values of each type of the module layer have the parts of what was copied |
+//! | `problem-copy` | whether the copy of a problem has the parts of what was copied |
+//!
+//! A problem's world is copied where `cases_resolver` makes one of it, and manifests' faults wherever a session reports one.
 #![tactic(auto)]
 
 mod copies;
-mod module_copies;
+mod problem_copy;
 mod tree;
 
 use cases_text::{Cases, answer_lines, put, split_word};
@@ -34,8 +36,8 @@ impl Cases for CopyCases {
             copies::order(alloc, out, rest)
         } else if name == "copies" {
             copies::copies(alloc, out)
-        } else if name == "module-copies" {
-            module_copies::module_copies(alloc, out)
+        } else if name == "problem-copy" {
+            problem_copy::problem_copy(alloc, out)
         } else {
             put(out, "not a case")
         }
