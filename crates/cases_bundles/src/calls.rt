@@ -1,6 +1,6 @@
 //! Calls of a table of bundles.
 
-ghost use Rattle.std.specs.Prelude.{◌≡◌, ◌+◌, ◌<◌, IfOk, OnOk};
+ghost use Rattle.std.specs.Prelude.{◌≡◌, ◌+◌, ◌<◌, OnOk};
 
 use cases_text::{put, put_shown};
 use osgi_base::{BundleId, Tag, Text};

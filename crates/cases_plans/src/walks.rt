@@ -1,8 +1,7 @@
 //! Plans, asked step by step.
 
 ghost use Rattle.std.specs.Prelude.{IfOk, IfSome};
-ghost use Rattle.osgi_session.specs.Steps.{begin};
-ghost use Rattle.osgi_lifecycle.specs.Pendings.{Awaits, IsAnswer, pending_of};
+ghost use Rattle.osgi_lifecycle.specs.Pendings.{Awaits, pending_of};
 
 use crate::commands::command_of;
 use crate::replies::reply_of;

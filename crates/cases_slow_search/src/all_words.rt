@@ -1,6 +1,6 @@
 //! The search over all words of a problem, in their order.
 
-ghost use Rattle.std.specs.Prelude.{◌≡◌, ◌^◌, ◌-◌, ◌<◌, ◌≤◌, List, [], IfOk, OnOk};
+ghost use Rattle.std.specs.Prelude.{◌≡◌, ◌^◌, ◌-◌, ◌<◌, ◌≤◌, [], IfOk, OnOk};
 ghost use Rattle.osgi_world.specs.Candidates.{IsProblem};
 ghost use Rattle.osgi_world.specs.ChoiceWords.{IsWord};
 ghost use Rattle.osgi_resolver_search.specs.Outcomes.{IsOutcome};

@@ -1,6 +1,6 @@
 //! The open brackets by caller.
 
-ghost use Rattle.std.specs.Prelude.{◌≡◌, ◌↔◌, ℕ, [], ◌++◌, ◌∷◌, List, length, IsOk, IsTrue, OnOk, OnErr};
+ghost use Rattle.std.specs.Prelude.{◌≡◌, ◌↔◌, [], ◌++◌, ◌∷◌, List, length, IsOk, IsTrue, OnOk, OnErr};
 ghost use Rattle.std.specs.Option.{option_map};
 ghost use Rattle.osgi_ops.specs.Brackets.{own_closes};
 ghost use Rattle.osgi_ops.specs.declared.entry.Entry.{Entry};

@@ -2,7 +2,6 @@
 
 ghost use Rattle.std.specs.Prelude.{◌≡◌, List, ℕ, [], ◌∷◌, ◌++◌, None, IfOk, MatchOption, OnOk, OnErr};
 ghost use Rattle.std.specs.BTreeMap.{get};
-ghost use Rattle.std.specs.Option.{option_copied};
 ghost use Rattle.osgi_base.specs.computed.Texts.{text_cmp};
 ghost use Rattle.osgi_bundle.specs.computed.Kept.{AddsFirst, HasNoVersion, HoldsSame, IsHighest, lowest_version, name_cmp, named};
 ghost use Rattle.osgi_bundle.specs.declared.directory.BundleName.{BundleName};

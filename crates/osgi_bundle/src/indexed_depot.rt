@@ -1,6 +1,6 @@
 //! The depot, found by location without a scan.
 
-ghost use Rattle.std.specs.Prelude.{◌≡◌, ◌<◌, List, ℕ, length, None, Some, IfOk, MatchOption};
+ghost use Rattle.std.specs.Prelude.{◌≡◌, ◌<◌, length, None, Some, IfOk, MatchOption};
 ghost use Rattle.osgi_bundle.specs.computed.Places.{AreFirstPlaces};
 ghost use Rattle.osgi_ops.specs.Depots.{row_number, stored_at};
 

@@ -1,11 +1,11 @@
 //! The table of bundles.
 
-ghost use Rattle.std.specs.Prelude.{◌≡◌, ◌≢◌, ◌+◌, ◌<◌, ◌≤◌, [], ◌∷◌, ◌++◌, length, slice_get, None, Some, false, IfOk, IfSome, MatchOption, OnOk, OnErr};
+ghost use Rattle.std.specs.Prelude.{◌≡◌, ◌≢◌, ◌+◌, ◌<◌, [], ◌∷◌, ◌++◌, length, slice_get, None, Some, false, IfOk, IfSome, MatchOption, OnOk, OnErr};
 ghost use Rattle.std.specs.Option.{option_copied};
 ghost use Rattle.osgi_base.specs.Verdict.{Gives};
 ghost use Rattle.osgi_base.specs.declared.ids.BundleId.{BundleId};
 ghost use Rattle.osgi_bundle.specs.computed.Kept.{bundle_under, name_cmp, bundle_name, row_in};
-ghost use Rattle.osgi_bundle.specs.Rows.{AreApart, AreInOrder, bundle_from, bundle_number, IsBegun, IsSettable, IsTwin, new_row, resolved_state, row_at, row_refusals, state_at, verdict_of, with_begun, with_state};
+ghost use Rattle.osgi_bundle.specs.Rows.{AreApart, AreInOrder, bundle_from, IsBegun, IsSettable, IsTwin, new_row, resolved_state, row_at, row_refusals, state_at, verdict_of, with_begun, with_state};
 ghost use Rattle.osgi_bundle.specs.Stands.{first_table, kept_of, StandsAfter, StandsForNone};
 ghost use Rattle.osgi_bundle.specs.Targets.{IsNamedRow};
 ghost use Rattle.osgi_ops.specs.Bundles.{the_system_bundle};

@@ -1,6 +1,6 @@
 -- Arguments are read as what they say, and only as that.
-use Rattle.std.proofs.Common.{◌≡◌, ℕ, ◌<◌, ◌^◌, List, [], ◌∷◌, length, ap, sym, ◌∙◌, refl, arith, subst, length-take}
-use Rattle.std.specs.Prelude.{◌==◌, Bool, true, false, nat_lt, Option, None, Some, option_and_then, codes}
+use Rattle.std.proofs.Common.{◌≡◌, ℕ, ◌<◌, ◌^◌, List, [], ◌∷◌, ap, sym, ◌∙◌, refl, arith, subst}
+use Rattle.std.specs.Prelude.{Bool, true, false, nat_lt, Option, None, Some, option_and_then, codes}
 use Rattle.std.specs.Option.{option_map}
 use Rattle.std.specs.Str.{bytes_eq}
 use Rattle.std.specs.Str.Parse.{digits_value}

@@ -19,7 +19,7 @@ use Rattle.osgi_console.specs.declared.commands.Verb.TheVariants as verb
 use Rattle.osgi_model.specs.laws.Made.{mapped, passes_found, same_text}
 use Rattle.osgi_syntax.specs.laws.Attributes.{properties_read, properties_sound, whole_properties}
 use Rattle.osgi_syntax.specs.laws.Names.{class_read, class_sound, classes_read, classes_sound, whole_class, whole_classes}
-use Rattle.osgi_console.proofs.ArgumentReading.{aim, aim_read, aim_sound, for_good, ids_read, ids_sound, IsAim, level_read, level_sound, only, this_time, whole_aim, whole_ids, whole_level}
+use Rattle.osgi_console.proofs.ArgumentReading.{aim_read, aim_sound, for_good, ids_read, ids_sound, IsAim, level_read, level_sound, only, this_time, whole_aim, whole_ids, whole_level}
 use Rattle.osgi_console.proofs.Filters.{filter_ends, wanted_read, wanted_sound}
 use Rattle.osgi_console.proofs.Locations.{location_read, location_sound}
 use Rattle.osgi_syntax.specs.laws.Ids.{bundle_id_read, bundle_id_sound, id_read, id_sound, whole_bundle_id, whole_id}
@@ -29,7 +29,7 @@ use Rattle.osgi_syntax.specs.laws.Spaces.{EndsWord, with_nothing, with_space}
 use Rattle.osgi_syntax.specs.laws.Splitting.{begins, after_word-ends}
 use Rattle.osgi_syntax.specs.laws.Whole.{ends_all, first_separated, HasFirstWord, separated_words, whole_quoted}
 use Rattle.osgi_console.specs.Console as says
-use Rattle.osgi_console.specs.computed.ArgumentReader.{aim_of, bundle_ids_of, level_of, location_of, only_level_of, search_of}
+use Rattle.osgi_console.specs.computed.ArgumentReader.{aim_of, bundle_ids_of, level_of, location_of, search_of}
 use Rattle.osgi_console.specs.computed.LineReader.{alone, bundle_level_of, command_by, command_of, load_of, modify_of, refresh_of, register_of, update_of, verb_name, verb_of, verbs}
 use Rattle.osgi_syntax.specs.PropertyReader.{properties_of}
 use Rattle.osgi_base.specs.Parts.{part_len}

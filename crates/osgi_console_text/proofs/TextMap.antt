@@ -9,7 +9,6 @@ use Rattle.std.proofs.lemmas.Bool.{cond-false, cond-true, eqb-true, ltb-true}
 use Rattle.std.proofs.lemmas.List.{map-append}
 use Rattle.std.proofs.lemmas.List.Elements.{filter-append}
 use Rattle.std.proofs.lemmas.List.Folds.{concat-append}
-use Rattle.osgi_ops.specs.Along.{latest}
 use Rattle.osgi_ops.specs.Levels.{active_level, moved_to}
 use Rattle.osgi_ops.specs.laws.Along.{latest-quiet, latest-set}
 use Rattle.osgi_session.specs.laws.Texts.{entries_text-push}

@@ -1,12 +1,12 @@
 -- The parts of a version stand between the dots of its text.
-use Rattle.std.proofs.Common.{◌≡◌, ◌↔◌, ℕ, suc, ◌+◌, ◌-◌, ◌<◌, true, false, Bool, List, [], ◌∷◌, ◌++◌, length, get_or, take, drop, Option, None, Some, refl, sym, ap, subst, ◌∙◌, append_assoc, add-one, one-add, arith, length-append}
+use Rattle.std.proofs.Common.{◌≡◌, ◌↔◌, ℕ, suc, ◌+◌, ◌-◌, ◌<◌, true, false, List, [], ◌∷◌, ◌++◌, length, take, drop, Option, None, Some, refl, sym, ap, subst, ◌∙◌, append_assoc, add-one, one-add, arith, length-append}
 use Rattle.std.specs.Char.{is_ascii_whitespace}
 use Rattle.std.specs.List.{AllPass, after_first, before_first, position_or_len, prefix_len}
 use Rattle.std.specs.Option.{IsNone, is_some}
 use Rattle.std.specs.Prelude.{◌≤◌, Result, Ok, Err}
 use Rattle.std.specs.Result.{result_unwrap_or}
 use Rattle.std.specs.Str.{IsUtf8}
-use Rattle.std.specs.Str.Parse.{AllDigits, IsNumeral, ParsesUnsigned, digits_value}
+use Rattle.std.specs.Str.Parse.{AllDigits, ParsesUnsigned, digits_value}
 use Rattle.std.specs.declared.cmp.Ordering.{Ordering}
 use Rattle.std.proofs.Math.Seq.{take-append_seam}
 use Rattle.std.proofs.lemmas.Bool.{false≢true, false_from_ne_true}
@@ -21,7 +21,7 @@ use Rattle.std.proofs.lemmas.Str.Parse.{IsNumeralModel, numerals_by_value, parse
 use Rattle.memchr.specs.Find.{IsFirstByte}
 use Rattle.osgi_version.specs.Bytes.{Each, IsBlank, IsDigit, IsWordByte}
 use Rattle.osgi_version.specs.VersionReading.{parts_of}
-use Rattle.osgi_version.specs.Versions.{IsBody, IsMicro, IsMinor, IsNumber, IsQualified, IsReadableVersion, NumbersFit, Parts, ReadsVersion, SpellsVersion, numbered, major, minor, micro, qualified, blank, body}
+use Rattle.osgi_version.specs.Versions.{IsBody, IsMicro, IsMinor, IsNumber, IsQualified, IsReadableVersion, NumbersFit, Parts, SpellsVersion, numbered, major, minor, micro, qualified, blank, body}
 use Rattle.osgi_version.specs.declared.version.TheConstants.{MAX_NUMBER}
 use Rattle.osgi_version.specs.laws.Digits.{each_digit}
 use Rattle.osgi_version.specs.laws.VersionReading.{parts_read, parts_sound}

@@ -1,6 +1,6 @@
 -- An attribute that is found by halving the places in order of names is the first of its name.
 use Rattle.std.proofs.Common.{◌≡◌, ℕ, zero, suc, ◌+◌, ◌-◌, ◌<◌, ◌≤◌, true, false, Bool, ltb, List, [], ◌∷◌, ◌++◌, length, get_or, Option, None, Some, Bor, refl, sym, ap, subst, ◌∙◌, arith}
-use Rattle.std.specs.Prelude.{All, Contains, find, slice_get}
+use Rattle.std.specs.Prelude.{Contains, slice_get}
 use Rattle.std.specs.Cmp.{IsStrictWeakOrder, IsTotalOrder, nat_cmp_total, on_total, then_total}
 use Rattle.std.specs.Cmp.Lexicographic.{nat_list_cmp_total, slice_cmp, texts_ties}
 use Rattle.std.specs.Fn.{Called, ComputesKey}
@@ -23,7 +23,6 @@ use Rattle.std.proofs.lemmas.Slice.Eq.{bytes_eq-Decides}
 use denote.Param.Members.{Mut}
 use Rattle.osgi_model.specs.Matching.{attribute_value}
 use Rattle.osgi_model.specs.declared.value.Attribute.{Attribute}
-use Rattle.osgi_model.specs.declared.value.Value.{Value}
 use Rattle.osgi_filter.specs.Names.{same_name}
 use Rattle.osgi_filter.specs.computed.Folded.{folded}
 use Rattle.osgi_filter.specs.computed.NameOrder.{IsNameOrder, name_at, place_cmp, places_of}

@@ -1,6 +1,6 @@
 //! The values of items, as they stand between an operator and the `)`.
 
-ghost use Rattle.std.specs.Prelude.{◌≡◌, ◌∷◌, [], true, false};
+ghost use Rattle.std.specs.Prelude.{◌∷◌, [], true, false};
 ghost use Rattle.osgi_filter.specs.computed.Given.{ReadsAs};
 ghost use Rattle.osgi_filter.specs.computed.Reader.{piece_at, value_at, starred_at, equal_at, plain_at};
 

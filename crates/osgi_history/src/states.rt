@@ -1,6 +1,6 @@
 //! The state of a bundle, found by going over all entries: simple and slow.
 
-ghost use Rattle.std.specs.Prelude.{◌≡◌, ◌≢◌, ◌<◌, nat_eq};
+ghost use Rattle.std.specs.Prelude.{◌≡◌, ◌≢◌, ◌<◌};
 ghost use Rattle.std.specs.Option.{option_map};
 ghost use Rattle.osgi_history.specs.computed.States.{installs, is_live_after, number_in};
 ghost use Rattle.osgi_legal.specs.States.{resolved_at, resolves_by, state_at};

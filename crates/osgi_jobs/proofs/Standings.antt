@@ -1,6 +1,6 @@
 -- What is counted of the bundles, where one is counted anew.
-use Rattle.std.proofs.Common.{◌≡◌, ◌+◌, ◌-◌, ◌≤◌, ◌<◌, ℕ, List, [], ◌∷◌, ◌++◌, length, map, length-append, Bool, true, false, arith, refl, sym, ap, ◌∙◌, subst, Option, None, Some}
-use Rattle.std.specs.Prelude.{◌==◌, not, cond, filter}
+use Rattle.std.proofs.Common.{◌≡◌, ◌+◌, ◌-◌, ◌≤◌, ◌<◌, ℕ, List, [], ◌∷◌, ◌++◌, length, map, length-append, Bool, true, false, arith, refl, sym, ap, ◌∙◌, subst, Option, Some}
+use Rattle.std.specs.Prelude.{◌==◌, cond, filter}
 use Rattle.std.specs.Option.{option_map_or}
 use Rattle.std.proofs.lemmas.Bool.{eq-eqb, eqb-true, ne_eqb}
 use Rattle.std.proofs.lemmas.List.{map-append}
@@ -10,8 +10,7 @@ use Rattle.osgi_jobs.specs.Queue.{queued_of}
 use Rattle.osgi_jobs.specs.computed.Kept.{AreCounted, count_of, counted_in, Counts, IsFrontQueued, IsKept, queued_in, with_less, without_cleaned}
 use Rattle.osgi_jobs.specs.declared.counts.BundleCount.{BundleCount}
 use Rattle.osgi_jobs.specs.declared.job.QueuedJob.{QueuedJob}
-use Rattle.osgi_ops.specs.Jobs.{Queued}
-use Rattle.osgi_jobs.proofs.Counting.{count-push, count-within, count-without, eqb-turn, length-stays, length-without, shown-stays, stays, stays-all, with_all, without-clear, without-push, without-same}
+use Rattle.osgi_jobs.proofs.Counting.{count-push, count-within, count-without, eqb-turn, length-stays, length-without, stays, stays-all, with_all, without-clear, without-push, without-same}
 
 -- this bundle is counted so, and each other as before
 abbrev pub recounted : Counts → ℕ → BundleCount → Counts

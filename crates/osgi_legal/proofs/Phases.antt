@@ -6,7 +6,7 @@ use Rattle.osgi_base.specs.declared.ids.BundleId.{BundleId}
 use Rattle.osgi_base.specs.declared.ids.Tag.{Tag}
 use Rattle.osgi_ops.specs.Brackets.{Bracket, bracket, brackets, Cause, closes, ends, handing, is_end, job, making, opens, starting, stopping, turned}
 use Rattle.osgi_ops.specs.Bundles as bundles
-use Rattle.osgi_ops.specs.Bundles.{active, begun_by, idle, is_active, is_changing, is_live, last_begin, phase, Phase, put_into, running, state, State}
+use Rattle.osgi_ops.specs.Bundles.{active, begun_by, idle, is_active, is_changing, is_live, last_begin, phase, Phase, put_into, running}
 use Rattle.osgi_legal.specs.Legal.{AreAllowed, IsAllowed}
 use Rattle.osgi_ops.specs.Bundles.{row_of}
 use Rattle.osgi_ops.specs.Conditions.{is_level_too_high, state_change, state_of}

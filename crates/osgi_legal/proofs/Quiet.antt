@@ -14,7 +14,7 @@ use Rattle.osgi_legal.specs.Quiet.{IsQuiet, QuietBundles, QuietJobs, QuietLevels
 use Rattle.osgi_model.specs.declared.value.Attribute.{Attribute}
 use Rattle.osgi_ops.specs.Brackets.{Bracket, brackets, closes, is_end, opens, turned}
 use Rattle.osgi_ops.specs.Bundles as bundles
-use Rattle.osgi_ops.specs.Bundles.{begun_by, brings_revision, Installed, installed, installed_by, is_uninstall, last_begin, phase, put_into, revisions, row_from, source, updated_to}
+use Rattle.osgi_ops.specs.Bundles.{brings_revision, Installed, installed, installed_by, is_uninstall, last_begin, phase, revisions, row_from, source, updated_to}
 use Rattle.osgi_ops.specs.Cleaning.{cleaned_by, cleans}
 use Rattle.osgi_ops.specs.Depots.{row_number}
 use Rattle.osgi_ops.specs.Jobs as queue
@@ -22,14 +22,14 @@ use Rattle.osgi_ops.specs.Jobs.{jobs, Queued, queued_by, with_jobs}
 use Rattle.osgi_ops.specs.Levels.{leveled, moved_to, refresh, refresh_by, Walk, walk, walk_by, wishes}
 use Rattle.osgi_legal.specs.Legal.{entry_of}
 use Rattle.osgi_ops.specs.Listening.{clears, handed_by, handed_in, happenings, leaving, of_bundle, heard_by, Hearing, hearing, is_handed, with_heard}
-use Rattle.osgi_ops.specs.Makes.{is_made, made_count, make_change, open_makes}
+use Rattle.osgi_ops.specs.Makes.{is_made, make_change, open_makes}
 use Rattle.osgi_ops.specs.Moments.{Moment}
 use Rattle.osgi_ops.specs.Objects.{HeldObject, is_given_back, is_still_held, object_by, objects}
 use Rattle.osgi_legal.specs.Operations.{IsReply}
 use Rattle.osgi_ops.specs.Properties.{with_framework}
 use Rattle.osgi_ops.specs.Replies.{took_effect}
-use Rattle.osgi_ops.specs.Services.{gets, given_by, given_last, gets_object, is_service, is_unget, is_use_of, live_services, live_service_at, made_of, made_uses, Registered, registered, registered_by, scope_of, service_now, takes_out, ungets, use_by, uses, uses_with, without_user}
-use Rattle.osgi_ops.specs.Waiting.{waited_by, waiting}
+use Rattle.osgi_ops.specs.Services.{gets, given_by, given_last, gets_object, is_service, is_unget, is_use_of, live_services, live_service_at, made_of, made_uses, Registered, registered, registered_by, service_now, takes_out, ungets, use_by, uses, uses_with, without_user}
+use Rattle.osgi_ops.specs.Waiting.{waiting}
 use Rattle.osgi_ops.specs.declared.depot.DepotRow.{DepotRow}
 use Rattle.osgi_ops.specs.declared.entry.Entry.{Entry}
 use Rattle.osgi_ops.specs.declared.op.Op.{Op}

@@ -7,7 +7,7 @@ use Rattle.osgi_base.specs.declared.ids.BundleId.{BundleId}
 use Rattle.osgi_base.specs.declared.ids.Tag.{Tag}
 use Rattle.osgi_ops.specs.Brackets.{Bracket, brackets}
 use Rattle.osgi_ops.specs.Bundles as bundles
-use Rattle.osgi_ops.specs.Bundles.{active, begun_by, idle, is_live, is_uninstall, is_up, last_begin, phase, Phase, put_into, running, State, state, system}
+use Rattle.osgi_ops.specs.Bundles.{active, begun_by, idle, is_live, is_uninstall, is_up, last_begin, phase, Phase, put_into, running, state}
 use Rattle.osgi_ops.specs.Cleaning.{cleans}
 use Rattle.osgi_ops.specs.Conditions.{state_change, state_of}
 use Rattle.osgi_legal.specs.Legal.{AreAllowed, IsAllowed}

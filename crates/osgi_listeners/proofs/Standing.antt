@@ -1,5 +1,5 @@
 -- The calls as what they make of the history that the listeners stand for, from what they make of rows and turns.
-use Rattle.std.proofs.Common.{◌≡◌, ℕ, ◌+◌, List, [], ◌∷◌, ◌++◌, Bool, map, ap, sym, subst, refl, ◌∙◌}
+use Rattle.std.proofs.Common.{◌≡◌, ℕ, ◌+◌, List, [], ◌∷◌, ◌++◌, Bool, map, sym, subst, refl}
 use Rattle.std.specs.Prelude.{filter, None, not}
 use Rattle.std.specs.List.{list_any}
 use Rattle.osgi_base.specs.declared.ids.BundleId.{BundleId}

@@ -1,6 +1,6 @@
 //! The live listeners of each kind, so that an event costs its listeners and no others.
 
-ghost use Rattle.std.specs.Prelude.{◌≡◌, [], ◌∷◌, ◌++◌, filter, map, if◌then◌else◌, IfOk, OnOk, OnErr};
+ghost use Rattle.std.specs.Prelude.{◌≡◌, [], ◌∷◌, ◌++◌, filter, map, if◌then◌else◌, OnOk, OnErr};
 ghost use Rattle.std.specs.List.Sorted.{IsStrictlyIncreasing};
 ghost use Rattle.osgi_ops.specs.declared.kind.Kind.{Kind};
 ghost use Rattle.osgi_listeners.specs.Rows.{is_live, listeners_in, number_of, same_kind};

@@ -1,6 +1,6 @@
 //! What is read of the slots, which stand by rising id, and loops over them.
 
-ghost use Rattle.std.specs.Prelude.{◌≡◌, ℕ, ◌+◌, ◌<◌, ◌≤◌, ◌↔◌, false, length, filter, map, All, IfOk, OnOk, IsOk, IsTrue, MatchOption, slice_index_or};
+ghost use Rattle.std.specs.Prelude.{◌≡◌, ℕ, ◌<◌, ◌≤◌, ◌↔◌, false, length, filter, map, All, IfOk, OnOk, IsOk, IsTrue, MatchOption, slice_index_or};
 ghost use Rattle.std.specs.List.Sorted.{IsStrictlyIncreasing};
 ghost use Rattle.std.specs.Option.{option_copied, option_map_or};
 ghost use Rattle.osgi_listeners.specs.Rows.{AreRoomierRows, busy_of, HasRoom, has_waiting, ids_of, is_busy, is_live, is_owned, IsLater, listeners_in, number_of, Row, row_at};

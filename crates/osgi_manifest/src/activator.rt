@@ -1,6 +1,6 @@
 //! The activator of a bundle and its script, and its native code, of which there may be none.
 
-ghost use Rattle.std.specs.Prelude.{◌≡◌, if◌then◌else◌, IfOk, ◌==◌};
+ghost use Rattle.std.specs.Prelude.{◌≡◌, IfOk, ◌==◌};
 ghost use Rattle.std.specs.Option.{option_copied};
 ghost use Rattle.osgi_manifest.specs.Manifests as spec;
 ghost use Rattle.osgi_manifest.specs.computed.Answers.{IsStep};

@@ -1,6 +1,6 @@
 //! What Fragment-Host says.
 
-ghost use Rattle.std.specs.Prelude.{◌≡◌, if◌then◌else◌, codes, Ok, Err, is_some};
+ghost use Rattle.std.specs.Prelude.{◌≡◌, codes, Ok, Err, is_some};
 ghost use Rattle.osgi_world.specs.declared.manifest_fault.ManifestKind.TheVariants as fault;
 ghost use Rattle.osgi_manifest.specs.Manifests as spec;
 ghost use Rattle.osgi_clause.specs.Faults.{host_faults};

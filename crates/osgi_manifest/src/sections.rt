@@ -1,6 +1,6 @@
 //! The headers whose clauses name what a bundle asks for or offers, and what each of them makes.
 
-ghost use Rattle.std.specs.Prelude.{◌≡◌, [], ◌∷◌, ℕ, List, codes, IfOk};
+ghost use Rattle.std.specs.Prelude.{◌≡◌, ℕ, List, codes, IfOk};
 ghost use Rattle.osgi_header.specs.declared.clause.Clause.{Clause};
 ghost use Rattle.osgi_world.specs.declared.manifest_fault.ManifestKind.{ManifestKind};
 ghost use Rattle.osgi_package.specs.Exports.{AreExports};

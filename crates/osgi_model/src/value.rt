@@ -1,6 +1,6 @@
 //! The values of properties, and properties by name.
 
-ghost use Rattle.std.specs.Prelude.{◌≡◌, ◌↔◌, IfOk, IsTrue, map};
+ghost use Rattle.std.specs.Prelude.{◌≡◌, IfOk, map};
 ghost use Rattle.std.specs.Cmp.{partial_equiv_from_equiv};
 ghost use Rattle.osgi_base.specs.computed.Exact.{exact_equivalence};
 ghost use Rattle.osgi_model.specs.Comparing.{each_passes, exact_attribute, exact_value, value_eq};

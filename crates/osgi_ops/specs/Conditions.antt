@@ -1,12 +1,12 @@
 -- The conditions of refusals that several operations share, and who asks for an operation.
-use Rattle.std.specs.Prelude.{ℕ, ◌≡◌, ◌≢◌, ◌==◌, ◌+◌, ◌≤◌, ◌<◌, ◌&&◌, ◌⊎◌, ⊤, nat_le, nat_lt, not, Bool, true, false, if◌then◌else◌, List, [], ◌∷◌, Option, None, Some, length, IsSomeAnd, All, AllPairs, Contains}
+use Rattle.std.specs.Prelude.{ℕ, ◌≡◌, ◌≢◌, ◌+◌, ◌≤◌, ◌<◌, ◌&&◌, ◌⊎◌, ⊤, nat_le, nat_lt, not, Bool, true, false, if◌then◌else◌, List, [], ◌∷◌, Option, None, Some, length, IsSomeAnd, All, AllPairs, Contains}
 use Rattle.std.specs.Option.{option_map_or}
 use Rattle.std.specs.Ordering.{is_gt}
 use Rattle.osgi_base.specs.Verdict.{Where}
 use Rattle.osgi_base.specs.declared.ids.BundleId.{BundleId}
 use Rattle.osgi_base.specs.declared.ids.ServiceId.{ServiceId}
 use Rattle.osgi_ops.specs.Brackets.{brackets_of, is_own_end}
-use Rattle.osgi_ops.specs.Bundles.{Active, Bundle, bundles, is_active, is_live, is_up, last_begin, State, state, system}
+use Rattle.osgi_ops.specs.Bundles.{Bundle, bundles, is_active, is_live, is_up, last_begin, State, state, system}
 use Rattle.osgi_ops.specs.Depots.{stored_revision, stored_at}
 use Rattle.osgi_ops.specs.Levels.{active_level, level_of, Refresh, refresh, Walk, walk}
 use Rattle.osgi_ops.specs.Moments.{Moment}
@@ -19,8 +19,6 @@ use Rattle.osgi_ops.specs.declared.op.Op.TheVariants as op
 use Rattle.osgi_ops.specs.declared.refusal.Many.TheVariants.{Locations}
 use Rattle.osgi_ops.specs.declared.refusal.Refusal.{Refusal}
 use Rattle.osgi_ops.specs.declared.refusal.Refusal.TheVariants as no
-use Rattle.osgi_ops.specs.declared.reply.Reply.{Reply}
-use Rattle.osgi_ops.specs.declared.reply.Reply.TheVariants as answer
 use Rattle.osgi_ops.specs.declared.target.Target.{Target}
 use Rattle.osgi_ops.specs.declared.target.Target.TheVariants.{Id, Name}
 use Rattle.osgi_version.specs.VersionValues.{order, parts}

@@ -1,5 +1,5 @@
 -- The wire that a load adds for a dynamic import, if it adds one.
-use Rattle.std.specs.Prelude.{ℕ, ◌≡◌, ◌≢◌, ◌+◌, ◌<◌, ◌⊎◌, ◌==◌, ◌&&◌, not, Bool, true, false, IsTrue, MatchBool, if◌then◌else◌, List, [], ◌∷◌, ◌++◌, Option, None, Some, map}
+use Rattle.std.specs.Prelude.{ℕ, ◌≡◌, ◌+◌, ◌<◌, ◌⊎◌, ◌==◌, Bool, true, false, IsTrue, MatchBool, if◌then◌else◌, List, [], ◌∷◌, ◌++◌, Option, None, Some, map}
 use Rattle.std.specs.List.{list_any}
 use Rattle.std.specs.Option.{option_map, option_map_or, option_or}
 use Rattle.std.specs.Str.{bytes_eq}
@@ -11,9 +11,7 @@ use Rattle.osgi_ops.specs.Resolved.{current_revision}
 use Rattle.osgi_ops.specs.declared.rows.WireRow.{WireRow}
 use Rattle.osgi_world.specs.Candidates.{is_higher}
 use Rattle.osgi_world.specs.Consistency.{Consistent}
-use Rattle.osgi_world.specs.Lists.{In}
-use Rattle.osgi_world.specs.Lookups.{bundle_of, capability_name, capability_namespace, is_current, is_dynamic, revision_at, SatisfiesAt}
-use Rattle.osgi_world.specs.Satisfaction.{is_package}
+use Rattle.osgi_world.specs.Lookups.{bundle_of, is_current, is_dynamic, revision_at, SatisfiesAt}
 use Rattle.osgi_world.specs.Sources.{Sources}
 use Rattle.osgi_world.specs.Wirings.{InForce, IsExport, OnOffer, WaitsForRemoval}
 use Rattle.osgi_world.specs.declared.revision.Revision.{Revision}

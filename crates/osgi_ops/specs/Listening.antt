@@ -20,7 +20,7 @@ use Rattle.osgi_ops.specs.Replies.{is_accepted, took_effect}
 use Rattle.osgi_ops.specs.Resolved.{current_revision, is_resolved}
 use Rattle.osgi_ops.specs.Services.{live_service_at, live_services, service_now}
 use Rattle.osgi_ops.specs.Waiting.{is_waiting}
-use Rattle.osgi_ops.specs.Moments.{Told, Seen, Sight, entries_in}
+use Rattle.osgi_ops.specs.Moments.{Told, Seen, Sight}
 use Rattle.osgi_ops.specs.declared.entry.Entry.{Entry}
 use Rattle.osgi_ops.specs.declared.event.Event.{Event}
 use Rattle.osgi_ops.specs.declared.event.Event.TheVariants as event

@@ -1,5 +1,5 @@
 -- The objects that are being made, and the text that each was given last.
-use Rattle.std.specs.Prelude.{ℕ, ◌==◌, ◌+◌, Bool, true, false, if◌then◌else◌, List, [], ◌∷◌, Option, None, Some, filter, find, length, option_and_then}
+use Rattle.std.specs.Prelude.{ℕ, ◌==◌, Bool, true, false, if◌then◌else◌, List, [], ◌∷◌, Option, None, Some, filter, find, length, option_and_then}
 use Rattle.osgi_ops.specs.Along.{carried}
 use Rattle.osgi_ops.specs.Brackets.{brackets, Cause, closes, making, opens}
 use Rattle.osgi_ops.specs.declared.entry.Entry.{Entry}

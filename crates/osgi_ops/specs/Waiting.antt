@@ -1,5 +1,5 @@
 -- The bundles that wait until a class of theirs is loaded.
-use Rattle.std.specs.Prelude.{ℕ, ◌==◌, not, Bool, if◌then◌else◌, List, [], ◌∷◌, Option, None, Some, filter}
+use Rattle.std.specs.Prelude.{◌==◌, not, Bool, if◌then◌else◌, List, [], ◌∷◌, Option, None, Some, filter}
 use Rattle.std.specs.Option.{option_map_or}
 use Rattle.osgi_base.specs.declared.ids.BundleId.{BundleId}
 use Rattle.osgi_ops.specs.Along.{carried}

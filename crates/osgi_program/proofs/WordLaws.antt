@@ -1,5 +1,5 @@
 -- Words of the command line are read as the limits that they give, and only as those.
-use Rattle.std.proofs.Common.{◌≡◌, ◌≢◌, ℕ, ◌+◌, ◌≤◌, List, [], ◌∷◌, ◌++◌, length, take, drop, ◌⊎◌, inl, inr, refl, sym, ◌∙◌, ap, subst, append-nil, append_assoc, arith, Bor}
+use Rattle.std.proofs.Common.{◌≡◌, ◌≢◌, ℕ, ◌+◌, List, [], ◌∷◌, ◌++◌, length, take, drop, ◌⊎◌, inl, inr, refl, sym, ◌∙◌, ap, subst, append-nil, append_assoc, arith, Bor}
 use Rattle.std.proofs.Math.Seq.{take-append_seam}
 use Rattle.std.proofs.lemmas.Bool.{eqb-true}
 use Rattle.std.proofs.lemmas.List.{take-append-drop}
@@ -8,8 +8,8 @@ use Rattle.std.specs.Prelude.{◌==◌, true, false, is_some, nat_eq, IfSome, Is
 use Rattle.osgi_syntax.specs.Words.{IsId}
 use Rattle.osgi_ops.specs.Settings.{Bounds, bounds_of, standard_bounds}
 use Rattle.osgi_ops.specs.declared.limits.Limits.{Limits}
-use Rattle.osgi_program.specs.Words.{AreOptions, Asks, AsksRun, for_replies, GivenOption, GivesNumber, IsGivenSo, IsChosen, IsNumberUpTo, IsOneOf, IsOption, leads, none, numbers_of, replies, Request, run_options}
-use Rattle.osgi_program.specs.computed.Options.{AsksMore, budget_with, given_as, greatest_of, handings_with, held, so_far}
+use Rattle.osgi_program.specs.Words.{AreOptions, Asks, for_replies, GivenOption, GivesNumber, IsGivenSo, IsChosen, IsNumberUpTo, IsOneOf, IsOption, leads, none, numbers_of, replies, Request, run_options}
+use Rattle.osgi_program.specs.computed.Options.{AsksMore, budget_with, given_as, handings_with, held, so_far}
 use Rattle.osgi_program.specs.declared.words.RunOption.{RunOption}
 use Rattle.osgi_program.specs.declared.words.RunOption.TheVariants.{Budget, Handings}
 use Rattle.osgi_ops.specs.declared.limits.TheConstants.{MAX_BUDGET, MAX_HANDINGS}

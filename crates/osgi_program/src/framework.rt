@@ -1,11 +1,11 @@
 //! The top call: words and an input in, a text and a session out.
 
-ghost use Rattle.std.specs.Prelude.{◌≡◌, ◌≤◌, ◌<◌, ◌↔◌, ◌⊎◌, [], ℕ, length, None, Some, IfSome, OnSome, IsSomeAnd, IfOk, IsTrue};
+ghost use Rattle.std.specs.Prelude.{◌≡◌, ◌≤◌, ◌<◌, ◌↔◌, ◌⊎◌, [], length, None, Some, IfSome, OnSome, IsSomeAnd, IfOk};
 ghost use Rattle.std.specs.List.{count_by, list_any};
 ghost use Rattle.osgi_ops.specs.Replies.{is_refusal};
 ghost use Rattle.osgi_ops.specs.Settings.{bounds_of};
 ghost use Rattle.osgi_outside.specs.Causes.{Rose};
-ghost use Rattle.osgi_program.specs.Outcome.{is_bad, is_troubled, status_of, text_of, IsAtLimit, IsSession, IsUncut, IsWritten, IsPartlyWritten, IsWrittenStatus, IsBareStatus};
+ghost use Rattle.osgi_program.specs.Outcome.{is_bad, status_of, text_of, IsAtLimit, IsSession, IsUncut, IsWritten, IsPartlyWritten, IsWrittenStatus, IsBareStatus};
 ghost use Rattle.osgi_program.specs.Words.{bounds_in, Asks, Request};
 ghost use Rattle.osgi_program.specs.computed.Ended.{hands, IsRun, status_by};
 ghost use Rattle.osgi_session.specs.Rendering.{render};

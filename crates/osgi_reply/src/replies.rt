@@ -3,7 +3,7 @@
 //! What may fail comes first: the reply and the change are decided, and the reply is copied, for the caller and for the history.
 //! The change comes last, and is made whole or not at all; listeners are told with it.
 
-ghost use Rattle.std.specs.Prelude.{◌≡◌, ◌<◌, ℕ, false, true, All, None, IfOk, IsOk, map, OnErr};
+ghost use Rattle.std.specs.Prelude.{◌≡◌, ◌<◌, ℕ, false, true, All, None, IfOk, IsOk, OnErr};
 ghost use Rattle.osgi_listeners.specs.Sights.{IsOfEarlier, sights_of};
 ghost use Rattle.osgi_ops.specs.declared.op.Op.TheVariants as op;
 ghost use Rattle.osgi_tables.specs.Asked.{asker_here, asker_refusal, is_hand_or_job_end, is_decided};

@@ -1,7 +1,7 @@
 -- What is decided of jobs, and what their ends come to.
-use Rattle.std.proofs.Common.{◌≡◌, ◌≢◌, ◌≤◌, inl, inr, ℕ, Bool, true, false, List, [], ◌∷◌, length, refl, sym, ap, ◌∙◌, subst}
+use Rattle.std.proofs.Common.{◌≡◌, ◌≢◌, ◌≤◌, inl, inr, ℕ, true, false, List, [], ◌∷◌, length, refl, sym, ap, ◌∙◌, subst}
 use Rattle.std.specs.Option.{option_map_or}
-use Rattle.std.specs.Prelude.{None, Option, Some}
+use Rattle.std.specs.Prelude.{None, Some}
 use Rattle.osgi_base.specs.Verdict.{answers, refuses}
 use Rattle.osgi_base.specs.declared.ids.BundleId.{BundleId}
 use Rattle.osgi_base.specs.declared.ids.Tag.{Tag}
@@ -11,12 +11,11 @@ use Rattle.osgi_bundle.specs.Rows.{row_at}
 use Rattle.osgi_bundle.specs.declared.kept.BundleKept.{BundleKept}
 use Rattle.osgi_jobs.specs.Queue.{oldest_in}
 use Rattle.osgi_legal.specs.Askers.{MayAsk}
-use Rattle.osgi_legal.specs.Legal.{IsAskedAt, IsTold}
+use Rattle.osgi_legal.specs.Legal.{IsTold}
 use Rattle.osgi_legal.specs.Operations.{Answers, own_conditions}
 use Rattle.osgi_legal.specs.laws.Stages.{row-here}
 use Rattle.osgi_legal.proofs.Askers.{asker-passes}
 use Rattle.osgi_ops.specs.Brackets.{own_closes}
-use Rattle.osgi_ops.specs.Bundles.{row_of}
 use Rattle.osgi_ops.specs.Jobs.{jobs, Queued}
 use Rattle.osgi_ops.specs.Listening.{happenings}
 use Rattle.osgi_ops.specs.Moments.{Moment}

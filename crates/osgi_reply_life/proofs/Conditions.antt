@@ -1,5 +1,5 @@
 -- When the conditions of starts and stops hold, by what is read of the tables.
-use Rattle.std.proofs.Common.{◌≡◌, ap, sym, subst, ◌∙◌, false, refl, true}
+use Rattle.std.proofs.Common.{◌≡◌, ap, sym, subst, false, refl, true}
 use Rattle.std.specs.Prelude.{Bool, cond, None, Option, Some, IsSome, IsSomeAnd}
 use Rattle.osgi_base.specs.declared.ids.BundleId.{BundleId}
 use Rattle.osgi_base.specs.declared.ids.Tag.{Tag}

@@ -1,10 +1,8 @@
 -- What is decided of hands, and what their ends come to.
-use Rattle.std.proofs.Common.{◌≡◌, ◌<◌, ◌-◌, inl, inr, ℕ, Bool, true, false, List, [], ◌∷◌, refl, sym, ap, ◌∙◌, subst, arith}
+use Rattle.std.proofs.Common.{◌≡◌, ◌<◌, ◌-◌, inl, inr, ℕ, Bool, true, false, List, [], refl, sym, ap, ◌∙◌, subst, arith}
 use Rattle.std.specs.Option.{option_map, option_map_or}
-use Rattle.std.specs.Prelude.{All, Err, is_err, None, Ok, OnOk, Option, Result, Some}
+use Rattle.std.specs.Prelude.{All, Err, is_err, None, Ok, OnOk, Result, Some}
 use Rattle.std.specs.Result.{result_err}
-use Rattle.osgi_base.specs.Verdict.{answers, Gives, refuses}
-use Rattle.osgi_base.specs.declared.ids.BundleId.{BundleId}
 use Rattle.osgi_base.specs.declared.ids.ListenerId.{ListenerId}
 use Rattle.osgi_base.specs.declared.ids.Tag.{Tag}
 use Rattle.osgi_brackets.specs.Open.{Closes, HoldsMost, open_of}
@@ -16,34 +14,29 @@ use Rattle.osgi_listeners.specs.declared.row.ListenerRow.{ListenerRow}
 use Rattle.osgi_listeners.specs.laws.Busy.{answers-nothing}
 use Rattle.osgi_listeners.specs.laws.Conditions.{is-end-accepted}
 use Rattle.osgi_listeners.specs.laws.Handing.{answers-next, row-handed}
-use Rattle.osgi_ops.specs.Brackets.{closes, brackets, is_own_end, own_closes}
-use Rattle.osgi_ops.specs.Bundles.{row_of}
-use Rattle.osgi_legal.specs.Legal.{entry_of, IsAskedAt, IsTold}
-use Rattle.osgi_ops.specs.Listening.{AreSights, handings, happenings}
+use Rattle.osgi_ops.specs.Brackets.{brackets, is_own_end, own_closes}
+use Rattle.osgi_legal.specs.Legal.{IsAskedAt, IsTold}
+use Rattle.osgi_ops.specs.Listening.{handings, happenings}
 use Rattle.osgi_ops.specs.Moments.{later, Moment}
-use Rattle.osgi_legal.specs.Operations.{Answers, IsReply, own_conditions}
-use Rattle.osgi_ops.specs.Replies.{verdict}
-use Rattle.osgi_ops.specs.Worlds.{Leaves}
 use Rattle.osgi_ops.specs.declared.asked.Asked.{Asked}
 use Rattle.osgi_ops.specs.declared.entry.Entry.{Entry}
 use Rattle.osgi_ops.specs.declared.event.Busy.{Busy}
 use Rattle.osgi_ops.specs.declared.event.Event.{Event}
-use Rattle.osgi_ops.specs.declared.op.Op.{Op}
 use Rattle.osgi_ops.specs.declared.op.Op.TheVariants as op
 use Rattle.osgi_ops.specs.declared.refusal.Refusal.{Refusal}
 use Rattle.osgi_ops.specs.declared.refusal.Refusal.TheVariants as no
 use Rattle.osgi_ops.specs.declared.reply.Reply.{Reply}
 use Rattle.osgi_ops.specs.declared.reply.Reply.TheVariants as answer
 use Rattle.osgi_legal.specs.laws.Stages.{row-here}
-use Rattle.osgi_ops.specs.rows.Events.{HandAnswers, hand_refusals, IsAnyReady, IsHanding}
+use Rattle.osgi_ops.specs.rows.Events.{IsAnyReady, IsHanding}
 use Rattle.osgi_reply_listening.specs.Hands.{handed_reply}
 use Rattle.osgi_tables.proofs.DepotRows.{shown_row}
 use Rattle.osgi_tables.proofs.Heard.{ended_stands, handed_stands, nothing_stands, with_end}
 use Rattle.osgi_tables.proofs.Living.{deep_at, own_end_at, shallow_at}
 use Rattle.osgi_tables.proofs.Premises.{handed-first, turns-apart}
 use Rattle.osgi_tables.proofs.Replying.{decided_refused, decided_same, replied_refused, replied_unseen, unseen}
-use Rattle.osgi_tables.specs.Changes.{CanBeHanded, IsReplyAndChange}
-use Rattle.osgi_tables.specs.Replied.{EachTime, EachTimeAt, end_reply, IsAnswered, IsReplied, StandsFor}
+use Rattle.osgi_tables.specs.Changes.{IsReplyAndChange}
+use Rattle.osgi_tables.specs.Replied.{end_reply, IsReplied, StandsFor}
 use Rattle.osgi_world.specs.declared.world.World.{World}
 use Rattle.osgi_tables.specs.declared.change.Change.TheVariants as change
 use Rattle.osgi_tables.specs.declared.tables.Tables.{Tables}

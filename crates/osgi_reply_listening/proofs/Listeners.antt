@@ -12,15 +12,13 @@ use Rattle.osgi_legal.proofs.Askers.{asker-passes}
 use Rattle.osgi_listeners.specs.Rows.{add_refusal, is_named}
 use Rattle.osgi_listeners.specs.laws.Conditions.{has-same-count, has-same-names}
 use Rattle.osgi_model.specs.declared.filter.Filter.{Filter}
-use Rattle.osgi_legal.specs.Legal.{IsAskedAt, IsTold}
-use Rattle.osgi_ops.specs.Listening.{hearing, listeners}
+use Rattle.osgi_legal.specs.Legal.{IsTold}
+use Rattle.osgi_ops.specs.Listening.{listeners}
 use Rattle.osgi_ops.specs.Moments.{Moment}
-use Rattle.osgi_legal.specs.Operations.{Answers, IsReply, own_conditions}
-use Rattle.osgi_ops.specs.Replies.{took_effect, verdict}
-use Rattle.osgi_ops.specs.declared.asked.Asked.{Asked}
+use Rattle.osgi_legal.specs.Operations.{Answers, own_conditions}
+use Rattle.osgi_ops.specs.Replies.{took_effect}
 use Rattle.osgi_ops.specs.declared.kind.Kind.{Kind}
 use Rattle.osgi_ops.specs.declared.limits.TheConstants.{MAX_LISTENERS}
-use Rattle.osgi_ops.specs.declared.op.Op.{Op}
 use Rattle.osgi_ops.specs.declared.op.Op.TheVariants as op
 use Rattle.osgi_ops.specs.declared.refusal.Many.TheVariants as many
 use Rattle.osgi_ops.specs.declared.refusal.Refusal.{Refusal}
@@ -28,13 +26,13 @@ use Rattle.osgi_ops.specs.declared.refusal.Refusal.TheVariants as no
 use Rattle.osgi_ops.specs.declared.reply.Reply.{Reply}
 use Rattle.osgi_ops.specs.declared.reply.Reply.TheVariants as answer
 use Rattle.osgi_legal.specs.laws.Stages.{row-here}
-use Rattle.osgi_ops.specs.rows.Events.{add_listener_refusals, has_listener}
+use Rattle.osgi_ops.specs.rows.Events.{has_listener}
 use Rattle.osgi_tables.proofs.Asking.{passed_by}
 use Rattle.osgi_tables.proofs.Heard.{added_stands, removed_stands}
 use Rattle.osgi_tables.proofs.Replying.{decided_refused, unseen}
 use Rattle.osgi_tables.specs.Asked.{asker_refusal}
 use Rattle.osgi_tables.specs.Changes.{IsReplyAndChange, IsReplyAndChangeToAll}
-use Rattle.osgi_tables.specs.Replied.{EachTime, IsAnswered, StandsFor}
+use Rattle.osgi_tables.specs.Replied.{StandsFor}
 use Rattle.osgi_tables.specs.declared.change.Change.TheVariants as change
 use Rattle.osgi_tables.specs.declared.tables.Tables.{Tables}
 

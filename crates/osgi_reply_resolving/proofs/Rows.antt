@@ -1,10 +1,10 @@
 -- The rows of bundles that become resolved.
-use Rattle.std.proofs.Common.{◌≡◌, ◌+◌, add-one, drop, drop-cons, ℕ, suc, ◌<◌, inl, inr, List, [], ◌∷◌, ◌++◌, length, map, filter, get_or, ap, sym, subst, ◌∙◌, refl, arith}
+use Rattle.std.proofs.Common.{◌≡◌, ◌+◌, ℕ, suc, ◌<◌, inl, inr, List, [], ◌∷◌, ◌++◌, length, map, filter, get_or, ap, sym, subst, ◌∙◌, refl, arith}
 use Rattle.std.specs.Prelude.{All, Bool, true, false, cond, not, ◌==◌, ◌&&◌, ◌||◌, Err, find, IfOk, IsSomeAnd, None, Ok, Option, Result, Some}
 use Rattle.std.specs.List.{list_any}
 use Rattle.std.specs.Option.{option_map_or}
 use Rattle.std.proofs.lemmas.Bool.{eq-eqb, eqb-true, ne_eqb}
-use Rattle.std.proofs.lemmas.List.Elements.{All-cons, All-nil, All-weaker}
+use Rattle.std.proofs.lemmas.List.Elements.{All-cons, All-nil}
 use Rattle.osgi_base.specs.declared.ids.BundleId.{BundleId}
 use Rattle.osgi_bundle.proofs.Finding.{ids_rise}
 use Rattle.osgi_bundle.specs.Rows.{AreInOrder, bundle_number, has_bundle_id, IsSettable, row_at, set_in, TableRows, with_state}

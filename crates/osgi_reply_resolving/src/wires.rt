@@ -1,7 +1,7 @@
 //! The wires of a bundle, as a list shows them.
 
 ghost use Rattle.std.specs.Prelude.{◌≡◌, Some, IsSome, All, IfOk, map};
-ghost use Rattle.std.specs.Option.{option_copied, option_map_or};
+ghost use Rattle.std.specs.Option.{option_copied};
 ghost use Rattle.osgi_ops.specs.WireRows.{AreWireRows, fragment_row, wire_row};
 ghost use Rattle.osgi_ops.specs.declared.op.Op.TheVariants as op;
 ghost use Rattle.osgi_wiring.specs.States.{IsKeptWorld};

@@ -18,7 +18,7 @@ use Rattle.osgi_world.specs.declared.wiring.Wire.{Wire}
 use Rattle.osgi_world.specs.declared.wiring.Wiring.{Wiring}
 use Rattle.osgi_world.specs.declared.world.Known.{Known}
 use Rattle.osgi_resolver_theory.specs.Checks as check
-use Rattle.osgi_resolver_theory.specs.Checks.{HopelessMember, IsNew}
+use Rattle.osgi_resolver_theory.specs.Checks.{HopelessMember}
 use Rattle.osgi_resolver_theory.proofs.Agree.{bundle-part, implied-starts, offer-same, package-part, reexport-is_bundle, uses-part}
 use Rattle.osgi_resolver_theory.proofs.Checks.{hopeless-member, member-hopeless, new-present}
 use Rattle.osgi_resolver_theory.proofs.Complete.{provider-in_force}

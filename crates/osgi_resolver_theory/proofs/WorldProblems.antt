@@ -16,7 +16,7 @@ use Rattle.osgi_world.specs.declared.world.Known.{Known}
 use Rattle.osgi_world.specs.declared.world.World.{World}
 use Rattle.osgi_resolver_theory.proofs.Laws.{option-cases}
 use Rattle.osgi_resolver_theory.proofs.Lists.{and-both, and-cases, below-in, filter-in, flat_map-in, in-below, in-filter, in-flat_map, in-map, map-in}
-use Rattle.osgi_resolver_theory.proofs.Values.{cap-eq, find-none, find-some, place-eq, ref-eq, rev-eq, nat-same}
+use Rattle.osgi_resolver_theory.proofs.Values.{find-none, find-some, place-eq, rev-eq, nat-same}
 use Rattle.osgi_resolver_theory.specs.WorldProblems.{all_capabilities, all_revisions, asked_requirements, candidates_in, choice_in, is_candidate, preference, the_problem}
 use Rattle.osgi_resolver_theory.proofs.Orders.{all-ordered, equal-same, in-ordered, less-preferred, ordered-in, ordered-two, preference-total}
 use Rattle.osgi_resolver_theory.proofs.Tests.{candidate_decides}

@@ -1,7 +1,6 @@
 //! The runner: it runs the command of a line, and then the jobs; or it makes a drain.
 
 ghost use Rattle.std.specs.Prelude.{◌≡◌, [], List, false, true, reverse, IfOk, OnErr};
-ghost use Rattle.osgi_ops.specs.declared.entry.Entry.{Entry};
 ghost use Rattle.osgi_runner.specs.Calls.{Adds, IsCutDrainOf, IsCutShort, IsDrainCutShort, IsDrainOf};
 ghost use Rattle.osgi_runner.specs.computed.Ends.{Ends, Made};
 ghost use Rattle.osgi_runner.specs.computed.Stacks.{AllFit, CanStep};

@@ -1,18 +1,17 @@
 //! Single steps of a runner.
 
-ghost use Rattle.std.specs.Prelude.{◌≡◌, ◌≢◌, ◌+◌, ◌<◌, ◌∷◌, false, List, IfOk, OnErr, reverse, vec_capacity, vec_len};
+ghost use Rattle.std.specs.Prelude.{◌≡◌, ◌+◌, ◌<◌, ◌∷◌, List, IfOk, OnErr, reverse, vec_capacity, vec_len};
 ghost use Rattle.osgi_lifecycle.specs.Pendings.{IsAnswer, IsEnd, last_of, pending_of};
 ghost use Rattle.osgi_ops.specs.declared.op.Op.{Op};
 ghost use Rattle.osgi_runs.specs.Courses.{to_section};
 ghost use Rattle.osgi_runs.specs.Courses as course;
-ghost use Rattle.osgi_runner.specs.Calls.{says_spent};
-ghost use Rattle.osgi_runner.specs.computed.Stacks.{AllFit, CanGo, CanStep, Fits, HasSome, IsAsked, IsAskedIn};
-ghost use Rattle.osgi_runner.specs.computed.States.{After, bindings_of, Comes, end_of, EndsAs, frame_of, frames_of, IsUnfinished, Reaches, Rest, Waited};
+ghost use Rattle.osgi_runner.specs.computed.Stacks.{AllFit, CanGo, CanStep, Fits, HasSome, IsAskedIn};
+ghost use Rattle.osgi_runner.specs.computed.States.{After, bindings_of, Comes, end_of, EndsAs, frame_of, frames_of, IsUnfinished, Reaches, Rest};
 ghost use Rattle.osgi_runner.specs.computed.Weights.{frame_weight, IsLighter, now_weight, stack_weight, step_weight};
 ghost use Rattle.osgi_runner.specs.declared.frames.Frame.{Frame};
 ghost use Rattle.osgi_runner.specs.declared.frames.Now.TheVariants as now;
 ghost use Rattle.osgi_session.specs.Plans.{End};
-ghost use Rattle.osgi_session.specs.Runs.{Call, call, Sections};
+ghost use Rattle.osgi_session.specs.Runs.{Call, Sections};
 ghost use Rattle.osgi_session.specs.Scripts.{sections_of};
 ghost use Rattle.osgi_session.specs.Steps.{resume};
 ghost use Rattle.osgi_runs.specs.Courses.{Left};

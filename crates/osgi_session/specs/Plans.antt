@@ -1,8 +1,7 @@
 -- What a command asks of the framework, step by step.
-use Rattle.std.specs.Prelude.{ℕ, zero, suc, nat_lt, ◌==◌, ◌+◌, ◌-◌, ◌&&◌, ◌||◌, Bool, true, false, if◌then◌else◌, List, [], ◌∷◌, Option, Some, reverse}
+use Rattle.std.specs.Prelude.{ℕ, zero, suc, nat_lt, ◌==◌, ◌+◌, ◌-◌, ◌||◌, Bool, true, false, if◌then◌else◌, List, [], ◌∷◌, Option, Some, reverse}
 use Rattle.osgi_base.specs.declared.ids.BundleId.{BundleId}
 use Rattle.osgi_base.specs.declared.ids.ServiceId.{ServiceId}
-use Rattle.osgi_ops.specs.Bundles.{system}
 use Rattle.osgi_ops.specs.Replies.{is_accepted, is_refusal, took_effect}
 use Rattle.osgi_session.specs.declared.command.Command.{Command}
 use Rattle.osgi_session.specs.declared.command.Command.TheVariants as command

@@ -1,5 +1,5 @@
 -- What the sections of the scripts say.
-use Rattle.std.specs.Prelude.{ℕ, Bool, true, false, List, [], find, slice_get}
+use Rattle.std.specs.Prelude.{Bool, true, false, [], find, slice_get}
 use Rattle.std.specs.Option.{option_map_or}
 use Rattle.std.specs.Str.{bytes_eq}
 use Rattle.osgi_ops.specs.declared.section.Section.{Section}

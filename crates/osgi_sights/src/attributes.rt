@@ -1,10 +1,9 @@
 //! What filters read of happenings that are not of services.
 
-ghost use Rattle.std.specs.Prelude.{◌≡◌, ◌↔◌, [], ◌∷◌, codes, IfOk, IsTrue, OnOk};
-ghost use Rattle.std.specs.Option.{option_copied};
+ghost use Rattle.std.specs.Prelude.{◌≡◌, ◌↔◌, [], ◌∷◌, codes, IfOk, IsTrue};
 ghost use Rattle.osgi_ops.specs.Listening.{LetsPass, number};
 ghost use Rattle.osgi_sights.specs.Shown.{shown};
-ghost use Rattle.osgi_sights.specs.Sights.{bundle_attributes, framework_attributes};
+ghost use Rattle.osgi_sights.specs.Sights.{bundle_attributes};
 ghost use Rattle.osgi_sights.specs.computed.Telling.{AreMade, attributes_of};
 
 use crate::happening::Happening;

@@ -1,7 +1,7 @@
 -- What an entry of a legal history says while these operations have not come: each is of an operation that has come, or is refused as an
 -- invalid operation. So none updates or uninstalls a bundle, sets a level, begins a walk or a refresh, or has a bundle wait.
 use Rattle.std.proofs.Common.{◌≡◌, ◌+◌, ◌⊎◌, inl, inr, ℕ, length, Bool, true, false, List, [], ◌∷◌, refl, sym, ap, ◌∙◌, subst}
-use Rattle.std.specs.Prelude.{All, Option, None, Some}
+use Rattle.std.specs.Prelude.{All, Option, None}
 use Rattle.std.specs.List.{cons_option, filter_map, last_or}
 use Rattle.std.proofs.lemmas.List.Elements.{All-append, All-cons, All-head, All-nil, All-push, All-tail, All-weaker}
 use Rattle.osgi_base.specs.declared.ids.BundleId.{BundleId}

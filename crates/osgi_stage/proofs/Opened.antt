@@ -33,7 +33,6 @@ use Rattle.osgi_legal.specs.laws.Stages.{late-refused}
 use Rattle.osgi_legal.proofs.Accepted.{accepted}
 use Rattle.osgi_stage.proofs.Singletons.{all-single, AreSingle, live-single}
 use Rattle.osgi_legal.proofs.Owned.{entries-last}
-use Rattle.osgi_legal.proofs.Quiet.{opens-refused}
 use Rattle.osgi_stage.proofs.Windows.{refused-is}
 
 -- it is for a make

@@ -8,7 +8,7 @@ use Rattle.osgi_bundle.specs.laws.Standing.{gone, live, never, says_state, SaysS
 use Rattle.osgi_legal.specs.Askers.{MayAsk}
 use Rattle.osgi_stage.proofs.Facts.{row-at}
 use Rattle.osgi_legal.proofs.Askers.{asker-down, asker-gone}
-use Rattle.osgi_ops.specs.Bundles.{Active, is_live, is_up as is_up_state, number_of, Phase, phase, Resolved, running, Starting, State, state, Stopping, Uninstalled, Unresolved}
+use Rattle.osgi_ops.specs.Bundles.{Active, is_live, is_up as is_up_state, number_of, Phase, phase, Resolved, running, Starting, State, Stopping, Uninstalled, Unresolved}
 use Rattle.osgi_ops.specs.Bundles as phases
 use Rattle.osgi_ops.specs.Conditions.{asker_of, state_of}
 use Rattle.osgi_legal.specs.Legal.{IsTold}

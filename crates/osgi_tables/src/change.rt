@@ -1,6 +1,6 @@
 //! What an operation changes in the tables.
 
-ghost use Rattle.std.specs.Prelude.{◌≡◌, ◌+◌, ◌<◌, All, None, OnOk, OnErr};
+ghost use Rattle.std.specs.Prelude.{◌≡◌, ◌<◌, All, OnOk, OnErr};
 ghost use Rattle.osgi_bundle.specs.Rows.{IsSettable};
 ghost use Rattle.osgi_bundle.specs.Stands.{StandsAfter};
 ghost use Rattle.osgi_tables.specs.Replied.{IsBrought, IsSame, StandsStill};

@@ -1,6 +1,6 @@
 //! What happens as a change is made.
 
-ghost use Rattle.std.specs.Prelude.{◌≡◌, ◌++◌, ◌∷◌, [], IfOk, OnOk};
+ghost use Rattle.std.specs.Prelude.{◌≡◌, ◌++◌, IfOk, OnOk};
 ghost use Rattle.std.specs.Option.{option_map, option_to_list};
 ghost use Rattle.osgi_sights.specs.Shown.{shown};
 ghost use Rattle.osgi_tables.specs.Changes.{bundles_shown, happened, leaving, services_shown, shown_at};

@@ -1,6 +1,6 @@
 //! The state at the end of a text that reads, or the fault of one that does not.
 
-ghost use Rattle.std.specs.Prelude.{◌≡◌, ◌-◌, ◌<◌, ◌≤◌, ◌↔◌, Some, true, IsTrue, MatchResult, length, drop, slice_index};
+ghost use Rattle.std.specs.Prelude.{◌≡◌, ◌-◌, ◌<◌, ◌≤◌, Some, true, MatchResult, length, drop, slice_index};
 ghost use Rattle.osgi_version.specs.Bytes.{Each, IsDigit};
 ghost use Rattle.osgi_version.specs.Faults.{IsFault};
 ghost use Rattle.osgi_version.specs.computed.Reader.{IsReader};

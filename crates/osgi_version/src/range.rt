@@ -1,6 +1,6 @@
 //! Ranges of versions.
 
-ghost use Rattle.std.specs.Prelude.{◌≡◌, ◌≤◌, ◌↔◌, ℕ, List, length, true, Some, IfOk, IsTrue, MatchOption, MatchResult, IsOkAnd};
+ghost use Rattle.std.specs.Prelude.{◌≡◌, ◌≤◌, ◌↔◌, ℕ, List, length, true, Some, IfOk, IsTrue, MatchResult, IsOkAnd};
 ghost use Rattle.osgi_version.specs.Faults.{IsFault};
 ghost use Rattle.osgi_version.specs.computed.RangeMachine.{step_range, is_fine_range, may_end_range, held_range};
 ghost use Rattle.osgi_version.specs.RangeValues.{range_parts, range_text, is_within, is_above, is_below_high};

@@ -1,6 +1,6 @@
 //! The machine that reads a range, byte by byte, over the one that reads a version. What runs once a byte is inlined.
 
-ghost use Rattle.std.specs.Prelude.{◌≡◌, ◌<◌, ◌≤◌, ◌+◌, max, IfSome};
+ghost use Rattle.std.specs.Prelude.{◌<◌, ◌+◌};
 ghost use Rattle.osgi_version.specs.computed.RangeMachine.{step_range, is_fine_range, may_end_range, held_range};
 ghost use Rattle.osgi_version.specs.Ranges.{IsSpelledRange, IsReadableRange};
 ghost use Rattle.osgi_version.specs.computed.VersionMachine.{held};

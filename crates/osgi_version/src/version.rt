@@ -25,7 +25,7 @@ pub struct Version {
 }
 
 impl Version {
-    ghost use Rattle.std.specs.Prelude.{◌≡◌, ◌++◌, ◌↔◌, IfOk, IsNone, IsTrue, IsOkAnd, MatchResult, Some};
+    ghost use Rattle.std.specs.Prelude.{◌≡◌, ◌↔◌, IfOk, IsNone, IsTrue, IsOkAnd, MatchResult, Some};
     ghost use Rattle.osgi_version.specs.Faults.{IsFault};
     ghost use Rattle.osgi_version.specs.computed.FoundParts.{found_parts};
     ghost use Rattle.osgi_version.specs.VersionValues.{order, parts, parts_text};

@@ -1,6 +1,6 @@
 //! The machine that reads a version, byte by byte. What runs once a byte is inlined.
 
-ghost use Rattle.std.specs.Prelude.{◌≡◌, ◌<◌, ◌≤◌, ◌+◌, IfSome};
+ghost use Rattle.std.specs.Prelude.{◌≡◌, ◌<◌, ◌+◌};
 ghost use Rattle.osgi_version.specs.Versions.{IsReadableVersion, IsSpelledVersion};
 ghost use Rattle.osgi_version.specs.computed.VersionMachine.{more, in_number, if_digit, if_blank, if_word, step, next, is_fine, is_fine_number, may_end, held};
 ghost use Rattle.osgi_version.specs.declared.version_state.VersionState.TheVariants.{Lead};

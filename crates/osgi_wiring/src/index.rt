@@ -1,6 +1,6 @@
 //! Revisions by their ids, by their bundles, and by their wirings.
 
-ghost use Rattle.std.specs.Prelude.{◌≡◌, ◌+◌, ◌<◌, ◌≤◌, ◌++◌, ◌∷◌, [], ℕ, None, Some, nat_eq, length, map, IfOk};
+ghost use Rattle.std.specs.Prelude.{◌≡◌, ◌<◌, ◌≤◌, ◌∷◌, [], ℕ, None, nat_eq, length, map, IfOk};
 ghost use Rattle.indexmap.specs.IndexMap as map;
 ghost use Rattle.indexmap.specs.IndexSet as set;
 ghost use Rattle.osgi_wiring.specs.computed.Kept.{puts, revision_of};

@@ -1,5 +1,5 @@
 -- Ranges that are shared: where none is given, that of all versions.
-use Rattle.std.specs.Prelude.{true, false, [], Option, None, Some}
+use Rattle.std.specs.Prelude.{true, false, Option, None, Some}
 use Rattle.std.proofs.Common.{lit≤}
 use Rattle.osgi_version.specs.VersionValues.{version_numbered}
 use Rattle.osgi_version.specs.declared.range.VersionRange.{VersionRange}

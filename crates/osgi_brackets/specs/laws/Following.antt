@@ -1,6 +1,6 @@
 -- The brackets of each caller after one more entry.
 use Rattle.std.proofs.Common.{◌≡◌, ℕ, List, [], ◌∷◌, ◌++◌, Bool, true, false, refl, sym, ap, ◌∙◌, subst}
-use Rattle.std.specs.Prelude.{◌==◌, ◌&&◌, cond, filter, Option, None, Some}
+use Rattle.std.specs.Prelude.{◌==◌, cond, filter, Option, None, Some}
 use Rattle.std.proofs.lemmas.Bool.{eq-eqb, eqb-true}
 use Rattle.osgi_base.specs.declared.ids.Tag.{Tag}
 use Rattle.osgi_ops.specs.Brackets.{Bracket, bracket, brackets, brackets_of, Cause, closes, is_ended, opens, own_closes, own_turned, turned, with_entry, without_first, without_innermost}

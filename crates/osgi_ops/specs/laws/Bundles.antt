@@ -19,8 +19,8 @@ use Rattle.osgi_ops.specs.declared.op.Op.TheVariants as op
 use Rattle.osgi_ops.specs.declared.reply.Reply.{Reply}
 use Rattle.osgi_ops.specs.declared.reply.Reply.TheVariants as answer
 use Rattle.osgi_ops.specs.laws.Along.{latest-quiet, latest-set}
-use Rattle.osgi_ops.specs.laws.Items.{contains-In, find-some, found-in, In-contains}
-use Rattle.osgi_ops.specs.laws.Members.{Contains-cases, Contains-filter_map, Contains-first, Contains-mapped, Contains-more}
+use Rattle.osgi_ops.specs.laws.Items.{contains-In, find-some}
+use Rattle.osgi_ops.specs.laws.Members.{Contains-cases, Contains-filter_map}
 use Rattle.osgi_world.specs.declared.revision.Revision.{Revision}
 
 -- an installed bundle with one more entry since

@@ -1,5 +1,5 @@
 -- The wire that a load adds is one and the same, whoever tells it; and none is added while loads add none.
-use Rattle.std.proofs.Common.{◌≡◌, ◌≢◌, ◌⊎◌, ◌<◌, ◌+◌, inl, inr, ℕ, List, ap, ◌∙◌, refl, sym, subst, arith}
+use Rattle.std.proofs.Common.{◌≡◌, ◌⊎◌, ◌<◌, inl, inr, ℕ, List, ap, refl, sym, subst, arith}
 use Rattle.std.specs.Prelude.{IsTrue, false, Option, None, Some}
 use Rattle.osgi_base.specs.declared.ids.BundleId.{BundleId}
 use Rattle.osgi_base.specs.declared.ids.RevisionId.{RevisionId}

@@ -1,6 +1,6 @@
 -- Items of lists, in the words of the rules of wirings: what filters, maps and look-ups do to them.
 use Rattle.std.proofs.Common.{◌≡◌, ◌⊎◌, inl, inr, Bool, true, false, cond, List, [], ◌∷◌, ◌++◌, refl, sym, ap, ◌∙◌, subst}
-use Rattle.std.specs.Prelude.{Option, None, Some, filter, find, map, Contains}
+use Rattle.std.specs.Prelude.{Some, filter, find, map, Contains}
 use Rattle.osgi_world.specs.Lists.{In, Two}
 use Rattle.osgi_ops.specs.laws.Members.{Contains-cases, Contains-first, Contains-more, Contains-none}
 

@@ -1,16 +1,14 @@
 -- Makes, their texts and their objects after one more entry, and where nothing is made.
-use Rattle.std.proofs.Common.{◌≡◌, List, [], ◌∷◌, ◌++◌, ap, ◌∙◌, refl, sym}
-use Rattle.std.specs.Prelude.{Bool, true, false, cond, All, Option, None, Some, filter, find}
+use Rattle.std.proofs.Common.{◌≡◌, List, [], ◌∷◌, ◌++◌, ap, ◌∙◌}
+use Rattle.std.specs.Prelude.{All, None, filter, find}
 use Rattle.std.proofs.lemmas.List.Elements.{All-weaker}
 use Rattle.osgi_base.specs.declared.ids.BundleId.{BundleId}
 use Rattle.osgi_base.specs.declared.ids.ServiceId.{ServiceId}
-use Rattle.osgi_ops.specs.Brackets.{brackets, closes, opens}
-use Rattle.osgi_ops.specs.Makes.{make_change, MakeChange, open_makes, opens_make, with_make, with_make_change}
-use Rattle.osgi_ops.specs.Objects.{bundle_object, HeldObject, is_still_held, object_by, objects, with_object}
+use Rattle.osgi_ops.specs.Brackets.{brackets, closes}
+use Rattle.osgi_ops.specs.Makes.{make_change, open_makes, with_make, with_make_change}
+use Rattle.osgi_ops.specs.Objects.{bundle_object, is_still_held, object_by, objects, with_object}
 use Rattle.osgi_ops.specs.Services.{made}
 use Rattle.osgi_ops.specs.declared.entry.Entry.{Entry}
-use Rattle.osgi_ops.specs.declared.op.Op.{Op}
-use Rattle.osgi_ops.specs.declared.reply.Reply.{Reply}
 use Rattle.osgi_ops.specs.laws.Along.{carried-last, carried-still}
 use Rattle.osgi_ops.specs.laws.Services.{MakesNone}
 

@@ -1,6 +1,6 @@
 -- Who waits after one more entry, and where nobody began to.
-use Rattle.std.proofs.Common.{◌≡◌, List, [], ◌∷◌, ◌++◌, ap, ◌∙◌, refl, sym}
-use Rattle.std.specs.Prelude.{Bool, false, All, Option, None, Some}
+use Rattle.std.proofs.Common.{◌≡◌, List, [], ◌∷◌, ◌++◌, ap, ◌∙◌, refl}
+use Rattle.std.specs.Prelude.{false, All, Option, None, Some}
 use Rattle.std.proofs.lemmas.List.Elements.{All-weaker}
 use Rattle.osgi_base.specs.declared.ids.BundleId.{BundleId}
 use Rattle.osgi_ops.specs.Bundles.{lists_bundle}

@@ -1,5 +1,5 @@
 -- Where an operation changes no world.
-use Rattle.std.proofs.Common.{◌≡◌, true, false, List, [], ◌∷◌, refl, ap, ◌∙◌, subst}
+use Rattle.std.proofs.Common.{◌≡◌, true, false, [], ◌∷◌, ap, ◌∙◌, subst}
 use Rattle.std.specs.Prelude.{⊤, None, Some}
 use Rattle.osgi_ops.specs.Dynamic.{world_with_wire}
 use Rattle.osgi_ops.specs.Moments.{Moment}

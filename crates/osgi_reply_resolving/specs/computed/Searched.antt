@@ -1,5 +1,5 @@
 -- What a Resolve finds, and does to the table of bundles. No public promise speaks of this.
-use Rattle.std.specs.Prelude.{ℕ, ◌≡◌, ◌==◌, ◌&&◌, ◌||◌, ◌<◌, Bool, true, false, if◌then◌else◌, is_some, Option, List, [], ◌∷◌, None, Some, filter, map}
+use Rattle.std.specs.Prelude.{ℕ, ◌≡◌, ◌==◌, ◌&&◌, ◌||◌, ◌<◌, Bool, true, false, if◌then◌else◌, is_some, Option, List, None, Some, filter, map}
 use Rattle.std.specs.List.{list_any}
 use Rattle.std.specs.Option.{option_and_then, option_map_or}
 use Rattle.osgi_base.specs.declared.ids.BundleId.{BundleId}

@@ -1,16 +1,12 @@
 -- The text of a line's entries, with one more entry.
-use Rattle.std.proofs.Common.{◌≡◌, ℕ, List, [], ◌∷◌, ◌++◌, map, ap, ◌∙◌, refl}
+use Rattle.std.proofs.Common.{◌≡◌, ℕ, List, [], ◌∷◌, ◌++◌, refl}
 use Rattle.std.specs.Prelude.{false, cond}
-use Rattle.std.specs.List.{concat, list_any}
+use Rattle.std.specs.List.{list_any}
 use Rattle.std.proofs.lemmas.Bool.{or_parts}
 use Rattle.osgi_ops.specs.laws.Along.{along-last}
 use Rattle.osgi_ops.specs.Along.{along}
 use Rattle.osgi_session.specs.Lines.{is_of}
-use Rattle.osgi_session.specs.Rendering.{entries_text, entry_lines, entry_text, with_line_end}
-use Rattle.osgi_ops.specs.declared.op.Op.{Op}
-use Rattle.osgi_ops.specs.declared.op.Op.TheVariants.{Modify, Unregister, Unget}
-use Rattle.osgi_ops.specs.declared.reply.Reply.{Reply}
-use Rattle.osgi_ops.specs.declared.reply.Reply.TheVariants.{Service, Done, Best, Services, Object, Flag, Bundle, Resolved, Bundles, ServiceRows, Wires, Refused}
+use Rattle.osgi_session.specs.Rendering.{entries_text, entry_text}
 use Rattle.osgi_ops.specs.declared.entry.Entry.{Entry}
 
 pub entries_text-push : (number : ℕ) (history : List Entry) (e : Entry) →

@@ -1,6 +1,5 @@
 -- The lines of the wires and then those of the fragments, where there are some of either.
 use Rattle.std.proofs.Common.{◌≡◌, map, sym}
-use Rattle.std.specs.List.{concat}
 use Rattle.osgi_session.specs.Rendering.{fragment_row_text, lines_at, wire_lines, wire_row_text}
 use Rattle.osgi_console_text.proofs.Parts.{added_both, lines_of, wire_lines-fragment, wire_lines-wire}
 use Rattle.osgi_console_text.proofs.wires.add_wires.Goals as goal

@@ -1,6 +1,5 @@
 -- There is room for the entry and, behind it, for the ends of the hands and jobs that are open then.
-use Rattle.std.proofs.Common.{◌≡◌, ◌<◌, ◌≤◌, ◌+◌, ◌-◌, ◌++◌, ◌∷◌, [], Bool, true, false, ap, arith, length, sym, subst, ◌∙◌}
-use Rattle.osgi_core.specs.Machine.{IsOwnHandOrJobEnd}
+use Rattle.std.proofs.Common.{◌≡◌, ◌+◌, ◌-◌, ◌++◌, ◌∷◌, [], true, false, arith, sym, ◌∙◌}
 use Rattle.osgi_core.proofs.Hands.{ends_then, ends_few, kept_ends, own_ends, some_open}
 use Rattle.osgi_core.proofs.machine.answer.Goals as goal
 use Rattle.osgi_core.proofs.machine.answer.Goals.{then-ends, else-ends}

@@ -1,5 +1,5 @@
 -- What is computed of a text is the number that it writes.
-use Rattle.std.proofs.Common.{◌≡◌, ap, sym, ◌∙◌}
+use Rattle.std.proofs.Common.{◌≡◌, ap, ◌∙◌}
 use Rattle.std.specs.Option.{option_and_then}
 use Rattle.osgi_model.specs.laws.Longs.{read_is}
 use Rattle.osgi_model.specs.computed.LongReader.{long_of}

@@ -1,8 +1,6 @@
 -- The first dot parts the text.
-use Rattle.std.proofs.Common.{◌≡◌, ◌+◌, ℕ, ap, sym, ◌∙◌, take, drop, length, arith}
-use Rattle.std.specs.List.{position_or_len}
+use Rattle.std.proofs.Common.{◌+◌, ℕ, ap, sym, ◌∙◌, take, drop, length, arith}
 use Rattle.std.proofs.lemmas.List.{drop_all, take_all}
-use Rattle.osgi_filter.specs.computed.Spelled.{is_dot}
 use Rattle.osgi_filter.proofs.Dots.{place_none, place_some}
 use Rattle.osgi_filter.proofs.spelled.cut.Goals as goal
 

@@ -1,6 +1,5 @@
 -- The bundle's count is there, and is written.
 use Rattle.std.proofs.Common.{◌≡◌, OnSome, Option, Some, subst}
-use Rattle.osgi_base.specs.NumberMaps.{Puts}
 use Rattle.osgi_jobs.proofs.counts.recount.Goals as goal
 
 on-some : {X : Type 0} (o : Option X) (x : X) (P : Type 0) → o ≡ Some x → OnSome o P → P

@@ -1,5 +1,5 @@
 -- The one at the front is dropped, and the same are queued.
-use Rattle.std.proofs.Common.{◌≡◌, ◌<◌, ◌++◌, Some, arith, refl, sym, ap, ◌∙◌}
+use Rattle.std.proofs.Common.{◌++◌, Some, arith, refl, sym, ap, ◌∙◌}
 use Rattle.std.specs.Option.{option_to_list}
 use Rattle.osgi_jobs.proofs.Standings.{dropped-same}
 use Rattle.osgi_jobs.proofs.jobs.drop_front.Goals as goal

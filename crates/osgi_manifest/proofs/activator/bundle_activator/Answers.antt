@@ -1,5 +1,5 @@
 -- There is no activator, or the file of its class is a script, or is missing or none.
-use Rattle.std.proofs.Common.{ap, sym, ◌∙◌}
+use Rattle.std.proofs.Common.{ap}
 use Rattle.std.specs.Option.{option_copied}
 use Rattle.osgi_manifest.proofs.Single.{class_first, class_said, none_said}
 use Rattle.osgi_manifest.proofs.activator.bundle_activator.Goals as goal

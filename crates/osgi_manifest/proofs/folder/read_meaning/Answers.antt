@@ -1,7 +1,7 @@
 -- The only verdict of the folder, with its only script, is the only meaning; a fault leaves none.
 use Rattle.std.proofs.Common.{ap, sym}
 use Rattle.std.specs.Prelude.{Ok}
-use Rattle.osgi_manifest.proofs.Folders.{meaning_fine, meaning_holds, meaning_one, no_meaning}
+use Rattle.osgi_manifest.proofs.Folders.{meaning_fine, meaning_holds, meaning_one}
 use Rattle.osgi_manifest.proofs.folder.read_meaning.Goals as goal
 
 pub returns-in-Ok : goal.returns-in-Ok

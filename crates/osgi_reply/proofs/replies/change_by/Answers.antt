@@ -1,6 +1,6 @@
 -- What was decided, once the change is made.
 use Rattle.std.proofs.Common.{subst, sym}
-use Rattle.std.specs.Prelude.{All, map}
+use Rattle.std.specs.Prelude.{All}
 use Rattle.osgi_listeners.specs.Sights.{IsOfEarlier, sights_of}
 use Rattle.osgi_tables.proofs.Replying.{on_err, still_same}
 use Rattle.osgi_tables.specs.Replied.{IsReplied, StandsStill}

@@ -1,7 +1,6 @@
 -- None is queued; or there are too many brackets; else the oldest is taken.
-use Rattle.std.proofs.Common.{ap, sym, ◌∙◌}
+use Rattle.std.proofs.Common.{sym}
 use Rattle.std.proofs.lemmas.Bool.Decides.{not_from_Decides}
-use Rattle.std.specs.Option.{option_copied, option_map}
 use Rattle.osgi_jobs.specs.Queue.{queued_of}
 use Rattle.osgi_reply_jobs.proofs.Jobs.{decided_deep, decided_none, decided_taken}
 use Rattle.osgi_reply_jobs.proofs.queueing.take_job.Goals as goal

@@ -1,5 +1,5 @@
 -- The hand is ended, or the operation is not the end of the innermost bracket of its caller.
-use Rattle.std.proofs.Common.{◌≡◌, ap, refl, sym, subst, ◌∙◌}
+use Rattle.std.proofs.Common.{sym, ◌∙◌}
 use Rattle.osgi_reply_listening.proofs.Hands.{ended_hand, ended_none, ended_not}
 use Rattle.osgi_reply_listening.proofs.handing.end_hand.Goals as goal
 

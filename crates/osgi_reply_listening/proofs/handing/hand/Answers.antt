@@ -1,9 +1,7 @@
 -- Nothing can be handed; or there are too many brackets, or enough was handed; else the earliest event is handed.
-use Rattle.std.proofs.Common.{◌≡◌, ◌<◌, ap, arith, refl, sym, subst, ◌∙◌}
+use Rattle.std.proofs.Common.{ap, arith, sym, subst, ◌∙◌}
 use Rattle.std.proofs.lemmas.Bool.Decides.{not_from_Decides}
 use Rattle.std.specs.Option.{option_copied}
-use Rattle.std.specs.Prelude.{None, Some}
-use Rattle.osgi_listeners.specs.laws.Handing.{row-handed}
 use Rattle.osgi_ops.specs.declared.reply.Reply.{Reply}
 use Rattle.osgi_reply_listening.proofs.Hands.{by_tag, decided_deep, decided_handed, decided_nothing, decided_spent, no_row}
 use Rattle.osgi_tables.specs.Changes.{IsReplyAndChange}

@@ -1,5 +1,5 @@
 -- It is refused by what the listeners say, or added under the next id.
-use Rattle.std.proofs.Common.{ap, sym, subst, ◌∙◌}
+use Rattle.std.proofs.Common.{sym}
 use Rattle.osgi_reply_listening.proofs.Listeners.{add_refused, decided_added}
 use Rattle.osgi_reply_listening.proofs.listening.add_listener.Goals as goal
 

@@ -1,5 +1,4 @@
 -- Whether there was one is what the listeners say.
-use Rattle.std.proofs.Common.{sym, subst, ◌∙◌}
 use Rattle.osgi_reply_listening.proofs.Listeners.{decided_removed}
 use Rattle.osgi_reply_listening.proofs.listening.remove_listener.Goals as goal
 

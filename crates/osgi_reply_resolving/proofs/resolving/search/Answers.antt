@@ -2,7 +2,7 @@
 use Rattle.std.proofs.Common.{ap, refl}
 use Rattle.osgi_reply_resolving.proofs.Brought.{sound_of}
 use Rattle.osgi_tables.proofs.Replying.{decided_all}
-use Rattle.osgi_reply_resolving.proofs.Searching.{asked_unresolved, cause_there, found_ok, replied_spent, replied_unresolvable}
+use Rattle.osgi_reply_resolving.proofs.Searching.{asked_unresolved, found_ok, replied_spent, replied_unresolvable}
 use Rattle.osgi_reply_resolving.specs.computed.Searched.{IsSaid}
 use Rattle.osgi_tables.specs.declared.tables.Tables.{Tables}
 use Rattle.osgi_ops.specs.declared.op.Op.TheVariants as op

@@ -1,5 +1,5 @@
 -- What the pass knows after a turn that adds nothing.
-use Rattle.std.proofs.Common.{◌≡◌, ◌∙◌, ap, sym, refl, [], ◌∷◌}
+use Rattle.std.proofs.Common.{◌≡◌, ◌∙◌, ap, sym, refl, []}
 use Rattle.std.proofs.lemmas.List.{append-nil}
 use Rattle.osgi_hall.specs.declared.board.View.TheVariants.{Live}
 use Rattle.osgi_hall.proofs.Calling.{Grown, ends_as, legal_after, after, legal_on, may_leave, views_on}

@@ -1,5 +1,5 @@
 -- Those of the bundle are counted as cleaned, and those of them at the front are dropped.
-use Rattle.std.proofs.Common.{◌≡◌, ◌-◌, map, arith, sym, ap, ◌∙◌}
+use Rattle.std.proofs.Common.{◌-◌, map, arith, sym, ap, ◌∙◌}
 use Rattle.std.specs.Prelude.{◌==◌, not, filter}
 use Rattle.osgi_jobs.specs.Queue.{queued_of}
 use Rattle.osgi_jobs.specs.computed.Kept.{counted_in, queued_in}

@@ -1,5 +1,5 @@
 -- The job stands behind the others, and is counted.
-use Rattle.std.proofs.Common.{◌≡◌, ◌<◌, ◌^◌, ◌∷◌, ◌++◌, [], length, rules, arith, sym, ap, ◌∙◌}
+use Rattle.std.proofs.Common.{◌<◌, ◌^◌, ◌∷◌, ◌++◌, [], length, rules, arith, ap, ◌∙◌}
 use Rattle.osgi_jobs.specs.computed.Kept.{counted_in}
 use Rattle.osgi_jobs.proofs.Standings.{few-queued, few-stand, kept-grown, kept-same, shown-grown}
 use Rattle.osgi_jobs.proofs.jobs.Jobs.queue.Goals as goal

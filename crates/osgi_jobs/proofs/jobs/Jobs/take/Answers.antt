@@ -1,6 +1,5 @@
 -- The oldest is taken, and those behind it that were cleaned are dropped.
-use Rattle.std.proofs.Common.{◌≡◌, ◌-◌, ◌++◌, length, map, arith, sym, ap, ◌∙◌}
-use Rattle.std.specs.Option.{option_to_list}
+use Rattle.std.proofs.Common.{◌-◌, length, map, arith, sym, ap, ◌∙◌}
 use Rattle.osgi_jobs.specs.Queue.{queued_of}
 use Rattle.osgi_jobs.specs.computed.Kept.{counted_in}
 use Rattle.osgi_jobs.proofs.Standings.{front-cleaned, kept-after, taken-queued}
