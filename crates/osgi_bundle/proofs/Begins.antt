@@ -1,11 +1,11 @@
 -- What starts and stops come to, by the row of the bundle.
-use Rattle.std.proofs.Common.{◌≡◌, ◌≢◌, ◌⊎◌, inl, inr, ℕ, List, [], ◌∷◌, Result, Ok, Err, ap, sym, subst, ◌∙◌, refl}
-use Rattle.std.specs.Prelude.{◌==◌, Bool, true, false, cond, Option, None, Some, IsOkAnd, IsSome, IsSomeAnd}
+use Rattle.std.proofs.Common.{◌≡◌, ◌⊎◌, inl, inr, ℕ, List, [], ◌∷◌, Result, Ok, Err, ap, sym, ◌∙◌, refl}
+use Rattle.std.specs.Prelude.{◌==◌, Bool, true, false, cond, Option, None, Some, IsOkAnd, IsSomeAnd}
 use Rattle.std.proofs.lemmas.Bool.{eq-eqb, ne_eqb}
 use Rattle.osgi_base.specs.Verdict.{answers, Gives, Where}
 use Rattle.osgi_base.specs.declared.ids.BundleId.{BundleId}
 use Rattle.osgi_base.specs.declared.ids.Tag.{Tag}
-use Rattle.osgi_bundle.specs.Rows.{IsBegun, IsInChange, IsInNoChange, IsInState, IsStartable, IsStoppable, MayStart, row_at, rows_begun, start_refusals, StartBegins, started_state, stop_refusals, StopBegins, TableRows, verdict_of, with_begun, with_state}
+use Rattle.osgi_bundle.specs.Rows.{IsInChange, IsInState, IsStartable, IsStoppable, MayStart, row_at, rows_begun, start_refusals, StartBegins, started_state, stop_refusals, StopBegins, TableRows, verdict_of, with_begun, with_state}
 use Rattle.osgi_bundle.specs.Stands.{started_phase, StandsPut}
 use Rattle.osgi_bundle.specs.declared.kept.BundleKept.{BundleKept}
 use Rattle.osgi_bundle.specs.declared.life.Begun.{Begun}
@@ -75,22 +75,6 @@ in_state id rows state tag change = by (row_at id rows) change
     by None is = absurd is
     by (Some row) is = is.0
 
-begins_live : (o : Option BundleKept) (is : BundleKept → Type 0) → IsSomeAnd o is → ¬ (o ≡ None)
-begins_live None is there none = absurd there
-begins_live (Some row) is there none = cc none
-
--- a bundle in a state is live
-pub state_live : (id : BundleId) (rows : List BundleKept) (state : ℕ) → IsInState state id rows → ¬ (row_at id rows ≡ None)
-state_live id rows state in_it = begins_live (row_at id rows) (λ (row : BundleKept). row.state ≡ state) in_it
-
--- a bundle whose start or stop begins is live
-pub start_live : (id : BundleId) (rows : List BundleKept) (begun : Begun) → Gives (start_refusals id rows) (StartBegins id rows) (answers begun) → ¬ (row_at id rows ≡ None)
-start_live id rows begun given = begins_live (row_at id rows) _ (start_due (row_at id rows) begun given)
-
-pub stop_live : (id : BundleId) (rows : List BundleKept) (begun : Begun) → Gives (stop_refusals id rows) (StopBegins id rows) (answers begun) → ¬ (row_at id rows ≡ None)
-stop_live id rows begun (inl (refusal, called, same)) none = cc same
-stop_live id rows begun (inr (there, more)) none = there NoSuchBundle (refl, none)
-
 -- a begin that ran has changed the rows
 pub rows_run : (id : BundleId) (state : ℕ) (tag : Tag) (rows : List BundleKept) (begun : Begun) → ¬ (begun ≡ Already) → rows_begun id state tag rows begun ≡ with_begun id state tag rows
 rows_run id state tag rows (Run row) runs = refl
@@ -98,36 +82,12 @@ rows_run id state tag rows Already runs = absurd (runs refl)
 
 -- ---- what is possible begins
 
--- a row in which no line began a change is in none
-rests : (state : ℕ) (by : Option Tag) → (is_changing state ≡ true → IsSome by) → cond (is_changing state) by None ≡ None → is_changing state ≡ false
-rests state by begun none = go (is_changing state) begun none
-  where
-    go : (k : Bool) → (k ≡ true → IsSome by) → cond k by None ≡ None → k ≡ false
-    go true begun none = let bad : false ≡ true = subst IsSome none (begun refl) in absurd (cc bad)
-    go false begun none = refl
-
-pub may_start : (id : BundleId) (rows : List BundleKept) (row : BundleKept) → row_at id rows ≡ Some row → IsBegun row → row.fragment ≡ false → row.state ≢ INSTALLED → cond (is_changing row.state) row.by None ≡ None → row.state ≢ ACTIVE → IsStartable id rows
-may_start id rows row is begun whole resolved none down = subst (λ o. IsSomeAnd o MayStart) (sym is) (whole, resolved, rests row.state row.by begun none, down)
-
-pub settled_row : (id : BundleId) (rows : List BundleKept) (row : BundleKept) → row_at id rows ≡ Some row → IsBegun row → cond (is_changing row.state) row.by None ≡ None → IsInNoChange id rows
-settled_row id rows row is begun none = subst (λ o. IsSomeAnd o (λ (r : BundleKept). is_changing r.state ≡ false)) (sym is) (rests row.state row.by begun none)
-
-pub may_stop : (id : BundleId) (rows : List BundleKept) (row : BundleKept) → row_at id rows ≡ Some row → id ≢ system → row.state ≡ ACTIVE → IsStoppable id rows
-may_stop id rows row is other active = (other, subst (λ o. IsSomeAnd o (λ (r : BundleKept). r.state ≡ ACTIVE)) (sym is) active)
-
--- and then it is live, and not the system bundle
-pub startable_live : (id : BundleId) (rows : List BundleKept) → IsStartable id rows → ¬ (row_at id rows ≡ None)
-startable_live id rows startable = begins_live (row_at id rows) MayStart startable
-
 pub startable_apart : (id : BundleId) (table : TableRows) → IsStartable id table.rows → IsNoSystem id table
 startable_apart id table startable = no_system id table (by (row_at id table.rows) startable)
   where
     by : (o : Option BundleKept) → IsSomeAnd o MayStart → IsSomeAnd o (λ (row : BundleKept). ¬ (row.state ≡ ACTIVE))
     by None is = absurd is
     by (Some row) is = is.3
-
-pub stoppable_live : (id : BundleId) (rows : List BundleKept) → IsStoppable id rows → ¬ (row_at id rows ≡ None)
-stoppable_live id rows stoppable = begins_live (row_at id rows) (λ (row : BundleKept). row.state ≡ ACTIVE) stoppable.1
 
 pub stoppable_apart : (id : BundleId) (table : TableRows) → IsStoppable id table.rows → IsNoSystem id table
 stoppable_apart id table stoppable depot history world stands own = stoppable.0 (λ i. record { 0 = own i })
@@ -174,11 +134,6 @@ stop_possible id rows r given stoppable = by (row_at id rows) given stoppable.1
     by (Some row) answer is = stop_runs id row r stoppable.0 is answer
 
 -- ---- ends
-
--- a start that has ended has left the bundle in no change
-pub started_rests : (failed : Bool) → is_changing (started_state failed) ≡ false
-started_rests true = refl
-started_rests false = refl
 
 pub started_stands : (failed : Bool) (tag : Tag) (id : BundleId) (old new : TableRows) → IsNoSystem id old → new.rows ≡ with_state id (started_state failed) old.rows → new.issued ≡ old.issued → StandsPut (started_phase failed) tag id old new
 started_stands true tag id old new apart rows issued = stands_ended phases.idle RESOLVED tag id old new refl (λ t. refl) apart rows issued

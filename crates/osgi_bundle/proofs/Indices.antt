@@ -85,7 +85,3 @@ index_push cmp key_of old new rows row index adds = λ k.
     ∙ ap (λ a. option_or a (cond (test row) (Some row.bundle) None)) (index k)
     ∙ pushed_by (find test rows) row (test row)
     ∙ ap (option_map (λ (r : BundleKept). r.bundle)) (sym (find-append test rows (row ∷ [])))
-
--- and where nothing changed
-pub index_same : {K : Type 0} (cmp : K → K → Ordering) (key_of : BundleKept → K) (old new : BTreeMap K BundleId) (rows : List BundleKept) → IsIndexOf cmp key_of old rows → HoldsSame cmp old new → IsIndexOf cmp key_of new rows
-index_same cmp key_of old new rows index same = λ k. same k ∙ index k

@@ -13,7 +13,7 @@ use Rattle.std.proofs.lemmas.Option.{slice_get_within}
 use Rattle.std.proofs.lemmas.Slice.Eq.{bytes_eq-Decides}
 use Rattle.osgi_base.specs.computed.Texts.{text_cmp}
 use Rattle.osgi_bundle.specs.computed.Places.{AreFirstPlaces, depot_place}
-use Rattle.osgi_ops.specs.Depots.{is_at as is_at_location, row_number, stored_at}
+use Rattle.osgi_ops.specs.Depots.{is_at as is_at_location, row_number}
 use Rattle.osgi_ops.specs.declared.depot.DepotRow.{DepotRow}
 use Rattle.osgi_bundle.proofs.Finding.{none_passes}
 
@@ -21,19 +21,11 @@ some_of : {X Y : Type 0} (f : X → Y) (o : Option X) (y : Y) → option_map f o
 some_of f None y some = absurd (cc some)
 some_of f (Some x) y some = (x, refl, cc some)
 
-none_of : {X Y : Type 0} (f : X → Y) (o : Option X) → option_map f o ≡ None → o ≡ None
-none_of f None none = refl
-none_of f (Some x) none = absurd (cc none)
-
 -- the row at the place that a location has
 pub row_there : (location : List ℕ) (rows : List DepotRow) (n : ℕ) → depot_place location rows ≡ Some n → (row : DepotRow) × (find (is_at_location location) rows ≡ Some row) × (row_number rows location ≡ n) × (slice_get rows n ≡ Some row)
 row_there location rows n is =
     let found = some_of (λ (row : DepotRow). row_number rows location) (find (is_at_location location) rows) n is in
     (found.0, found.1, found.2, ap (slice_get rows) (sym found.2) ∙ sym (find_at (is_at_location location) rows) ∙ found.1)
-
--- no row where the location has no place
-pub nothing_there : (location : List ℕ) (rows : List DepotRow) → depot_place location rows ≡ None → stored_at rows location ≡ None
-nothing_there location rows is = ap (option_map (λ (row : DepotRow). row.stored)) (none_of (λ (row : DepotRow). row_number rows location) (find (is_at_location location) rows) is)
 
 -- ---- one more row
 

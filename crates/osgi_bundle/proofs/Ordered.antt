@@ -7,12 +7,12 @@ use Rattle.std.proofs.lemmas.List.Elements.{All-map, All-push, All-weaker}
 use Rattle.std.proofs.lemmas.List.Kept.{AllPairs-from_increasing}
 use Rattle.std.proofs.lemmas.List.Quantifiers.{all_pairs_push}
 use Rattle.osgi_base.specs.computed.Texts.{text_cmp}
-use Rattle.osgi_bundle.specs.computed.Kept.{AddsFirst, bundle_under, HoldsSame, IsKept, location_of, name_cmp, bundle_name, named}
+use Rattle.osgi_bundle.specs.computed.Kept.{AddsFirst, bundle_under, IsKept, location_of, name_cmp, bundle_name, named}
 use Rattle.osgi_bundle.specs.Rows.{AreApart, AreInOrder, bundle_number, IsBegun, TableRows}
 use Rattle.osgi_bundle.specs.declared.directory.Directory.{Directory}
 use Rattle.osgi_bundle.specs.declared.kept.BundleKept.{BundleKept}
 use Rattle.osgi_bundle.proofs.Finding.{none_named}
-use Rattle.osgi_bundle.proofs.Indices.{index_push, index_same}
+use Rattle.osgi_bundle.proofs.Indices.{index_push}
 
 first_stays : (P : BundleKept → Type 0) (rows more : List BundleKept) → IsSomeAnd (slice_get rows 0) P → IsSomeAnd (slice_get (rows ++ more) 0) P
 first_stays P [] more first = absurd first
@@ -50,17 +50,5 @@ kept_push old row before after kept next none begun locations names = record {
   index = record {
     locations = index_push text_cmp location_of before.locations after.locations old.rows row kept.index.locations locations;
     names = index_push name_cmp bundle_name before.names after.names old.rows row kept.index.names names;
-  };
-}
-
--- and when nothing changed
-pub kept_same : (table : TableRows) (before after : Directory) → IsKept table before → HoldsSame text_cmp before.locations after.locations → HoldsSame name_cmp before.names after.names → IsKept table after
-kept_same table before after kept locations names = record {
-  in_order = kept.in_order;
-  apart = kept.apart;
-  begun = kept.begun;
-  index = record {
-    locations = index_same text_cmp location_of before.locations after.locations table.rows kept.index.locations locations;
-    names = index_same name_cmp bundle_name before.names after.names table.rows kept.index.names names;
   };
 }

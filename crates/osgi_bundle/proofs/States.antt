@@ -12,8 +12,8 @@ use Rattle.std.proofs.lemmas.List.Elements.{All-map}
 use Rattle.osgi_base.specs.computed.Texts.{text_cmp}
 use Rattle.osgi_base.specs.declared.ids.BundleId.{BundleId}
 use Rattle.osgi_base.specs.declared.ids.Tag.{Tag}
-use Rattle.osgi_bundle.specs.Rows.{AreApart, bundle_number, has_bundle_id, IsBegun, IsSettable, row_at, TableRows}
-use Rattle.osgi_ops.specs.States.{is_changing, is_up}
+use Rattle.osgi_bundle.specs.Rows.{AreApart, bundle_number, has_bundle_id, IsBegun, row_at, TableRows}
+use Rattle.osgi_ops.specs.States.{is_changing}
 use Rattle.osgi_bundle.specs.computed.Kept.{bundle_under, IsKept, location_of, name_cmp, named, bundle_name}
 use Rattle.osgi_bundle.specs.declared.directory.BundleName.{BundleName}
 use Rattle.osgi_bundle.specs.declared.directory.Directory.{Directory}
@@ -163,7 +163,3 @@ module _ (id : BundleId) (change : BundleKept → BundleKept) where
           let same : shown ≡ row = is ∙ sym (unwrap_or-slice_get rows i d) ∙ ap (λ o. unwrap_or o d) here in
           let number : bundle_number row ≡ id.0 = eqb-true (bundle_number row) id.0 (some_passes (has_bundle_id id) rows row found).1 in
           ap (λ (r : BundleKept). set rows i (change r)) same ∙ set_at rows i row rise here number
-
--- a bundle that is settable is live
-pub settable_live : (id : BundleId) (rows : List BundleKept) → IsSettable id rows → ¬ (row_at id rows ≡ None)
-settable_live id rows settable none = subst (λ o. IsSomeAnd o (λ (row : BundleKept). is_up row.state ≡ false)) none settable

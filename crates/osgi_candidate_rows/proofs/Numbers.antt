@@ -80,12 +80,6 @@ value-at (c ∷ choices) (suc row) place h below =
 
 -- ---- the candidate of a number
 
-at-get : (xs : List CapRef) (n : ℕ) (c : CapRef) → In c (item_at xs n) → get_or xs n no_candidate ≡ c
-at-get [] n c i = elim i [ ]
-at-get (x ∷ xs) zero c (inl e) = sym e
-at-get (x ∷ xs) zero c (inr i) = elim i [ ]
-at-get (x ∷ xs) (suc n) c i = at-get xs n c i
-
 at-append : (xs ys : List CapRef) (n : ℕ) (c : CapRef) → In c (item_at xs n) → get_or (xs ++ ys) n no_candidate ≡ c
 at-append [] ys n c i = elim i [ ]
 at-append (x ∷ xs) ys zero c (inl e) = sym e

@@ -1,5 +1,5 @@
 -- What known revisions and wirings at the end of others change.
-use Rattle.std.proofs.Common.{◌≡◌, ◌==◌, ◌↔◌, ◌⊎◌, inl, inr, ℕ, ◌-◌, ◌<◌, length, List, [], ◌∷◌, ◌++◌, take, drop, refl, sym, ◌∙◌, ap, subst, append_assoc, length-drop, arith}
+use Rattle.std.proofs.Common.{◌≡◌, ◌==◌, ◌↔◌, ◌⊎◌, inl, inr, ℕ, ◌-◌, ◌<◌, length, List, [], ◌∷◌, ◌++◌, take, drop, refl, sym, ◌∙◌, ap, subst, length-drop, arith}
 use Rattle.std.specs.Prelude.{false, IsSome, IsTrue, Option, None, Some, slice_get, option_and_then}
 use Rattle.std.specs.BTreeMap.{get}
 use Rattle.std.specs.BTreeSet.{BTreeSet, contains}
@@ -248,27 +248,6 @@ follows_covered index K W owners covers = record {
 -- the same of a consistent world
 pub follows_consistent : (index : OfferIndex) (K : List Known) (W : List Wiring) → Consistent K W → Covers index K W → CoversFirst index K W
 follows_consistent index K W consistent covers = follows_covered index K W (owners_known K W consistent) covers
-
--- an index that follows a world follows it as it grows
-pub follows_more : (index : OfferIndex) (K D : List Known) (W V : List Wiring) → CoversFirst index K W → CoversFirst index (K ++ D) (W ++ V)
-follows_more index K D W V f = record {
-  known = f.known;
-  later_known = f.later_known ++ D;
-  wirings = f.wirings;
-  later_wirings = f.later_wirings ++ V;
-  known_are = ap (λ l. l ++ D) f.known_are ∙ append_assoc f.known f.later_known D;
-  wirings_are = ap (λ l. l ++ V) f.wirings_are ∙ append_assoc f.wirings f.later_wirings V;
-  owners = f.owners;
-  covers = f.covers;
-}
-
--- as more revisions become known
-pub follows_known : (index : OfferIndex) (K D : List Known) (W : List Wiring) → CoversFirst index K W → CoversFirst index (K ++ D) W
-follows_known index K D W f = subst (λ (V : List Wiring). CoversFirst index (K ++ D) V) (append-nil W) (follows_more index K D W [] f)
-
--- as more wirings come into force
-pub follows_wirings : (index : OfferIndex) (K : List Known) (W V : List Wiring) → CoversFirst index K W → CoversFirst index K (W ++ V)
-follows_wirings index K W V f = subst (λ (L : List Known). CoversFirst index L (W ++ V)) (append-nil K) (follows_more index K [] W V f)
 
 -- an index of nothing follows each world
 pub follows_none : (index : OfferIndex) → index.known ≡ 0 → index.wirings ≡ 0 → HasNone index.names → ((r : RevisionId) → get nat_cmp index.held.wirings r.0 ≡ None) → index.in_use.keys ≡ [] → (K : List Known) (W : List Wiring) → CoversFirst index K W

@@ -183,12 +183,6 @@ candidate_is w q n c is plain =
       λ x. (satisfied.1 x.satisfies, ((x.current, (x.no_fragment, x.not_owner)), x.stands)),
     )
 
-pub all_three : (a b c : Bool) (A B C : Type 0) → IsTrue a ↔ A → IsTrue b ↔ B → IsTrue c ↔ C → IsTrue (a && (b && c)) ↔ (A × (B × C))
-all_three a b c A B C x y z = (
-  λ t. let p = and-cases a (b && c) t in let q = and-cases b c p.1 in (x.0 p.0, (y.0 q.0, z.0 q.1)),
-  λ p. and-both a (b && c) (x.1 p.0) (and-both b c (y.1 p.1.0) (z.1 p.1.1)),
-)
-
 -- ---- what a test that fails says
 
 pub not_by : (b : Bool) (A : Type 0) → b ≡ false → IsTrue b ↔ A → ¬ A

@@ -29,13 +29,6 @@ use Rattle.osgi_clause.proofs.Walks.{fine_more, fine_none}
 use Rattle.osgi_version.specs.RangeValues.{range_parts}
 
 module _ {A : Type 0} (Says : Clause → A → Type 0) where
-  pub lone_none : IsOnly (IsLone Says []) None
-  lone_none = record { holds = refl; only = only }
-    where
-      only : (other : Option A) → IsLone Says [] other → other ≡ None
-      only None is = refl
-      only (Some made) (clause, e, says) = absurd (cc e)
-
   pub lone_some : (clause : Clause) (made : A) → IsOnly (Says clause) made → IsOnly (IsLone Says (clause ∷ [])) (Some made)
   lone_some clause made is = record { holds = (clause, refl, is.holds); only = only }
     where
@@ -44,9 +37,6 @@ module _ {A : Type 0} (Says : Clause → A → Type 0) where
       only (Some other) (one, e, says) = ap Some (is.only other (subst (λ c. Says c other) (sym (heads clause one [] [] e)) says))
 
   module _ (faults : List Clause → Clause → List (ManifestKind → Type 0)) where
-    pub walked_none : (clauses : List ClauseAt) → clauses ≡ [] → Walked faults (IsLone Says) clauses (Ok None)
-    walked_none clauses e = subst (λ l. Walked faults (IsLone Says) l (Ok None)) (sym e) (fine_none faults, lone_none)
-
     pub walked_fault : (clauses : List ClauseAt) (first : ClauseAt) (rest : List ClauseAt) (fault : ClauseFault) → clauses ≡ first ∷ rest →
         IsTheFirst (faults [] first.clause) fault.kind → fault.at ≡ first.at → Walked faults (IsLone Says) clauses (Err fault)
     walked_fault clauses first rest fault e is at = record { before = []; clause = first; rest = rest; is = e; fine = fine_none faults; first = is; at = at }
@@ -124,12 +114,6 @@ module _ (clause : Clause) where
 
   abbrev after_clauses : List (ManifestKind → Type 0)
   after_clauses = Where fault.BadRange Unranged ∷ after_ranges
-
-  pub repeated_host : Repeats clause → IsTheFirst (host_faults [] clause) fault.BadClause
-  repeated_host twice = first_only fault.BadClause NoHost after_clauses (λ (fine : Unit {0}). ⊤) (inr (inl twice))
-
-  pub several_hosts : ¬ ((host : List ℕ) × (clause.paths ≡ host ∷ [])) → IsTheFirst (host_faults [] clause) fault.BadClause
-  several_hosts none = first_only fault.BadClause NoHost after_clauses (λ (fine : Unit {0}). ⊤) (inr (inr none))
 
   module _ (once : ¬ Repeats clause) (host : List ℕ) (is : clause.paths ≡ host ∷ []) where
     one_host : ¬ NoHost

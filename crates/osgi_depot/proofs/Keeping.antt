@@ -1,8 +1,8 @@
 -- What is kept of what was found at a location, with the script.
-use Rattle.std.proofs.Common.{◌≡◌, ◌≢◌, ℕ, List, sym, subst, ◌∙◌}
+use Rattle.std.proofs.Common.{ℕ, List, sym, subst}
 use Rattle.std.specs.Prelude.{Option, Result, Ok, Err, IfOk}
 use Rattle.osgi_depot.specs.Depots.{IsKeptAt}
-use Rattle.osgi_depot.specs.computed.Keeping.{IsKept, IsMeant, IsScriptKept}
+use Rattle.osgi_depot.specs.computed.Keeping.{IsKept, IsScriptKept}
 use Rattle.osgi_depot.specs.declared.storing.Kept.{Kept}
 use Rattle.osgi_ops.specs.declared.depot.Stored.{Stored}
 use Rattle.osgi_ops.specs.declared.depot.Stored.TheVariants as stored
@@ -10,13 +10,6 @@ use Rattle.osgi_outside.specs.Shelves.{IsAsTold, KeepsLimits, RoseWhereFailed, S
 use Rattle.osgi_outside.specs.declared.shelf.Found.{Found}
 use Rattle.osgi_outside.specs.declared.shelf.Found.TheVariants as found
 use Rattle.osgi_session.specs.declared.script.Script.{Script}
-
--- what was found is not skipped
-pub found_read : (answer : Found) (before after : ℕ) (kept : Stored) → IsKept answer before after kept → kept ≢ stored.Skipped
-found_read (found.Folder folder) before after kept is skipped = subst (IsMeant folder) skipped is
-found_read found.NoFolder before after kept is skipped = let bad : stored.NoFolder ≡ stored.Skipped = sym is ∙ skipped in cc bad
-found_read (found.TooLarge bytes files) before after kept is skipped = let bad : stored.TooLarge bytes files ≡ stored.Skipped = sym is ∙ skipped in cc bad
-found_read found.Failed before after kept is skipped = let bad : stored.Failed before after ≡ stored.Skipped = sym is ∙ skipped in cc bad
 
 module _ (told : Option (List ShelfRow)) (location : List ℕ) (before after : ℕ) (script : Script) where
   -- what is kept of a folder with a revision has that folder's script, and all else one without sections

@@ -35,14 +35,6 @@ failures_push rows location kept =
 
 -- ---- rows
 
-pub no_rows : (limit from to : ℕ) → from ≤ to → AreRowsOf limit [] from to []
-no_rows limit from to less = record {
-  locations_are = refl;
-  read = All-same (λ (row : DepotRow). ¬ IsSkipped row) (take limit []) [] (take_all limit [] (omega arith)) (All-nil (λ (row : DepotRow). ¬ IsSkipped row));
-  skipped = All-same IsSkipped (drop limit []) [] (drop_all limit [] (omega arith)) (All-nil IsSkipped);
-  failed = less;
-}
-
 module _ (limit : ℕ) (locations : List (List ℕ)) (location : List ℕ) (from mid to : ℕ) (rows : List DepotRow) (kept : Stored) (are : AreRowsOf limit locations from mid rows) (at : IsStoredAt limit (length rows) mid to kept) where
   abbrev IsRead : DepotRow → Type 0
   IsRead row = ¬ IsSkipped row

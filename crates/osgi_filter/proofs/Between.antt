@@ -112,9 +112,6 @@ module _ (pieces : List (List ℕ)) (i : ℕ) (piece text rest : List ℕ) (insi
         λ h. kept.1 (subst (λ (x : List (List ℕ)). Between x rest) (sym left) (step.1 (subst (λ (x : List ℕ). Between (drop (i + 1) pieces) x) e h))),
       )
 
-  pub room : (at : ℕ) → FindsNeedle rest piece 0 (Some at) → at + length piece ≤ length rest
-  room at found = found.1.fits
-
 -- ---- first, others and last
 
 pub only : (pieces others : List (List ℕ)) (last text : List ℕ) (r : Bool) → pieces ≡ others ++ last ∷ [] → length others ≡ 0 → r ≡ pointwise nat_eq text last → IsTrue r ↔ Stand pieces text

@@ -155,9 +155,6 @@ quoted_more b rest end false false is_slash is_quote says =
     within_plain end b rest (eqb-false b 34 is_quote) (eqb-false b 92 is_slash)
     (rw (cond-false (b == 92) Escaped _ is_slash, cond-false (b == 34) Bare Quoted is_quote) at says)
 
-no_separator : (b : ℕ) → (b == 44) ≡ false → b ≢ 44
-no_separator b e = eqb-false b 44 e
-
 says_more : (place : QuoteState) (b : ℕ) (rest : List ℕ) (end : QuoteState) → (is_bare place ≡ true → b ≢ 44) → Says (state_after place b) rest end → Says place (b ∷ rest) end
 unfolding Says
 says_more Bare b rest end no_comma says = bare_more b rest end (b == 34) refl (no_comma refl) says

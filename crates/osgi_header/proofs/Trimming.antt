@@ -1,5 +1,5 @@
 -- What is left of a text without the spaces and tabs round it.
-use Rattle.std.proofs.Common.{◌≡◌, ℕ, List, [], ◌∷◌, ◌++◌, length, ap, sym, ◌∙◌, refl, arith, append-nil}
+use Rattle.std.proofs.Common.{◌≡◌, ℕ, List, [], ◌∷◌, ◌++◌, ap, sym, ◌∙◌, refl, arith, append-nil}
 use Rattle.std.specs.Prelude.{Bool, true, false, reverse}
 use Rattle.std.specs.List.{AllPass}
 use Rattle.std.proofs.lemmas.Bool.{cond-false, cond-true}
@@ -7,10 +7,6 @@ use Rattle.std.proofs.lemmas.List.{reverse-append, reverse-reverse}
 use Rattle.std.proofs.lemmas.List.Elements.{All-append, All-cons, All-head, All-tail}
 use Rattle.osgi_header.specs.computed.ClauseReader.{after_blanks, before_blanks, trimmed}
 use Rattle.osgi_header.specs.Spaces.{is_space_or_tab, IsTrimmed}
-
-pub no_items : (xs : List ℕ) → length xs ≡ 0 → xs ≡ []
-no_items [] e = refl
-no_items (x ∷ xs) e = absurd (omega (arith, e))
 
 pub no_bytes : (p : ℕ → Bool) → AllPass p []
 no_bytes p = λ k d below. absurd (omega arith)
@@ -110,13 +106,3 @@ begun_by text (b ∷ rest) is = ap before_blanks (after_blanks-other b (rest ++ 
 pub trimmed-is : (text inner : List ℕ) → IsTrimmed text inner → trimmed text ≡ inner
 trimmed-is text inner is =
     ap trimmed is.is ∙ ap before_blanks (after_blanks-front is.before (inner ++ is.remainder) is.blank_before) ∙ begun_by text inner is
-
--- ---- the loop that drops blanks at the end
-
-pub before_blanks-blank : (prefix : List ℕ) (b : ℕ) → is_space_or_tab b ≡ true → before_blanks (prefix ++ b ∷ []) ≡ before_blanks prefix
-before_blanks-blank prefix b blank = ap (λ l. reverse (after_blanks l)) (reverse-snoc prefix b) ∙ ap reverse (cond-true (is_space_or_tab b) _ _ blank)
-
-pub before_blanks-other : (prefix : List ℕ) (b : ℕ) → is_space_or_tab b ≡ false → before_blanks (prefix ++ b ∷ []) ≡ prefix ++ b ∷ []
-before_blanks-other prefix b other =
-    ap (λ l. reverse (after_blanks l)) (reverse-snoc prefix b) ∙ ap reverse (after_blanks-other b (reverse prefix) other)
-    ∙ ap reverse (sym (reverse-snoc prefix b)) ∙ reverse-reverse (prefix ++ b ∷ [])

@@ -5,7 +5,7 @@ use Rattle.std.specs.Bool.{then_some}
 use Rattle.std.specs.List.{list_any}
 use Rattle.std.specs.Option.{option_eq, option_map_or, option_to_list}
 use Rattle.std.proofs.lemmas.Bool.{cond-false, cond-true, eqb-false, eqb-true, ne_eqb}
-use Rattle.std.proofs.lemmas.List.{at_drop_more, map-append, take_all}
+use Rattle.std.proofs.lemmas.List.{at_drop_more, take_all}
 use Rattle.std.proofs.lemmas.List.Elements.{filter-append}
 use Rattle.osgi_base.specs.declared.ids.BundleId.{BundleId}
 use Rattle.osgi_base.specs.declared.ids.ServiceId.{ServiceId}
@@ -57,15 +57,6 @@ live-cons earlier e since =
 -- the slice from a place on, as the code takes it
 pub rest_of : {A : Type 0} (list : List A) (i : ℕ) → take (length list - i) (drop i list) ≡ drop i list
 rest_of list i = take_all (length list - i) (drop i list) (omega (arith, length-drop i list))
-
--- the live services from the entry at i on
-pub ids-left : (earlier : ℕ) (entries : List Entry) (i : ℕ) (e : Entry) → i < length entries → e ≡ get_or entries i e →
-    ids_of (live_after earlier (drop i entries)) ≡ ids_of (newly earlier e (drop (i + 1) entries)) ++ ids_of (live_after (earlier + one_if (is_registration e.op e.reply)) (drop (i + 1) entries))
-ids-left earlier entries i e within is =
-    at_drop_more (λ l. ids_of (live_after earlier l)) entries i e within
-    ∙ ap (λ (x : Entry). ids_of (live_after earlier (x ∷ drop (i + 1) entries))) (sym is)
-    ∙ ap ids_of (live-cons earlier e (drop (i + 1) entries))
-    ∙ map-append (λ (r : Registered). r.service) (newly earlier e (drop (i + 1) entries)) (live_after (earlier + one_if (is_registration e.op e.reply)) (drop (i + 1) entries))
 
 -- ---- uses
 

@@ -1,7 +1,6 @@
 -- The facts of legal histories that last, at the moment at which an operation is asked for: what the operations' proofs cite.
-use Rattle.std.proofs.Common.{◌≡◌, ◌≤◌, true, false, sym, ap, ◌∙◌, subst}
-use Rattle.std.specs.Prelude.{◌==◌, map, All}
-use mathlib.Core.List.{IsPrefix}
+use Rattle.std.proofs.Common.{◌≡◌, true, false}
+use Rattle.std.specs.Prelude.{◌==◌, All}
 use Rattle.osgi_base.specs.declared.ids.BundleId.{BundleId}
 use Rattle.osgi_base.specs.declared.ids.ListenerId.{ListenerId}
 use Rattle.osgi_ops.specs.Brackets.{Bracket, brackets}
@@ -9,13 +8,12 @@ use Rattle.osgi_ops.specs.Bundles.{bundles, is_up}
 use Rattle.osgi_ops.specs.Conditions.{state_change, state_of}
 use Rattle.osgi_ops.specs.Jobs.{jobs, Queued}
 use Rattle.osgi_legal.specs.Legal.{IsTold}
-use Rattle.osgi_ops.specs.Listening.{Added, event_at, handed, handed_in, handings, is_in_turn, listeners, spots_of}
-use Rattle.osgi_ops.specs.Moments.{Moment, sights_in}
+use Rattle.osgi_ops.specs.Listening.{Added, is_in_turn, listeners}
+use Rattle.osgi_ops.specs.Moments.{Moment}
 use Rattle.osgi_ops.specs.Services.{live_services, Registered}
 use Rattle.osgi_ops.specs.declared.refusal.Refusal.{Refusal}
 use Rattle.osgi_world.specs.Lists.{In}
-use Rattle.osgi_legal.proofs.Handings.{handings-within}
-use Rattle.osgi_legal.proofs.Legal.{at-told, due-spots, handed-flat, handed-is-prefix, spots-flat}
+use Rattle.osgi_legal.proofs.Legal.{at-told}
 use Rattle.osgi_legal.proofs.Listening.{is_turn}
 use Rattle.osgi_legal.proofs.Names.{AreNamedApart, names-apart}
 use Rattle.osgi_legal.proofs.Owners.{jobs-up, listeners-up, services-up}
@@ -44,19 +42,6 @@ named-apart-at now t = at-told (λ m. AreNamedApart (bundles m.setting.depot m.b
 -- a state change of a bundle that is up, and not bundle 0, is refused
 pub up-refused-at : (now : Moment) → IsTold now → (b : BundleId) → (b.0 == 0) ≡ false → is_up (state_of now b) ≡ true → (f : Refusal) × state_change is_up now b f
 up-refused-at now t b = at-told (λ m. (b.0 == 0) ≡ false → is_up (state_of m b) ≡ true → (f : Refusal) × state_change is_up m b f) (λ setting told tag legal. up-refused setting told legal tag b) now t
-
--- what a listener was handed is a beginning of what it saw
-pub handed-at : (now : Moment) → IsTold now → (listener : ListenerId) → IsPrefix (handed_in listener now.before) (map event_at (spots_of listener now.sights))
-handed-at now t listener =
-    at-told (λ m. IsPrefix (handed_in listener m.before) (map event_at (spots_of listener m.sights)))
-    (λ setting told tag legal.
-    subst (λ l. IsPrefix l (map event_at (spots_of listener (sights_in told)))) (sym (handed-flat listener told))
-    (subst (IsPrefix (handed listener told)) (due-spots listener told ∙ ap (map event_at) (sym (spots-flat listener told))) (handed-is-prefix setting told legal listener)))
-    now t
-
--- no more events are handed than may be
-pub handings-within-at : (now : Moment) → IsTold now → handings now.before ≤ now.setting.bounds.handings
-handings-within-at now t = at-told (λ m. handings m.before ≤ m.setting.bounds.handings) (λ setting told tag legal. handings-within setting told legal) now t
 
 -- a listener is in a turn exactly with one open bracket of a hand of it
 pub turns-at : (now : Moment) → IsTold now → (listener : ListenerId) → AreTurns listener (is_in_turn listener now.before) (turns_of listener (brackets now.before))

@@ -10,7 +10,7 @@ use mathlib.Core.List.{IsPrefix}
 use Rattle.osgi_base.specs.declared.ids.ListenerId.{ListenerId}
 use Rattle.osgi_base.specs.declared.ids.Tag.{Tag}
 use Rattle.osgi_ops.specs.Along.{along}
-use Rattle.osgi_legal.specs.Legal.{AreAllowed, entry_of, IsAllowed, IsAllowedNow, IsReplayed, IsStep, IsTold, Legal}
+use Rattle.osgi_legal.specs.Legal.{AreAllowed, entry_of, IsAllowed, IsAllowedNow, IsStep, IsTold, Legal}
 use Rattle.osgi_ops.specs.Worlds.{Leaves}
 use Rattle.osgi_ops.specs.Listening.{due, event_at, handed, handed_by, handed_in, hands, IsNext, is_seen_by, is_sight_of, seen, Spot, spot_of, spots, spots_of, spotted}
 use Rattle.osgi_ops.specs.Conditions.{IsDeep}
@@ -66,15 +66,9 @@ Told-push now op reply world sights told a =
           (subst (λ m. IsAllowedNow m op reply world sights) (sym (moment-is now told)) a, tt);
     }
 
-pub Told-first : (setting : Setting) (tag : Tag) → IsTold (moment setting [] tag)
-Told-first setting tag = record { told = []; tells = refl; ends = refl; seen = refl; allowed = tt }
-
 -- what a history with an allowed entry at its end replays to
 pub Told-of : (setting : Setting) (told : List Told) (tag : Tag) → AreAllowed setting told → IsTold (moment setting told tag)
 Told-of setting told tag allowed = record { told = told; tells = refl; ends = refl; seen = refl; allowed = allowed }
-
-pub Replayed-of : (now : Moment) → IsTold now → IsReplayed now.setting now.before now.world
-Replayed-of now t = record { told = t.told; tells = t.tells; ends = t.ends; allowed = t.allowed }
 
 -- after one call, whether or not there was room for its entry, what it left is again a moment of a legal history
 pub Step-told : (now : Moment) (after : List Entry) (world : World) (op : Op) (reply : Reply) → IsTold now → IsStep now after world op reply →
@@ -252,12 +246,3 @@ made-handed {setting} front rest m listener =
 -- what holds at the moment behind each legal telling holds at each moment of a legal history
 pub at-told : (Holds : Moment → Type 0) → ((setting : Setting) (told : List Told) (tag : Tag) → AreAllowed setting told → Holds (moment setting told tag)) → (now : Moment) → IsTold now → Holds now
 at-told Holds each now t = subst Holds (moment-is now t) (each now.setting t.told now.tag t.allowed)
-
--- so at each such moment what a listener was handed is a beginning of what it saw
-pub handed-at : (now : Moment) → IsTold now → (listener : ListenerId) → IsPrefix (handed_in listener now.before) (map event_at (spots_of listener now.sights))
-handed-at now t listener =
-    at-told (λ m. IsPrefix (handed_in listener m.before) (map event_at (spots_of listener m.sights)))
-    (λ setting told tag legal.
-    subst (λ l. IsPrefix l (map event_at (spots_of listener (sights_in told)))) (sym (handed-flat listener told))
-    (subst (IsPrefix (handed listener told)) (due-spots listener told ∙ ap (map event_at) (sym (spots-flat listener told))) (handed-is-prefix setting told legal listener)))
-    now t

@@ -2,7 +2,6 @@
 pub mod Accepted
 pub mod Askers
 pub mod Busy
-pub mod Cleanings
 pub mod Facts
 pub mod Handing
 pub mod Handings
@@ -19,7 +18,6 @@ pub mod Phases
 pub mod Quiet
 pub mod Sights
 pub mod SystemIdle
-pub mod SystemSources
 pub mod Targets
 pub mod Tidy
 pub mod Turns

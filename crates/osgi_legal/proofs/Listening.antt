@@ -1,5 +1,5 @@
 -- Listeners that are live stay so until they are removed for good, and a turn lasts until its hand is ended.
-use Rattle.std.proofs.Common.{◌≡◌, ◌⊎◌, inl, inr, ◌≤◌, ◌+◌, ℕ, List, [], ◌∷◌, ◌++◌, length, append_assoc, append-nil, Bool, true, false, refl, sym, ap, ◌∙◌, subst, arith}
+use Rattle.std.proofs.Common.{◌≡◌, ◌⊎◌, inl, inr, ◌≤◌, ◌+◌, ℕ, List, [], ◌∷◌, ◌++◌, append_assoc, append-nil, Bool, true, false, refl, sym, ap, ◌∙◌, subst, arith}
 use Rattle.std.specs.Prelude.{◌==◌, ◌||◌, not, cond, filter, find, Option, None, Some}
 use Rattle.std.specs.List.{list_any}
 use Rattle.std.proofs.lemmas.Bool.{eqb-true, ne_eqb, or_left, or_right, true_from_ne_false, and_parts}
@@ -120,23 +120,6 @@ no_hearing = record { count = 0; live = [] }
 
 pub counted : (history : List Entry) → IsCounted (hearing history)
 counted history = carry-holds by_entry IsCounted (λ s e c. counted-with s (heard_by e.op e.reply) c) no_hearing history (λ listener a e. absurd (cc e))
-
--- each entry adds one listener at most
-count-step : (s : Hearing) (change : Option HearingChange) → (with_heard change s).count ≤ s.count + 1
-count-step s None = omega arith
-count-step s (Some (adds owner name kind given)) = omega arith
-count-step s (Some (lets_go by removed)) = omega arith
-count-step s (Some (clears bundle)) = omega arith
-
-count-from : (s : Hearing) (history : List Entry) → (carry by_entry s history).count ≤ s.count + length history
-count-from s [] = omega arith
-count-from s (e ∷ rest) =
-    let one : (by_entry s e).count ≤ s.count + 1 = count-step s (heard_by e.op e.reply) in
-    let more : (carry by_entry (by_entry s e) rest).count ≤ (by_entry s e).count + length rest = count-from (by_entry s e) rest in
-    omega (arith, one, more)
-
-pub count-within : (history : List Entry) → (hearing history).count ≤ length history
-count-within history = let from = count-from no_hearing history in omega (arith, from)
 
 -- a listener that is live at a beginning and in the end is live between them
 pub live-between : (listener : ListenerId) (u p q : List Entry) (a b : Added) → listener_at listener u ≡ Some a → listener_at listener ((u ++ p) ++ q) ≡ Some b →

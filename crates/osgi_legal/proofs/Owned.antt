@@ -22,10 +22,6 @@ use Rattle.osgi_ops.specs.declared.reply.Reply.TheVariants.{Refused, Done}
 abbrev pub of : ℕ → List Bracket → List Bracket
 of caller opened = filter (λ (b : Bracket). b.tag.caller == caller) opened
 
-known : (b : Bool) → (b ≡ true) ⊎ (b ≡ false)
-known true = inl refl
-known false = inr refl
-
 skip : {X : Type 0} (p : X → Bool) (x : X) (xs : List X) → p x ≡ false → filter p (x ∷ xs) ≡ filter p xs
 skip p x xs e = ap (λ k. cond k (x ∷ filter p xs) (filter p xs)) e
 

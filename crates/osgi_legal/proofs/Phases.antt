@@ -102,9 +102,6 @@ quiet-cause b given cause e f = let same : given ≡ cause = cc e in subst (λ c
 never : (b : BundleId) (cause : Cause) → None ≡ Some cause → is_for b cause ≡ false
 never b cause e = absurd (cc e)
 
-put : Bool → Phase → Option Phase
-put k p = cond k (Some p) None
-
 start-turn : (b n begun : BundleId) (transient : Bool) (row : ℕ) (k : Bool) → (n.0 == b.0) ≡ k → Turn b (op.BeginStart n transient) (answer.Begun begun row)
 start-turn b n begun transient row true e =
     let q = same-id n b e in
@@ -217,10 +214,6 @@ stop-by m target transient n row (inr (n1, inr (n2, inr (n3, inr (n4, inr (n5, a
 pub stop-row : (m : Moment) (target : Target) (transient : Bool) (n : BundleId) (row : ℕ) → IsReply m (op.BeginStop target transient) (answer.Begun n row) →
     (is_active (state_of m n) ≡ true) × (n ≡ system → ⊥)
 stop-row m target transient n row r = stop-by m target transient n row (row-of m (op.BeginStop target transient) (answer.Begun n row) r refl)
-
-resting-still : (r : Bool) → is_active (bundles.resting r) ≡ true → ⊥
-resting-still true e = cc e
-resting-still false e = cc e
 
 stop-free : (m : Moment) (target : Target) (transient : Bool) (n : BundleId) (row : ℕ) → IsReply m (op.BeginStop target transient) (answer.Begun n row) → IsFit n m.before → brackets_for n (brackets m.before) ≡ []
 stop-free m target transient n row r fit = go (stop-row m target transient n row r) (n.0 == 0) (is_live n m.before) refl refl (phase n m.before) refl fit

@@ -173,9 +173,6 @@ bundles-quiet depot h e q = record {
     row : (i : Installed) → row_from depot (installs.later e i) ≡ row_from depot i
     row i = installs.row-kept depot i e (q.updated i.bundle)
 
-abbrev pub begin_of : Tag → Option bundles.Phase → Option Tag
-begin_of tag u = elim u [ Some bundles.starting ↦ Some tag | Some bundles.stopping ↦ Some tag | _ ↦ None ]
-
 pub phases-quiet : (h : List Entry) (e : Entry) → QuietPhases e.op e.reply → SamePhases (h ++ e ∷ []) h
 phases-quiet h e q = record { phase = λ b. installs.phase-kept b h e (q b); last_begin = λ b. installs.last_begin-kept b h e (q b) }
 

@@ -1,12 +1,11 @@
 -- What is seen of an entry determines the list of its sights, so a history with its worlds is told in one way. Where nothing happens, or no
 -- listener is live, nothing is seen.
-use Rattle.std.proofs.Common.{◌≡◌, inl, inr, ℕ, List, [], sym, ap, ◌∙◌, subst, arith}
-use Rattle.std.specs.Prelude.{find, None, Some}
-use Rattle.osgi_ops.specs.Listening.{AreSights, ComesBefore, Happening, happenings, is_listener, IsAt, IsSight, listeners}
+use Rattle.std.proofs.Common.{◌≡◌, inl, inr, List, ◌∙◌, arith}
+use Rattle.osgi_ops.specs.Listening.{AreSights, ComesBefore, IsSight}
 use Rattle.osgi_ops.specs.Moments.{Sight}
 use Rattle.osgi_ops.specs.declared.entry.Entry.{Entry}
 use Rattle.osgi_world.specs.declared.world.World.{World}
-use Rattle.std.proofs.lemmas.List.Elements.{All-contains, All-nil}
+use Rattle.std.proofs.lemmas.List.Elements.{All-contains}
 use Rattle.osgi_ops.specs.laws.Members.{AreAmong, ordered-once}
 
 not-itself : (s : Sight) → ComesBefore s s → ⊥
@@ -26,24 +25,3 @@ among past before after e xs ys a b = λ s i. b.every s (All-contains (IsSight p
 pub sights-once : (past : List Entry) (before after : World) (e : Entry) (xs ys : List Sight) → AreSights past before after e xs → AreSights past before after e ys → xs ≡ ys
 sights-once past before after e xs ys a b =
     ordered-once ComesBefore not-itself comes-on xs ys a.in_order b.in_order (among past before after e xs ys a b) (among past before after e ys xs b a)
-
--- ---- where nothing is seen
-
-none-at : {A : Type 0} {place : ℕ} {item : A} → IsAt place [] item → ⊥
-none-at x = elim x [ ]
-
-seen-none : (past : List Entry) (before after : World) (e : Entry) → ((s : Sight) → IsSight past before after e s → ⊥) → AreSights past before after e []
-seen-none past before after e none = record {
-  only = All-nil (IsSight past before after e);
-  every = λ s i. absurd (none s i);
-  in_order = λ i j d less below. absurd (omega arith);
-}
-
--- where nothing happens
-pub none-happens : (past : List Entry) (before after : World) (e : Entry) → happenings past before after e e.op e.reply ≡ [] → AreSights past before after e []
-none-happens past before after e none = seen-none past before after e (λ s i. none-at (subst (λ (l : List Happening). IsAt s.place l i.happening) none i.at))
-
--- where no listener is live
-pub none-listens : (past : List Entry) (before after : World) (e : Entry) → listeners past ≡ [] → AreSights past before after e []
-none-listens past before after e none =
-    seen-none past before after e (λ s i. (let found : None ≡ Some i.listener = sym (ap (find (is_listener s.listener)) none) ∙ i.is in cc found))

@@ -1,18 +1,17 @@
 -- A target names no more than one bundle, and that is a live one.
-use Rattle.std.proofs.Common.{◌≡◌, ◌≤◌, ◌↔◌, inl, inr, true, false, sym, ap, ◌∙◌, subst, arith}
+use Rattle.std.proofs.Common.{◌≡◌, ◌≤◌, inl, inr, true, false, sym, ap, ◌∙◌, arith}
 use Rattle.std.specs.Prelude.{ℕ, List}
 use Rattle.std.specs.Ordering.{is_gt, ordering_reverse}
 use Rattle.std.specs.declared.cmp.Ordering.{Ordering}
 use Rattle.std.specs.declared.cmp.Ordering.TheVariants.{Equal, Greater, Less}
 use Rattle.std.proofs.lemmas.List.Elements.{All-contains}
 use Rattle.osgi_base.specs.declared.ids.BundleId.{BundleId}
-use Rattle.osgi_ops.specs.Bundles.{Bundle, bundles, is_live}
-use Rattle.osgi_ops.specs.Conditions.{at_target, IsNamed, IsPreferredTo, IsTarget, no_target}
+use Rattle.osgi_ops.specs.Bundles.{Bundle, bundles}
+use Rattle.osgi_ops.specs.Conditions.{IsNamed, IsPreferredTo, IsTarget, no_target}
 use Rattle.osgi_ops.specs.Moments.{Moment}
 use Rattle.osgi_ops.specs.declared.refusal.Refusal.{Refusal}
 use Rattle.osgi_ops.specs.declared.target.Target.{Target}
 use Rattle.osgi_ops.specs.declared.target.Target.TheVariants.{Id, Name}
-use Rattle.osgi_ops.specs.laws.Bundles.{row-live}
 use Rattle.osgi_resolver_theory.proofs.Laws.{order_total}
 use Rattle.osgi_version.specs.VersionValues.{order, parts}
 use Rattle.osgi_version.specs.Versions.{Parts}
@@ -50,15 +49,6 @@ named-once now name b c m n =
 pub target-once : (now : Moment) (t : Target) (b c : BundleId) → IsTarget now t b → IsTarget now t c → b ≡ c
 target-once now (Id id) b c is other = is.0 ∙ sym other.0
 target-once now (Name name) b c is other = named-once now name b c is other
-
--- a live one
-pub target-live : (now : Moment) (t : Target) (b : BundleId) → IsTarget now t b → is_live b now.before ≡ true
-target-live now (Id id) b is = ap (λ x. is_live x now.before) is.0 ∙ is.1
-target-live now (Name name) b is = ap (λ x. is_live x now.before) (sym is.is) ∙ row-live now.setting.depot now.before is.row is.live
-
--- so a condition on the target is one on this bundle
-pub at-target : (now : Moment) (t : Target) (b : BundleId) → IsTarget now t b → (condition : BundleId → Refusal → Type 0) (f : Refusal) → at_target now t condition f ↔ condition b f
-at-target now t b is condition f = ((λ at. subst (λ x. condition x f) (target-once now t at.0 b at.1 is) at.2), (λ holds. (b, is, holds)))
 
 -- and it is not refused since there is no such bundle
 pub no-target : (now : Moment) (t : Target) (b : BundleId) → IsTarget now t b → (f : Refusal) → no_target now t f → ⊥

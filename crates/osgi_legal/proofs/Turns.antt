@@ -1,11 +1,11 @@
 -- A listener that is in a turn has exactly one open bracket of a hand, and any other has none: in every legal history.
-use Rattle.std.proofs.Common.{◌≡◌, ◌⊎◌, inl, inr, List, [], ◌∷◌, ◌++◌, Bool, true, false, refl, sym, ap, ◌∙◌, subst}
+use Rattle.std.proofs.Common.{◌≡◌, ◌⊎◌, inl, inr, List, [], ◌∷◌, Bool, true, false, refl, sym, ap, ◌∙◌, subst}
 use Rattle.std.specs.Prelude.{◌==◌, ◌||◌, cond, filter, Some}
 use Rattle.std.specs.List.{list_any}
-use Rattle.std.proofs.lemmas.Bool.{eq-eqb, eqb-true}
+use Rattle.std.proofs.lemmas.Bool.{eqb-true}
 use Rattle.osgi_base.specs.declared.ids.ListenerId.{ListenerId}
 use Rattle.osgi_base.specs.declared.ids.Tag.{Tag}
-use Rattle.osgi_ops.specs.Brackets.{Bracket, bracket, brackets, Cause, closes, handing, job, making, opens, starting, stopping, turned}
+use Rattle.osgi_ops.specs.Brackets.{Bracket, bracket, brackets, Cause, closes, handing, job, making, opens, starting, stopping}
 use Rattle.osgi_legal.specs.Legal.{AreAllowed, IsAllowed}
 use Rattle.osgi_ops.specs.Listening.{is_in_turn, is_turn_of}
 use Rattle.osgi_ops.specs.Moments.{entries_in, Moment, moment, Told}
@@ -19,12 +19,12 @@ use Rattle.osgi_ops.specs.declared.reply.Reply.TheVariants as answer
 use Rattle.osgi_ops.specs.rows.Events.{IsHanding, IsNothing}
 use Rattle.osgi_world.specs.Lists.{In}
 use Rattle.osgi_ops.specs.laws.Along.{holds}
-use Rattle.osgi_ops.specs.laws.Brackets.{brackets-last, ends_turn, ends-no-turn}
+use Rattle.osgi_ops.specs.laws.Brackets.{brackets-last}
 use Rattle.osgi_ops.specs.laws.Items.{In-filter, In-kept}
 use Rattle.osgi_legal.proofs.Accepted.{accepted}
-use Rattle.osgi_legal.proofs.Innermost.{AreFew, few-turned, left-alone}
-use Rattle.osgi_legal.proofs.Listening.{has-ended, is_turn}
-use Rattle.osgi_legal.proofs.Owned.{entries-last, of}
+use Rattle.osgi_legal.proofs.Innermost.{AreFew, few-turned}
+use Rattle.osgi_legal.proofs.Listening.{is_turn}
+use Rattle.osgi_legal.proofs.Owned.{entries-last}
 
 -- the open brackets of the listener's hands
 abbrev pub turns_of : ListenerId → List Bracket → List Bracket
@@ -45,9 +45,6 @@ turn-cause listener (starting b) e = absurd (cc e)
 turn-cause listener (stopping b) e = absurd (cc e)
 turn-cause listener job e = absurd (cc e)
 turn-cause listener (making m) e = absurd (cc e)
-
-pub own-turn : (listener : ListenerId) → is_turn_of listener (handing listener) ≡ true
-own-turn listener = eq-eqb listener.0 listener.0 refl
 
 -- ---- any of a list
 
@@ -133,31 +130,3 @@ same-turn setting told legal listener x y i j e f =
     by : AreFew (turns_of listener opened) → In x (turns_of listener opened) → In y (turns_of listener opened) → x ≡ y
     by (inl none) k l = absurd (elim (subst (In x) none k) [ ])
     by (inr (z, one)) k l = only z x one k ∙ sym (only z y one l)
-
--- ---- what an entry does to a turn
-
--- a hand to the listener begins one
-pub hand-begun : (h : List Entry) (e : Entry) (listener : ListenerId) → opens e.op e.reply ≡ Some (handing listener) → is_in_turn listener (h ++ e ∷ []) ≡ true
-hand-begun h e listener is =
-    ap (list_any (is_turn listener)) (brackets-last h e ∙ ap (λ o. turned e.tag o (closes e.tag e.op (brackets h)) (brackets h)) is)
-    ∙ ap (λ k. k || list_any (is_turn listener) (brackets h)) (own-turn listener)
-
-any-kept : {X : Type 0} (p : X → Bool) (xs : List X) → list_any p (filter p xs) ≡ list_any p xs
-any-kept p [] = refl
-any-kept {X} p (x ∷ xs) = go (p x) refl (any-kept p xs)
-  where
-    go : (k : Bool) → p x ≡ k → list_any p (filter p xs) ≡ list_any p xs → list_any p (cond k (x ∷ filter p xs) (filter p xs)) ≡ (k || list_any p xs)
-    go true e ih = ap (λ c. c || list_any p (filter p xs)) e
-    go false e ih = ih
-
--- an entry that is no hand to the listener and no end of one leaves it as it was
-pub turn-stays : (h : List Entry) (e : Entry) (listener : ListenerId) → ((c : Cause) → opens e.op e.reply ≡ Some c → is_turn_of listener c ≡ false) → (closes e.tag e.op (brackets h) ≡ true → ends_turn listener e.op ≡ false) →
-    is_in_turn listener (h ++ e ∷ []) ≡ is_in_turn listener h
-turn-stays h e listener opened ended =
-    sym (any-kept (is_turn listener) (brackets (h ++ e ∷ []))) ∙ ap (list_any (is_turn listener)) same ∙ any-kept (is_turn listener) (brackets h)
-  where
-    other : closes e.tag e.op (brackets h) ≡ true → (x : Bracket) × (outer : List Bracket) × (of e.tag.caller (brackets h) ≡ x ∷ outer) × (is_turn listener x ≡ false)
-    other c = let i = has-ended e.tag e.op (brackets h) c in (i.bracket, i.outer, i.is, ends-no-turn listener e.op i.bracket.cause i.ended (ended c))
-
-    same : turns_of listener (brackets (h ++ e ∷ [])) ≡ turns_of listener (brackets h)
-    same = ap (turns_of listener) (brackets-last h e) ∙ left-alone (is_turn listener) e.tag (opens e.op e.reply) (closes e.tag e.op (brackets h)) (brackets h) opened other

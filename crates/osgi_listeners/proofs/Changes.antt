@@ -64,9 +64,6 @@ said_of rows rise listener P row there same said =
 -- ---- a change at a listener
 
 module _ (listener : ListenerId) (f : Row → Row) where
-  pub changed : Row → Row
-  changed row = cond (is_listener listener row) (f row) row
-
   pub changed_here : (row : Row) → id_of row ≡ listener.0 → cond (is_listener listener row) (f row) row ≡ f row
   changed_here row is = ap (λ t. cond t (f row) row) (eq-eqb (id_of row) listener.0 is)
 
@@ -120,10 +117,6 @@ pub listeners_in-change : (listener : ListenerId) (f : Row → Row) → ((row : 
 listeners_in-change listener f keeps [] = refl
 listeners_in-change listener f keeps (row ∷ rest) =
     λ i. same_by f keeps row (is_listener listener row) i ∷ listeners_in-change listener f keeps rest i
-
-place_by : (f : Row → Row) (row : Row) → IsInPlace (f row) → IsInPlace row → (here : Bool) → IsInPlace (cond here (f row) row)
-place_by f row changed kept true = changed
-place_by f row changed kept false = kept
 
 pub in_order_change : (listener : ListenerId) (f : Row → Row) → ((row : Row) → listener_of (f row) ≡ listener_of row) → (l : Listening) (turns : List (ℕ × Tag)) → ((row : Row) → id_of row ≡ listener.0 → Contains l.rows row → IsInPlace row → IsInPlace (f row)) → AreRising turns → AreInOrder l →
     AreInOrder (record { rows = change listener f l.rows; turns = turns; issued = l.issued })

@@ -19,9 +19,6 @@ between a b c (inl x) (inr y) = let p = y.0 in inl (omega (arith, x, p))
 between a b c (inr x) (inl y) = let p = x.0 in inl (omega (arith, p, y))
 between a b c (inr x) (inr y) = let p = x.0 in let q = y.0 in let m = x.1 in let n = y.1 in inr (omega (arith, p, q), omega (arith, m, n))
 
-pub stand_none : (sights : List declared.Sight) → Stand sights 1
-stand_none sights i j d less below inside = absurd (omega (arith, less, below))
-
 pub stand_more : (sights : List declared.Sight) (at : ℕ) (e : declared.Sight) → 0 < at → at < length sights → ComesBefore (sight_of (get_or sights (at - 1) e)) (sight_of (get_or sights at e)) → Stand sights at → Stand sights (at + 1)
 stand_more sights at e some within first so i j d less below inside = by (cases_lt j at)
   where

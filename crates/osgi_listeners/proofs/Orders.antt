@@ -181,9 +181,6 @@ order_filter keeps l order = record {
   turns = order.turns;
 }
 
-pub fewer : (keeps : ListenerRow → Bool) (rows : List Row) → length (filter (λ (row : Row). keeps row.listener) rows) ≤ length rows
-fewer keeps rows = length-filter_le (λ (row : Row). keeps row.listener) rows
-
 -- ---- room alone changes
 
 listeners_in-bare : (rows : List Row) → listeners_in (map bare rows) ≡ listeners_in rows

@@ -134,12 +134,6 @@ module _ (place : ℕ) (Sees : ListenerId → Option Event → Type 0) (old befo
       let is = ap (λ (r : Row). r.room) done.2 in
       omega (arith, was, less, is)
 
-  pub turns_all : now.turns ≡ old.turns
-  turns_all = posted.turns ∙ roomier.turns
-
-  pub issued_all : now.issued ≡ old.issued
-  issued_all = posted.issued ∙ roomier.issued
-
 -- what waits is as before, where only room was made
 pub later_still : (place : ℕ) (old new : List Row) → AreRoomierRows old new → All (IsLater place) old → All (IsLater place) new
 later_still place old new roomier later i d within =

@@ -5,22 +5,19 @@ use Rattle.std.specs.List.{list_any}
 use Rattle.osgi_base.specs.declared.ids.BundleId.{BundleId}
 use Rattle.osgi_base.specs.declared.ids.ListenerId.{ListenerId}
 use Rattle.osgi_base.specs.declared.ids.Tag.{Tag}
-use Rattle.osgi_listeners.specs.Rows.{is_named, is_owned, Listening, new_row, no_listeners, number_of, rows_after, turns_after, without_turn}
+use Rattle.osgi_listeners.specs.Rows.{is_named, is_owned, Listening, new_row, number_of, rows_after, turns_after, without_turn}
 use Rattle.osgi_listeners.specs.Sights.{told_all}
 use Rattle.osgi_listeners.specs.Stands.{StandsAdded, StandsCleaned, StandsEnded, StandsFor, StandsHanded, StandsRemoved, StandsSeen}
 use Rattle.osgi_listeners.specs.declared.answer.HandAnswer.{HandAnswer}
 use Rattle.osgi_listeners.specs.declared.answer.HandAnswer.TheVariants.{Handed, Nothing}
 use Rattle.osgi_listeners.specs.declared.row.ListenerRow.{ListenerRow}
-use Rattle.osgi_listeners.specs.laws.Standing.{entry_by, stands-at-first, stands-with-added, stands-with-all-seen, stands-with-cleaned, stands-with-ended, stands-with-handed, stands-with-quiet, stands-with-removed}
+use Rattle.osgi_listeners.specs.laws.Standing.{entry_by, stands-with-added, stands-with-all-seen, stands-with-cleaned, stands-with-ended, stands-with-handed, stands-with-quiet, stands-with-removed}
 use Rattle.osgi_listeners.specs.laws.Turns.{opens-none, turn-stays}
 use Rattle.osgi_ops.specs.Moments.{Sight}
 use Rattle.osgi_ops.specs.declared.op.Op.TheVariants as op
 use Rattle.osgi_ops.specs.declared.reply.Reply.TheVariants as answer
 
 module _ (old new : Listening) where
-  pub none_stands : new ≡ no_listeners → StandsFor [] [] new
-  none_stands is = subst (StandsFor [] []) (sym is) stands-at-first
-
   pub added_stands : (row : ListenerRow) → number_of row ≡ old.issued + 1 → new.rows ≡ old.rows ++ new_row row ∷ [] → new.turns ≡ old.turns → new.issued ≡ old.issued + 1 → StandsAdded row old new
   added_stands row next rows turns issued = λ sights history tag added stands.
       subst (StandsFor sights (history ++ entry_by tag (op.AddListener row.owner row.name row.kind row.filter) (answer.Listener row.listener) ∷ []))

@@ -1,9 +1,9 @@
 -- Whose files are searched.
-use Rattle.std.proofs.Common.{◌≡◌, ◌≢◌, ◌↔◌, inl, inr, ℕ, ◌+◌, ◌<◌, ◌≤◌, suc, Bool, true, false, List, [], ◌∷◌, ◌++◌, length, get_or, take, drop, drop-cons, add-one, map, refl, sym, ◌∙◌, ap, subst, arith, append_assoc, append-nil, Contains}
+use Rattle.std.proofs.Common.{◌≡◌, ◌≢◌, ◌↔◌, inl, inr, ℕ, ◌+◌, ◌<◌, suc, Bool, true, false, List, [], ◌∷◌, ◌++◌, length, get_or, take, drop, drop-cons, add-one, map, refl, sym, ◌∙◌, ap, subst, arith, append_assoc, append-nil, Contains}
 use Rattle.std.specs.Prelude.{All, AllPairs, filter_map, None, Option, Some, find, unwrap_or}
 use Rattle.std.specs.List.Sorted.{IsStrictlyIncreasing}
 use Rattle.std.specs.Option.{option_or}
-use Rattle.std.proofs.lemmas.List.{take_all, take_more}
+use Rattle.std.proofs.lemmas.List.{take_more}
 use Rattle.std.proofs.lemmas.List.Folds.{find-append}
 use Rattle.std.proofs.lemmas.List.Kept.{AllPairs-cons, AllPairs-from_increasing}
 use Rattle.std.proofs.lemmas.List.Elements.{All-cons, All-nil}
@@ -114,10 +114,6 @@ module _ (world : World) (p : List ℕ) (ws : List Wire) (i : ℕ) (d : Wire) (w
   pub wire-added : (old new : List RevisionId) → is_required world.known (get_or ws i d) ≡ true → AddsGiven world p (get_or ws i d).capability.provider old new → AreRequired world p (take i ws) (all_with_fragments world old) →
       AreRequired world p (take (i + 1) ws) (all_with_fragments world new)
   wire-added old new passes adds before = subst (λ l. AreRequired world p l (all_with_fragments world new)) (sym (take_more ws i d within)) (required-step world p (take i ws) (get_or ws i d) old new passes adds before)
-
--- all wires
-pub wires-all : (world : World) (p : List ℕ) (ws : List Wire) (i : ℕ) (list : List RevisionId) → length ws ≤ i → AreRequired world p (take i ws) list → AreRequired world p ws list
-wires-all world p ws i list past all = subst (λ l. AreRequired world p l list) (take_all i ws past) all
 
 -- ---- all that are searched
 

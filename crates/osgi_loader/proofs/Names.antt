@@ -1,9 +1,9 @@
 -- The last dot of a name.
-use Rattle.std.proofs.Common.{◌≡◌, ◌==◌, ◌+◌, ◌-◌, ◌<◌, ◌≤◌, ℕ, Bool, true, false, List, [], ◌∷◌, ◌++◌, length, get_or, take, refl, sym, ap, ◌∙◌, arith}
+use Rattle.std.proofs.Common.{◌≡◌, ◌==◌, ◌+◌, ◌-◌, ◌<◌, ℕ, Bool, true, false, List, [], ◌∷◌, ◌++◌, length, get_or, take, refl, ap, ◌∙◌}
 use Rattle.std.specs.Prelude.{if◌then◌else◌, None, Option, Some, unwrap_or}
 use Rattle.std.specs.Option.{option_map, option_or}
 use Rattle.std.proofs.lemmas.Bool.{eq-eqb, eqb-true}
-use Rattle.std.proofs.lemmas.List.{take_all, take_more}
+use Rattle.std.proofs.lemmas.List.{take_more}
 use Rattle.osgi_ops.specs.Assignable.{before_last_dot}
 
 -- one byte more at the end of the name
@@ -29,7 +29,3 @@ module _ (xs : List ℕ) (i : ℕ) (within : i < length xs) where
       by : (t : Bool) → (get_or xs i 0 == 46) ≡ t → unwrap_or (before_last_dot (take (i + 1) xs)) [] ≡ unwrap_or (before_last_dot (take i xs)) []
       by true e = absurd (other (eqb-true (get_or xs i 0) 46 e))
       by false e = more false e
-
--- all bytes
-pub dot-all : (xs : List ℕ) (i end : ℕ) → length xs ≤ i → unwrap_or (before_last_dot (take i xs)) [] ≡ take end xs → take (end - 0) xs ≡ unwrap_or (before_last_dot xs) []
-dot-all xs i end past is = ap (λ n. take n xs) (let e : end - 0 ≡ end = omega arith in e) ∙ sym is ∙ ap (λ l. unwrap_or (before_last_dot l) []) (take_all i xs past)

@@ -149,7 +149,3 @@ module _ (folder : Folder) (meaning : Meaning) (is : AnswersOnly folder (SaysMan
 
   pub meaning_fine : (found : ManifestFault) → ¬ IsManifestFault folder found
   meaning_fine found bad = no_fault meaning.revision found (is.0.only (refuses found) bad)
-
--- and where a fault is, it means nothing
-pub no_meaning : (folder : Folder) (found : ManifestFault) → IsOnly (SaysManifest folder) (refuses found) → (other : Meaning) → ¬ IsMeaning folder other
-no_meaning folder found is other has = no_fault other.revision found (sym (is.only (answers other.revision) has.means))

@@ -125,19 +125,6 @@ attributes_one (typed ∷ rest) (a ∷ some) (b ∷ others) are all =
 
 -- ---- all attributes
 
-values_onto : (values : List Attribute) (attribute : Attribute) (rest : Option (List Attribute)) →
-    others_onto values (option_map (λ more. attribute ∷ more) rest) ≡ others_onto (values ++ attribute ∷ []) rest
-values_onto values attribute None = refl
-values_onto values attribute (Some rest) = ap Some (sym (append_assoc values (attribute ∷ []) rest))
-
-pub values_step : (xs : List Typed) (i : ℕ) (typed : Typed) (attribute : Attribute) (values : List Attribute) → i < length xs → typed ≡ get_or xs i typed → Some attribute ≡ attribute_of typed →
-    others_onto values (values_of (drop i xs)) ≡ values_of xs → others_onto (values ++ attribute ∷ []) (values_of (drop (i + 1) xs)) ≡ values_of xs
-values_step xs i typed attribute values below is read so_far =
-    let split : drop i xs ≡ typed ∷ drop (i + 1) xs = rw add-one (drop-cons xs i typed below ∙ ap (λ t. t ∷ drop (suc i) xs) (sym is)) in
-    sym (values_onto values attribute (values_of (drop (i + 1) xs)))
-    ∙ ap (λ o. others_onto values (option_and_then (λ a. option_map (λ more. a ∷ more) (values_of (drop (i + 1) xs))) o)) read
-    ∙ ap (λ l. others_onto values (values_of l)) (sym split) ∙ so_far
-
 pub values_sound : (attributes : List Typed) (values : List Attribute) → values_of attributes ≡ Some values → AllZip IsAttribute attributes values
 values_sound [] values e =
     let is : [] ≡ values = cc e in

@@ -31,10 +31,6 @@ use Rattle.osgi_registry.proofs.Entries.{pairs_head, pairs_tail}
 use Rattle.osgi_registry_index.proofs.Exact.{place_itself}
 use Rattle.osgi_registry.proofs.Ranked.{are_listed, AreListed, every_listed, ids_are, IsListed, ordered}
 
--- what a test answered of a service that was read
-pub answered : (passes : Service → Bool) (s read : Service) (answer told : Bool) → answer ≡ passes read → read ≡ s → answer ≡ told → passes s ≡ told
-answered passes s read answer told test same is = ap passes (sym same) ∙ sym test ∙ is
-
 -- ---- the places that are left
 
 -- the first of them has this service, or none

@@ -1,7 +1,7 @@
 -- The bundles that are found of the added wirings are those that the rows list.
-use Rattle.std.proofs.Common.{◌≡◌, ◌+◌, ◌<◌, ◌≤◌, ℕ, add-one, drop, drop-cons, get_or, length, inl, inr, List, [], ◌∷◌, map, filter, ap, sym, subst, ◌∙◌, refl}
+use Rattle.std.proofs.Common.{◌≡◌, ℕ, inl, inr, List, [], ◌∷◌, map, filter, ap, sym, subst, ◌∙◌, refl}
 use Rattle.std.specs.Prelude.{Bool, true, false, cond, ◌==◌, ◌&&◌, ◌||◌, Err, IfOk, nat_le, None, Ok, Option, Result, Some}
-use Rattle.std.specs.BTreeSet.{BTreeSet, contains, IsOrdered, Updates}
+use Rattle.std.specs.BTreeSet.{BTreeSet, contains, IsOrdered}
 use Rattle.std.specs.List.{AllByRecursion, list_any}
 use Rattle.std.specs.List.Sorted.{IsStrictlySortedBy}
 use Rattle.std.specs.Option.{option_and_then, option_map_or}
@@ -10,7 +10,6 @@ use Rattle.std.specs.declared.cmp.Ordering.{Ordering}
 use Rattle.std.specs.declared.cmp.Ordering.TheVariants.{Less, Equal, Greater}
 use Rattle.std.proofs.lemmas.Bool.{and_parts, eq-eqb, eqb-true, or_left, or_right}
 use Rattle.std.proofs.lemmas.Cmp.{eq_by_cmp_equiv, nat_cmp_total}
-use Rattle.std.proofs.lemmas.List.{drop_all}
 use Rattle.std.proofs.lemmas.Map.Keys.{sorted_from_strictly_increasing}
 use Rattle.std.proofs.lemmas.Map.Lookups.{btree_set_from_contains, exact_unsigned}
 use Rattle.osgi_base.specs.declared.ids.BundleId.{BundleId}
@@ -29,7 +28,7 @@ use Rattle.osgi_world.specs.declared.wiring.Wiring.{Wiring}
 use Rattle.osgi_world.specs.declared.world.Known.{Known}
 use Rattle.osgi_world.specs.declared.world.World.{World}
 use Rattle.osgi_reply_resolving.proofs.Rows.{map_twice, row_live}
-use Rattle.osgi_reply_resolving.specs.computed.Searched.{bundle_by, bundle_of, is_by, is_by_wiring, is_installed, is_newly, is_own, listed}
+use Rattle.osgi_reply_resolving.specs.computed.Searched.{bundle_of, is_by, is_by_wiring, is_installed, is_newly, is_own, listed}
 
 -- ---- lists
 
@@ -116,46 +115,6 @@ number_same m n e = exact_unsigned m n (tied (nat_cmp m n) e)
 
 same_number : (m n : ℕ) → m ≡ n → eq_by_cmp nat_cmp m n ≡ true
 same_number m n e = subst (λ k. eq_by_cmp nat_cmp m k ≡ true) e ((eq_by_cmp_equiv nat_cmp_total).refl m)
-
--- ---- what is noted in the set
-
-or_false : (t : Bool) → t ≡ (t || false)
-or_false true = refl
-or_false false = refl
-
-or_by : (s t : Bool) → cond s true t ≡ (t || s)
-or_by true true = refl
-or_by true false = refl
-or_by false t = or_false t
-
-or_assoc : (a b c : Bool) → ((a || b) || c) ≡ (a || (b || c))
-or_assoc true b c = refl
-or_assoc false b c = refl
-
-one_more : (old new : BTreeSet ℕ) (m n : ℕ) → Updates nat_cmp old new m true → contains nat_cmp new n ≡ (contains nat_cmp old n || (m == n))
-one_more old new m n updates =
-    updates.0 n
-    ∙ ap (λ t. cond t true (contains nat_cmp old n)) (both (eq_by_cmp nat_cmp m n) (m == n) (λ e. eq-eqb m n (number_same m n e)) (λ e. same_number m n (eqb-true m n e)))
-    ∙ or_by (m == n) (contains nat_cmp old n)
-
-module _ (W : World) (table : TableRows) (r : RevisionId) where
-  pub noted_some : (old new : BTreeSet ℕ) (b : BundleId) → Some b ≡ bundle_by W table r → Updates nat_cmp old new b.0 true → (n : ℕ) → contains nat_cmp new n ≡ (contains nat_cmp old n || is_by W table n r)
-  noted_some old new b is updates n = one_more old new b.0 n updates ∙ ap (λ o. contains nat_cmp old n || option_map_or (λ (b : BundleId). b.0 == n) o false) is
-
-  pub noted_none : (numbers : BTreeSet ℕ) → None ≡ bundle_by W table r → (n : ℕ) → contains nat_cmp numbers n ≡ (contains nat_cmp numbers n || is_by W table n r)
-  noted_none numbers is n = or_false (contains nat_cmp numbers n) ∙ ap (λ o. contains nat_cmp numbers n || option_map_or (λ (b : BundleId). b.0 == n) o false) is
-
--- one item more of a list was noted
-pub noted_step : {X : Type 0} (p : X → Bool) (xs : List X) (i : ℕ) (d : X) (old new : Bool) → i < length xs → new ≡ (old || p (get_or xs i d)) → (new || list_any p (drop (i + 1) xs)) ≡ (old || list_any p (drop i xs))
-noted_step p xs i d old new within is =
-    ap (λ t. t || list_any p (drop (i + 1) xs)) is
-    ∙ or_assoc old (p (get_or xs i d)) (list_any p (drop (i + 1) xs))
-    ∙ ap (λ n. old || list_any p (get_or xs i d ∷ drop n xs)) (add-one i)
-    ∙ sym (ap (λ l. old || list_any p l) (drop-cons xs i d within))
-
--- all of them were
-pub noted_all : {X : Type 0} (p : X → Bool) (xs : List X) (i : ℕ) (now : Bool) → length xs ≤ i → now ≡ (now || list_any p (drop i xs))
-noted_all p xs i now past = or_false now ∙ sym (ap (λ l. now || list_any p l) (drop_all i xs past))
 
 -- ---- the two lists
 

@@ -59,9 +59,6 @@ filtered p q f g h (x ∷ xs) same is =
 -- ---- what a wiring that is added resolves
 
 module _ (W : World) (added : List Wiring) where
-  after : World
-  after = with_wirings W added
-
   used_by : (o : Option Known) → option_map_or (λ (k : Known). is_in_use (W.wirings ++ added) k.id) o false ≡ (option_map_or (λ (k : Known). is_in_use W.wirings k.id) o false || option_map_or (λ (k : Known). is_in_use added k.id) o false)
   used_by None = refl
   used_by (Some k) = any_append (has_revision k.id) W.wirings added
@@ -207,9 +204,6 @@ distinct W h bs table order is = distinct_by W h bs (subst Rise is (ids_rise tab
 -- ---- a listed bundle is one that passes
 
 module _ (q : Bundle → Bool) where
-  ids_passing : List Bundle → List BundleId
-  ids_passing bs = map (λ (b : Bundle). b.bundle) (filter q bs)
-
   not_marked : (n : ℕ) (bs : List Bundle) → ((c : Bundle) → In c bs → ¬ (c.bundle.0 ≡ n)) → list_any (λ (id : BundleId). n == id.0) (map (λ (b : Bundle). b.bundle) (filter q bs)) ≡ false
   not_marked n [] others = refl
   not_marked n (b ∷ bs) others = not_by (q b) (ne_eqb n b.bundle.0 (λ e. others b (inl refl) (sym e))) (not_marked n bs (λ c i. others c (inr i)))

@@ -1,5 +1,5 @@
 -- A resolve answers, and changes the tables, as the history says.
-use Rattle.std.proofs.Common.{◌≡◌, ◌+◌, ◌<◌, ℕ, inl, inr, List, [], ◌∷◌, ◌++◌, map, ap, sym, subst, ◌∙◌, refl}
+use Rattle.std.proofs.Common.{◌≡◌, ◌+◌, ℕ, inl, inr, List, [], ◌∷◌, ◌++◌, map, ap, sym, subst, ◌∙◌, refl}
 use Rattle.std.specs.Prelude.{true, false, All, Err, IfOk, is_some, Ok, OnOk, Option, None, Result, Some}
 use Rattle.std.specs.Option.{option_map_or}
 use Rattle.std.specs.List.Sorted.{IsNonDecreasing}
@@ -50,7 +50,7 @@ use Rattle.osgi_world.specs.ChoiceWords.{made_by}
 use Rattle.osgi_world.specs.Consistency.{Extends, ExtendsWorld}
 use Rattle.osgi_world.specs.Effort.{IsEffortAbove, IsEffortWithin, IsResolveOf}
 use Rattle.osgi_world.specs.Lists.{In}
-use Rattle.osgi_world.specs.Lookups.{bundle_of, IsCurrentOf, requirement_at, requirement_count}
+use Rattle.osgi_world.specs.Lookups.{bundle_of, IsCurrentOf, requirement_at}
 use Rattle.osgi_world.specs.Partial.{added}
 use Rattle.osgi_world.specs.declared.problem.Problem.{Problem}
 use Rattle.osgi_world.specs.declared.wiring.Wiring.{Wiring}
@@ -67,7 +67,7 @@ use Rattle.osgi_reply_resolving.proofs.Rows.{distinct, IsSteady, listed_same, ro
 use Rattle.osgi_tables.proofs.Wired.{target_open, whole_bundle}
 use Rattle.osgi_tables.specs.Replied.{IsAnswered, IsAnsweredToAll, StandsFor}
 use Rattle.osgi_tables.specs.Changes.{bundles_shown, IsReplyAndChangeToAll, with_resolved}
-use Rattle.osgi_reply_resolving.specs.computed.Searched.{IsAsked, IsSaid, IsThere, listed}
+use Rattle.osgi_reply_resolving.specs.computed.Searched.{IsAsked, IsSaid, listed}
 use Rattle.osgi_tables.specs.declared.change.Change.{Change}
 use Rattle.osgi_tables.specs.declared.change.Change.TheVariants as change
 use Rattle.osgi_tables.specs.declared.tables.Tables.{Tables}
@@ -94,9 +94,6 @@ some_resolved W b is = by (current_revision W b) refl is
     by (Some k) e is = (k, e)
 
 -- ---- what a resolve is about
-
-pub target_fragment : (W : World) (b : BundleId) (k : Known) → Some k ≡ current_revision W b → is_some k.revision.host ≡ true → is_fragment_bundle W b ≡ true
-target_fragment W b k is host = ap (λ o. option_map_or (λ (k : Known). is_some k.revision.host) o false) (sym is) ∙ host
 
 module _ (W : World) (b : BundleId) (root : RevisionId) (sound : IsSound W) (asked : IsAsked W b root) where
   pub asked_whole : is_fragment_bundle W b ≡ false
@@ -131,13 +128,6 @@ found_extends W root n word wirings a =
       fragments_ordered = λ g there.
           subst (λ (w : World). IsNonDecreasing (map (bundle_of w.known) g.fragments)) a.world ((partial-ordered P a.is_problem D).fragments_ordered g (in_right P.world.wirings (added P D) g (subst (In g) a.is.2 there)));
     }
-
--- the requirement that has no candidate is there
-pub cause_there : (W : World) (root : RevisionId) (n : ℕ) (c : Cause) → IsAnswerTo W root n (NoWord c) → IsThere W.known c
-cause_there W root n (cause.NoCandidate q) a =
-    subst (λ (w : World). q.index < requirement_count w.known q.owner) a.world
-    (subst (λ r. q.index < requirement_count a.problem.world.known r) (sym a.is.2.lacking.owner) a.is.2.lacking.known)
-cause_there W root n cause.Clash a = tt
 
 -- ---- conditions
 

@@ -1,12 +1,12 @@
 -- A list of wires shows what the world has.
-use Rattle.std.proofs.Common.{◌≡◌, ℕ, inl, inr, IsSome, List, [], ◌∷◌, map, ap, sym, ◌∙◌, refl}
+use Rattle.std.proofs.Common.{◌≡◌, ℕ, inl, inr, IsSome, List, [], ◌∷◌, sym, ◌∙◌, refl}
 use Rattle.std.specs.Prelude.{All, true, false, Option, None, Some}
-use Rattle.std.specs.Option.{option_and_then, option_map, option_map_or}
+use Rattle.std.specs.Option.{option_map}
 use Rattle.std.proofs.lemmas.List.Elements.{All-cons, All-nil}
 use Rattle.osgi_base.specs.declared.ids.BundleId.{BundleId}
 use Rattle.osgi_base.specs.declared.ids.RevisionId.{RevisionId}
 use Rattle.osgi_legal.specs.Operations.{IsReply}
-use Rattle.osgi_ops.specs.Resolved.{current_revision, current_wiring}
+use Rattle.osgi_ops.specs.Resolved.{current_revision}
 use Rattle.osgi_ops.specs.WireRows.{AreWireRows, fragment_row, shown_by, wire_row}
 use Rattle.osgi_ops.specs.declared.op.Op.TheVariants as op
 use Rattle.osgi_ops.specs.declared.refusal.Refusal.TheVariants.{NoSuchBundle}
@@ -27,7 +27,6 @@ use Rattle.osgi_legal.specs.Quiet.{QuietServices}
 use Rattle.osgi_stage.proofs.Current.{dead-at, live-at}
 use Rattle.osgi_tables.proofs.Replying.{at, from_own, of_services, replied_refused, still_tables, unseen}
 use Rattle.osgi_tables.specs.Replied.{IsAnsweredToAll}
-use Rattle.osgi_reply_resolving.specs.computed.Searched.{IsCurrent}
 use Rattle.osgi_tables.specs.declared.tables.Tables.{Tables}
 
 -- ---- what the wires name is known
@@ -60,28 +59,6 @@ pub fragments_known : (W : World) (issued : ℕ) (r : RevisionId) (g : Wiring) �
 fragments_known W issued r g kept is =
     all_of (λ f. IsSome (fragment_row W.known f)) g.fragments (λ f i.
     fragment_shown (known_at W.known f) (host-known W.known f g.revision (kept.consistent.coherent.rules.attached g.revision f (record { wiring = g; stands = stands_there W r g (sym is); revision = refl; has = i }))))
-
--- ---- the rows of a bundle
-
-wiring_of : (W : World) (b : BundleId) (r : RevisionId) → IsCurrent W b r → current_wiring W b ≡ wiring_at W.wirings r
-wiring_of W b r c = ap (option_and_then (λ (k : Known). wiring_at W.wirings k.id)) c.is ∙ ap (wiring_at W.wirings) c.id
-
-pub rows_of : (W : World) (b : BundleId) (r : RevisionId) (g : Wiring) (rows fragments : List WireRow) → IsCurrent W b r → Some g ≡ wiring_at W.wirings r → map Some rows ≡ map (wire_row W.known) g.wires → map Some fragments ≡ map (fragment_row W.known) g.fragments →
-    AreWireRows W b rows fragments
-rows_of W b r g rows fragments c is wires attached =
-    let wiring : current_wiring W b ≡ Some g = wiring_of W b r c ∙ sym is in
-    record {
-      wires = wires ∙ ap (λ o. map (wire_row W.known) (option_map_or (λ (g : Wiring). g.wires) o [])) (sym wiring);
-      attached = attached ∙ ap (λ o. map (fragment_row W.known) (option_map_or (λ (g : Wiring). g.fragments) o [])) (sym wiring);
-    }
-
-pub rows_none : (W : World) (b : BundleId) (r : RevisionId) → IsCurrent W b r → None ≡ wiring_at W.wirings r → AreWireRows W b [] []
-rows_none W b r c is =
-    let wiring : current_wiring W b ≡ None = wiring_of W b r c ∙ sym is in
-    record {
-      wires = ap (λ o. map (wire_row W.known) (option_map_or (λ (g : Wiring). g.wires) o [])) (sym wiring);
-      attached = ap (λ o. map (fragment_row W.known) (option_map_or (λ (g : Wiring). g.fragments) o [])) (sym wiring);
-    }
 
 -- ---- the reply
 

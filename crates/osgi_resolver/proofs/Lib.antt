@@ -1,2 +1,1 @@
 -- Lemmas on what is kept of a world.
-pub mod Growing

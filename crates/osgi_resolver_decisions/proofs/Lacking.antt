@@ -1,6 +1,6 @@
 -- A requirement that is needed and has no candidate, by the lists of its owner.
-use Rattle.std.proofs.Common.{◌≡◌, ◌↔◌, ◌==◌, ◌<◌, ℕ, Bool, true, false, IsTrue, List, [], ◌∷◌, length, refl, sym, ◌∙◌, subst, arith}
-use Rattle.std.proofs.lemmas.Bool.{eqb-true, false≢true}
+use Rattle.std.proofs.Common.{◌≡◌, ◌↔◌, ◌<◌, ℕ, true, false, IsTrue, List, [], refl, sym, ◌∙◌, subst}
+use Rattle.std.proofs.lemmas.Bool.{false≢true}
 use Rattle.std.specs.Global.{Vec}
 use Rattle.osgi_base.specs.declared.ids.RevisionId.{RevisionId}
 use Rattle.osgi_world.specs.Candidates.{CanBeAsked, candidates}
@@ -13,11 +13,6 @@ use Rattle.osgi_resolver_decisions.specs.Sure.{LacksCandidate}
 use Rattle.osgi_resolver_decisions.specs.computed.Known.{AreListsOf, IsProblemIn}
 use Rattle.osgi_resolver_decisions.specs.computed.Sureness.{list_at}
 use Rattle.osgi_resolver_decisions.proofs.Owners.{listed-at}
-
--- what `is_empty` says of a list
-pub empty-is : {X : Type 0} (xs : List X) (b : Bool) → b ≡ (length xs == 0) → IsTrue b ↔ (xs ≡ [])
-empty-is [] b is = (λ t. refl, λ e. is)
-empty-is (x ∷ xs) b is = (λ t. absurd (omega (arith, eqb-true (length (x ∷ xs)) 0 (sym is ∙ t))), λ e. absurd (cc))
 
 -- the answer is yes, and it is so
 pub yes : {A : Type 0} → A → IsTrue true ↔ A

@@ -136,10 +136,6 @@ value-other D d e v differs none (Some w) is = elim (value-cases D d v e w is) [
     clash : value_made D e ≡ Some w → ⊥
     clash old = cc
 
-abbrev IsAttaching : Decision → Type 0
-IsAttaching (attaching h f) = Unit {0}
-IsAttaching _ = ⊥
-
 -- the fragment that is decided on, where one is
 pub record Attaches (P : Problem) (m : RevisionId) (d : Decision) : Type 0 where
   pub fragment : RevisionId

@@ -1,18 +1,12 @@
 -- Marks, the last first, and the values of their decisions.
-use Rattle.std.proofs.Common.{◌≡◌, ℕ, ◌+◌, ◌<◌, length, get_or, take, if◌then◌else◌, List, [], ◌∷◌, ◌++◌, Some, map, reverse, refl, sym, ◌∙◌, ap}
+use Rattle.std.proofs.Common.{◌≡◌, ℕ, ◌+◌, ◌<◌, length, get_or, take, List, [], ◌∷◌, ◌++◌, map, reverse, refl, sym, ◌∙◌, ap}
 use Rattle.std.proofs.lemmas.List.{reverse-append, take_more}
-use Rattle.osgi_world.specs.Decisions.{Decision, same_decision, value_made}
-use Rattle.osgi_resolver_decisions.specs.DecisionOf.{decision_of}
-use Rattle.osgi_resolver_path.specs.computed.Courses.{made_of, word_of}
+use Rattle.osgi_resolver_path.specs.computed.Courses.{word_of}
 use Rattle.osgi_resolver_path.specs.declared.course.Mark.{Mark}
 
 -- the last of some marks comes first
 pub last-first : (marks : List Mark) (n : ℕ) (m : Mark) → n < length marks → m ≡ get_or marks n m → reverse (take (n + 1) marks) ≡ m ∷ reverse (take n marks)
 last-first marks n m within is = ap reverse (take_more marks n m within ∙ ap (λ x. take n marks ++ x ∷ []) (sym is)) ∙ reverse-append (take n marks) (m ∷ [])
-
-pub value-back : (marks : List Mark) (n : ℕ) (m : Mark) (d : Decision) → n < length marks → m ≡ get_or marks n m →
-    value_made (made_of (reverse (take (n + 1) marks))) d ≡ (if same_decision (decision_of m.decision) d then Some m.value else value_made (made_of (reverse (take n marks))) d)
-value-back marks n m d within is = ap (λ ms. value_made (made_of ms) d) (last-first marks n m within is)
 
 -- ---- values
 

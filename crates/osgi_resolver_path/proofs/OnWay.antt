@@ -141,9 +141,6 @@ module _ (W : World) (root : RevisionId) (lists : Lists) (spaces : SpacesState) 
             subst (IsAlong P (lists_of new)) (sym marks) (by.right P (in-lists P of) (right-at P of) (wide-at v has P of), subst (λ (F : CourseLists). IsAlong P F ms) (sym by.before) before);
       }
 
-  pub word-longer : (v : ℕ) (more : Lists) (new : Course) (t : SpacesState) → IsLonger lists.offers c new spaces t v → word_of (reverse new.marks.items) ≡ word_of (reverse c.marks.items) ++ v ∷ []
-  word-longer v more new t by = ap word_of (last-mark c.marks.items by.mark new.marks.items by.marks) ∙ ap (λ x. word_of (reverse c.marks.items) ++ x ∷ []) by.value_is
-
   -- nothing is changed of it
   pub on-same : (more : Lists) (new : Course) (t : SpacesState) → more.offers ≡ lists.offers → IsLearnt more new → ArePlaces new.places new.ids.items → t ≡ spaces → IsSameCourse c new → IsOnWay W root more t new
   on-same more new t offers learnt placed spaces-are same = record {
@@ -168,9 +165,6 @@ module _ (W : World) (root : RevisionId) (lists : Lists) (spaces : SpacesState) 
         spaces_are = steps ∙ ap (λ (s : SpacesState). record s { steps = steps_of (reverse new.marks.items) }) on.spaces_are;
         along = λ P in_it root-is. subst (λ (F : CourseLists). IsAlong P F (reverse new.marks.items)) (sym back) (subst (IsAlong P (lists_of c)) ms (on.along P in_it root-is)).1;
       }
-
-  pub word-shorter : (new : Course) (m : Mark) → c.marks.items ≡ new.marks.items ++ m ∷ [] → word_of (reverse c.marks.items) ≡ word_of (reverse new.marks.items) ++ m.value ∷ []
-  word-shorter new m marks = ap word_of (last-mark new.marks.items m c.marks.items marks)
 
 -- where contracts see it stand there
 module _ (W : World) (root : RevisionId) (lists : Lists) (spaces : SpacesState) (c : Course) (on : IsOnWay W root lists spaces c) (s : Standing) (is : s ≡ standing_of W root c) where
@@ -254,14 +248,3 @@ module _ (W : World) (root : RevisionId) (lists : Lists) (spaces : SpacesState) 
   pub attached-at : (P : Problem) → IsProblemOf s P → (rows : WorldLists) → rows.known ≡ spaces.known → AreRowsIn rows (wirings_of spaces) → (m : RevisionId) → In m (members P (made P s)) → AreAttached rows.rows (made P s) m
   attached-at P of rows known are m i =
       attached-rows P of.is (made P s) (subst (State P) (sym (made-at P of)) (right-state P (reverse c.marks.items) (lists_of c) (stands-at P of))) rows (rows-at P of rows known are) m i
-
--- at the empty word
-pub on-first : (W : World) (root : RevisionId) (lists : Lists) (spaces : SpacesState) (c : Course) → lists.offers ≡ W → IsLearnt lists c → ArePlaces c.places c.ids.items → spaces ≡ record { known = W.known; wirings = W.wirings; steps = [] } → c.marks.items ≡ [] →
-    ((P : Problem) → IsProblemIn W P → P.root ≡ root → IsRight P [] (lists_of c)) → IsOnWay W root lists spaces c
-on-first W root lists spaces c offers learnt placed spaces-are none begins = record {
-  offers = offers;
-  learnt = learnt;
-  placed = placed;
-  spaces_are = spaces-are ∙ ap (λ l. record { known = W.known; wirings = W.wirings; steps = steps_of (reverse l) }) (sym none);
-  along = λ P in_it root-is. subst (λ l. IsAlong P (lists_of c) (reverse l)) (sym none) (begins P in_it root-is);
-}

@@ -93,9 +93,5 @@ owners-more P D h owners n owner within is =
     ∙ ap (flat_map (wires_for P D h)) (flat_map-append own (take n owners) (owner ∷ []) ∙ ap (λ l. flat_map own (take n owners) ++ l) (append-nil (own owner)))
     ∙ flat_map-append (wires_for P D h) (flat_map own (take n owners)) (own owner)
 
--- the host's and its fragments' make the payload's
-pub payload-wires : (P : Problem) (D : Made) (h : RevisionId) (fs : List RevisionId) → flat_map (wires_for P D h) (own_requirements P.world.known h) ++ flat_map (wires_for P D h) (requirements_of P.world.known fs) ≡ flat_map (wires_for P D h) (requirements_of P.world.known (h ∷ fs))
-payload-wires P D h fs = sym (flat_map-append (wires_for P D h) (own_requirements P.world.known h) (requirements_of P.world.known fs))
-
 pub member-more : {X Y : Type 0} (f : X → Y) (xs : List X) (n : ℕ) (x : X) → n < length xs → x ≡ get_or xs n x → map f (take (n + 1) xs) ≡ map f (take n xs) ++ f x ∷ []
 member-more f xs n x within is = ap (map f) (take_more xs n x within ∙ ap (λ y. take n xs ++ y ∷ []) (sym is)) ∙ map-append f (take n xs) (x ∷ [])

@@ -87,12 +87,6 @@ module _ (places then : NumberMap ℕ) (ids : List RevisionId) (r : RevisionId) 
     | inr now ↦ ap (λ (x : RevisionId). value_at then x.0) now.1 ∙ put-at places then r.0 (length ids) puts ∙ ap Some (sym now.0)
   ]
 
--- ---- the first member
-
-pub placed-root : (places then : NumberMap ℕ) (r : RevisionId) → Puts places then r.0 0 → ArePlaces then (r ∷ [])
-placed-root places then r puts s zero there = ap (λ (x : RevisionId). value_at then x.0) (sym (some-is r s there)) ∙ put-at places then r.0 0 puts
-placed-root places then r puts s (suc n) there = absurd (none-some s there)
-
 -- ---- who joins
 
 pub new-false : (a b : Bool) → (a || b) ≡ false → b ≡ false

@@ -14,9 +14,6 @@ use Rattle.osgi_world.specs.declared.wiring.CapRef.{CapRef}
 use Rattle.osgi_world.specs.declared.world.Known.{Known}
 use Rattle.osgi_resolver_solve.specs.computed.Layers.{TakesDoomed, TakesRivals}
 
-pub takes-none : (K : List Known) (member : RevisionId) (l : Listed) → TakesRivals K member l 0 l
-takes-none K member l = record { choices = refl; taken = []; out = refl; number = refl; rivals = λ c i. elim i [ ] }
-
 more-go : (K : List Known) (member provider : RevisionId) (taken more : List CapRef) (c : CapRef) → ((x : CapRef) → In x taken → AreRivals K x.provider member) → ((x : CapRef) → In x more → x.provider ≡ provider) → AreRivals K provider member → In c (more ++ taken) → AreRivals K c.provider member
 more-go K member provider taken more c are of rival i = elim (in-append_cases more taken c i) [ inl j ↦ subst (λ r. AreRivals K r member) (sym (of c j)) rival | inr j ↦ are c j ]
 

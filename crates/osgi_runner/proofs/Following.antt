@@ -2,14 +2,12 @@
 use Rattle.std.proofs.Common.{◌≡◌, ◌≤◌, ◌+◌, ℕ, List, [], ◌∷◌, ◌++◌, Bool, true, false, refl, sym, ap, ◌∙◌, subst, reverse, map, arith, length, Bor}
 use Rattle.std.proofs.lemmas.List.{reverse-append}
 use Rattle.std.specs.Prelude.{Option, None, Some}
-use Rattle.osgi_base.specs.declared.ids.BundleId.{BundleId}
 use Rattle.osgi_base.specs.declared.ids.ListenerId.{ListenerId}
 use Rattle.osgi_base.specs.declared.ids.ServiceId.{ServiceId}
 use Rattle.osgi_lifecycle.specs.Pendings.{IsEnd, IsNext, pending_of}
 use Rattle.osgi_lifecycle.specs.declared.next.Next.TheVariants as told
 use Rattle.osgi_ops.specs.declared.op.Op.{Op}
 use Rattle.osgi_ops.specs.declared.reply.Reply.{Reply}
-use Rattle.osgi_ops.specs.declared.section.Section.{Section}
 use Rattle.osgi_runner.specs.computed.Stacks.{IsDraining, IsWaiting, IsWithin}
 use Rattle.osgi_runner.specs.computed.States.{after_section, asked_of, bindings_of, Comes, ComesTo, end_by, end_of, EndsAs, frame_of, frames_of, handed_to, is_job, left_of, RestBy}
 use Rattle.osgi_runner.specs.computed.Weights.{frame_weight, IsLighter, plan_weight, section_weight, step_weight}
@@ -32,8 +30,7 @@ use Rattle.osgi_runs.specs.Courses as course
 use Rattle.osgi_session.specs.Plans.{End, done, failed, Plan, ask, plan, run, stop, stirs}
 use Rattle.osgi_session.specs.Runs.{bind, Binding, bound_by, Call, call, command_of, drained, ends_drain, ends_jobs, Follows, has_failed, planned, Reads, Sections, statements, taking}
 use Rattle.osgi_session.specs.declared.command.Command.{Command}
-use Rattle.osgi_session.specs.Steps.{at_end, begin, do_drain, do_op, do_section, drained_first, drained_out, draining, ended, first_step, fresh, Last, left_section, Next, Pending, replied, resume, asking, within}
-use Rattle.osgi_session.specs.Steps as steps
+use Rattle.osgi_session.specs.Steps.{at_end, begin, do_drain, do_op, do_section, drained_first, drained_out, draining, ended, first_step, fresh, left_section, Next, Pending, replied, resume, asking, within}
 use Rattle.osgi_session.specs.declared.statement.Statement.{Statement}
 
 -- the last item is the innermost frame
@@ -56,32 +53,6 @@ same-left script calls one other (to_job ∷ outer) e l = l
 same-left script calls one other (to_jobs ∷ outer) e l = l
 
 -- ---- where a plan comes to what the code was told
-
-pub comes-op : {script : Sections} {outer : List course.Frame} {calls : List Call} (n : Next) (pending kept : Pending) (o : Op) → IsNext (told.Do o) n → kept ≡ pending →
-    Ahead script (planned (asked_of o kept)) outer calls → ComesTo script n pending outer calls
-comes-op {script} {outer} {calls} (do_op x) pending kept o e p a =
-    subst (λ k. Ahead script (planned (asked_of k pending)) outer calls) e (subst (λ k. Ahead script (planned (asked_of o k)) outer calls) p a)
-comes-op do_drain pending kept o e p a = absurd e
-comes-op (do_section row owner which) pending kept o e p a = absurd e
-comes-op (at_end end) pending kept o e p a = absurd e
-
-pub comes-drain : {script : Sections} {outer : List course.Frame} {calls : List Call} (n : Next) (pending kept : Pending) → IsNext told.Drain n → kept ≡ pending →
-    Ahead script (drained true) (to_plan (left_of kept) ∷ outer) calls → ComesTo script n pending outer calls
-comes-drain {script} {outer} {calls} do_drain pending kept e p a = subst (λ k. Ahead script (drained true) (to_plan (left_of k) ∷ outer) calls) p a
-comes-drain (do_op x) pending kept e p a = absurd e
-comes-drain (do_section row owner which) pending kept e p a = absurd e
-comes-drain (at_end end) pending kept e p a = absurd e
-
-pub comes-section : {script : Sections} {outer : List course.Frame} {calls : List Call} (n : Next) (pending kept : Pending) (row : ℕ) (owner : BundleId) (which : Section) →
-    IsNext (told.Run row owner which) n → kept ≡ pending → Ahead script (statements owner [] (script row which)) (to_caller (after_section kept) ∷ outer) calls → ComesTo script n pending outer calls
-comes-section {script} {outer} {calls} (do_section r o w) pending kept row owner which e p a =
-    subst (λ k. Ahead script (statements o [] (script k w)) (to_caller (after_section pending) ∷ outer) calls) e.0
-    (subst (λ k. Ahead script (statements k [] (script row w)) (to_caller (after_section pending) ∷ outer) calls) e.1
-    (subst (λ k. Ahead script (statements owner [] (script row k)) (to_caller (after_section pending) ∷ outer) calls) e.2
-    (subst (λ k. Ahead script (statements owner [] (script row which)) (to_caller (after_section k) ∷ outer) calls) p a)))
-comes-section (do_op x) pending kept row owner which e p a = absurd e
-comes-section do_drain pending kept row owner which e p a = absurd e
-comes-section (at_end end) pending kept row owner which e p a = absurd e
 
 pub comes-end : (script : Sections) (outer : List course.Frame) (calls : List Call) (n : Next) (pending : Pending) (r f : Bool) (b : Option ServiceId) (outcome : Outcome) →
     ((end : End) → IsEnd end r f b → EndsAs (end_of outcome) end) → IsNext (told.End r f b) n → Left script outer (end_of outcome) calls → ComesTo script n pending outer calls
@@ -130,46 +101,12 @@ comes-ran script outer calls (asking drains next) end b e is h = absurd e
 comes-ran script outer calls (fresh p) end b e is h = absurd e
 comes-ran script outer calls ended end b e is h = absurd e
 
--- ---- what is left of a plan fits the step that it comes to
-
-abbrev pub FitsNext : Next → Pending → Type 0
-FitsNext (do_op o) pending = IsWaiting pending o
-FitsNext do_drain pending = IsDraining pending
-FitsNext (do_section row owner which) pending = IsWithin pending
-FitsNext (at_end end) pending = Unit {0}
-
-abbrev pub FitsStep : steps.Step → Type 0
-FitsStep s = FitsNext s.next s.pending
-
-first-fits : (p : Plan) → FitsStep (first_step p)
-first-fits (ask o next) = refl
-first-fits (run row owner which next) = tt
-first-fits (stop end) = tt
-
-drained-first-fits : (b : Bool) (p : Plan) → FitsStep (drained_first b p)
-drained-first-fits true p = tt
-drained-first-fits false p = first-fits p
-
-pub resume-fits : (pending : Pending) (l : Last) → FitsStep (resume pending l)
-resume-fits (fresh p) begin = first-fits p
-resume-fits (asking drains next) (replied y) = drained-first-fits (drains y) (next y)
-resume-fits (draining p) drained_out = first-fits p
-resume-fits (within next) (left_section b) = first-fits (next b)
-resume-fits _ _ = tt
-
 -- ---- weights
 
 pub first-weight : (p : Plan) → step_weight (first_step p) ≡ plan_weight p
 first-weight (ask o next) = refl
 first-weight (run row owner which next) = refl
 first-weight (stop end) = refl
-
-pub drained-weight : (pending : Pending) → IsDraining pending → step_weight (resume pending drained_out) ≡ plan_weight (left_of pending)
-drained-weight (draining p) e = first-weight p
-drained-weight (asking drains next) e = absurd e
-drained-weight (fresh p) e = absurd e
-drained-weight (within next) e = absurd e
-drained-weight ended e = absurd e
 
 one-of-two : (next : Bool → Plan) (b : Bool) → step_weight (first_step (next b)) ≤ plan_weight (next true) + plan_weight (next false)
 one-of-two next true = rw (first-weight (next true)) (omega arith)

@@ -32,10 +32,6 @@ pub record IsOnTheWay (IsRun : List Call → Type 0) (tag : Tag) (before made : 
 pub at-first : (IsRun : List Call → Type 0) (tag : Tag) (before : List Entry) → IsOnTheWay IsRun tag before before IsRun
 at-first IsRun tag before = record { since = []; is = sym (append-nil before); left = λ calls x. x }
 
--- where nothing is left, they are a whole run
-pub whole : {IsRun IsLeft : List Call → Type 0} {tag : Tag} {before made : List Entry} → IsOnTheWay IsRun tag before made IsLeft → IsLeft [] → Made IsRun tag before made
-whole {IsRun} w x = (w.since, w.is, subst IsRun (append-nil w.since) (w.left [] x))
-
 -- where some calls are left, they are the beginning of one
 pub cut : {IsRun IsLeft : List Call → Type 0} {tag : Tag} {before made : List Entry} → IsOnTheWay IsRun tag before made IsLeft → (calls : List Call) × (calls ≢ []) × IsLeft calls → Made (IsCutOf IsRun) tag before made
 cut w x = (w.since, w.is, (x.0, x.1, w.left x.0 x.2))

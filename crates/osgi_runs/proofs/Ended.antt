@@ -3,7 +3,6 @@
 use Rattle.std.proofs.Common.{◌≡◌, inl, inr, ◌<◌, ℕ, List, [], ◌∷◌, ◌++◌, length, map, append-nil, Bool, true, false, refl, sym, ap, ◌∙◌, subst, arith}
 use Rattle.std.specs.Prelude.{None, ⊤}
 use Rattle.std.proofs.lemmas.Bool.{false_from_ne_true}
-use Rattle.std.proofs.lemmas.List.Elements.{All-nil}
 use Rattle.osgi_base.specs.declared.ids.Tag.{Tag}
 use Rattle.osgi_ops.specs.Brackets.{Bracket, bracket, job}
 use Rattle.osgi_ops.specs.declared.limits.TheConstants.{MAX_BRACKETS}
@@ -12,20 +11,18 @@ use Rattle.osgi_ops.specs.declared.entry.Entry.{Entry}
 use Rattle.osgi_ops.specs.declared.op.Op.{Op}
 use Rattle.osgi_ops.specs.declared.op.Op.TheVariants.{EndJob, TakeJob}
 use Rattle.osgi_ops.specs.declared.reply.Reply.{Reply}
-use Rattle.osgi_ops.specs.declared.reply.Reply.TheVariants.{Job, NoJob}
+use Rattle.osgi_ops.specs.declared.reply.Reply.TheVariants.{Job}
 use Rattle.osgi_runs.specs.Bound.{is_take, AreBound, NoTakeTask}
 use Rattle.osgi_session.specs.Plans.{End, plan}
 use Rattle.osgi_session.specs.declared.command.Command.{Command}
 use Rattle.osgi_session.specs.Rendering.{ends_without_job, takes_no_job}
 use Rattle.osgi_session.specs.Runs.{asked, Call, call, calm, command_of, empty, fails, Follows, goes, handed, has_failed, IsCutRun, IsSpentRun, taking, none, over, ran, Reads, Sections, at_stop, took, Task}
 use Rattle.osgi_session.specs.Sessions.{call_of, IsCutRunOf, IsRunOf}
-use Rattle.osgi_session.specs.declared.line.Content.TheVariants.{Run}
 use Rattle.osgi_session.specs.declared.line.Line.{Line}
 use Rattle.osgi_runs.proofs.Balanced.{balanced, behind-end}
 use Rattle.osgi_runs.proofs.Closing.{closes-plan}
 use Rattle.osgi_runs.proofs.Due.{AreDue}
-use Rattle.osgi_runs.proofs.Plans.{plan-done}
-use Rattle.osgi_runs.proofs.Runs.{reads-frame, whole-not-cut}
+use Rattle.osgi_runs.proofs.Runs.{whole-not-cut}
 use Rattle.osgi_runs.proofs.Sessions.{bound-of}
 use Rattle.osgi_runs.proofs.Words.{no-word, put-word, then-word, word-of}
 use Rattle.osgi_runs.proofs.Taking.{takes-plan}
@@ -219,20 +216,3 @@ cut-run-not-whole {script} false entries k r =
 pub cut-run-not-ended : {script : Sections} {caller : ℕ} {line : Line} (spent : Bool) (entries : List Entry) → IsCutRunOf script caller line spent entries → ends_without_job entries ≡ false
 cut-run-not-ended {script} true entries k = ended-calls entries ∙ spent-not-ended script k.command (map call_of entries) k.cut
 cut-run-not-ended {script} false entries k = ended-calls entries ∙ cut-not-ended script k.command (map call_of entries) k.cut
-
--- ---- a run that never began is one that was cut
-
-some-run : (script : Sections) (c : Command) → (calls : List Call) × Follows script c calls
-some-run script c =
-    let p = plan-done (plan system c) in
-    let end : List Call = call TakeJob NoJob ∷ [] in (p.calls ++ end, record { end = p.end; mid = end; plan = reads-frame end p.reads; jobs = none refl })
-
-pub never-began : {script : Sections} {caller : ℕ} (line : Line) (c : Command) → line.content ≡ Run c → IsCutRunOf script caller line false []
-never-began {script} {caller} line c says =
-    let run = some-run script c in
-    record {
-      command = c;
-      says = says;
-      tagged = All-nil (λ (e : Entry). e.tag ≡ record { caller = caller; command = line.number });
-      cut = (run.0, (λ e. nothing-not-whole (subst (λ l. Follows script c l) e run.1)), run.1);
-    }

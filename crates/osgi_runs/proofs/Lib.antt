@@ -12,7 +12,6 @@ pub mod Plans
 pub mod Runs
 pub mod Sessions
 pub mod Settled
-pub mod Steps
 pub mod Taking
 pub mod Wholes
 pub mod Words

@@ -209,10 +209,6 @@ reads-one (goes x f y) = same-goes (reads-one x) f (reads-one y)
 reads-one (none e) = same-none e
 reads-one (took s x) = same-taken (reads-one s) (reads-one x)
 
--- nothing can be added to a whole run: the same calls and more leave just the more
-pub no-longer : {script : Sections} {t : Task} {end other : End} {calls left : List Call} → Reads script t end calls [] → Reads script t other calls left → left ≡ []
-no-longer x y = sym ((reads-one x).same _ _ y).1
-
 -- what is read does not depend on what stands behind it
 pub reads-frame : {script : Sections} {t : Task} {end : End} {calls left : List Call} (more : List Call) → Reads script t end calls left → Reads script t end (calls ++ more) (left ++ more)
 reads-frame more at_stop = at_stop

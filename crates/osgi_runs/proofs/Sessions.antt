@@ -149,7 +149,3 @@ run-closed {script} {caller} {line} after entries rest r d =
     let then : List Bracket → Type 0 = λ end. AreDue after end rest in
     let due = bound-of after caller line entries rest [] r.tagged d in
     balanced MAX_BRACKETS tag then r.follows.jobs None [] refl (balanced MAX_BRACKETS tag then r.follows.plan None [] (closes-plan system r.command) due)
-
-pub runs-closed : {script : Sections} {caller : ℕ} {entries : List Entry} (after : List Bracket → Type 0) → AreRuns script caller entries → AreDue after [] entries → after []
-runs-closed after none d = d
-runs-closed after (next {entries = entries} {rest = rest} r x) d = runs-closed after x (run-closed after entries rest r d)

@@ -23,9 +23,6 @@ module _ (l : Listening) (removed : Option BundleId) (world : World) where
     pub are : now ≡ old ++ added
     pub onward : (more : List Sight) → Tells l removed world shown place left more → Tells l removed world shown place asked (added ++ more)
 
-  pub begun : (shown : Shown) (place : ℕ) (asked : List ListenerId) (old : List Sight) → IsUnderway shown place asked asked old old
-  begun shown place asked old = record { added = []; are = sym (append-nil old); onward = λ more told. told }
-
   -- one more sees it
   pub one_sees : (shown : Shown) (place : ℕ) (asked left rest : List ListenerId) (listener : ListenerId) (seen : Event) (old now : List Sight) → IsUnderway shown place asked left old now → left ≡ listener ∷ rest →
       IsSeenBy l removed world shown listener seen → IsUnderway shown place asked rest old (now ++ record { listener = listener; place = place; event = seen } ∷ [])

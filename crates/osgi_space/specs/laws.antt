@@ -1,2 +1,1 @@
 -- Laws of the definitions, for the proofs of other crates. No promise cites them.
-pub mod Kept

@@ -22,11 +22,6 @@ place-in x [] at = absurd at
 place-in x (y ∷ xs) (inl same) = (zero, ap Some (sym same))
 place-in x (y ∷ xs) (inr later) = let rest = place-in x xs later in (suc rest.0, rest.1)
 
-pub in-place : {X : Type 0} (x : X) (xs : List X) (k : ℕ) → slice_get xs k ≡ Some x → In x xs
-in-place x [] k at = absurd (cc at)
-in-place x (y ∷ xs) zero at = let same : x ≡ y = cc at in inl same
-in-place x (y ∷ xs) (suc k) at = inr (in-place x xs k at)
-
 found-go : {X : Type 0} (p : X → Bool) (x found : X) (xs : List X) (test : Bool) → p x ≡ test → (find p xs ≡ Some found → In found xs × (p found ≡ true)) → cond test (Some x) (find p xs) ≡ Some found → In found (x ∷ xs) × (p found ≡ true)
 found-go p x found xs true passes rest is = let same : found ≡ x = cc is in (inl same, ap p same ∙ passes)
 found-go p x found xs false fails rest is = let later = rest is in (inr later.0, later.1)

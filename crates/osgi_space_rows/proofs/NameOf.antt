@@ -43,7 +43,3 @@ one_by names once i j None None here there same =
 
 pub name-one_to_one : (names : List (List ℕ)) → AreOnce names → (i j : ℕ) → name_numbered names i ≡ name_numbered names j → i ≡ j
 name-one_to_one names once i j same = one_by names once i j (slice_get names i) (slice_get names j) refl refl same
-
--- what is named so has the number of the name
-pub number-named : (names : List (List ℕ)) → AreOnce names → (i j : ℕ) (text : List ℕ) → HasNumber names text j → name_numbered names i ≡ text → i ≡ j
-number-named names once i j text has is = name-one_to_one names once i j (is ∙ sym (name-known names j text has))

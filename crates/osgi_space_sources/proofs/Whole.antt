@@ -1,6 +1,6 @@
 -- Loops after which something holds of each item of a list, or of each that was found.
 use Rattle.std.proofs.Common.{◌≡◌, inl, inr, ℕ, ◌+◌, ◌<◌, ◌≤◌, Bool, true, false, not, IsTrue, List, ◌++◌, length, get_or, take, refl, sym, ◌∙◌, ap, subst, arith, below_more, length-append, Contains}
-use Rattle.std.specs.Prelude.{Option, None, Some, unwrap_or}
+use Rattle.std.specs.Prelude.{Option, Some, unwrap_or}
 use Rattle.std.specs.Option.{ForSome}
 use Rattle.std.proofs.lemmas.Bool.{false≢true}
 use Rattle.std.proofs.lemmas.List.{get_or_append_left, get_or_default, take_all}
@@ -63,6 +63,3 @@ true-unless false not = absurd (not (λ t. false≢true t))
 
 pub for-one : {X : Type 0} (P : X → Type 0) (x : X) → P x → ForSome (Some x) P
 for-one P x p y e = subst P (ap (λ (o : Option _). unwrap_or o x) e) p
-
-pub for-none : {X : Type 0} (P : X → Type 0) → ForSome None P
-for-none P y e = let clash : None ≡ Some y = e in cc

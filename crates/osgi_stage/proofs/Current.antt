@@ -8,7 +8,7 @@ use Rattle.std.proofs.lemmas.List.Folds.{list_any-append}
 use Rattle.osgi_base.specs.declared.ids.BundleId.{BundleId}
 use Rattle.osgi_legal.specs.Quiet.{QuietBundles}
 use Rattle.osgi_ops.specs.Settings.{Setting}
-use Rattle.osgi_ops.specs.Bundles.{lists_bundle, Bundle, bundle_from, bundles, installed, is_live, is_uninstall, is_up, live, revisions, system}
+use Rattle.osgi_ops.specs.Bundles.{lists_bundle, Bundle, bundle_from, bundles, installed, is_live, is_uninstall, is_up, live, revisions}
 use Rattle.osgi_ops.specs.Conditions.{state_of}
 use Rattle.osgi_legal.specs.Legal.{AreAllowed, entry_of, IsAllowed, IsTold}
 use Rattle.osgi_ops.specs.Levels.{refresh}
@@ -207,7 +207,3 @@ pub up-resolved : (now : Moment) → IsTold now → (b : BundleId) → is_up (st
 up-resolved now t b up =
     let r = running-at now t b up in
     ap (λ o. option_map_or (λ (k : Known). is_in_use now.world.wirings k.id) o false) r.is ∙ in_use-from now.world.wirings r.known.id (inl r.in_force)
-
--- so is the system bundle
-pub system-resolved : (now : Moment) → IsTold now → is_resolved now.world system ≡ true
-system-resolved now t = up-resolved now t system refl

@@ -1,13 +1,13 @@
 -- What an entry of a legal history says while these operations have not come: each is of an operation that has come, or is refused as an
 -- invalid operation. So none updates or uninstalls a bundle, sets a level, begins a walk or a refresh, or has a bundle wait.
-use Rattle.std.proofs.Common.{◌≡◌, ◌+◌, ◌⊎◌, inl, inr, ℕ, length, Bool, true, false, List, [], ◌∷◌, refl, sym, ap, ◌∙◌, subst}
+use Rattle.std.proofs.Common.{◌≡◌, ◌⊎◌, inl, inr, Bool, true, false, List, [], ◌∷◌, refl, sym, ap, ◌∙◌, subst}
 use Rattle.std.specs.Prelude.{All, Option, None}
 use Rattle.std.specs.List.{cons_option, filter_map, last_or}
-use Rattle.std.proofs.lemmas.List.Elements.{All-append, All-cons, All-head, All-nil, All-push, All-tail, All-weaker}
+use Rattle.std.proofs.lemmas.List.Elements.{All-head, All-nil, All-push, All-tail, All-weaker}
 use Rattle.osgi_base.specs.declared.ids.BundleId.{BundleId}
 use Rattle.osgi_legal.specs.Quiet.{QuietRefresh}
 use Rattle.osgi_ops.specs.Along.{carry, latest}
-use Rattle.osgi_ops.specs.Bundles.{Installed, installed_after, installed_by, is_uninstall, updated_to}
+use Rattle.osgi_ops.specs.Bundles.{is_uninstall, updated_to}
 use Rattle.osgi_legal.specs.Legal.{AreAllowed, IsAllowed}
 use Rattle.osgi_ops.specs.Levels.{leveled, moved_to, Refresh, refresh_by, Walk, walk_by}
 use Rattle.osgi_ops.specs.Moments.{entries_in, Moment, moment, Told}
@@ -44,19 +44,6 @@ pub carry-still : {S A : Type 0} (step : S → A → S) (state : S) (xs : List A
 carry-still step state [] still = refl
 carry-still step state (x ∷ xs) still =
     ap (λ s. carry step s xs) (All-head (λ y. step state y ≡ state) x xs still) ∙ carry-still step state xs (All-tail (λ y. step state y ≡ state) x xs still)
-
--- what holds of all entries holds of those since an Install
-pub since-all : (P : Entry → Type 0) (history : List Entry) (n : ℕ) → All P history → All (λ (i : Installed). All P i.since) (installed_after n history)
-since-all P [] n all = All-nil (λ (i : Installed). All P i.since)
-since-all P (e ∷ since) n all =
-    let rest = All-tail P e since all in
-    let more : ℕ = n + length (installed_by n e.op e.reply since) in
-    All-append (λ (i : Installed). All P i.since) (installed_by n e.op e.reply since) (installed_after more since) (here e.op e.reply rest) (since-all P since more rest)
-  where
-    here : (o : Op) (y : Reply) → All P since → All (λ (i : Installed). All P i.since) (installed_by n o y since)
-    here (op.Install location) (answer.Bundle bundle false) rest =
-        All-cons (λ (i : Installed). All P i.since) (record { bundle = record { 0 = n + 1 }; location = location; since = since }) [] rest (All-nil (λ (i : Installed). All P i.since))
-    here o y rest = All-nil (λ (i : Installed). All P i.since)
 
 -- ---- what has come says nothing of these
 

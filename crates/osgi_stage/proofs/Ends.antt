@@ -1,36 +1,30 @@
 -- The end of a bundle's own bracket finds the bundle starting, or stopping, since the asking command's own begin. That of a listener's finds
 -- it in the turn that the asking command's own hand began.
-use Rattle.std.proofs.Common.{◌≡◌, inl, inr, List, [], ◌∷◌, ◌++◌, Bool, true, false, refl, sym, ap, ◌∙◌, subst}
-use Rattle.std.specs.Prelude.{◌==◌, None, Some}
-use Rattle.std.proofs.lemmas.Bool.{and_parts, eq-eqb, eqb-true, false_from_ne_true, true_from_ne_false}
+use Rattle.std.proofs.Common.{◌≡◌, inl, inr, List, [], ◌∷◌, Bool, true, false, refl, sym, ap, ◌∙◌, subst}
+use Rattle.std.specs.Prelude.{◌==◌, Some}
+use Rattle.std.proofs.lemmas.Bool.{and_parts, eq-eqb, eqb-true, false_from_ne_true}
 use Rattle.osgi_base.specs.declared.ids.BundleId.{BundleId}
-use Rattle.osgi_base.specs.declared.ids.ListenerId.{ListenerId}
 use Rattle.osgi_base.specs.declared.ids.Tag.{Tag}
 use Rattle.osgi_ops.specs.Brackets.{bracket, Bracket, brackets, Cause, closes, ends, own_closes}
 use Rattle.osgi_ops.specs.Brackets as cause
 use Rattle.osgi_ops.specs.Bundles as bundles
 use Rattle.osgi_ops.specs.Bundles.{active, idle, is_live, is_up, last_begin, phase, Phase, running, system}
-use Rattle.osgi_legal.specs.Legal.{entry_of, IsTold}
-use Rattle.osgi_ops.specs.Listening.{is_in_turn, is_turn_of}
+use Rattle.osgi_legal.specs.Legal.{IsTold}
 use Rattle.osgi_ops.specs.Moments.{Moment}
 use Rattle.osgi_ops.specs.Resolved.{is_resolved}
 use Rattle.osgi_ops.specs.declared.op.Op.{Op}
 use Rattle.osgi_ops.specs.declared.op.Op.TheVariants as op
-use Rattle.osgi_ops.specs.declared.reply.Reply.{Reply}
 use Rattle.osgi_world.specs.Lists.{In}
-use Rattle.osgi_ops.specs.laws.Brackets.{brackets-last}
 use Rattle.osgi_ops.specs.laws.Items.{In-filter, In-kept}
 use Rattle.osgi_stage.proofs.Current.{up-resolved}
-use Rattle.osgi_legal.proofs.Facts.{fit-at, turns-at}
-use Rattle.osgi_legal.proofs.Innermost.{closed-one}
+use Rattle.osgi_legal.proofs.Facts.{fit-at}
 use Rattle.osgi_legal.proofs.Legal.{at-told}
-use Rattle.osgi_legal.proofs.Listening.{HasEnded, has-ended, is_turn}
+use Rattle.osgi_legal.proofs.Listening.{has-ended}
 use Rattle.osgi_legal.proofs.Owned.{closes-own, of}
 use Rattle.osgi_legal.proofs.Phases.{brackets_for, Fits, is_bracket_for, is_for, same-id, state-by}
 use Rattle.osgi_legal.proofs.Busy.{busy-live}
 use Rattle.osgi_stage.proofs.StateReadings.{IsIn}
 use Rattle.osgi_legal.proofs.SystemIdle.{system-idle-at}
-use Rattle.osgi_legal.proofs.Turns.{AreTurns, none-left, none-passes, turn-cause, turns_of}
 use Rattle.osgi_legal.proofs.Up.{is_idle}
 
 -- the innermost bracket of the caller, where the operation is its end
@@ -135,58 +129,3 @@ own-start-live now t b failed c = busy-in now t b bundles.starting (own-start no
 
 pub own-stop-live : (now : Moment) → IsTold now → (b : BundleId) (failed : Bool) → closes now.tag (op.EndStop b failed) (brackets now.before) ≡ true → IsIn now b bundles.stopping true
 own-stop-live now t b failed c = busy-in now t b bundles.stopping (own-stop now t b failed c).0 refl refl
-
--- ---- the end of a hand
-
-hand-for : (listener : ListenerId) (c : Cause) → ends (op.EndHand listener) c ≡ true → is_turn_of listener c ≡ true
-hand-for listener (cause.handing held) e = eq-eqb held.0 listener.0 (sym (eqb-true listener.0 held.0 e))
-hand-for listener (cause.starting b) e = absurd (cc e)
-hand-for listener (cause.stopping b) e = absurd (cc e)
-hand-for listener cause.job e = absurd (cc e)
-hand-for listener (cause.making m) e = absurd (cc e)
-
--- an EndHand that is the end of its caller's innermost bracket finds the one that this very tag's hand to the listener opened
-pub innermost-hand : (now : Moment) (listener : ListenerId) → closes now.tag (op.EndHand listener) (brackets now.before) ≡ true →
-    (outer : List Bracket) × (of now.tag.caller (brackets now.before) ≡ bracket now.tag (cause.handing listener) ∷ outer)
-innermost-hand now listener c =
-    let i = inner now.tag (op.EndHand listener) (brackets now.before) c in
-    let hand : i.0.cause ≡ cause.handing listener = turn-cause listener i.0.cause (hand-for listener i.0.cause i.1.ended) in
-    let is : i.0 ≡ bracket now.tag (cause.handing listener) = (λ j. record { tag = i.1.by j; cause = hand j }) in
-    (i.1.first.0, i.1.first.1 ∙ ap (λ x. x ∷ i.1.first.0) is)
-
--- it is the listener's only turn
-pub own-hand : (now : Moment) → IsTold now → (listener : ListenerId) → closes now.tag (op.EndHand listener) (brackets now.before) ≡ true → turns_of listener (brackets now.before) ≡ bracket now.tag (cause.handing listener) ∷ []
-own-hand now t listener c = by (is_in_turn listener now.before) (turns-at now t listener)
-  where
-    i : (x : Bracket) × IsInner now.tag (op.EndHand listener) (brackets now.before) x
-    i = inner now.tag (op.EndHand listener) (brackets now.before) c
-
-    turn : is_turn_of listener i.0.cause ≡ true
-    turn = hand-for listener i.0.cause i.1.ended
-
-    among : In i.0 (turns_of listener (brackets now.before))
-    among = In-kept (is_turn listener) (brackets now.before) i.0 i.1.there turn
-
-    by : (k : Bool) → AreTurns listener k (turns_of listener (brackets now.before)) → turns_of listener (brackets now.before) ≡ bracket now.tag (cause.handing listener) ∷ []
-    by false none = absurd (elim (subst (In i.0) none among) [ ])
-    by true (tag, one) =
-        let x : i.0 ≡ bracket tag (cause.handing listener) = only i.0 _ (subst (In i.0) one among) in
-        let same : tag ≡ now.tag = sym (ap (λ (y : Bracket). y.tag) x) ∙ i.1.by in
-        one ∙ ap (λ g. bracket g (cause.handing listener) ∷ []) same
-
-pub own-hand-turn : (now : Moment) → IsTold now → (listener : ListenerId) → closes now.tag (op.EndHand listener) (brackets now.before) ≡ true → is_in_turn listener now.before ≡ true
-own-hand-turn now t listener c = true_from_ne_false _ (λ e.
-    let none : turns_of listener (brackets now.before) ≡ [] = none-left (is_turn listener) (brackets now.before) e in
-    (let bad : [] ≡ bracket now.tag (cause.handing listener) ∷ [] = sym none ∙ own-hand now t listener c in cc bad))
-
--- after it the listener is in no turn
-pub hand-ended : (now : Moment) → IsTold now → (listener : ListenerId) (reply : Reply) → closes now.tag (op.EndHand listener) (brackets now.before) ≡ true →
-    is_in_turn listener (now.before ++ entry_of now (op.EndHand listener) reply ∷ []) ≡ false
-hand-ended now t listener reply c =
-    none-passes (is_turn listener) (brackets (now.before ++ entry_of now (op.EndHand listener) reply ∷ []))
-    (ap (turns_of listener) (brackets-last now.before (entry_of now (op.EndHand listener) reply))
-    ∙ closed-one (is_turn listener) now.tag None (closes now.tag (op.EndHand listener) (brackets now.before)) (brackets now.before) h.bracket h.outer refl c h.is
-    (hand-for listener h.bracket.cause h.ended) (inr (bracket now.tag (cause.handing listener), own-hand now t listener c)))
-  where
-    h : HasEnded now.tag (op.EndHand listener) (brackets now.before)
-    h = has-ended now.tag (op.EndHand listener) (brackets now.before) c

@@ -2,29 +2,24 @@
 -- its level, no open bracket is for a make, nothing was made, nobody waits, each service has one object for all, and no load adds a wire.
 -- Each fact holds at each moment of a legal history.
 use Rattle.std.proofs.Common.{◌≡◌, inl, Bool, true, false, List, [], ◌∷◌, refl, sym, ap, ◌∙◌, subst}
-use Rattle.std.specs.Prelude.{◌==◌, ◌&&◌, find, not, cond, nat_lt, ℕ, All, filter, IsSomeAnd, MatchBool, Option, None, Some, unwrap_or}
+use Rattle.std.specs.Prelude.{◌==◌, ◌&&◌, find, not, cond, nat_lt, ℕ, All, IsSomeAnd, MatchBool, Option, None, Some, unwrap_or}
 use Rattle.std.specs.Option.{option_map, option_map_or}
 use Rattle.std.proofs.lemmas.Bool.{and_right}
-use Rattle.std.proofs.lemmas.List.Elements.{All-head, All-tail, All-weaker}
-use Rattle.std.proofs.lemmas.List.Folds.{list_any_none}
+use Rattle.std.proofs.lemmas.List.Elements.{All-weaker}
 use Rattle.osgi_base.specs.declared.ids.BundleId.{BundleId}
 use Rattle.osgi_base.specs.declared.ids.RevisionId.{RevisionId}
 use Rattle.osgi_base.specs.declared.ids.ServiceId.{ServiceId}
 use Rattle.osgi_ops.specs.Assignable.{package_of}
-use Rattle.osgi_legal.specs.Askers.{MayAsk}
 use Rattle.osgi_ops.specs.Brackets.{brackets, closes}
-use Rattle.osgi_ops.specs.Bundles as bundles
-use Rattle.osgi_ops.specs.Bundles.{Active, Installed, installed, is_there, is_active, is_uninstall, source, system, updated_to}
+use Rattle.osgi_ops.specs.Bundles.{is_active}
 use Rattle.osgi_ops.specs.Conditions.{is_kept, is_level_too_high, lesser, refreshing_where, state_of}
-use Rattle.osgi_ops.specs.Dynamic.{IsAdded}
 use Rattle.osgi_legal.specs.Legal.{IsTold}
 use Rattle.osgi_ops.specs.Levels.{active_level, level_of, leveled, moved_to, Refresh, refresh, refresh_by, Walk, walk, walk_by}
 use Rattle.osgi_ops.specs.Moments.{Moment}
-use Rattle.osgi_ops.specs.Objects.{objects}
 use Rattle.osgi_ops.specs.Services.{live_service_at, made_uses, Registered}
 use Rattle.osgi_ops.specs.Waiting.{is_waiting, waiting}
 use Rattle.osgi_legal.specs.Operations.{IsReply, IsRow}
-use Rattle.osgi_legal.specs.Stages.{dynamics_here, is_here}
+use Rattle.osgi_legal.specs.Stages.{is_here}
 use Rattle.osgi_ops.specs.declared.entry.Entry.{Entry}
 use Rattle.osgi_ops.specs.declared.op.Op.{Op}
 use Rattle.osgi_ops.specs.declared.op.Op.TheVariants as op
@@ -33,17 +28,13 @@ use Rattle.osgi_ops.specs.declared.refusal.Refusal.TheVariants as no
 use Rattle.osgi_ops.specs.declared.refusal.Refusal.TheVariants.{InvalidOperation}
 use Rattle.osgi_ops.specs.declared.reply.Reply.TheVariants as answer
 use Rattle.osgi_ops.specs.declared.scope.Scope.TheVariants.{Singleton}
-use Rattle.osgi_ops.specs.laws.Dynamic.{none-added}
-use Rattle.osgi_ops.specs.laws.Makes.{objects-none}
 use Rattle.osgi_ops.specs.laws.Services.{made_uses-none, MakesNone}
 use Rattle.osgi_ops.specs.laws.Waiting.{none-waiting, NoneWaits, not-waiting}
 use Rattle.osgi_ops.specs.rows.Bundles.{names_package, wakes, woken}
 use Rattle.osgi_world.specs.declared.revision.Policy.{Policy}
-use Rattle.osgi_world.specs.declared.wiring.Wire.{Wire}
 use Rattle.osgi_world.specs.declared.world.Known.{Known}
-use Rattle.osgi_world.specs.declared.world.World.{World}
 use Rattle.osgi_legal.specs.laws.Stages.{row-here}
-use Rattle.osgi_stage.proofs.Early.{all-early, carry-still, early-calm, IsCalm, IsEarly, latest-none, since-all}
+use Rattle.osgi_stage.proofs.Early.{all-early, carry-still, early-calm, IsCalm, IsEarly, latest-none}
 use Rattle.osgi_legal.proofs.Legal.{at-told}
 use Rattle.osgi_stage.proofs.Singletons.{all-single, AreSingle, live-single}
 use Rattle.osgi_stage.proofs.Opened.{AreNotLate, make-ends-none, makes-none, opened-so}
@@ -113,56 +104,6 @@ never-above now t b =
 pub never-kept : (now : Moment) → IsTold now → (b : BundleId) → is_kept now b ≡ false
 never-kept now t b = and_right (not (is_active (state_of now b))) (is_level_too_high now b) (never-above now t b)
 
--- ---- which bundles there are
-
-since-each : (P : Entry → Type 0) → ((e : Entry) → IsCalm e.op e.reply → P e) → (now : Moment) → IsTold now → All (λ (i : Installed). All P i.since) (installed now.before)
-since-each P says now t = since-all P now.before 0 (each P says now t)
-
-filter-passed : {X : Type 0} (p : X → Bool) (xs : List X) → All (λ x. p x ≡ true) xs → filter p xs ≡ xs
-filter-passed p [] all = refl
-filter-passed p (x ∷ xs) all =
-    ap (λ k. cond k (x ∷ filter p xs) (filter p xs)) (All-head (λ y. p y ≡ true) x xs all) ∙ ap (λ l. x ∷ l) (filter-passed p xs (All-tail (λ y. p y ≡ true) x xs all))
-
--- Each bundle that was installed is live.
-pub all-stay : (now : Moment) → IsTold now → bundles.live now.before ≡ installed now.before
-all-stay now t =
-    filter-passed is_there (installed now.before)
-    (All-weaker (λ (i : Installed). All Stays i.since) (λ i. is_there i ≡ true) there (installed now.before) (since-each Stays (λ e c. c.gone) now t))
-  where
-    Stays : Entry → Type 0
-    Stays e = (b : BundleId) → is_uninstall b e.op e.reply ≡ false
-
-    there : (i : Installed) → All Stays i.since → is_there i ≡ true
-    there i stays =
-        ap not (list_any_none (λ (e : Entry). is_uninstall i.bundle e.op e.reply) i.since (All-weaker Stays (λ e. is_uninstall i.bundle e.op e.reply ≡ false) (λ e s. s i.bundle) i.since stays))
-
--- Each has its revision from the location that it was installed from: of all that were installed, and so of the live ones.
-pub own-source : (now : Moment) → IsTold now → All (λ (i : Installed). source i ≡ i.location) (installed now.before)
-own-source now t = All-weaker (λ (i : Installed). All Stays i.since) (λ i. source i ≡ i.location) from (installed now.before) (since-each Stays (λ e c. c.updated) now t)
-  where
-    Stays : Entry → Type 0
-    Stays e = (b : BundleId) → updated_to b e.op e.reply ≡ None
-
-    from : (i : Installed) → All Stays i.since → source i ≡ i.location
-    from i stays =
-        ap (λ (o : Option (List ℕ)). unwrap_or o i.location)
-        (latest-none (λ (e : Entry). updated_to i.bundle e.op e.reply) i.since (All-weaker Stays (λ e. updated_to i.bundle e.op e.reply ≡ None) (λ e s. s i.bundle) i.since stays))
-
-pub live-source : (now : Moment) → IsTold now → All (λ (i : Installed). source i ≡ i.location) (bundles.live now.before)
-live-source now t = subst (All (λ (i : Installed). source i ≡ i.location)) (sym (all-stay now t)) (own-source now t)
-
--- ---- states
-
--- The system bundle is active, at every moment.
-pub system-active : (now : Moment) → state_of now system ≡ Active
-system-active now = refl
-
--- ---- who asks
-
--- The system bundle may ask, at every moment.
-pub system-passes : (now : Moment) → MayAsk now (Some system)
-system-passes now = (refl, refl)
-
 -- ---- factories
 
 -- Each service that was registered has one object for all, and so each that is live.
@@ -179,9 +120,6 @@ makes-none-at now t = at-told (λ m. All (λ (e : Entry). MakesNone e.op e.reply
 -- So no use of a service began with a make, and nobody holds an object that was made for it.
 pub no-made-uses : (now : Moment) → IsTold now → made_uses now.before ≡ []
 no-made-uses now t = made_uses-none now.before (makes-none-at now t)
-
-pub no-objects : (now : Moment) → IsTold now → objects now.before ≡ []
-no-objects now t = objects-none now.before (makes-none-at now t)
 
 -- The end of a make ends no bracket, and is refused as an invalid operation.
 pub no-make-ends : (now : Moment) → IsTold now → (failed : Bool) → closes now.tag (op.EndMake failed) (brackets now.before) ≡ false
@@ -218,9 +156,3 @@ wakes-none now t by pack k = ap (λ w. k.current && (k.id.0 == by.0) && w && nam
 pub none-woken : (now : Moment) → IsTold now → (class : List ℕ) (by : Option RevisionId) → woken now class by ≡ None
 none-woken now t class None = refl
 none-woken now t class (Some by) = ap (option_map (λ (k : Known). k.bundle)) (find-nothing (wakes now by (package_of class)) now.world.known (wakes-none now t by (package_of class)))
-
--- ---- loads
-
--- No load adds a wire.
-pub none-added-here : (world : World) (bundle : BundleId) (class : List ℕ) (wire : Option Wire) → IsAdded dynamics_here world bundle class wire → wire ≡ None
-none-added-here world bundle class wire is = none-added world bundle class wire is

@@ -13,8 +13,7 @@ use Rattle.osgi_legal.specs.Quiet.{QuietBundles, SameBundles}
 use Rattle.osgi_legal.specs.States.{resolved_at, resolves_by, state_at}
 use Rattle.osgi_ops.specs.Bundles.{lists_bundle, Bundle, bundle_from, bundles, Installed, installed, installed_by, is_live, is_uninstall, live, phase, revisions, row_from, running, source, state, system, the_system_bundle, Active, Uninstalled, updated_to}
 use Rattle.osgi_ops.specs.Closures.{attached, DependsOn, hosting, IsClosed}
-use Rattle.osgi_ops.specs.Conditions.{depot_refusal}
-use Rattle.osgi_ops.specs.Depots.{stored_revision, revision_in, row_number}
+use Rattle.osgi_ops.specs.Depots.{stored_revision, row_number}
 use Rattle.osgi_legal.specs.Legal.{AreAllowed, entry_of, IsAllowed}
 use Rattle.osgi_ops.specs.Levels.{Refresh, refresh}
 use Rattle.osgi_ops.specs.Moments.{entries_in, first_world, Moment, moment, Told, world_after}
@@ -27,8 +26,6 @@ use Rattle.osgi_ops.specs.Worlds.{Brings, dropped, stays_known, Leaves, passed, 
 use Rattle.osgi_ops.specs.laws.Resolved.{in_use-from, in_use-true}
 use Rattle.osgi_ops.specs.rows.Bundles.{installs}
 use Rattle.osgi_ops.specs.declared.depot.DepotRow.{DepotRow}
-use Rattle.osgi_ops.specs.declared.depot.Stored.{Stored}
-use Rattle.osgi_ops.specs.declared.depot.Stored.TheVariants as stored
 use Rattle.osgi_ops.specs.declared.entry.Entry.{Entry}
 use Rattle.osgi_ops.specs.declared.op.Op.{Op}
 use Rattle.osgi_ops.specs.declared.op.Op.TheVariants as op
@@ -100,16 +97,6 @@ row-on depot h e c i stays reads = go (Contains-cases the_system_bundle _ c i)
     go : (the_system_bundle ≡ c) ⊎ Contains (filter_map (row_from depot) (live h)) c → Goal
     go (inl s) = (the_system_bundle, Contains-first the_system_bundle _, ap (λ (x : Bundle). x.bundle) s)
     go (inr j) = let l = Contains-filter_map (row_from depot) (live h) c j in by l.0 l.1 l.2 (updated_to l.0.bundle e.op e.reply) refl
-
--- what the depot does not refuse it has
-readable : (s : Option Stored) → ((f : Refusal) → depot_refusal s ≡ Some f → ⊥) → (v : Revision) × (revision_in s ≡ Some v)
-readable None n = absurd (n no.NoFolder refl)
-readable (Some stored.Skipped) n = absurd (n _ refl)
-readable (Some (stored.Failed before after)) n = absurd (n _ refl)
-readable (Some (stored.TooLarge bytes files)) n = absurd (n _ refl)
-readable (Some stored.NoFolder) n = absurd (n _ refl)
-readable (Some (stored.Bad fault)) n = absurd (n _ refl)
-readable (Some (stored.Read revision manifest)) n = (revision, refl)
 
 -- ---- what is kept
 

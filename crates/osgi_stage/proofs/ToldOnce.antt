@@ -4,11 +4,11 @@ use Rattle.std.specs.Prelude.{Bool, true, false, Option, None, Some, IsSomeAnd}
 use Rattle.osgi_base.specs.declared.ids.BundleId.{BundleId}
 use Rattle.osgi_resolver_theory.proofs.Once.{wirings-once}
 use Rattle.osgi_ops.specs.Along.{AllAlong}
-use Rattle.osgi_legal.specs.Legal.{entry_of, IsAllowed, IsReplayed, IsTold}
+use Rattle.osgi_legal.specs.Legal.{entry_of, IsAllowed, IsReplayed}
 use Rattle.osgi_legal.specs.Operations.{IsReply}
 use Rattle.osgi_ops.specs.Levels.{Refresh, refresh}
 use Rattle.osgi_ops.specs.Listening.{AreSights}
-use Rattle.osgi_ops.specs.Moments.{entries_in, Moment, moment, sights_in, Told, world_after}
+use Rattle.osgi_ops.specs.Moments.{entries_in, Moment, moment, Told}
 use Rattle.osgi_ops.specs.Resolved.{is_resolved}
 use Rattle.osgi_ops.specs.Resolving.{IsResolvedTo, Resolves}
 use Rattle.osgi_ops.specs.Settings.{Setting}
@@ -76,10 +76,3 @@ told_from setting before (s ∷ one) (t ∷ other) same first second =
 
 pub told-once : (setting : Setting) (history : List Entry) (w v : World) (one : IsReplayed setting history w) (other : IsReplayed setting history v) → one.told ≡ other.told
 told-once setting history w v one other = told_from setting [] one.told other.told (one.tells ∙ sym other.tells) one.allowed other.allowed
-
--- so two moments of a legal history with the same setting and entries have one world and the same sights
-pub moments-once : (now next : Moment) → now.setting ≡ next.setting → now.before ≡ next.before → IsTold now → IsTold next → (now.world ≡ next.world) × (now.sights ≡ next.sights)
-moments-once now next setting before one other =
-    let same : one.told ≡ other.told =
-    told_from next.setting [] one.told other.told (one.tells ∙ before ∙ sym other.tells) (subst (λ s. AllAlong (IsAllowed s) [] one.told) setting one.allowed) other.allowed in
-    (sym one.ends ∙ ap world_after same ∙ other.ends, sym one.seen ∙ ap sights_in same ∙ other.seen)

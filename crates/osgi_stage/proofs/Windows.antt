@@ -206,9 +206,6 @@ anew m o y after n count t quiet none = record {
   window = λ r e d. absurd (none r (sym quiet ∙ sym (refresh-last m.before (entry_of m o y)) ∙ e) d);
 }
 
-not-system : (b : BundleId) → (b ≡ system → ⊥) → b ≡ system → ⊥
-not-system b n = n
-
 by-install : (m : Moment) (location : List ℕ) (y : Reply) (after : World) → IsReply m (op.Install location) y → is_accepted y ≡ true → Leaves m (op.Install location) y after → IsKept m.before m.world →
     IsKept (m.before ++ entry_of m (op.Install location) y ∷ []) after
 by-install m location y after r acc l k = go (bundle_from m.setting.depot m.before location) (accepted m (op.Install location) y r acc).1

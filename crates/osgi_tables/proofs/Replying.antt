@@ -8,7 +8,6 @@ use Rattle.osgi_brackets.specs.Open.{HoldsSame, open_of}
 use Rattle.osgi_brackets.specs.Open as callers
 use Rattle.osgi_brackets.specs.declared.brackets.Brackets.{Brackets}
 use Rattle.osgi_brackets.specs.laws.Following.{quiet-after}
-use Rattle.osgi_bundle.specs.Rows.{TableRows}
 use Rattle.osgi_bundle.specs.Stands as bundle
 use Rattle.osgi_bundle.specs.laws.Standing as table
 use Rattle.osgi_legal.specs.Askers.{MayAsk}
@@ -45,12 +44,11 @@ use Rattle.osgi_registry.specs.Stands as registries
 use Rattle.osgi_registry.specs.laws.Standing as registry
 use Rattle.osgi_sights.specs.Shown.{AreShown, Shown}
 use Rattle.osgi_sights.specs.laws.Standing.{nothing_seen}
-use Rattle.osgi_wiring.specs.States.{WiringState}
 use Rattle.osgi_world.specs.declared.world.World.{World}
 use Rattle.osgi_tables.proofs.Asking.{here_asks, passed_by}
 use Rattle.osgi_tables.proofs.Hearing.{closes_none, heard_kept, KeepsListeners, quiet_keeps}
 use Rattle.osgi_tables.specs.Asked.{asker_here, asker_refusal}
-use Rattle.osgi_tables.specs.Replied.{EachTime, IsAnswered, IsAnsweredToAll, IsReplied, IsSame, StandsFor, StandsStill}
+use Rattle.osgi_tables.specs.Replied.{EachTime, IsAnswered, IsAnsweredToAll, IsReplied, StandsFor, StandsStill}
 use Rattle.osgi_tables.specs.Changes.{IsReplyAndChange, IsReplyAndChangeToAll}
 use Rattle.osgi_tables.specs.declared.change.Change.{Change}
 use Rattle.osgi_tables.specs.declared.change.Change.TheVariants as change
@@ -275,22 +273,6 @@ on_err (Ok x) p = tt
 on_err (Err e) p = p
 
 -- ---- tables that are left as they were
-
-pub stays_same : (tables : Tables) (rows : TableRows) (after : WiringState) → rows ≡ tables.bundles → IsSame tables.wirings after → StandsStill tables (record tables { bundles = rows; wirings = after })
-stays_same tables rows after same is = λ now stood. record {
-  depot = stood.depot;
-  budget = stood.budget;
-  services = stood.services;
-  bundles = subst (bundle.StandsFor now.setting.depot now.before now.world) (sym same) stood.bundles;
-  brackets = stood.brackets;
-  world = is.world ∙ stood.world;
-  issued = is.issued ∙ stood.issued;
-  sound = stood.sound;
-  listeners = stood.listeners;
-  small = stood.small;
-  handings = stood.handings;
-  jobs = stood.jobs;
-}
 
 -- where each caller has the brackets that it had
 pub stays_open : (tables : Tables) (kept : Brackets) → HoldsSame tables.brackets kept → StandsStill tables (record tables { brackets = kept })

@@ -36,9 +36,6 @@ pub record HearsAlike (old new : Listening) : Type 0 where
   pub turns : new.turns ≡ old.turns
   pub issued : new.issued ≡ old.issued
 
-alike_same : (l : Listening) → HearsAlike l l
-alike_same l = record { rows = refl; turns = refl; issued = refl }
-
 -- what stands for the one stands for the other
 pub stands_alike : (sights : List Seen) (history : List Entry) (old new : Listening) → HearsAlike old new → hearing.StandsFor sights history old → hearing.StandsFor sights history new
 stands_alike sights history old new alike stands = record {

@@ -110,9 +110,6 @@ told_none entries l = record { rows = rows l.rows; turns = refl; issued = refl }
 
 module _ (entries : ℕ) (asked : Asked) (old mid : Tables) (reply : Reply) (c : Change) (sights : List Sight) (decided : IsReplyAndChange asked old reply c) (so : IsChangedSo c old mid)
     (seen : AreSightsOf old.listeners (cleaned_in c) old.wirings.world (happened c old.registry old.bundles) sights) (small : All (λ (s : Sight). s.place < 4294967296) sights) where
-  shown_all : List Shown
-  shown_all = happened c old.registry old.bundles
-
   answered : IsAnswered asked old (with_listeners so.listeners mid) reply (happened c old.registry old.bundles)
   answered = decided.answered (with_listeners so.listeners mid) so.changes
 

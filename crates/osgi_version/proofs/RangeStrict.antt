@@ -19,9 +19,6 @@ use Rattle.osgi_version.specs.declared.range_state.RangeState.{RangeState}
 use Rattle.osgi_version.specs.declared.range_state.RangeState.TheVariants.{Before, Plain, Low, High, Closed}
 use Rattle.osgi_version.proofs.RangeSeen.{IsInner}
 
-strict : VersionState → ℕ → Option VersionState
-strict = advance is_fine step true
-
 pub loose_inner : IsInner step SpellsVersion
 loose_inner = record {
   within = λ v u b e. e;

@@ -58,9 +58,6 @@ pub use-known : {K L : List Known} {W : List Wiring} (g : Grown K L W) (r : Revi
 use-known g r (inl i) = in_force-known g i
 use-known g r (inr a) = attached-known g a.1
 
-pub wire-holder : {W : List Wiring} {r : RevisionId} {w : Wire} → HasWire W r w → InForce W r
-wire-holder h = record { wiring = h.wiring; stands = h.stands; revision = h.revision }
-
 attached-holder : {W : List Wiring} {r f : RevisionId} → Attached W r f → InForce W r
 attached-holder h = record { wiring = h.wiring; stands = h.stands; revision = h.revision }
 

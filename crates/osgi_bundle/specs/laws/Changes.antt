@@ -37,9 +37,6 @@ no_system bundle table other depot history world stands own =
     by false is first more active given = absurd (cc is)
 
 module _ (depot : List DepotRow) (history : List Entry) (world : World) (phase : Phase) (bundle : BundleId) (e : Entry) (puts : Puts phase bundle e) where
-  after : List Entry
-  after = history ++ e ∷ []
-
   -- other bundles are kept as they were
   others_put : (b : Bundle) → ¬ (b.bundle.0 ≡ bundle.0) → kept_of world history b ≡ kept_of world (history ++ e ∷ []) b
   others_put b other =

@@ -78,12 +78,6 @@ module _ (depot : List DepotRow) (history : List Entry) (world : World) (id : Bu
 -- ---- targets
 
 module _ (now : Moment) (table : TableRows) (stands : StandsFor now.setting.depot now.before now.world table) where
-  all : List Bundle
-  all = bundles now.setting.depot now.before
-
-  kept : Bundle → BundleKept
-  kept = kept_of now.world now.before
-
   in_rows : (b : Bundle) → Contains (bundles now.setting.depot now.before) b → Contains table.rows (kept_of now.world now.before b)
   in_rows b there = subst (λ l. Contains l (kept_of now.world now.before b)) (sym stands.rows) (contains_map (kept_of now.world now.before) (bundles now.setting.depot now.before) b there)
 

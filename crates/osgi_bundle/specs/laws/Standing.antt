@@ -245,10 +245,6 @@ rows_shown now table stands levels none =
     ∙ map_twice row_of (kept_of now.world now.before) (bundles now.setting.depot now.before)
     ∙ (λ i. map (λ b. record (bundle_row now b) { level = sym (levels b.bundle) i; state = cond (sym (none b.bundle) i) STARTING (number_of (state_of now b.bundle)) }) (bundles now.setting.depot now.before))
 
--- as many rows as bundles
-pub rows_count : (depot : List DepotRow) (history : List Entry) (world : World) (table : TableRows) → StandsFor depot history world table → length table.rows ≡ length (bundles depot history)
-rows_count depot history world table stands = ap length stands.rows ∙ length-map (bundles depot history) (kept_of world history)
-
 -- ---- bundles of one name and version
 
 pub contains_of : {X Y : Type 0} (f : X → Y) (xs : List X) (y : Y) → Contains (map f xs) y → (x : X) × Contains xs x × (y ≡ f x)

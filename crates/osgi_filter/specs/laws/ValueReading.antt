@@ -131,10 +131,6 @@ equal_sound text (f ∷ fs) (s ∷ ms) k = rw (equal_pieces (f ∷ fs) s ms (λ 
 
 -- ---- the value of =, by the pieces
 
-lone_first : (bytes : List ℕ) → closes bytes ≡ true → (more : List ℕ) × (bytes ≡ 41 ∷ more)
-lone_first [] h = absurd (false≢true h)
-lone_first (b ∷ bs) h = (bs, ap (λ (x : ℕ). x ∷ bs) (eqb-true b 41 h))
-
 -- a test, or a text, of the pieces
 abbrev paired : (A : Type 0) → (List (List ℕ) → A) → List (List ℕ) × List ℕ → Result (A × List ℕ) ℕ
 paired A f v = Ok (f v.0, v.1)

@@ -14,7 +14,7 @@ use Rattle.std.proofs.lemmas.List.Elements.{All-nil}
 use Rattle.std.proofs.lemmas.List.Kept.{AllPairs-cons}
 use Rattle.osgi_base.specs.declared.ids.ListenerId.{ListenerId}
 use Rattle.osgi_base.specs.declared.ids.Tag.{Tag}
-use Rattle.osgi_listeners.specs.Rows.{AreInOrder, AreRising, busy_in, busy_of, has_waiting, id_of, is_busy, is_listener as is_row_of, Listening, RiseFrom, Row, row_at, tag_of, is_open}
+use Rattle.osgi_listeners.specs.Rows.{AreRising, busy_in, busy_of, has_waiting, id_of, is_busy, is_listener as is_row_of, Listening, RiseFrom, Row, row_at, tag_of, is_open}
 use Rattle.osgi_listeners.specs.declared.row.Waiting.{Waiting}
 use Rattle.osgi_ops.specs.Brackets.{Bracket, bracket, brackets, Cause}
 use Rattle.osgi_ops.specs.Listening.{handed_in, is_listener, is_turn_of, listeners, spot_of}
@@ -173,9 +173,6 @@ busy-rise p (e ∷ es) h = by (p e) (busy-rise p es (tail es h))
     by : (k : Bool) → AllPairs (λ (a b : Busy). a.listener.0 < b.listener.0) (map busy_of (filter p es)) → AllPairs (λ (a b : Busy). a.listener.0 < b.listener.0) (map busy_of (cond k (e ∷ filter p es) (filter p es)))
     by true ih = AllPairs-cons (λ (a b : Busy). a.listener.0 < b.listener.0) (busy_of e) (map busy_of (filter p es)) (busy-above p e.0 es h) ih
     by false ih = ih
-
-pub busy_rising : (l : Listening) → AreInOrder l → AllPairs (λ (a b : Busy). a.listener.0 < b.listener.0) (busy_in l)
-busy_rising l order = busy-rise (is_busy l.rows) l.turns order.turns
 
 pub answers-nothing :
     (now : Moment) (l : Listening) → AreHandedFirst now.sights now.before → AreTurnsApart (brackets now.before) → StandsFor now.sights now.before l → All (λ row. is_open l.turns row ≡ false) l.rows →

@@ -15,9 +15,8 @@ use Rattle.std.specs.Option.{option_map}
 use Rattle.std.proofs.lemmas.Bool.{cases_eq, cases_lt, eq-eqb, eqb-true, lt-ltb}
 use Rattle.std.proofs.lemmas.List.{length-map, map-append, take-append-drop}
 use Rattle.osgi_base.specs.declared.ids.ListenerId.{ListenerId}
-use Rattle.osgi_listeners.specs.Rows.{AnswersHand, bare, ComesFirst, id_of, is_in_turn as is_busy_row, is_open, Listening, Row, tag_of, AreInOrder, IsHanded, IsEarliest as IsEarliestOfRows, is_listener as is_row_of, listener_of, row_at}
-use Rattle.osgi_listeners.specs.declared.answer.HandAnswer.{HandAnswer}
-use Rattle.osgi_listeners.specs.declared.answer.HandAnswer.TheVariants.{Handed, Nothing}
+use Rattle.osgi_listeners.specs.Rows.{bare, ComesFirst, id_of, is_in_turn as is_busy_row, is_open, Listening, Row, tag_of, AreInOrder, IsHanded, IsEarliest as IsEarliestOfRows, is_listener as is_row_of, listener_of, row_at}
+use Rattle.osgi_listeners.specs.declared.answer.HandAnswer.TheVariants.{Handed}
 use Rattle.osgi_listeners.specs.declared.row.Waiting.{Waiting}
 use Rattle.osgi_listeners.specs.declared.sight.TheConstants.{ENTRY_PLACES}
 use Rattle.osgi_ops.specs.Brackets.{brackets}
@@ -298,22 +297,3 @@ handed_once l a b d e order one other =
     let firsts : Some one.next ≡ Some other.next = sym one.earliest.first ∙ ap (λ (r : Row). slice_get r.waiting 0) rows ∙ other.earliest.first in
     let next : one.next ≡ other.next = cc firsts in
     (sym one.to ∙ ap (λ (r : Row). r.listener.listener) rows ∙ other.to, sym one.with ∙ ap (λ (w : Waiting). w.event) next ∙ other.with)
-
-some_waits : (waiting : List Waiting) (w : Waiting) → slice_get waiting 0 ≡ Some w → nat_lt 0 (length waiting) ≡ true
-some_waits [] w first = absurd (cc first)
-some_waits (v ∷ rest) w first = lt-ltb 0 (suc (length rest)) (omega arith)
-
--- the row of what is handed is open
-never_both : (l : Listening) (listener : ListenerId) (happened : Event) → IsHanded l listener happened → All (λ row. is_open l.turns row ≡ false) l.rows → ⊥
-never_both l listener happened h none =
-    let closed = said (λ (row : Row). is_open l.turns row ≡ false) l.rows h.row h.earliest.live none in
-    let waits = some_waits h.row.waiting h.next h.earliest.first in
-    let open_there : is_open l.turns h.row ≡ true = (λ i. not (h.earliest.free i) && waits i) in
-    let bad : true ≡ false = sym open_there ∙ closed in
-    cc bad
-
-pub answers_once : (l : Listening) (a b : HandAnswer) → AreInOrder l → AnswersHand l a → AnswersHand l b → a ≡ b
-answers_once l (Handed listener d) (Handed other e) order one again = let same = handed_once l listener other d e order one again in λ i. Handed (same.0 i) (same.1 i)
-answers_once l (Handed listener d) (Nothing busy) order one again = absurd (never_both l listener d one again.0)
-answers_once l (Nothing busy) (Handed other e) order one again = absurd (never_both l other e again one.0)
-answers_once l (Nothing busy) (Nothing more) order one again = ap Nothing (one.1 ∙ sym again.1)

@@ -126,9 +126,6 @@ own-turn listener tag (b ∷ outer) apart e = go (b.tag.caller == tag.caller) re
 
 -- ---- the list of turns
 
-at : ℕ → ℕ → Bool
-at n k = is_at (nat_cmp n) k
-
 pub at-is : (n k : ℕ) → is_at (nat_cmp n) k ≡ (n == k)
 at-is n k = unsigned_tied n k
 

@@ -70,9 +70,6 @@ module _ {V : Type 0} (kind : Ordered V) (of : List ℕ → Option V) (sound : (
 -- ---- lists
 
 module _ {X : Type 0} (p : X → Bool) (P : X → Type 0) where
-  abbrev pub Decided : Type 0
-  Decided = (x : X) × Decides (p x) (P x)
-
   pub one_decides : (xs : List ((x : X) × Decides (p x) (P x))) → Decides (one_of (map p (map (λ e. e.0) xs))) (OneOf P (map (λ e. e.0) xs))
   one_decides [] = nothing
   one_decides (e ∷ xs) = Decides-or _ _ e.1 (one_decides xs)

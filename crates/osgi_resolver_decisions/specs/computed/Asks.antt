@@ -1,10 +1,9 @@
 -- The decisions of requirements, by the kind of these.
-use Rattle.std.specs.Prelude.{ℕ, List, Bool, [], ◌∷◌, flat_map, map, if◌then◌else◌}
-use Rattle.std.specs.List.{list_any}
+use Rattle.std.specs.Prelude.{ℕ, List, Bool, [], ◌∷◌, flat_map, map}
 use Rattle.osgi_base.specs.declared.ids.RevisionId.{RevisionId}
 use Rattle.osgi_world.specs.Candidates.{matching}
-use Rattle.osgi_world.specs.Decisions.{Decision, Made, attaching, is_open}
-use Rattle.osgi_world.specs.DueDecisions.{attachments, decisions_of, in_turn, is_generic, of_kind, payload}
+use Rattle.osgi_world.specs.Decisions.{Decision, attaching}
+use Rattle.osgi_world.specs.DueDecisions.{decisions_of, in_turn, is_generic, of_kind}
 use Rattle.osgi_world.specs.Payloads.{own_requirements, requirements_of}
 use Rattle.osgi_world.specs.Satisfaction.{is_bundle, is_package}
 use Rattle.osgi_world.specs.declared.problem.Problem.{Problem}
@@ -30,10 +29,6 @@ asks_by P host kind owners = flat_map (λ owner. asks_among P host kind (own_req
 -- of all kinds, in turn
 abbrev pub asks_of : Problem → RevisionId → List RevisionId → List Decision
 asks_of P host owners = flat_map (decisions_of P host) (in_turn P (requirements_of P.world.known owners))
-
--- those that are due once the attachments are made
-abbrev pub asks_due : Problem → Made → RevisionId → List Decision
-asks_due P D m = if list_any (is_open D) (attachments P m) then [] else flat_map (decisions_of P m) (in_turn P (payload P D m))
 
 abbrev pub first_among : Problem → RevisionId → List RevisionId → List Decision
 first_among P m [] = asks_of P m (m ∷ [])

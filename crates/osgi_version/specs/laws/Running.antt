@@ -11,10 +11,6 @@ pub each_push : (P : ℕ → Type 0) (xs : List ℕ) (b : ℕ) → Each P xs →
 each_push P [] b h p = (p, tt)
 each_push P (x ∷ xs) b h p = (h.0, each_push P xs b h.1 p)
 
-pub gather_push : {A : Type 0} (f : A → ℕ → A) (a : A) (xs : List ℕ) (b : ℕ) → gather f a (xs ++ b ∷ []) ≡ f (gather f a xs) b
-gather_push f a [] b = refl
-gather_push f a (x ∷ xs) b = gather_push f (f a x) xs b
-
 -- what a reader has seen, kept by each step, holds after a run
 pub run_keeps : {S : Type 0} (step : S → ℕ → Option S) (I : List ℕ → S → Type 0) → ((p : List ℕ) (s : S) (b : ℕ) → I p s → IfSome (step s b) (I (p ++ b ∷ []))) → (p q : List ℕ) (s t : S) → I p s → run step s q ≡ Some t → I (p ++ q) t
 run_keeps step I keeps p [] s t h e = rw append-nil (rw (← same_Some _ _ e) h)

@@ -78,9 +78,6 @@ words_run m i n (b ∷ q) lt h = rw (word_turn (QualifierDot m i n) (Qualifier m
 qualified_runs : (text q : List ℕ) (m i n : ℕ) → IsQualified text m i n q → run free_step Lead text ≡ Some (Qualifier m i n (length q))
 qualified_runs text q m i n h = rw h.parts (run_then free_step Lead (Micro m i n) h.prefix (46 ∷ q) _ (micro_runs h.prefix m i n h.micro) (rw (ap (free_next (Micro m i n) 46) dot) (words_run m i n q h.some h.words)))
 
-abbrev body_state : Parts → VersionState → Type 0
-body_state v s = (text end : List ℕ) → Each IsBlank end → 0 < length end → run free_step s end ≡ Some (Trail v.major v.minor v.micro (length v.qualifier) (length end))
-
 trail_runs : (m i n k w : ℕ) (end : List ℕ) → Each IsBlank end → run free_step (Trail m i n k w) end ≡ Some (Trail m i n k (w + length end))
 unfolding count
 trail_runs m i n k w end h = run_each free_step IsBlank (Trail m i n k) count (λ w b e. ap (free_next (Trail m i n k w) b) (blank_class b e)) w end h ∙ ap (λ x. Some (Trail m i n k x)) (counted w end)
