@@ -12,8 +12,8 @@ use Rattle.osgi_lifecycle.specs.declared.at.AfterStop.{AfterStop}
 use Rattle.osgi_lifecycle.specs.declared.at.AfterStop.TheVariants as on_stop
 use Rattle.osgi_lifecycle.specs.declared.at.At.{At}
 use Rattle.osgi_lifecycle.specs.declared.at.At.TheVariants as at
-use Rattle.osgi_lifecycle.specs.declared.at.Stop as declared
-use Rattle.osgi_lifecycle.specs.declared.at.Stop.TheVariants as how
+use Rattle.osgi_lifecycle.specs.declared.at.HowStopped as declared
+use Rattle.osgi_lifecycle.specs.declared.at.HowStopped.TheVariants as how
 use Rattle.osgi_lifecycle.specs.declared.head.End.{End}
 use Rattle.osgi_lifecycle.specs.declared.head.End.TheVariants as end
 use Rattle.osgi_lifecycle.specs.declared.head.Head.{Head}
@@ -27,7 +27,7 @@ end_in (end.Bound service) = plans.bound service
 end_in end.Refused = plans.refused
 end_in end.Failed = plans.failed
 
-abbrev pub stop_in : declared.Stop → plans.Stop
+abbrev pub stop_in : declared.HowStopped → plans.HowStopped
 stop_in (how.Stopped begun) = plans.stopped begun
 stop_in how.SectionFailed = plans.section_failed
 stop_in how.NotStopped = plans.not_stopped
@@ -55,7 +55,7 @@ abbrev pub starting_level : ℕ → ℕ → Kept → Plan
 starting_level level to kept = plans.start_all (ahead kept) (plans.climb (to - level) level)
 
 abbrev pub after_move_down : ℕ → ℕ → Reply → Plan
-after_move_down level to reply = plans.unless_stuck reply (plans.descend (level - to) level)
+after_move_down level to reply = plans.or_end_the_walk reply (plans.descend (level - to) level)
 
 -- the bundles that are left to stop are stopped, and the way goes on down to this level
 abbrev pub stopping_level : ℕ → ℕ → Kept → Plan
@@ -67,13 +67,13 @@ after_start on_start.Loaded kept bad = stop plans.done
 after_start on_start.Refresh kept bad = starting_members kept
 after_start (on_start.Climb level to) kept bad = starting_level level to kept
 
-abbrev pub after_stop : AfterStop → Kept → plans.Stop → Plan
-after_stop on_stop.End kept how = plans.past_stop (stop plans.done) how
+abbrev pub after_stop : AfterStop → Kept → plans.HowStopped → Plan
+after_stop on_stop.End kept how = plans.if_it_stopped (stop plans.done) how
 after_stop (on_stop.Update bundle) kept how = plans.after_stop_to_update bundle kept.text how
-after_stop (on_stop.Uninstall bundle) kept how = plans.past_failure (plans.one (op.Uninstall bundle)) how
-after_stop on_stop.Refresh kept how = plans.past_failure (stopping_members kept) how
+after_stop (on_stop.Uninstall bundle) kept how = plans.even_if_its_section_failed (plans.one (op.Uninstall bundle)) how
+after_stop on_stop.Refresh kept how = plans.even_if_its_section_failed (stopping_members kept) how
 after_stop (on_stop.Descend level to) kept how = stopping_level level to kept
-after_stop (on_stop.SetLevel bundle level) kept how = plans.past_stop (ask (op.SetBundleLevel bundle level) (plans.after_last_set bundle)) how
+after_stop (on_stop.SetLevel bundle level) kept how = plans.if_it_stopped (ask (op.SetBundleLevel bundle level) (plans.after_last_level_set bundle)) how
 
 -- what comes after the reply for which the plan waits
 abbrev pub after_reply : At → Kept → Reply → Plan
@@ -97,12 +97,12 @@ after_reply (at.Update bundle again) kept reply = plans.restart bundle again (is
 after_reply at.BeginRefresh kept reply = plans.after_begin_refresh reply
 after_reply at.DropWirings kept reply = after_drop kept.bundles.items reply
 after_reply at.BeginLevel kept reply = plans.after_begin_level reply
-after_reply (at.MoveUp level to) kept reply = plans.unless_stuck reply (plans.start_all (plans.to_start reply) (plans.climb (to - level) level))
+after_reply (at.MoveUp level to) kept reply = plans.or_end_the_walk reply (plans.start_all (plans.to_start reply) (plans.climb (to - level) level))
 after_reply (at.ListLevel level to) kept reply =
     plans.unless_refused reply (plans.halt_all (plans.to_stop reply) (ask (op.MoveLevel level) (after_move_down level to)))
 after_reply (at.MoveDown level to) kept reply = after_move_down level to reply
-after_reply (at.SetLevel bundle level) kept reply = plans.after_set bundle level reply
-after_reply (at.SetLevelAgain bundle) kept reply = plans.after_last_set bundle reply
+after_reply (at.SetLevel bundle level) kept reply = plans.after_level_set bundle level reply
+after_reply (at.SetLevelAgain bundle) kept reply = plans.after_last_level_set bundle reply
 after_reply (at.StartSection bundle after) kept reply = stop plans.refused
 after_reply (at.StopSection bundle after) kept reply = stop plans.refused
 after_reply at.MakeSection kept reply = stop plans.refused

@@ -34,7 +34,7 @@ pub enum AfterStop {
 
 /// How a stop went.
 #[derive(Clone, Copy)]
-pub enum Stop {
+pub enum HowStopped {
     /// Well, whether or not there was something to stop.
     Stopped { begun: bool },
     /// Its section failed.

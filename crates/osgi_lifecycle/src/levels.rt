@@ -50,7 +50,7 @@ impl Rest {
 
     pub fn after_move_up(&mut self, level: u8, to: u8, reply: Reply) -> Head
         ensures left { left_of result self.new
-            ≡ plans.unless_stuck reply
+            ≡ plans.or_end_the_walk reply
             (plans.start_all (plans.to_start reply) (plans.climb (to - level) level)) }
     {
         if reply.is_refusal() {

@@ -4,7 +4,7 @@ ghost use Rattle.std.specs.Prelude.{◌≡◌};
 ghost use Rattle.osgi_session.specs.Plans as plans;
 ghost use Rattle.osgi_lifecycle.specs.Following.{after_drop, left_of, starting_members, stop_in, stopping_members};
 
-use crate::at::{AfterStart, AfterStop, At, Stop};
+use crate::at::{AfterStart, AfterStop, At, HowStopped};
 use crate::head::{End, Head};
 use crate::rest::Rest;
 use osgi_ops::{Op, Reply, Target};
@@ -24,12 +24,12 @@ impl Rest {
     }
 
     /// The next member is stopped, unless the stop before it was refused.
-    pub fn stop_member_after(&mut self, how: Stop) -> Head
+    pub fn stop_member_after(&mut self, how: HowStopped) -> Head
         ensures left { left_of result self.new
-            ≡ plans.past_failure (stopping_members self.old.kept) (stop_in how) }
+            ≡ plans.even_if_its_section_failed (stopping_members self.old.kept) (stop_in how) }
     {
         match how {
-            Stop::NotStopped => Head::Stop { end: End::Refused },
+            HowStopped::NotStopped => Head::Stop { end: End::Refused },
             _ => self.stop_member(),
         }
     }

@@ -3,7 +3,7 @@
 ghost use Rattle.std.specs.Prelude.{◌≡◌};
 ghost use Rattle.osgi_lifecycle.specs.Following.{after_reply, after_section, left_of};
 
-use crate::at::{At, Stop};
+use crate::at::{At, HowStopped};
 use crate::head::{End, Head};
 use crate::rest::Rest;
 use osgi_ops::{Op, Reply};
@@ -39,7 +39,7 @@ impl Rest {
             At::BeginStart { bundle, after } => self.after_begin_start(bundle, after, &reply),
             At::EndStart { after } => self.after_start(after, reply.is_refusal()),
             At::BeginStop { after } => self.after_begin_stop(after, &reply),
-            At::EndStop { after } => self.after_stop(after, Stop::of(&reply)),
+            At::EndStop { after } => self.after_stop(after, HowStopped::of(&reply)),
             At::LoadResolve { bundle } => self.load(bundle, &reply),
             At::Load => self.after_load(&reply),
             At::Update { bundle, restart } => {
@@ -52,7 +52,7 @@ impl Rest {
             At::ListLevel { level, to } => self.after_list_level(level, to, reply),
             At::MoveDown { level, to } => self.after_move_down(level, to, &reply),
             At::SetLevel { bundle, level } => self.after_set_level(bundle, level, &reply),
-            At::SetLevelAgain { bundle } => self.after_last_set(bundle, &reply),
+            At::SetLevelAgain { bundle } => self.after_last_level_set(bundle, &reply),
             At::StartSection { .. } | At::StopSection { .. } | At::MakeSection => {
                 Head::Stop { end: End::Refused }
             }

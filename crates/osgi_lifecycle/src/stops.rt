@@ -4,28 +4,28 @@ ghost use Rattle.std.specs.Prelude.{◌≡◌};
 ghost use Rattle.osgi_session.specs.Plans as plans;
 ghost use Rattle.osgi_lifecycle.specs.Following.{after_stop, end_in, left_of, stop_in};
 
-use crate::at::{AfterStop, At, Stop};
+use crate::at::{AfterStop, At, HowStopped};
 use crate::head::{End, Head};
 use crate::rest::Rest;
 use osgi_ops::{Op, Refusal, Reply, Section, Target};
 
-impl Stop {
+impl HowStopped {
     /// How a stop went that was answered so at its end.
-    pub fn of(reply: &Reply) -> Stop
+    pub fn of(reply: &Reply) -> HowStopped
         ensures how { stop_in result ≡ plans.how_stopped reply.now }
     {
         match reply {
-            Reply::Refused { refusal } => Stop::refused(refusal),
-            _ => Stop::Stopped { begun: true },
+            Reply::Refused { refusal } => HowStopped::refused(refusal),
+            _ => HowStopped::Stopped { begun: true },
         }
     }
 
-    fn refused(refusal: &Refusal) -> Stop
+    fn refused(refusal: &Refusal) -> HowStopped
         ensures how { stop_in result ≡ plans.how_stopped (Reply.Refused refusal.now) }
     {
         match refusal {
-            Refusal::ActivatorError => Stop::SectionFailed,
-            _ => Stop::NotStopped,
+            Refusal::ActivatorError => HowStopped::SectionFailed,
+            _ => HowStopped::NotStopped,
         }
     }
 }
@@ -54,18 +54,18 @@ impl Rest {
                     section: Section::Stop,
                 }
             }
-            Reply::Refused { .. } => self.after_stop(after, Stop::NotStopped),
-            _ => self.after_stop(after, Stop::Stopped { begun: false }),
+            Reply::Refused { .. } => self.after_stop(after, HowStopped::NotStopped),
+            _ => self.after_stop(after, HowStopped::Stopped { begun: false }),
         }
     }
 
     /// What comes after a stop, by how it went.
-    pub fn after_stop(&mut self, after: AfterStop, how: Stop) -> Head
+    pub fn after_stop(&mut self, after: AfterStop, how: HowStopped) -> Head
         ensures left { left_of result self.new ≡ after_stop after self.old.kept (stop_in how) }
     {
         match after {
             AfterStop::End => Head::Stop {
-                end: End::past_stop(how),
+                end: End::after_stop(how),
             },
             AfterStop::Update { bundle } => self.update(bundle, how),
             AfterStop::Uninstall { bundle } => self.uninstall(bundle, how),
@@ -78,12 +78,12 @@ impl Rest {
 
 impl End {
     /// The end of a plan that is a stop.
-    fn past_stop(how: Stop) -> End
+    fn after_stop(how: HowStopped) -> End
         ensures end { plans.stop (end_in result)
-            ≡ plans.past_stop (plans.stop plans.done) (stop_in how) }
+            ≡ plans.if_it_stopped (plans.stop plans.done) (stop_in how) }
     {
         match how {
-            Stop::Stopped { .. } => End::Done,
+            HowStopped::Stopped { .. } => End::Done,
             _ => End::Refused,
         }
     }

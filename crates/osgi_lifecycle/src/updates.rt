@@ -4,7 +4,7 @@ ghost use Rattle.std.specs.Prelude.{◌≡◌};
 ghost use Rattle.osgi_session.specs.Plans as plans;
 ghost use Rattle.osgi_lifecycle.specs.Following.{left_of, stop_in};
 
-use crate::at::{AfterStart, AfterStop, At, Stop};
+use crate::at::{AfterStart, AfterStop, At, HowStopped};
 use crate::head::{End, Head};
 use crate::rest::Rest;
 use osgi_base::BundleId;
@@ -12,14 +12,14 @@ use osgi_ops::{Op, Reply, Section, Target};
 
 impl Rest {
     /// The update, where the stop before it was not refused.
-    pub fn update(&mut self, bundle: BundleId, how: Stop) -> Head
+    pub fn update(&mut self, bundle: BundleId, how: HowStopped) -> Head
         ensures left { left_of result self.new
             ≡ plans.after_stop_to_update bundle self.old.kept.text (stop_in how) }
     {
         let restart = match how {
-            Stop::Stopped { begun } => begun,
-            Stop::SectionFailed => true,
-            Stop::NotStopped => return Head::Stop { end: End::Refused },
+            HowStopped::Stopped { begun } => begun,
+            HowStopped::SectionFailed => true,
+            HowStopped::NotStopped => return Head::Stop { end: End::Refused },
         };
         let location = self.kept.take_text();
         self.at = At::Update { bundle, restart };
@@ -41,12 +41,12 @@ impl Rest {
     }
 
     /// The uninstall, where the stop before it was not refused.
-    pub fn uninstall(&mut self, bundle: BundleId, how: Stop) -> Head
+    pub fn uninstall(&mut self, bundle: BundleId, how: HowStopped) -> Head
         ensures left { left_of result self.new
-            ≡ plans.past_failure (plans.one (Op.Uninstall bundle)) (stop_in how) }
+            ≡ plans.even_if_its_section_failed (plans.one (Op.Uninstall bundle)) (stop_in how) }
     {
         match how {
-            Stop::NotStopped => Head::Stop { end: End::Refused },
+            HowStopped::NotStopped => Head::Stop { end: End::Refused },
             _ => {
                 self.at = At::Only;
                 Head::Ask {
@@ -107,7 +107,7 @@ impl Rest {
     }
 
     pub fn after_set_level(&mut self, bundle: BundleId, level: u8, reply: &Reply) -> Head
-        ensures left { left_of result self.new ≡ plans.after_set bundle level reply.now }
+        ensures left { left_of result self.new ≡ plans.after_level_set bundle level reply.now }
     {
         match reply {
             Reply::Up { .. } => {
@@ -117,19 +117,19 @@ impl Rest {
                     AfterStop::SetLevel { bundle, level },
                 )
             }
-            _ => self.after_last_set(bundle, reply),
+            _ => self.after_last_level_set(bundle, reply),
         }
     }
 
     /// The level is set again, where the stop before it was not refused.
-    pub fn set_level_again(&mut self, bundle: BundleId, level: u8, how: Stop) -> Head
+    pub fn set_level_again(&mut self, bundle: BundleId, level: u8, how: HowStopped) -> Head
         ensures left { left_of result self.new
-            ≡ plans.past_stop
-            (plans.ask (Op.SetBundleLevel bundle level) (plans.after_last_set bundle))
+            ≡ plans.if_it_stopped
+            (plans.ask (Op.SetBundleLevel bundle level) (plans.after_last_level_set bundle))
             (stop_in how) }
     {
         match how {
-            Stop::Stopped { .. } => {
+            HowStopped::Stopped { .. } => {
                 self.at = At::SetLevelAgain { bundle };
                 Head::Ask {
                     op: Op::SetBundleLevel { bundle, level },
@@ -140,8 +140,8 @@ impl Rest {
     }
 
     /// Where the level was set for good, the bundle is started, if it is to be.
-    pub fn after_last_set(&mut self, bundle: BundleId, reply: &Reply) -> Head
-        ensures left { left_of result self.new ≡ plans.after_last_set bundle reply.now }
+    pub fn after_last_level_set(&mut self, bundle: BundleId, reply: &Reply) -> Head
+        ensures left { left_of result self.new ≡ plans.after_last_level_set bundle reply.now }
     {
         match reply {
             Reply::Leveled { value: true } => {

@@ -61,8 +61,13 @@ refreshing_where now holds refusal = IsSomeAnd (refresh now.before) (λ r. holds
 abbrev pub AnyRefresh : Refresh → Type 0
 AnyRefresh r = ⊤
 
-abbrev pub IsOwnRefresh : Moment → Bool → Refresh → Type 0
-IsOwnRefresh now dropped r = (refresh now.before ≡ Some r) × (r.tag.caller ≡ now.tag.caller) × (r.dropped ≡ dropped)
+-- the refresh is open, this caller began it, and its wirings are not dropped yet
+abbrev pub IsOwnOpen : Moment → Refresh → Type 0
+IsOwnOpen now r = (refresh now.before ≡ Some r) × (r.tag.caller ≡ now.tag.caller) × (r.dropped ≡ false)
+
+-- the refresh is open, this caller began it, and its wirings are dropped
+abbrev pub IsOwnDropped : Moment → Refresh → Type 0
+IsOwnDropped now r = (refresh now.before ≡ Some r) × (r.tag.caller ≡ now.tag.caller) × (r.dropped ≡ true)
 
 -- this caller has as many brackets open as it may
 abbrev pub IsDeep : Moment → Type 0

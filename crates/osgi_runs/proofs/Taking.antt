@@ -11,7 +11,7 @@ use Rattle.osgi_ops.specs.declared.target.Target.{Target}
 use Rattle.osgi_ops.specs.declared.target.Target.TheVariants.{Id}
 use Rattle.osgi_ops.specs.declared.reply.Reply.{Reply}
 use Rattle.osgi_ops.specs.declared.reply.Reply.TheVariants as answer
-use Rattle.osgi_session.specs.Plans.{Plan, ask, stop, done, unless_refused, after_one, one, after_begin_start, after_resolve, after_wish, start, Stop, stopped, section_failed, not_stopped, how_stopped, after_begin_stop, halt, past_failure, past_stop, start_all, halt_all, restart, after_stop_to_update, stop_members, after_begin_refresh, to_start, to_stop, unless_stuck, climb, descend, after_begin_level, after_last_set, after_set, after_register, after_find, after_await, after_resolve_lazy, after_wish_lazy, after_load, after_get, plan, end_of}
+use Rattle.osgi_session.specs.Plans.{Plan, ask, stop, done, unless_refused, after_one, one, after_begin_start, after_resolve, after_wish, start, HowStopped, stopped, section_failed, not_stopped, how_stopped, after_begin_stop, halt, even_if_its_section_failed, if_it_stopped, start_all, halt_all, restart, after_stop_to_update, stop_members, after_begin_refresh, to_start, to_stop, or_end_the_walk, climb, descend, after_begin_level, after_last_level_set, after_level_set, after_register, after_find, after_await, after_resolve_lazy, after_wish_lazy, after_load, after_get, plan, end_of}
 
 after-refusal : (reply : Reply) (rest : Plan) → NoTake rest → NoTake (unless_refused reply rest)
 after-refusal (answer.Refused refusal) rest c = tt
@@ -38,20 +38,20 @@ wish transient rest c reply = c false
 pub takes-start : (target : Target) (transient : Bool) (rest : Bool → Plan) → ((bad : Bool) → NoTake (rest bad)) → NoTake (start target transient rest)
 takes-start target transient rest c = (refl, wish transient rest c)
 
-begin-stop : (target : Target) (transient : Bool) (rest : Stop → Plan) → ((how : Stop) → NoTake (rest how)) → (reply : Reply) → NoTake (after_begin_stop rest reply)
+begin-stop : (target : Target) (transient : Bool) (rest : HowStopped → Plan) → ((how : HowStopped) → NoTake (rest how)) → (reply : Reply) → NoTake (after_begin_stop rest reply)
 begin-stop target transient rest c (answer.Begun begun row) = λ fails. (refl, λ reply. c (how_stopped reply))
 begin-stop target transient rest c (answer.Refused refusal) = c not_stopped
 begin-stop target transient rest c reply = c (stopped false)
 
-pub takes-halt : (target : Target) (transient : Bool) (rest : Stop → Plan) → ((how : Stop) → NoTake (rest how)) → NoTake (halt target transient rest)
+pub takes-halt : (target : Target) (transient : Bool) (rest : HowStopped → Plan) → ((how : HowStopped) → NoTake (rest how)) → NoTake (halt target transient rest)
 takes-halt target transient rest c = (refl, begin-stop target transient rest c)
 
-failure : (rest : Plan) → NoTake rest → (how : Stop) → NoTake (past_failure rest how)
+failure : (rest : Plan) → NoTake rest → (how : HowStopped) → NoTake (even_if_its_section_failed rest how)
 failure rest c not_stopped = tt
 failure rest c section_failed = c
 failure rest c (stopped begun) = c
 
-past : (rest : Plan) → NoTake rest → (how : Stop) → NoTake (past_stop rest how)
+past : (rest : Plan) → NoTake rest → (how : HowStopped) → NoTake (if_it_stopped rest how)
 past rest c not_stopped = tt
 past rest c section_failed = tt
 past rest c (stopped begun) = c
@@ -66,13 +66,13 @@ halts (b ∷ more) rest c = takes-halt (Id b) true (λ how. halt_all more rest) 
 
 members : (bundles : List BundleId) (rest : Plan) → NoTake rest → NoTake (stop_members bundles rest)
 members [] rest c = c
-members (b ∷ more) rest c = takes-halt (Id b) true (past_failure (stop_members more rest)) (failure (stop_members more rest) (members more rest c))
+members (b ∷ more) rest c = takes-halt (Id b) true (even_if_its_section_failed (stop_members more rest)) (failure (stop_members more rest) (members more rest c))
 
 restarts : (bundle : BundleId) (begun bad : Bool) → NoTake (restart bundle begun bad)
 restarts bundle true bad = takes-start (Id bundle) true (λ worse. stop (end_of (bad || worse))) (λ worse. tt)
 restarts bundle false bad = tt
 
-update : (bundle : BundleId) (location : List ℕ) (how : Stop) → NoTake (after_stop_to_update bundle location how)
+update : (bundle : BundleId) (location : List ℕ) (how : HowStopped) → NoTake (after_stop_to_update bundle location how)
 update bundle location (stopped begun) = (refl, λ reply. restarts bundle begun (is_refusal reply))
 update bundle location section_failed = (refl, λ reply. restarts bundle true (is_refusal reply))
 update bundle location not_stopped = tt
@@ -82,7 +82,7 @@ refresh (answer.Closure all active) =
     members active _ (refl, λ reply. after-refusal reply _ (starts (reverse active) (one op.EndRefresh) (refl, after-one)))
 refresh reply = after-one reply
 
-stuck : (reply : Reply) (rest : Plan) → NoTake rest → NoTake (unless_stuck reply rest)
+stuck : (reply : Reply) (rest : Plan) → NoTake rest → NoTake (or_end_the_walk reply rest)
 stuck (answer.Refused refusal) rest c = (refl, after-one)
 stuck reply rest c = c
 
@@ -103,12 +103,12 @@ begin-level : (reply : Reply) → NoTake (after_begin_level reply)
 begin-level (answer.Level from to) = walk (nat_lt to from) from to
 begin-level reply = after-one reply
 
-last-set : (bundle : BundleId) (reply : Reply) → NoTake (after_last_set bundle reply)
+last-set : (bundle : BundleId) (reply : Reply) → NoTake (after_last_level_set bundle reply)
 last-set bundle (answer.Leveled true) = takes-start (Id bundle) true (λ bad. stop (end_of bad)) (λ bad. tt)
 last-set bundle (answer.Leveled false) = tt
 last-set bundle reply = after-one reply
 
-set : (bundle : BundleId) (level : ℕ) (reply : Reply) → NoTake (after_set bundle level reply)
+set : (bundle : BundleId) (level : ℕ) (reply : Reply) → NoTake (after_level_set bundle level reply)
 set bundle level (answer.Up up) = takes-halt (Id bundle) true _ (past _ (refl, last-set bundle))
 set bundle level reply = last-set bundle reply
 

@@ -117,52 +117,54 @@ start_lazy bundle rest = ask (op.WishStart (Id bundle) false) (after_wish_lazy r
 -- ---- stops
 
 -- how a stop went: well, whether or not there was something to stop; its section failed; or it was refused otherwise
-pub data Stop : Type 0 where
-  stopped : Bool → Stop
-  section_failed : Stop
-  not_stopped : Stop
+pub data HowStopped : Type 0 where
+  stopped : Bool → HowStopped
+  section_failed : HowStopped
+  not_stopped : HowStopped
 
-abbrev pub how_stopped : Reply → Stop
+abbrev pub how_stopped : Reply → HowStopped
 how_stopped (answer.Refused ActivatorError) = section_failed
 how_stopped (answer.Refused refusal) = not_stopped
 how_stopped reply = stopped true
 
-abbrev pub after_end_stop : (Stop → Plan) → Reply → Plan
+abbrev pub after_end_stop : (HowStopped → Plan) → Reply → Plan
 after_end_stop rest reply = rest (how_stopped reply)
 
-abbrev pub after_begin_stop : (Stop → Plan) → Reply → Plan
+abbrev pub after_begin_stop : (HowStopped → Plan) → Reply → Plan
 after_begin_stop rest (answer.Begun bundle row) = run row bundle section.Stop (λ fails. ask (op.EndStop bundle fails) (after_end_stop rest))
 after_begin_stop rest (answer.Refused refusal) = rest not_stopped
 after_begin_stop rest reply = rest (stopped false)
 
-abbrev pub halt : Target → Bool → (Stop → Plan) → Plan
+abbrev pub halt : Target → Bool → (HowStopped → Plan) → Plan
 halt target transient rest = ask (op.BeginStop target transient) (after_begin_stop rest)
 
--- a stop whose section failed goes on, any other refusal ends the plan
-abbrev pub past_failure : Plan → Stop → Plan
-past_failure rest not_stopped = stop refused
-past_failure rest how = rest
+-- it goes on after a stop, also after one whose section failed; any other refusal ends the plan as refused
+abbrev pub even_if_its_section_failed : Plan → HowStopped → Plan
+even_if_its_section_failed rest not_stopped = stop refused
+even_if_its_section_failed rest how = rest
 
--- any refusal ends the plan
-abbrev pub past_stop : Plan → Stop → Plan
-past_stop rest (stopped begun) = rest
-past_stop rest how = stop refused
+-- it goes on after a stop that went well; any refusal ends the plan as refused
+abbrev pub if_it_stopped : Plan → HowStopped → Plan
+if_it_stopped rest (stopped begun) = rest
+if_it_stopped rest how = stop refused
 
 -- ---- starts and stops of several bundles, one after another, whatever comes of them
 
+-- each bundle is started for now, and what comes of it does not count
 abbrev pub start_all : List BundleId → Plan → Plan
 start_all [] rest = rest
 start_all (b ∷ more) rest = start (Id b) true (λ bad. start_all more rest)
 
--- `goes` says what comes of each stop
-abbrev pub halt_each : (Plan → Stop → Plan) → List BundleId → Plan → Plan
+-- each bundle is stopped for now; `goes` says what comes of each stop
+abbrev pub halt_each : (Plan → HowStopped → Plan) → List BundleId → Plan → Plan
 halt_each goes [] rest = rest
 halt_each goes (b ∷ more) rest = halt (Id b) true (goes (halt_each goes more rest))
 
+-- and what comes of it does not count
 abbrev pub halt_all : List BundleId → Plan → Plan
 halt_all bundles rest = halt_each (λ more how. more) bundles rest
 
--- ---- the commands that are more than one operation
+-- ---- update: the bundle is stopped for now, updated, and, where there was something to stop, started for now, be the update refused or not
 
 abbrev pub restart : BundleId → Bool → Bool → Plan
 restart bundle true bad = start (Id bundle) true (λ worse. stop (end_of (bad || worse)))
@@ -171,19 +173,25 @@ restart bundle false bad = stop (end_of bad)
 abbrev pub updating : BundleId → List ℕ → Bool → Plan
 updating bundle location begun = ask (op.Update bundle location) (λ reply. restart bundle begun (is_refusal reply))
 
-abbrev pub after_stop_to_update : BundleId → List ℕ → Stop → Plan
+-- a stop that was refused for another reason than its section ends the plan before the update
+abbrev pub after_stop_to_update : BundleId → List ℕ → HowStopped → Plan
 after_stop_to_update bundle location (stopped begun) = updating bundle location begun
 after_stop_to_update bundle location section_failed = updating bundle location true
 after_stop_to_update bundle location not_stopped = stop refused
 
--- the members of a refresh are stopped, each going on where its section alone failed
+-- ---- refresh: its active members are stopped for now, the wirings go, and these members are started for now in the opposite order. A stop whose
+-- section alone failed does not end it, nor does a start
+
 abbrev pub stop_members : List BundleId → Plan → Plan
-stop_members bundles rest = halt_each past_failure bundles rest
+stop_members bundles rest = halt_each even_if_its_section_failed bundles rest
 
 abbrev pub after_begin_refresh : Reply → Plan
 after_begin_refresh (answer.Closure all active) =
     stop_members active (ask op.DropWirings (λ reply. unless_refused reply (start_all (reverse active) (one op.EndRefresh))))
 after_begin_refresh reply = after_one reply
+
+-- ---- level: upwards each next level is reached, and then what it starts is started for now; downwards what stands on each level is stopped for now,
+-- and then the level below it is reached. What comes of these starts and stops does not count
 
 abbrev pub to_start : Reply → List BundleId
 to_start (answer.Moved bundles) = bundles
@@ -193,34 +201,40 @@ abbrev pub to_stop : Reply → List BundleId
 to_stop (answer.Ids bundles) = bundles
 to_stop reply = []
 
--- a refused move ends the walk
-abbrev pub unless_stuck : Reply → Plan → Plan
-unless_stuck (answer.Refused refusal) rest = one op.EndLevel
-unless_stuck reply rest = rest
+-- a refused move to a level ends the walk
+abbrev pub or_end_the_walk : Reply → Plan → Plan
+or_end_the_walk (answer.Refused refusal) rest = one op.EndLevel
+or_end_the_walk reply rest = rest
 
 -- so many levels up, from this one
 abbrev pub climb : ℕ → ℕ → Plan
 climb zero level = one op.EndLevel
-climb (suc more) level = ask (op.MoveLevel (level + 1)) (λ reply. unless_stuck reply (start_all (to_start reply) (climb more (level + 1))))
+climb (suc more) level = ask (op.MoveLevel (level + 1)) (λ reply. or_end_the_walk reply (start_all (to_start reply) (climb more (level + 1))))
 
 -- so many levels down
 abbrev pub descend : ℕ → ℕ → Plan
 descend zero level = one op.EndLevel
 descend (suc more) level =
     ask (op.ListLevel level) (λ listed. unless_refused listed
-    (halt_all (to_stop listed) (ask (op.MoveLevel (level - 1)) (λ reply. unless_stuck reply (descend more (level - 1))))))
+    (halt_all (to_stop listed) (ask (op.MoveLevel (level - 1)) (λ reply. or_end_the_walk reply (descend more (level - 1))))))
 
 abbrev pub after_begin_level : Reply → Plan
 after_begin_level (answer.Level from to) = if nat_lt to from then descend (from - to) from else climb (to - from) from
 after_begin_level reply = after_one reply
 
-abbrev pub after_last_set : BundleId → Reply → Plan
-after_last_set bundle (answer.Leveled true) = start (Id bundle) true (λ bad. stop (end_of bad))
-after_last_set bundle reply = after_one reply
+-- ---- blevel: the level is set; a bundle that is up while its level is above the active one is stopped for now first, and the level set once
+-- more; one that may run now is started for now
 
-abbrev pub after_set : BundleId → ℕ → Reply → Plan
-after_set bundle level (answer.Up up) = halt (Id bundle) true (past_stop (ask (op.SetBundleLevel bundle level) (after_last_set bundle)))
-after_set bundle level reply = after_last_set bundle reply
+-- an `Up` that is answered once more ends the plan
+abbrev pub after_last_level_set : BundleId → Reply → Plan
+after_last_level_set bundle (answer.Leveled true) = start (Id bundle) true (λ bad. stop (end_of bad))
+after_last_level_set bundle reply = after_one reply
+
+abbrev pub after_level_set : BundleId → ℕ → Reply → Plan
+after_level_set bundle level (answer.Up up) = halt (Id bundle) true (if_it_stopped (ask (op.SetBundleLevel bundle level) (after_last_level_set bundle)))
+after_level_set bundle level reply = after_last_level_set bundle reply
+
+-- ---- what a statement's variable is bound to: the service that was registered, or found
 
 abbrev pub after_register : Reply → Plan
 after_register (answer.Service service) = stop (bound (Some service))
@@ -230,11 +244,14 @@ abbrev pub after_find : Reply → Plan
 after_find (answer.Best found) = stop (bound found)
 after_find reply = after_one reply
 
+-- ---- load and get
+
 -- a bundle that waited for the class is started, and what comes of that does not end the plan
 abbrev pub after_load : Reply → Plan
 after_load (answer.LoadedMore by wire (Some bundle)) = start (Id bundle) true (λ bad. stop done)
 after_load reply = after_one reply
 
+-- the console resolves the bundle first; a script loads from its own, which is resolved
 abbrev pub load : BundleId → BundleId → List ℕ → Plan
 load owner bundle class =
     if owner.0 == 0 then ask (op.Resolve bundle) (λ reply. unless_refused reply (ask (op.Load bundle class) after_load)) else ask (op.Load bundle class) after_load
@@ -260,16 +277,16 @@ plan owner (command.Peek class filter) = stop done
 plan owner (command.StartLazy bundle) = start_lazy bundle (λ bad. stop (end_of bad))
 plan owner (command.Unget service) = one (op.Unget owner service)
 plan owner (command.Start target transient) = start target transient (λ bad. stop (end_of bad))
-plan owner (command.Stop target transient) = halt target transient (past_stop (stop done))
+plan owner (command.Stop target transient) = halt target transient (if_it_stopped (stop done))
 plan owner (command.Load bundle class) = load owner bundle class
 plan owner (command.Install location) = one (op.Install location)
 plan owner (command.Update bundle location) = halt (Id bundle) true (after_stop_to_update bundle location)
-plan owner (command.Uninstall bundle) = halt (Id bundle) true (past_failure (one (op.Uninstall bundle)))
+plan owner (command.Uninstall bundle) = halt (Id bundle) true (even_if_its_section_failed (one (op.Uninstall bundle)))
 plan owner (command.Resolve bundle) = one (op.Resolve bundle)
 plan owner (command.Refresh bundles) = ask (op.BeginRefresh bundles) after_begin_refresh
 plan owner (command.Wires bundle) = one (op.ListWires bundle)
 plan owner (command.Level level) = ask (op.BeginLevel level) after_begin_level
-plan owner (command.BundleLevel bundle level) = ask (op.SetBundleLevel bundle level) (after_set bundle level)
+plan owner (command.BundleLevel bundle level) = ask (op.SetBundleLevel bundle level) (after_level_set bundle level)
 plan owner command.Bundles = one op.ListBundles
 plan owner command.Services = one op.ListServices
 plan owner (command.Listen name kind filter) = one (op.AddListener owner name kind filter)
