@@ -127,7 +127,7 @@ verdict_of (Err refusal) = refuses refusal
 abbrev pub IsInState : ℕ → BundleId → List BundleKept → Type 0
 IsInState state id rows = IsSomeAnd (row_at id rows) (λ (row : BundleKept). row.state ≡ state)
 
--- the row is of no fragment, and of a bundle that is resolved, and neither starting, stopping nor active
+-- the row is of no fragment, and its bundle's state is none of installed, starting, stopping and active
 abbrev pub MayStart : BundleKept → Type 0
 MayStart row = (row.fragment ≡ false) × (row.state ≢ INSTALLED) × (is_changing row.state ≡ false) × (row.state ≢ ACTIVE)
 

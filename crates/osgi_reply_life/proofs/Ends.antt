@@ -199,7 +199,7 @@ start_shown now tables told stood tag b true is = let there = row_in _ (row_at b
 start_shown now tables told stood tag b false is = let there = row_in _ (row_at b tables.bundles.rows) (row_at b tables.bundles.rows) refl is in one_shown 2 now tables told stood b there.0 there.1
 
 stop_shown : (now : Moment) (tables : Tables) → IsTold now → StandsFor now tables → (tag : Tag) (b : BundleId) (failed : Bool) → IsInChange STOPPING tag b tables.bundles.rows →
-    AreShown (happened (change.EndStop tag b failed) tables.registry tables.bundles) (happenings now.before now.world tables.wirings.world (entry_of now (op.EndStop b failed) (reply_of failed)) (op.EndStop b failed) (reply_of failed))
+    AreShown (happened (change.EndStop tag b) tables.registry tables.bundles) (happenings now.before now.world tables.wirings.world (entry_of now (op.EndStop b failed) (reply_of failed)) (op.EndStop b failed) (reply_of failed))
 stop_shown now tables told stood tag b true is = let there = row_in _ (row_at b tables.bundles.rows) (row_at b tables.bundles.rows) refl is in stopped_shown now tables told stood b there.0 there.1
 stop_shown now tables told stood tag b false is = let there = row_in _ (row_at b tables.bundles.rows) (row_at b tables.bundles.rows) refl is in stopped_shown now tables told stood b there.0 there.1
 
@@ -216,12 +216,12 @@ start_ended_so tables tag b failed own is = record {
 }
 
 stop_ended_so : (tables : Tables) (tag : Tag) (b : BundleId) (failed : Bool) → IsOwnEnd (end_stop tag b failed) tables → IsInChange STOPPING tag b tables.bundles.rows →
-    IsReplyAndChange (end_stop tag b failed) tables (reply_of failed) (change.EndStop tag b failed)
+    IsReplyAndChange (end_stop tag b failed) tables (reply_of failed) (change.EndStop tag b)
 stop_ended_so tables tag b failed own is = record {
   possible = is;
   cleans = cleans_stop b failed;
   answered = λ new changed.
-      replied_ended (end_stop tag b failed) tables new (reply_of failed) phases.idle true b (happened (change.EndStop tag b failed) tables.registry tables.bundles) (is_end_stop b failed) own
+      replied_ended (end_stop tag b failed) tables new (reply_of failed) phases.idle true b (happened (change.EndStop tag b) tables.registry tables.bundles) (is_end_stop b failed) own
       (λ now at stood. stop_ended now b failed (own_end_at (end_stop tag b failed) tables now at stood ∙ own))
       (λ now at stood. up-resolved now at.told b (ap is_up (state_at now tables b Stopping tag at.told stood is)))
       (λ now at stood. stop_shown now tables at.told stood tag b failed is) changed;
@@ -232,5 +232,5 @@ pub decided_start_ended : (tables : Tables) (tag : Tag) (b : BundleId) (failed s
 decided_start_ended tables tag b failed so same own is = subst (λ k. IsReplyAndChange (end_start tag b failed) tables (reply_of k) (change.EndStart tag b failed)) same (start_ended_so tables tag b failed own is)
 
 pub decided_stop_ended : (tables : Tables) (tag : Tag) (b : BundleId) (failed so : Bool) → failed ≡ so → IsOwnEnd (end_stop tag b failed) tables → IsInChange STOPPING tag b tables.bundles.rows →
-    IsReplyAndChange (end_stop tag b failed) tables (reply_of so) (change.EndStop tag b failed)
-decided_stop_ended tables tag b failed so same own is = subst (λ k. IsReplyAndChange (end_stop tag b failed) tables (reply_of k) (change.EndStop tag b failed)) same (stop_ended_so tables tag b failed own is)
+    IsReplyAndChange (end_stop tag b failed) tables (reply_of so) (change.EndStop tag b)
+decided_stop_ended tables tag b failed so same own is = subst (λ k. IsReplyAndChange (end_stop tag b failed) tables (reply_of k) (change.EndStop tag b)) same (stop_ended_so tables tag b failed own is)

@@ -54,11 +54,7 @@ pub fn end_stop(tables: &Tables, tag: Tag, bundle: BundleId, failed: bool) -> (R
         let refusal = Refusal::InvalidOperation;
         return (Reply::Refused { refusal }, Change::Nothing);
     }
-    let change = Change::EndStop {
-        tag,
-        bundle,
-        failed,
-    };
+    let change = Change::EndStop { tag, bundle };
     if failed {
         let refusal = Refusal::ActivatorError;
         return (Reply::Refused { refusal }, change);

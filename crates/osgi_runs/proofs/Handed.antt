@@ -32,7 +32,7 @@ use Rattle.osgi_ops.specs.rows.Events.{IsAnyReady, IsHanding, IsNothing}
 use Rattle.osgi_runs.specs.Bound.{finds_nothing}
 use Rattle.osgi_runs.specs.Handed.{AllHanded, AllHandedIn}
 use Rattle.osgi_runs.specs.Plain.{AreNumberedFrom, commands_in, IsPlain}
-use Rattle.osgi_runs.specs.Turns.{HandsAgain, HandsAll, IsHandedOut, is_end_of_hand, leaves_some}
+use Rattle.osgi_runs.specs.Turns.{HandsAgain, HandsToNothing, HandsAgainAndCloses, is_end_of_hand, leaves_some}
 use Rattle.osgi_session.specs.Plans.{stirs}
 use Rattle.osgi_session.specs.Runs.{Sections}
 use Rattle.osgi_session.specs.Rendering.{is_full}
@@ -146,7 +146,7 @@ concerned setting listener front x before a c = go (or-cases (is_some_there (see
 
 -- ---- a Hand that finds nothing comes behind it
 
-again-at : (u : List Told) (e : Told) (v : List Told) → HandsAgain (entries_in (u ++ e ∷ v)) → leaves_some e.entry.op e.entry.reply ≡ true → HandsAll e.entry.tag.caller (entries_in v)
+again-at : (u : List Told) (e : Told) (v : List Told) → HandsAgain (entries_in (u ++ e ∷ v)) → leaves_some e.entry.op e.entry.reply ≡ true → HandsToNothing e.entry.tag.caller (entries_in v)
 again-at [] e v c s = c.0 s
 again-at (x ∷ u) e v c s = again-at u e v c.1 s
 
@@ -156,7 +156,7 @@ Found l = (a : List Told) × (n : Told) × (b : List Told) × (l ≡ a ++ n ∷ 
 later : (x : Told) (v : List Told) → Found v → Found (x ∷ v)
 later x v r = (x ∷ r.0, r.1, r.2, ap (λ l. x ∷ l) r.3, r.4)
 
-found-at : (caller : ℕ) (v : List Told) → HandsAll caller (entries_in v) → Found v
+found-at : (caller : ℕ) (v : List Told) → HandsToNothing caller (entries_in v) → Found v
 found-at caller [] s = absurd s
 found-at caller (x ∷ v) (inl n) = ([], x, v, refl, n.1)
 found-at caller (x ∷ v) (inr r) = later x v (found-at caller v r)
@@ -219,7 +219,7 @@ all-closed (b ∷ rest) e =
 
 -- Of a legal history in which who leaves something to be handed hands again, and nothing is open in the end: each listener that is live in the
 -- end was handed all that is due to it. Callers may take turns in any order.
-pub out-handed : (setting : Setting) (told : List Told) → AreAllowed setting told → IsHandedOut (entries_in told) → AllHanded told
+pub out-handed : (setting : Setting) (told : List Told) → AreAllowed setting told → HandsAgainAndCloses (entries_in told) → AllHanded told
 out-handed setting told legal out listener a live =
     sym (all-handed (seen listener) (hands listener) (Concerns listener) (λ f x. known (concerns listener f x))
     (λ f x n. quiet f x n) told (handed-is-prefix setting told legal listener) after)
@@ -266,11 +266,11 @@ out-handed setting told legal out listener a live =
 abbrev pub AllRuns : Sections → List Entry → Type 0
 AllRuns script history = (caller : ℕ) → AreRuns script caller (by caller history)
 
-hands-all : (caller : ℕ) (entries : List Entry) → Settles (calls_of (by caller entries)) → HandsAll caller entries
+hands-all : (caller : ℕ) (entries : List Entry) → Settles (calls_of (by caller entries)) → HandsToNothing caller entries
 hands-all caller [] s = absurd s
 hands-all caller (e ∷ rest) s = go (is_by caller e) refl s (hands-all caller rest)
   where
-    go : (k : Bool) → is_by caller e ≡ k → Settles (calls_of (cond k (e ∷ by caller rest) (by caller rest))) → (Settles (calls_of (by caller rest)) → HandsAll caller rest) → HandsAll caller (e ∷ rest)
+    go : (k : Bool) → is_by caller e ≡ k → Settles (calls_of (cond k (e ∷ by caller rest) (by caller rest))) → (Settles (calls_of (by caller rest)) → HandsToNothing caller rest) → HandsToNothing caller (e ∷ rest)
     go true same (inl n) ih = inl (eqb-true e.tag.caller caller same, n)
     go true same (inr r) ih = inr (ih r)
     go false same r ih = inr (ih r)
@@ -290,13 +290,13 @@ hands-again : (history : List Entry) → Settled history → HandsAgain history
 hands-again [] all = tt
 hands-again (e ∷ rest) all = (hands-here, hands-again rest (settled-rest e rest all))
   where
-    hands-here : leaves_some e.op e.reply ≡ true → HandsAll e.tag.caller rest
+    hands-here : leaves_some e.op e.reply ≡ true → HandsToNothing e.tag.caller rest
     hands-here some =
         let own = subst (λ k. AreSettled (calls_of (cond k (e ∷ by e.tag.caller rest) (by e.tag.caller rest)))) (eq-eqb e.tag.caller e.tag.caller refl) (all e.tag.caller) in
         hands-all e.tag.caller rest (own.0 some)
 
 -- of a legal history in which each caller's entries are whole runs
-pub runs-out : (setting : Setting) (script : Sections) (told : List Told) → AreAllowed setting told → AllRuns script (entries_in told) → IsHandedOut (entries_in told)
+pub runs-out : (setting : Setting) (script : Sections) (told : List Told) → AreAllowed setting told → AllRuns script (entries_in told) → HandsAgainAndCloses (entries_in told)
 runs-out setting script told legal runs = record {
   again = hands-again (entries_in told) (λ caller. (calm caller).0);
   closed = all-closed (brackets (entries_in told)) (λ caller. (calm caller).1);

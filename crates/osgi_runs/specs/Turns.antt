@@ -18,17 +18,17 @@ abbrev pub leaves_some : Op → Reply → Bool
 leaves_some o reply = stirs o reply || is_end_of_hand o
 
 -- one of the entries is a Hand of this caller that finds nothing
-abbrev pub HandsAll : ℕ → List Entry → Type 0
-HandsAll caller [] = ⊥
-HandsAll caller (e ∷ later) = ((e.tag.caller ≡ caller) × (finds_nothing e.op e.reply ≡ true)) ⊎ HandsAll caller later
+abbrev pub HandsToNothing : ℕ → List Entry → Type 0
+HandsToNothing caller [] = ⊥
+HandsToNothing caller (e ∷ later) = ((e.tag.caller ≡ caller) × (finds_nothing e.op e.reply ≡ true)) ⊎ HandsToNothing caller later
 
 -- who leaves something to be handed, by what it did or since it ends a listener's turn, hands again: behind that entry it has a Hand that
 -- finds nothing. Whoever came in between may have handed some of it, and then hands again for itself
 abbrev pub HandsAgain : List Entry → Type 0
 HandsAgain [] = ⊤
-HandsAgain (e ∷ later) = (leaves_some e.op e.reply ≡ true → HandsAll e.tag.caller later) × HandsAgain later
+HandsAgain (e ∷ later) = (leaves_some e.op e.reply ≡ true → HandsToNothing e.tag.caller later) × HandsAgain later
 
 -- so it is, and in the end no bracket is open
-pub record IsHandedOut (history : List Entry) : Type 0 where
+pub record HandsAgainAndCloses (history : List Entry) : Type 0 where
   pub again : HandsAgain history
   pub closed : brackets history ≡ []

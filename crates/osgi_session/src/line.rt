@@ -31,8 +31,8 @@ impl Content {
     }
 }
 
-/// A line of the input. Lines are numbered from 1. A lane is one of the callers that run beside one another, numbered from 1; it
-/// is 0 where the line names none.
+/// A line of the input. Lines are numbered from 1. The lines of one lane are run one after another by a caller of their own, beside
+/// those of other lanes. Lanes are numbered from 1, and the lane is 0 where the line names none.
 pub struct Line {
     pub number: u32,
     pub lane: u32,

@@ -188,7 +188,7 @@ can_alike (change.Resolve added resolved) tables l alike can = can
 can_alike (change.BeginStart tag b) tables l alike can = can
 can_alike (change.EndStart tag b failed) tables l alike can = can
 can_alike (change.BeginStop tag b) tables l alike can = can
-can_alike (change.EndStop tag b failed) tables l alike can = can
+can_alike (change.EndStop tag b) tables l alike can = can
 
 -- ---- a change of roomier tables is one of the tables, but for room
 
@@ -266,7 +266,7 @@ module _ (old new : Tables) (r : Listening) (alike : HearsAlike old.listeners r)
       is = ap (with_listeners (without_listeners failed b old.listeners)) is.is;
     };
   }
-  changed_so (change.EndStop tag b failed) is = record {
+  changed_so (change.EndStop tag b) is = record {
     listeners = without_listeners true b old.listeners;
     alike = subst (HearsAlike (without_listeners true b old.listeners)) (sym (ap (λ (t : Tables). t.listeners) is.is)) (without_alike true b old.listeners r alike);
     changes = record {

@@ -70,7 +70,7 @@ world_left (change.TakeJob tag) old new is some = ap (λ (t : Tables). t.wirings
 world_left (change.BeginStart tag b) old new is some = ap (λ (t : Tables). t.wirings.world) (sym is.is)
 world_left (change.EndStart tag b failed) old new is some = ap (λ (t : Tables). t.wirings.world) (sym is.is)
 world_left (change.BeginStop tag b) old new is some = ap (λ (t : Tables). t.wirings.world) (sym is.is)
-world_left (change.EndStop tag b failed) old new is some = ap (λ (t : Tables). t.wirings.world) (sym is.is)
+world_left (change.EndStop tag b) old new is some = ap (λ (t : Tables). t.wirings.world) (sym is.is)
 
 -- ---- an entry hands nothing, or nothing happens at it
 
@@ -177,7 +177,7 @@ stays_all P (change.BeginStart tag b) old new lasts is all = subst (λ (t : Tabl
 stays_all P (change.BeginStop tag b) old new lasts is all = subst (λ (t : Tables). All P t.listeners.rows) (sym is.is) all
 stays_all P (change.EndStart tag b true) old new lasts is all = subst (λ (t : Tables). All P t.listeners.rows) (sym is.is) (All-filter (λ row. not (is_owned b row)) P old.listeners.rows all)
 stays_all P (change.EndStart tag b false) old new lasts is all = subst (λ (t : Tables). All P t.listeners.rows) (sym is.is) all
-stays_all P (change.EndStop tag b failed) old new lasts is all = subst (λ (t : Tables). All P t.listeners.rows) (sym is.is) (All-filter (λ row. not (is_owned b row)) P old.listeners.rows all)
+stays_all P (change.EndStop tag b) old new lasts is all = subst (λ (t : Tables). All P t.listeners.rows) (sym is.is) (All-filter (λ row. not (is_owned b row)) P old.listeners.rows all)
 
 -- where nothing happens there is nothing to see
 none_at : {place : ℕ} {shown : Shown} → IsAt place [] shown → ⊥

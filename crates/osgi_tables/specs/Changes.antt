@@ -88,7 +88,7 @@ CanBeMade (TakeJob tag) old = Unit {0}
 CanBeMade (BeginStart tag bundle) old = IsStartable bundle old.bundles.rows
 CanBeMade (EndStart tag bundle failed) old = IsInChange STARTING tag bundle old.bundles.rows
 CanBeMade (BeginStop tag bundle) old = IsStoppable bundle old.bundles.rows
-CanBeMade (EndStop tag bundle failed) old = IsInChange STOPPING tag bundle old.bundles.rows
+CanBeMade (EndStop tag bundle) old = IsInChange STOPPING tag bundle old.bundles.rows
 
 -- the registry changes
 pub record ServicesChange (change : ServiceChange) (old new : Tables) : Type 0 where
@@ -201,7 +201,7 @@ Changes (TakeJob tag) old new = Takes tag old new
 Changes (BeginStart tag bundle) old new = Begins starting (bracket.starting bundle) tag bundle old new
 Changes (EndStart tag bundle failed) old new = Ends (started_phase failed) failed tag bundle old new
 Changes (BeginStop tag bundle) old new = Begins stopping (bracket.stopping bundle) tag bundle old new
-Changes (EndStop tag bundle failed) old new = Ends idle true tag bundle old new
+Changes (EndStop tag bundle) old new = Ends idle true tag bundle old new
 
 -- ---- what happens as it is made
 
@@ -242,7 +242,7 @@ happened (EndStart tag bundle true) registry bundles =
     bundles_shown BUNDLE_STOPPING (bundle ∷ []) bundles.rows ++ leaving bundle registry ++ bundles_shown BUNDLE_STOPPED (bundle ∷ []) bundles.rows
 happened (EndStart tag bundle false) registry bundles = bundles_shown BUNDLE_STARTED (bundle ∷ []) bundles.rows
 happened (BeginStop tag bundle) registry bundles = bundles_shown BUNDLE_STOPPING (bundle ∷ []) bundles.rows
-happened (EndStop tag bundle failed) registry bundles = leaving bundle registry ++ bundles_shown BUNDLE_STOPPED (bundle ∷ []) bundles.rows
+happened (EndStop tag bundle) registry bundles = leaving bundle registry ++ bundles_shown BUNDLE_STOPPED (bundle ∷ []) bundles.rows
 
 -- the bundle that it cleans
 abbrev pub cleaned_in : Change → Option BundleId
@@ -258,7 +258,7 @@ cleaned_in (TakeJob tag) = None
 cleaned_in (BeginStart tag bundle) = None
 cleaned_in (EndStart tag bundle failed) = if failed then Some bundle else None
 cleaned_in (BeginStop tag bundle) = None
-cleaned_in (EndStop tag bundle failed) = Some bundle
+cleaned_in (EndStop tag bundle) = Some bundle
 
 -- the reply and the change are decided: the change can be made, and once it is made, what was asked for is answered so, and this is what
 -- happens

@@ -81,7 +81,6 @@ pub enum Change {
     EndStop {
         tag: Tag,
         bundle: BundleId,
-        failed: bool,
     },
 }
 
@@ -119,11 +118,7 @@ impl Drop for Change {
                 failed: _,
             } => {}
             Change::BeginStop { tag: _, bundle: _ } => {}
-            Change::EndStop {
-                tag: _,
-                bundle: _,
-                failed: _,
-            } => {}
+            Change::EndStop { tag: _, bundle: _ } => {}
         }
     }
 }
@@ -169,11 +164,7 @@ impl Change {
                 failed,
             } => tables.end_start(tag, bundle, failed),
             Change::BeginStop { tag, bundle } => tables.begin_stop(tag, bundle),
-            Change::EndStop {
-                tag,
-                bundle,
-                failed: _,
-            } => tables.end_stop(tag, bundle),
+            Change::EndStop { tag, bundle } => tables.end_stop(tag, bundle),
         }
     }
 }
