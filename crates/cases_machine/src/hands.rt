@@ -1,11 +1,13 @@
 //! What the console does not write of hands, and what was handed.
 
+use crate::depot::depot_of;
 use cases_text::{put, put_debug, put_shown, put_text};
 use osgi_base::{BundleId, ListenerId, Text};
-use osgi_core::Core;
+use osgi_core::{Core, due};
 use osgi_history::handed;
-use osgi_ops::{Busy, Event, Kind};
+use osgi_ops::{Busy, Event, Kind, Limits};
 use std::alloc::{AllocError, Global};
+use std::mem;
 
 /// Adds the listener's name, kind and owner, and the depot's row of the owner, whose script has the section that is to run.
 pub fn add_section(
@@ -91,5 +93,20 @@ pub fn add_handed(
     listener: ListenerId,
 ) -> Result<(), AllocError> {
     let events = handed(alloc, core.entries(), listener)?;
+    add_events(out, events.items())
+}
+
+/// Adds the events that the listener sees in the history, as the machine tells them when its calls are made again. The machine is a
+/// new one then.
+pub fn add_due(
+    alloc: Global,
+    out: &mut String,
+    core: &mut Core,
+    listener: ListenerId,
+) -> Result<(), AllocError> {
+    let limits = core.limits();
+    let next = Core::new(alloc, Limits::standard(), depot_of(alloc, "")?)?;
+    let (depot, entries) = mem::replace(core, next).into_parts();
+    let events = due(alloc, limits, depot, entries.items(), listener)?;
     add_events(out, events.items())
 }

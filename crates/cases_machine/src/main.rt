@@ -15,6 +15,7 @@
 //! | `CALLER.NUMBER BUNDLE later_with_text NAME` | the same where the operation has a text or a list |
 //! | `entries` | the machine's history |
 //! | `handed LISTENER` | the events that were handed to the listener, as a plain scan of the history finds them |
+//! | `due LISTENER` | the events that the listener sees in the machine's history, when its calls are made again; the machine is a new one then |
 //! | `line NAME` | what the console writes of a refusal |
 //! | `refusal NAME`, `many NAME`, `join`, `limits` | numbers and names of refusals, a line that joins, the standard limits |
 //!

@@ -2,7 +2,7 @@
 
 use crate::depot::{depot_of, numbered_depot};
 use crate::direct::direct;
-use crate::hands::add_handed;
+use crate::hands::{add_due, add_handed};
 use crate::later::{later, later_with_text};
 use crate::machine::{add_filled, add_history, add_recorded};
 use crate::names::{add_join, add_limits, add_many};
@@ -132,6 +132,8 @@ pub fn add_answer(
         add_history(alloc, out, core.entries())
     } else if word == "handed" {
         add_handed(alloc, out, core, ListenerId(number(rest)))
+    } else if word == "due" {
+        add_due(alloc, out, core, ListenerId(number(rest)))
     } else if word == "refusal" {
         add_refusal(alloc, out, rest, Form::Name)
     } else if word == "line" {
