@@ -8,7 +8,8 @@ use Rattle.std.specs.declared.vec.Vec.{Vec}
 use Rattle.osgi_base.specs.NumberMaps.{Puts, value_at}
 use Rattle.osgi_base.specs.declared.ids.Tag.{Tag}
 use Rattle.osgi_base.specs.declared.number_map.NumberMap.{NumberMap}
-use Rattle.osgi_ops.specs.Brackets.{Bracket, bracket, without_first}
+use Rattle.osgi_ops.specs.Brackets.{Bracket, bracket}
+use Rattle.osgi_ops.specs.OwnBrackets.{without_first}
 use Rattle.osgi_brackets.specs.Kinds.{bracket_of, cause_of}
 use Rattle.osgi_brackets.specs.declared.bracket.BracketKind.{BracketKind}
 use Rattle.osgi_brackets.specs.declared.bracket.OpenBracket.{OpenBracket}

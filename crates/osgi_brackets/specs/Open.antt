@@ -3,7 +3,8 @@ use Rattle.std.specs.Prelude.{ℕ, ◌≡◌, ◌==◌, ◌<◌, ◌≤◌, if�
 use Rattle.std.specs.Option.{option_map_or}
 use Rattle.osgi_base.specs.NumberMaps.{value_at}
 use Rattle.osgi_base.specs.declared.ids.Tag.{Tag}
-use Rattle.osgi_ops.specs.Brackets.{Bracket, bracket, brackets_of, Cause, without_first}
+use Rattle.osgi_ops.specs.Brackets.{Bracket, bracket, brackets_of, Cause}
+use Rattle.osgi_ops.specs.OwnBrackets.{without_first}
 use Rattle.osgi_ops.specs.declared.entry.Entry.{Entry}
 use Rattle.osgi_ops.specs.declared.limits.TheConstants.{MAX_BRACKETS}
 use Rattle.osgi_brackets.specs.declared.bracket.OpenBracket.{OpenBracket}

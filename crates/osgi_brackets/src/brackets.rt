@@ -2,7 +2,7 @@
 
 ghost use Rattle.std.specs.Prelude.{◌≡◌, ◌↔◌, [], ◌++◌, ◌∷◌, List, length, IsOk, IsTrue, OnOk, OnErr};
 ghost use Rattle.std.specs.Option.{option_map};
-ghost use Rattle.osgi_ops.specs.Brackets.{own_closes};
+ghost use Rattle.osgi_ops.specs.OwnBrackets.{own_closes};
 ghost use Rattle.osgi_ops.specs.declared.entry.Entry.{Entry};
 ghost use Rattle.osgi_brackets.specs.Kinds.{bracket_of, cause_of};
 ghost use Rattle.osgi_brackets.specs.Open.{Closes, HasRoom, HoldsMost, HoldsSame, innermost_of, open_of, Opens, StandsFor};

@@ -11,7 +11,8 @@ use Rattle.osgi_core.specs.computed.Hands.{HasEnds, ends_in, is_hand_or_job, is_
 use Rattle.osgi_legal.proofs.Owned.{closes-own}
 use Rattle.osgi_ops.specs.Along.{carry}
 use Rattle.osgi_ops.specs.Brackets as cause
-use Rattle.osgi_ops.specs.Brackets.{Bracket, bracket, brackets, Cause, closes, ends, is_ended, opens, own_closes, turned, with_entry, without_innermost}
+use Rattle.osgi_ops.specs.Brackets.{Bracket, bracket, brackets, Cause, closes, ends, is_ended, opens, with_entry, without_innermost}
+use Rattle.osgi_ops.specs.OwnBrackets.{own_closes, turned}
 use Rattle.osgi_ops.specs.declared.entry.Entry.{Entry}
 use Rattle.osgi_ops.specs.declared.op.Op.{Op}
 use Rattle.osgi_ops.specs.declared.op.Op.TheVariants as op
@@ -142,7 +143,8 @@ turned_few tag None false opened = omega arith
 carried_few : (opened : List Bracket) (history : List Entry) → length (carry with_entry opened history) ≤ length opened + length history
 carried_few opened [] = omega arith
 carried_few opened (e ∷ rest) =
-    omega (arith, turned_few e.tag (opens e.op e.reply) (closes e.tag e.op opened) opened, carried_few (with_entry opened e) rest)
+    let few : length (with_entry opened e) ≤ length opened + 1 = turned_few e.tag (opens e.op e.reply) (closes e.tag e.op opened) opened in
+    omega (arith, few, carried_few (with_entry opened e) rest)
 
 pub ends_few : (history : List Entry) → ends_in (brackets history) ≤ length history
 ends_few history =

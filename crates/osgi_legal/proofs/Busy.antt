@@ -4,7 +4,8 @@ use Rattle.std.specs.Prelude.{◌==◌, ◌||◌, ◌&&◌, not, Option}
 use Rattle.std.proofs.lemmas.Bool.{and_from, and_parts, not-true, or_left, or_right}
 use Rattle.osgi_base.specs.declared.ids.BundleId.{BundleId}
 use Rattle.osgi_base.specs.declared.ids.Tag.{Tag}
-use Rattle.osgi_ops.specs.Brackets.{Bracket, brackets, is_end}
+use Rattle.osgi_ops.specs.Brackets.{Bracket, brackets}
+use Rattle.osgi_ops.specs.OwnBrackets.{is_end}
 use Rattle.osgi_ops.specs.Bundles as bundles
 use Rattle.osgi_ops.specs.Bundles.{active, idle, is_live, is_uninstall, phase, Phase}
 use Rattle.osgi_legal.specs.Legal.{AreAllowed, IsAllowed}

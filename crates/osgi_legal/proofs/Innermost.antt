@@ -3,7 +3,8 @@
 use Rattle.std.proofs.Common.{◌≡◌, ◌⊎◌, inl, inr, ℕ, List, [], ◌∷◌, Bool, true, false, refl, sym, ap, ◌∙◌, subst}
 use Rattle.std.specs.Prelude.{◌==◌, cond, filter, Option, None, Some}
 use Rattle.osgi_base.specs.declared.ids.Tag.{Tag}
-use Rattle.osgi_ops.specs.Brackets.{Bracket, bracket, Cause, turned, without_innermost}
+use Rattle.osgi_ops.specs.Brackets.{Bracket, bracket, Cause, without_innermost}
+use Rattle.osgi_ops.specs.OwnBrackets.{turned}
 use Rattle.osgi_legal.proofs.Owned.{of}
 
 -- there is one at most

@@ -7,7 +7,8 @@ use Rattle.osgi_base.specs.declared.ids.BundleId.{BundleId}
 use Rattle.osgi_base.specs.declared.ids.ListenerId.{ListenerId}
 use Rattle.osgi_base.specs.declared.ids.Tag.{Tag}
 use Rattle.osgi_ops.specs.Along.{carry, AllAlong}
-use Rattle.osgi_ops.specs.Brackets.{Bracket, brackets, Cause, closes, ends, is_end, opens, own_closes, turned, with_entry, without_innermost}
+use Rattle.osgi_ops.specs.Brackets.{Bracket, brackets, Cause, closes, ends, opens, with_entry, without_innermost}
+use Rattle.osgi_ops.specs.OwnBrackets.{is_end, own_closes, turned}
 use Rattle.osgi_legal.specs.Legal.{IsAllowed}
 use Rattle.osgi_ops.specs.Listening.{Added, adds, clears, heard_by, Hearing, hearing, HearingChange, is_in_turn, is_listener, is_turn_of, lets_go, listener_at, takes_off, with_heard}
 use Rattle.osgi_legal.specs.Operations.{IsReply}

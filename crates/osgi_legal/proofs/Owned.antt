@@ -4,7 +4,8 @@ use Rattle.std.specs.Prelude.{◌==◌, ◌&&◌, cond, filter, is_some, Option,
 use Rattle.std.proofs.lemmas.Bool.{eq-eqb, eqb-true}
 use Rattle.std.proofs.lemmas.List.{map-append}
 use Rattle.osgi_base.specs.declared.ids.Tag.{Tag}
-use Rattle.osgi_ops.specs.Brackets.{Bracket, bracket, brackets, Cause, closes, ends, is_end, is_ended, opens, own_closes, own_turned, turned, without_first, without_innermost}
+use Rattle.osgi_ops.specs.Brackets.{Bracket, bracket, brackets, Cause, closes, ends, is_ended, opens, without_innermost}
+use Rattle.osgi_ops.specs.OwnBrackets.{is_end, own_closes, own_turned, turned, without_first}
 use Rattle.osgi_ops.specs.Conditions.{IsDeep}
 use Rattle.osgi_legal.specs.Operations.{Answers, IsReply, IsRow}
 use Rattle.osgi_legal.specs.laws.Stages.{ends-here, here-row}

@@ -4,7 +4,8 @@ use Rattle.std.specs.Prelude.{◌==◌, ◌&&◌, cond, filter, IsSomeAnd, Optio
 use Rattle.std.proofs.lemmas.Bool.{eqb-true, eq-eqb, false_from_ne_true, true_from_ne_false}
 use Rattle.osgi_base.specs.declared.ids.BundleId.{BundleId}
 use Rattle.osgi_base.specs.declared.ids.Tag.{Tag}
-use Rattle.osgi_ops.specs.Brackets.{Bracket, bracket, brackets, Cause, closes, ends, handing, is_end, job, making, opens, starting, stopping, turned}
+use Rattle.osgi_ops.specs.Brackets.{Bracket, bracket, brackets, Cause, closes, ends, handing, job, making, opens, starting, stopping}
+use Rattle.osgi_ops.specs.OwnBrackets.{is_end, turned}
 use Rattle.osgi_ops.specs.Bundles as bundles
 use Rattle.osgi_ops.specs.Bundles.{active, begun_by, idle, is_active, is_changing, is_live, last_begin, phase, Phase, put_into, running}
 use Rattle.osgi_legal.specs.Legal.{AreAllowed, IsAllowed}

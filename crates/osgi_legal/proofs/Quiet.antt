@@ -12,7 +12,8 @@ use Rattle.osgi_base.specs.declared.ids.ServiceId.{ServiceId}
 use Rattle.osgi_base.specs.declared.ids.Tag.{Tag}
 use Rattle.osgi_legal.specs.Quiet.{IsQuiet, QuietBundles, QuietJobs, QuietLevels, QuietListeners, QuietMakes, QuietObjects, QuietPhases, QuietRefresh, QuietServices, QuietWaiting, ReadAlike, SameBundles, SameLevels, SameListeners, SameObjects, SamePhases, SameServices}
 use Rattle.osgi_model.specs.declared.value.Attribute.{Attribute}
-use Rattle.osgi_ops.specs.Brackets.{Bracket, brackets, closes, is_end, opens, turned}
+use Rattle.osgi_ops.specs.Brackets.{Bracket, brackets, closes, opens}
+use Rattle.osgi_ops.specs.OwnBrackets.{is_end, turned}
 use Rattle.osgi_ops.specs.Bundles as bundles
 use Rattle.osgi_ops.specs.Bundles.{brings_revision, Installed, installed, installed_by, is_uninstall, last_begin, phase, revisions, row_from, source, updated_to}
 use Rattle.osgi_ops.specs.Cleaning.{cleaned_by, cleans}

@@ -45,15 +45,6 @@ opens (Get user service) (Make owner row name) = Some (making (record { user = u
 opens (GetOwn user service) (Make owner row name) = Some (making (record { user = user; service = service; asked_own = true; owner = owner }))
 opens _ _ = None
 
--- the operation is an end
-abbrev pub is_end : Op → Bool
-is_end (EndHand listener) = true
-is_end EndJob = true
-is_end (EndStart bundle failed) = true
-is_end (EndStop bundle failed) = true
-is_end (EndMake failed) = true
-is_end _ = false
-
 -- the operation is the end of what a bracket is open for
 abbrev pub ends : Op → Cause → Bool
 ends (EndHand listener) (handing held) = listener.0 == held.0
@@ -78,14 +69,17 @@ abbrev pub without_innermost : ℕ → List Bracket → List Bracket
 without_innermost caller [] = []
 without_innermost caller (b ∷ outer) = if b.tag.caller == caller then outer else b ∷ without_innermost caller outer
 
--- with what an entry with this tag opens, or without what it closes
-abbrev pub turned : Tag → Option Cause → Bool → List Bracket → List Bracket
-turned tag (Some cause) closed opened = bracket tag cause ∷ opened
-turned tag None true opened = without_innermost tag.caller opened
-turned tag None false opened = opened
+-- with one more, which an operation with this tag opens, as the innermost
+abbrev pub with_opened : Tag → Cause → List Bracket → List Bracket
+with_opened tag cause opened = bracket tag cause ∷ opened
 
+-- without the one that the operation closes, if it closes one
+abbrev pub with_closed : Tag → Op → List Bracket → List Bracket
+with_closed tag op opened = if closes tag op opened then without_innermost tag.caller opened else opened
+
+-- after an entry: what it opens is put on top; what opens nothing may close
 abbrev pub with_entry : List Bracket → Entry → List Bracket
-with_entry opened e = turned e.tag (opens e.op e.reply) (closes e.tag e.op opened) opened
+with_entry opened e = elim (opens e.op e.reply) [ Some cause ↦ with_opened e.tag cause opened | None ↦ with_closed e.tag e.op opened ]
 
 -- the open brackets of all callers, the innermost of each first
 abbrev pub brackets : List Entry → List Bracket
@@ -94,23 +88,6 @@ brackets history = carry with_entry [] history
 -- those of one caller
 abbrev pub brackets_of : ℕ → List Entry → List Bracket
 brackets_of caller history = filter (λ b. b.tag.caller == caller) (brackets history)
-
--- ---- the brackets of one caller
-
-abbrev pub without_first : List Bracket → List Bracket
-without_first [] = []
-without_first (b ∷ outer) = outer
-
--- the operation is the end of the innermost of a caller's own brackets
-abbrev pub own_closes : Tag → Op → List Bracket → Bool
-own_closes tag op [] = false
-own_closes tag op (b ∷ outer) = is_ended tag op b
-
--- a caller's own brackets with what one of its calls opens, or without what it closes
-abbrev pub own_turned : Tag → Option Cause → Bool → List Bracket → List Bracket
-own_turned tag (Some cause) closed own = bracket tag cause ∷ own
-own_turned tag None true own = without_first own
-own_turned tag None false own = own
 
 -- the operation is the end of the innermost bracket of the tag's caller, which the tag's own command opened
 abbrev pub is_own_end : Tag → Op → List Entry → Bool

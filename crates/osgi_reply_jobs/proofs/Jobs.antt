@@ -15,7 +15,7 @@ use Rattle.osgi_legal.specs.Legal.{IsTold}
 use Rattle.osgi_legal.specs.Operations.{Answers, own_conditions}
 use Rattle.osgi_legal.specs.laws.Stages.{row-here}
 use Rattle.osgi_legal.proofs.Askers.{asker-passes}
-use Rattle.osgi_ops.specs.Brackets.{own_closes}
+use Rattle.osgi_ops.specs.OwnBrackets.{own_closes}
 use Rattle.osgi_ops.specs.Jobs.{jobs, Queued}
 use Rattle.osgi_ops.specs.Listening.{happenings}
 use Rattle.osgi_ops.specs.Moments.{Moment}

@@ -11,7 +11,8 @@ use Rattle.osgi_legal.specs.Quiet.{QuietBundles}
 use Rattle.osgi_stage.proofs.Current.{up-resolved}
 use Rattle.osgi_stage.proofs.Ends.{own-start, own-start-live, own-stop, own-stop-live}
 use Rattle.osgi_stage.proofs.StateReadings.{state-in}
-use Rattle.osgi_ops.specs.Brackets.{is_own_end, own_closes}
+use Rattle.osgi_ops.specs.Brackets.{is_own_end}
+use Rattle.osgi_ops.specs.OwnBrackets.{own_closes}
 use Rattle.osgi_ops.specs.Bundles as phases
 use Rattle.osgi_ops.specs.Bundles.{is_up, last_begin, number_of, Starting, State, Stopping}
 use Rattle.osgi_ops.specs.Cleaning.{cleaned_by}

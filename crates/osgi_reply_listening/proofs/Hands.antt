@@ -14,7 +14,8 @@ use Rattle.osgi_listeners.specs.declared.row.ListenerRow.{ListenerRow}
 use Rattle.osgi_listeners.specs.laws.Busy.{answers-nothing}
 use Rattle.osgi_listeners.specs.laws.Conditions.{is-end-accepted}
 use Rattle.osgi_listeners.specs.laws.Handing.{answers-next, row-handed}
-use Rattle.osgi_ops.specs.Brackets.{brackets, is_own_end, own_closes}
+use Rattle.osgi_ops.specs.Brackets.{brackets, is_own_end}
+use Rattle.osgi_ops.specs.OwnBrackets.{own_closes}
 use Rattle.osgi_legal.specs.Legal.{IsAskedAt, IsTold}
 use Rattle.osgi_ops.specs.Listening.{handings, happenings}
 use Rattle.osgi_ops.specs.Moments.{later, Moment}

@@ -3,7 +3,8 @@ use Rattle.std.proofs.Common.{◌≡◌, ℕ, List, [], ◌∷◌, Bool, true, f
 use Rattle.std.proofs.lemmas.Bool.{and_from, eq-eqb}
 use Rattle.std.specs.Prelude.{Option, None, Some, ◌&&◌, ◌==◌}
 use Rattle.osgi_base.specs.declared.ids.Tag.{Tag}
-use Rattle.osgi_ops.specs.Brackets.{Bracket, bracket, Cause, handing, job, ends, is_end, opens, own_closes, own_turned, without_first}
+use Rattle.osgi_ops.specs.Brackets.{Bracket, bracket, Cause, handing, job, ends, opens}
+use Rattle.osgi_ops.specs.OwnBrackets.{is_end, own_closes, own_turned, without_first}
 use Rattle.osgi_runs.specs.Bound.{AreBound, ClosesTask, has_closed, push}
 use Rattle.osgi_session.specs.Plans.{End}
 use Rattle.osgi_session.specs.Runs.{Call, call, command_of, has_failed, Task, ends_drain, ends_jobs, Sections, Reads, at_stop, asked, ran, calm, empty, handed, over, fails, goes, none, took}

@@ -3,7 +3,8 @@ use Rattle.std.proofs.Common.{◌≡◌, ◌⊎◌, inl, inr, ◌≤◌, ℕ, Li
 use Rattle.std.specs.Prelude.{cond}
 use Rattle.std.proofs.lemmas.Bool.{eqb-true}
 use Rattle.osgi_ops.specs.Along.{AllAlong}
-use Rattle.osgi_ops.specs.Brackets.{Bracket, brackets, brackets_of, closes, opens, with_entry, own_closes, own_turned}
+use Rattle.osgi_ops.specs.Brackets.{Bracket, brackets, brackets_of, closes, opens, with_entry}
+use Rattle.osgi_ops.specs.OwnBrackets.{own_closes, own_turned}
 use Rattle.osgi_ops.specs.Conditions.{IsDeep}
 use Rattle.osgi_ops.specs.declared.limits.TheConstants.{MAX_BRACKETS}
 use Rattle.osgi_runs.specs.Bound.{finds_nothing, has_closed, is_hand, is_take, IsBound}

@@ -4,7 +4,8 @@ use Rattle.std.specs.Prelude.{nat_lt, cond, None, All}
 use Rattle.std.proofs.lemmas.Bool.{eq-eqb, ltb-true, ltb-false, ne_eqb}
 use Rattle.std.proofs.lemmas.List.Elements.{All-head, All-tail, All-weaker, filter-append}
 use Rattle.osgi_base.specs.declared.ids.Tag.{Tag}
-use Rattle.osgi_ops.specs.Brackets.{Bracket, opens, own_closes, own_turned}
+use Rattle.osgi_ops.specs.Brackets.{Bracket, opens}
+use Rattle.osgi_ops.specs.OwnBrackets.{own_closes, own_turned}
 use Rattle.osgi_ops.specs.declared.limits.TheConstants.{MAX_BRACKETS}
 use Rattle.osgi_runs.specs.Bound.{IsBound, AreBound}
 use Rattle.osgi_ops.specs.Bundles.{system}

@@ -3,7 +3,8 @@ use Rattle.std.proofs.Common.{◌≡◌, ◌⊎◌, inl, inr, ◌<◌, ◌+◌, 
 use Rattle.std.specs.Prelude.{Option, None, Some, ◌||◌, ⊤}
 use Rattle.std.proofs.lemmas.Bool.{eq-eqb}
 use Rattle.osgi_base.specs.declared.ids.Tag.{Tag}
-use Rattle.osgi_ops.specs.Brackets.{Bracket, bracket, Cause, handing, is_end, job, opens}
+use Rattle.osgi_ops.specs.Brackets.{Bracket, bracket, Cause, handing, job, opens}
+use Rattle.osgi_ops.specs.OwnBrackets.{is_end}
 use Rattle.osgi_ops.specs.declared.op.Op.{Op}
 use Rattle.osgi_ops.specs.declared.op.Op.TheVariants.{Hand, EndHand, EndJob}
 use Rattle.osgi_ops.specs.declared.reply.Reply.{Reply}

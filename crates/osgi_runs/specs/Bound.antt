@@ -1,7 +1,8 @@
 -- What a legal history says of the calls of one command, beside the brackets that its caller has open.
 use Rattle.std.specs.Prelude.{◌≡◌, ◌⊎◌, ℕ, ◌≤◌, Bool, true, false, List, [], ◌∷◌, Option, None, Some, length, ⊤}
 use Rattle.osgi_base.specs.declared.ids.Tag.{Tag}
-use Rattle.osgi_ops.specs.Brackets.{Bracket, bracket, Cause, ends, is_end, opens, own_closes, own_turned}
+use Rattle.osgi_ops.specs.Brackets.{Bracket, bracket, Cause, ends, opens}
+use Rattle.osgi_ops.specs.OwnBrackets.{is_end, own_closes, own_turned}
 use Rattle.osgi_session.specs.Plans.{Plan, ask, run, stop, stirs}
 use Rattle.osgi_ops.specs.Replies.{took_effect}
 use Rattle.osgi_session.specs.Rendering.{takes_no_job}

@@ -5,7 +5,8 @@ use Rattle.std.specs.Prelude.{◌==◌, Some}
 use Rattle.std.proofs.lemmas.Bool.{and_parts, eq-eqb, eqb-true, false_from_ne_true}
 use Rattle.osgi_base.specs.declared.ids.BundleId.{BundleId}
 use Rattle.osgi_base.specs.declared.ids.Tag.{Tag}
-use Rattle.osgi_ops.specs.Brackets.{bracket, Bracket, brackets, Cause, closes, ends, own_closes}
+use Rattle.osgi_ops.specs.Brackets.{bracket, Bracket, brackets, Cause, closes, ends}
+use Rattle.osgi_ops.specs.OwnBrackets.{own_closes}
 use Rattle.osgi_ops.specs.Brackets as cause
 use Rattle.osgi_ops.specs.Bundles as bundles
 use Rattle.osgi_ops.specs.Bundles.{active, idle, is_live, is_up, last_begin, phase, Phase, running, system}

@@ -7,7 +7,8 @@ use Rattle.osgi_base.specs.declared.ids.BundleId.{BundleId}
 use Rattle.osgi_base.specs.declared.ids.ServiceId.{ServiceId}
 use Rattle.osgi_base.specs.declared.ids.Tag.{Tag}
 use Rattle.osgi_ops.specs.Brackets as cause
-use Rattle.osgi_ops.specs.Brackets.{Bracket, bracket, brackets, Cause, closes, ends, opens, turned, without_innermost}
+use Rattle.osgi_ops.specs.Brackets.{Bracket, bracket, brackets, Cause, closes, ends, opens, without_innermost}
+use Rattle.osgi_ops.specs.OwnBrackets.{turned}
 use Rattle.osgi_legal.specs.Legal.{AreAllowed, IsAllowed}
 use Rattle.osgi_ops.specs.Moments.{entries_in, Moment, moment, Told}
 use Rattle.osgi_legal.specs.Operations.{IsReply}

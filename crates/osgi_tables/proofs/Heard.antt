@@ -22,7 +22,8 @@ use Rattle.osgi_listeners.specs.Stands as hearing
 use Rattle.osgi_listeners.specs.Stands.{AreSmall}
 use Rattle.osgi_listeners.specs.laws.Standing.{stands-with-added, stands-with-ended, stands-with-handed, stands-with-removed}
 use Rattle.osgi_model.specs.declared.filter.Filter.{Filter}
-use Rattle.osgi_ops.specs.Brackets.{handing, job, own_closes}
+use Rattle.osgi_ops.specs.Brackets.{handing, job}
+use Rattle.osgi_ops.specs.OwnBrackets.{own_closes}
 use Rattle.osgi_ops.specs.Jobs.{Queued, queues, takes, with_jobs}
 use Rattle.osgi_legal.specs.Legal.{entry_of, IsTold}
 use Rattle.osgi_ops.specs.Listening.{handings, is_handed}

@@ -11,7 +11,8 @@ use Rattle.osgi_listeners.specs.Stands as hearing
 use Rattle.osgi_listeners.specs.Stands.{AreSmall}
 use Rattle.osgi_listeners.specs.laws.Premises.{quiet-entry}
 use Rattle.osgi_listeners.specs.laws.Standing.{stands-with-cleaned, stands-with-quiet}
-use Rattle.osgi_ops.specs.Brackets.{brackets, closes, is_end}
+use Rattle.osgi_ops.specs.Brackets.{brackets, closes}
+use Rattle.osgi_ops.specs.OwnBrackets.{is_end}
 use Rattle.osgi_ops.specs.Cleaning.{cleaned_by}
 use Rattle.osgi_legal.specs.Legal.{entry_of}
 use Rattle.osgi_ops.specs.Listening.{handed_by, handings, heard_by, is_handed}

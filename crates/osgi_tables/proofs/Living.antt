@@ -16,7 +16,8 @@ use Rattle.osgi_jobs.specs.Queue as queue
 use Rattle.osgi_jobs.specs.laws.Standing.{stands-after, stands-quiet}
 use Rattle.osgi_legal.proofs.Owned.{closes-not}
 use Rattle.osgi_legal.proofs.Quiet.{bundles-quiet}
-use Rattle.osgi_ops.specs.Brackets.{brackets, brackets_of, Cause, is_end, is_own_end, opens, own_closes}
+use Rattle.osgi_ops.specs.Brackets.{brackets, brackets_of, Cause, is_own_end, opens}
+use Rattle.osgi_ops.specs.OwnBrackets.{is_end, own_closes}
 use Rattle.osgi_ops.specs.Bundles.{Phase, put_into}
 use Rattle.osgi_ops.specs.Cleaning.{cleaned_by}
 use Rattle.osgi_ops.specs.Conditions.{IsDeep}

@@ -18,7 +18,8 @@ use Rattle.osgi_legal.proofs.Quiet.{bundles-quiet, refused-quiet, refused_end_qu
 use Rattle.osgi_stage.proofs.Stage.{no-make-ends}
 use Rattle.osgi_jobs.specs.laws.Standing.{stands-quiet}
 use Rattle.osgi_listeners.specs.Rows.{Listening}
-use Rattle.osgi_ops.specs.Brackets.{brackets, closes, is_end, opens, own_closes}
+use Rattle.osgi_ops.specs.Brackets.{brackets, closes, opens}
+use Rattle.osgi_ops.specs.OwnBrackets.{is_end, own_closes}
 use Rattle.osgi_ops.specs.Bundles.{brings_revision, installed_by, is_uninstall, put_into, updated_to}
 use Rattle.osgi_ops.specs.Cleaning.{cleaned_by}
 use Rattle.osgi_ops.specs.Conditions.{asker_of}

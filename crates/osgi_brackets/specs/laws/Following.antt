@@ -3,7 +3,8 @@ use Rattle.std.proofs.Common.{◌≡◌, ℕ, List, [], ◌∷◌, ◌++◌, Boo
 use Rattle.std.specs.Prelude.{◌==◌, cond, filter, Option, None, Some}
 use Rattle.std.proofs.lemmas.Bool.{eq-eqb, eqb-true}
 use Rattle.osgi_base.specs.declared.ids.Tag.{Tag}
-use Rattle.osgi_ops.specs.Brackets.{Bracket, bracket, brackets, brackets_of, Cause, closes, is_ended, opens, own_closes, own_turned, turned, with_entry, without_first, without_innermost}
+use Rattle.osgi_ops.specs.Brackets.{Bracket, bracket, brackets, brackets_of, Cause, closes, is_ended, opens, with_entry, without_innermost}
+use Rattle.osgi_ops.specs.OwnBrackets.{own_closes, own_turned, turned, without_first}
 use Rattle.osgi_ops.specs.declared.entry.Entry.{Entry}
 use Rattle.osgi_ops.specs.declared.op.Op.{Op}
 use Rattle.osgi_ops.specs.laws.Along.{carry-last}

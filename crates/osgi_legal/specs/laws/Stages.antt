@@ -1,7 +1,7 @@
 -- What the reply of an operation says of its row. No other proof looks into which operations have come.
 use Rattle.std.proofs.Common.{◌≡◌, ◌⊎◌, inl, inr, Bool, true, false, refl, sym, ap, ◌∙◌, subst}
 use Rattle.std.specs.Prelude.{MatchBool}
-use Rattle.osgi_ops.specs.Brackets.{is_end}
+use Rattle.osgi_ops.specs.OwnBrackets.{is_end}
 use Rattle.osgi_ops.specs.Moments.{Moment}
 use Rattle.osgi_legal.specs.Operations.{IsReply, IsRow}
 use Rattle.osgi_ops.specs.Replies.{is_accepted, took_effect}

@@ -12,7 +12,8 @@ use Rattle.std.proofs.lemmas.Bool.{eq-eqb, or_from, or_parts}
 use Rattle.std.proofs.lemmas.List.Elements.{All-append}
 use Rattle.osgi_base.specs.declared.ids.ListenerId.{ListenerId}
 use Rattle.osgi_base.specs.declared.ids.Tag.{Tag}
-use Rattle.osgi_ops.specs.Brackets.{Bracket, brackets, Cause, closes, job, opens, starting, stopping, turned, without_innermost}
+use Rattle.osgi_ops.specs.Brackets.{Bracket, brackets, Cause, closes, job, opens, starting, stopping, without_innermost}
+use Rattle.osgi_ops.specs.OwnBrackets.{turned}
 use Rattle.osgi_ops.specs.Listening.{handed_by, heard_by, is_turn_of}
 use Rattle.osgi_ops.specs.Moments.{Seen, seen_after, Sight}
 use Rattle.osgi_ops.specs.declared.entry.Entry.{Entry}

@@ -22,7 +22,8 @@ use Rattle.std.proofs.lemmas.List.{map-append}
 use Rattle.osgi_base.specs.declared.ids.BundleId.{BundleId}
 use Rattle.osgi_base.specs.declared.ids.ListenerId.{ListenerId}
 use Rattle.osgi_listeners.specs.Rows.{ArePosted, bare, IsPosted, told_if, is_listener, is_named, is_owned, Listening, new_row, Row, without_first, change, no_listeners, without_turn, tag_of, AreRising, AreRoomier}
-use Rattle.osgi_ops.specs.Brackets.{bracket, brackets, handing, opens, turned, closes}
+use Rattle.osgi_ops.specs.Brackets.{bracket, brackets, handing, opens, closes}
+use Rattle.osgi_ops.specs.OwnBrackets.{turned}
 use Rattle.osgi_ops.specs.Cleaning.{cleaned_by}
 use Rattle.osgi_ops.specs.Listening.{Added, clears, handed_by, heard_by, Hearing, hearing, lets_go, listeners, takes_off, with_heard, AreSights, happenings, IsAt, IsSight, here, there}
 use Rattle.osgi_ops.specs.Moments.{Seen, later, Moment, seen_after, Sight}

@@ -12,7 +12,8 @@ use Rattle.std.specs.Cmp.{ranks, unsigned_tied}
 use Rattle.std.proofs.lemmas.Bool.{and_parts, eq-eqb, eqb-true, ne_eqb, or_left, or_right, or_parts}
 use Rattle.osgi_base.specs.declared.ids.ListenerId.{ListenerId}
 use Rattle.osgi_base.specs.declared.ids.Tag.{Tag}
-use Rattle.osgi_ops.specs.Brackets.{Bracket, bracket, brackets, Cause, handing, starting, stopping, job, making, closes, ends, is_ended, opens, turned, without_innermost}
+use Rattle.osgi_ops.specs.Brackets.{Bracket, bracket, brackets, Cause, handing, starting, stopping, job, making, closes, ends, is_ended, opens, without_innermost}
+use Rattle.osgi_ops.specs.OwnBrackets.{turned}
 use Rattle.osgi_ops.specs.Listening.{is_turn_of}
 use Rattle.osgi_ops.specs.declared.entry.Entry.{Entry}
 use Rattle.osgi_ops.specs.declared.op.Op.{Op}

@@ -1,6 +1,6 @@
 -- The caller's brackets are written, and no others.
 use Rattle.std.proofs.Common.{◌≡◌, ◌-◌, length, take, rules, ap, ◌∙◌}
-use Rattle.osgi_ops.specs.Brackets.{without_first}
+use Rattle.osgi_ops.specs.OwnBrackets.{without_first}
 use Rattle.osgi_brackets.proofs.Kept.{on-some, shown, shown-after, shown-popped}
 use Rattle.osgi_brackets.proofs.brackets.Brackets.pop.Goals as goal
 
