@@ -11,7 +11,7 @@ use Rattle.osgi_runs.specs.Bound.{IsBound, AreBound}
 use Rattle.osgi_ops.specs.Bundles.{system}
 use Rattle.osgi_session.specs.Runs.{Call, Sections}
 use Rattle.osgi_ops.specs.Callers.{by, is_by}
-use Rattle.osgi_session.specs.Sessions.{AreLanes, AreTagged, Block, call_of, cut, IsRunOf, Lane, lanes, lanes_cut, Makes, Never, over, ran}
+use Rattle.osgi_session.specs.Sessions.{AreLanes, AreTagged, Block, call_of, cut, IsRunOf, Lane, LaneRun, lanes, lanes_cut, Makes, Never, over, ran}
 use Rattle.osgi_ops.specs.declared.entry.Entry.{Entry}
 use Rattle.osgi_session.specs.declared.line.Line.{Line}
 use Rattle.osgi_runs.proofs.Balanced.{balanced}
@@ -78,7 +78,7 @@ cases_le a b = go (nat_lt b a) refl
     go false e = inl (ltb-false b a e)
 
 -- one of the lanes is the caller's, or none is
-lanes-runs : {script : Sections} (caller first : ℕ) (each : List (Bool × List Line)) (part : List Entry) → first ≤ caller → AreLanes script Never first each part → AreRuns script caller (by caller part)
+lanes-runs : {script : Sections} (caller first : ℕ) (each : List LaneRun) (part : List Entry) → first ≤ caller → AreLanes script Never first each part → AreRuns script caller (by caller part)
 lanes-runs {script} caller first [] part less a =
     subst (AreRuns script caller) (sym (none-by caller part (All-weaker (IsBelow first) (IsNotBy caller) (λ e b q. absurd (omega (arith, b, q, less))) part a))) none
 lanes-runs {script} caller first (lane ∷ more) part less a = go (cases_eq first caller) (lanes-runs caller (first + 1) more part)

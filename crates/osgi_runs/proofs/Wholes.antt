@@ -1,10 +1,10 @@
 -- A session is whole without a cut, or a run of it was cut.
 use Rattle.std.proofs.Common.{◌≡◌, ◌⊎◌, inl, inr, ◌+◌, ℕ, List, [], ◌∷◌, Bool, true, false, refl}
-use Rattle.std.specs.Prelude.{◌||◌, All}
+use Rattle.std.specs.Prelude.{◌||◌}
 use Rattle.std.specs.List.{list_any}
 use Rattle.std.proofs.lemmas.List.Elements.{All-head, All-tail}
 use Rattle.osgi_session.specs.Runs.{Sections}
-use Rattle.osgi_session.specs.Sessions.{AreLanes, Block, cut, IsCutRunOf, Lane, lanes, lanes_cut, Makes, Never, over, ran}
+use Rattle.osgi_session.specs.Sessions.{AreLanes, Block, cut, IsCutRunOf, Lane, LaneRun, lanes, lanes_cut, Makes, Never, NoneCut, over, ran, SomeCut}
 use Rattle.osgi_ops.specs.declared.entry.Entry.{Entry}
 use Rattle.osgi_session.specs.declared.line.Line.{Line}
 
@@ -29,20 +29,20 @@ lane-cut over e = absurd (cc e)
 lane-cut (ran r x) e = lane-cut x e
 lane-cut {caller = c} (cut {spent = s} {line = l} {entries = n} k a) e = record { caller = c; line = l; spent = s; entries = n; is = k; allowed = a }
 
-abbrev IsUncut : Bool × List Line → Type 0
-IsUncut lane = lane.0 ≡ false
+abbrev IsUncut : LaneRun → Type 0
+IsUncut lane = lane.cut ≡ false
 
-uncut-lanes : (script : Sections) (lawful : Bool → Type 0) (first : ℕ) (each : List (Bool × List Line)) (part : List Entry) → AreLanes script lawful first each part → All IsUncut each →
+uncut-lanes : (script : Sections) (lawful : Bool → Type 0) (first : ℕ) (each : List LaneRun) (part : List Entry) → AreLanes script lawful first each part → NoneCut each →
     AreLanes script Never first each part
 uncut-lanes script lawful first [] part a u = a
 uncut-lanes script lawful first (lane ∷ more) part a u = (uncut-lane a.0 (All-head IsUncut lane more u), uncut-lanes script lawful (first + 1) more part a.1 (All-tail IsUncut lane more u))
 
-cut-lanes : {script : Sections} {lawful : Bool → Type 0} (first : ℕ) (each : List (Bool × List Line)) (part : List Entry) → AreLanes script lawful first each part →
-    list_any (λ (lane : Bool × List Line). lane.0) each ≡ true → WasCut script lawful
+cut-lanes : {script : Sections} {lawful : Bool → Type 0} (first : ℕ) (each : List LaneRun) (part : List Entry) → AreLanes script lawful first each part →
+    SomeCut each → WasCut script lawful
 cut-lanes first [] part a c = absurd (cc c)
-cut-lanes {script} {lawful} first (lane ∷ more) part a c = go lane.0 refl c (cut-lanes (first + 1) more part a.1)
+cut-lanes {script} {lawful} first (lane ∷ more) part a c = go lane.cut refl c (cut-lanes (first + 1) more part a.1)
   where
-    go : (k : Bool) → lane.0 ≡ k → (k || list_any (λ (l : Bool × List Line). l.0) more) ≡ true → (list_any (λ (l : Bool × List Line). l.0) more ≡ true → WasCut script lawful) → WasCut script lawful
+    go : (k : Bool) → lane.cut ≡ k → (k || list_any (λ (l : LaneRun). l.cut) more) ≡ true → (SomeCut more → WasCut script lawful) → WasCut script lawful
     go true e q ih = lane-cut a.0 e
     go false e q ih = ih q
 

@@ -82,32 +82,56 @@ blocks lines = blocks_after [] lines
 -- what one caller's lines make: a whole run of each, one after another; where it is lawful a run is cut, and then no later one
 -- has entries. The truth value says that a run was cut
 pub data Lane (script : Sections) (lawful : Bool → Type 0) (caller : ℕ) : Bool → List Line → List Entry → Type 0 where
+  -- no lines make no entries
   over : Lane script lawful caller false [] []
+  -- a line: a whole run of it, then what the other lines make
   ran : {cut : Bool} {line : Line} {lines : List Line} {entries rest : List Entry} →
       IsRunOf script caller line entries → Lane script lawful caller cut lines rest → Lane script lawful caller cut (line ∷ lines) (entries ++ rest)
+  -- or a run of it that was cut, where it is lawful, and nothing more
   cut : {spent : Bool} {line : Line} {lines : List Line} {entries : List Entry} →
       IsCutRunOf script caller line spent entries → lawful spent → Lane script lawful caller true (line ∷ lines) entries
 
+-- how a lane ran: its lines, and whether a run of one was cut
+pub record LaneRun : Type 0 where
+  pub cut : Bool
+  pub lines : List Line
+
+-- of lanes beside one another no run was cut, or one was
+abbrev pub NoneCut : List LaneRun → Type 0
+NoneCut each = All (λ (lane : LaneRun). lane.cut ≡ false) each
+
+abbrev pub SomeCut : List LaneRun → Type 0
+SomeCut each = list_any (λ (lane : LaneRun). lane.cut) each ≡ true
+
+abbrev pub lines_of : List LaneRun → List (List Line)
+lines_of each = map (λ (lane : LaneRun). lane.lines) each
+
 -- each caller's entries in this part are what its lane makes; callers are numbered by rising lane from the first
-abbrev pub AreLanes : Sections → (Bool → Type 0) → ℕ → List (Bool × List Line) → List Entry → Type 0
+abbrev pub AreLanes : Sections → (Bool → Type 0) → ℕ → List LaneRun → List Entry → Type 0
 AreLanes script lawful first [] part = All (λ (e : Entry). e.tag.caller < first) part
 AreLanes script lawful first (lane ∷ more) part =
-    Lane script lawful first lane.0 lane.1 (by first part) × AreLanes script lawful (first + 1) more part
+    Lane script lawful first lane.cut lane.lines (by first part) × AreLanes script lawful (first + 1) more part
+
+-- the entries are all by callers from the next one on
+abbrev pub AreByLater : ℕ → List Entry → Type 0
+AreByLater next part = All (λ (e : Entry). next ≤ e.tag.caller) part
 
 -- the blocks make the history, the next caller's number being given: block after block, and after a cut nothing more
 pub data Makes (script : Sections) (lawful : Bool → Type 0) : ℕ → List Block → List Entry → Type 0 where
+  -- no blocks make no entries
   over : {next : ℕ} → Makes script lawful next [] []
+  -- a plain line: a whole run of it by caller 0, then what the other blocks make
   ran : {next : ℕ} {line : Line} {more : List Block} {entries rest : List Entry} →
       IsRunOf script 0 line entries → Makes script lawful next more rest → Makes script lawful next (plain line ∷ more) (entries ++ rest)
+  -- or a run of it that was cut, where it is lawful, and nothing more
   cut : {next : ℕ} {spent : Bool} {line : Line} {more : List Block} {entries : List Entry} →
       IsCutRunOf script 0 line spent entries → lawful spent → Makes script lawful next (plain line ∷ more) entries
-  lanes : {next : ℕ} (each : List (Bool × List Line)) (part : List Entry) {more : List Block} {rest : List Entry} →
-      All (λ (e : Entry). next ≤ e.tag.caller) part → AreLanes script lawful next each part → All (λ (lane : Bool × List Line). lane.0 ≡ false) each →
-      Makes script lawful (next + length each) more rest →
-      Makes script lawful next (beside (map (λ (lane : Bool × List Line). lane.1) each) ∷ more) (part ++ rest)
-  lanes_cut : {next : ℕ} (each : List (Bool × List Line)) (part : List Entry) {more : List Block} →
-      All (λ (e : Entry). next ≤ e.tag.caller) part → AreLanes script lawful next each part → list_any (λ (lane : Bool × List Line). lane.0) each ≡ true →
-      Makes script lawful next (beside (map (λ (lane : Bool × List Line). lane.1) each) ∷ more) part
+  -- lanes beside one another, a caller each from the next one on: if none was cut, what they make, then what the other blocks make
+  lanes : {next : ℕ} (each : List LaneRun) (part : List Entry) {more : List Block} {rest : List Entry} → AreByLater next part → AreLanes script lawful next each part →
+      NoneCut each → Makes script lawful (next + length each) more rest → Makes script lawful next (beside (lines_of each) ∷ more) (part ++ rest)
+  -- if one was cut, what they make, and nothing more
+  lanes_cut : {next : ℕ} (each : List LaneRun) (part : List Entry) {more : List Block} → AreByLater next part → AreLanes script lawful next each part →
+      SomeCut each → Makes script lawful next (beside (lines_of each) ∷ more) part
 
 -- a run may be cut where enough was handed, where the whole history is as long as it may be, or where memory was wanting,
 -- which is status 5
