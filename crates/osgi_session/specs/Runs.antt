@@ -93,7 +93,12 @@ event_bindings _ = []
 
 -- ---- runs
 
--- what is to be read: a plan; a drain, where one follows; the statements of a section; the jobs
+-- the statements of each section of the script of each row of the depot
+abbrev pub Sections : Type 0
+Sections = ℕ → Section → List Statement
+
+-- what is to be read: a plan; a drain, or none where none follows; the statements of a section of a bundle's script, with what the
+-- variables hold before them; or the jobs
 pub data Task : Type 0 where
   planned : Plan → Task
   drained : Bool → Task
@@ -111,39 +116,50 @@ abbrev pub ends_jobs : Reply → Bool
 ends_jobs (Job owner row name) = false
 ends_jobs _ = true
 
--- how a task reads a beginning of the calls, up to those that are left. Replies are free here: which one comes, the legal
--- history says. A script is given by the depot's row and the section
-pub data Reads (script : ℕ → Section → List Statement) : Task → End → List Call → List Call → Type 0 where
+-- `Reads script task end calls left`: the task reads a beginning of the calls, up to those that are left, and ends so. Replies are free
+-- here: which one comes, the legal history says
+pub data Reads (script : Sections) : Task → End → List Call → List Call → Type 0 where
+  -- a plan that has stopped reads nothing, and ends as it says
   at_stop : {end : End} {left : List Call} → Reads script (planned (stop end)) end left left
+  -- a plan that asks for an operation reads its call, with some reply; then the drain, where one follows; then the plan for that reply,
+  -- which says how it ends
   asked : {asks : Op} {next : Reply → Plan} {reply : Reply} {end quiet : End} {calls mid left : List Call} →
       Reads script (drained (stirs asks reply)) quiet calls mid → Reads script (planned (next reply)) end mid left →
       Reads script (planned (ask asks next)) end (call asks reply ∷ calls) left
+  -- a plan that runs a section reads the section's statements, before which no variable holds anything; then the plan for whether they
+  -- failed, which says how it ends
   ran : {row : ℕ} {owner : BundleId} {which : Section} {next : Bool → Plan} {end inner : End} {calls mid left : List Call} →
       Reads script (statements owner [] (script row which)) inner calls mid → Reads script (planned (next (has_failed inner))) end mid left →
       Reads script (planned (run row owner which next)) end calls left
+  -- where no drain follows, nothing is read
   calm : {left : List Call} → Reads script (drained false) done left left
+  -- a drain reads a Hand whose reply ends it,
   empty : {reply : Reply} {left : List Call} → ends_drain reply ≡ true → Reads script (drained true) done (call Hand reply ∷ left) left
+  -- or a Hand that hands an event to a listener; then the statements of its section, before which `event` holds the event's service, if
+  -- it has one; then the EndHand of that listener, with some reply; then the rest of the drain. How the section ended does not count
   handed : {listener : ListenerId} {kind : Kind} {owner : BundleId} {row : ℕ} {name : List ℕ} {event : Event} {reply : Reply} {end quiet : End} {calls mid left : List Call} →
       Reads script (statements owner (event_bindings event) (script row (section.On name))) end calls (call (EndHand listener) reply ∷ mid) →
       Reads script (drained true) quiet mid left →
       Reads script (drained true) done (call Hand (Handed listener kind owner row name event) ∷ calls) left
+  -- where no statement is left, nothing is read
   over : {owner : BundleId} {bindings : List Binding} {left : List Call} → Reads script (statements owner bindings []) done left left
+  -- else the plan of the first one is read: where it ends as refused or failed, the section ends there, as failed;
   fails : {owner : BundleId} {bindings : List Binding} {s : Statement} {more : List Statement} {end : End} {calls left : List Call} →
       Reads script (planned (plan owner (command_of owner bindings s))) end calls left → has_failed end ≡ true →
       Reads script (statements owner bindings (s ∷ more)) failed calls left
+  -- where it ends otherwise, the other statements are read, before which the variable that the first one binds holds what it came to
   goes : {owner : BundleId} {bindings : List Binding} {s : Statement} {more : List Statement} {end inner : End} {calls mid left : List Call} →
       Reads script (planned (plan owner (command_of owner bindings s))) inner calls mid → has_failed inner ≡ false →
       Reads script (statements owner (bind (bound_by s) inner bindings) more) end mid left →
       Reads script (statements owner bindings (s ∷ more)) end calls left
+  -- the jobs read a TakeJob whose reply ends them,
   none : {reply : Reply} {left : List Call} → ends_jobs reply ≡ true → Reads script taking done (call TakeJob reply ∷ left) left
+  -- or a TakeJob that takes one; then the statements of its section; then the EndJob, with some reply; then the jobs after it. How the
+  -- section ended does not count
   took : {owner : BundleId} {row : ℕ} {name : List ℕ} {reply : Reply} {end quiet : End} {calls mid left : List Call} →
       Reads script (statements owner [] (script row (section.Job name))) end calls (call EndJob reply ∷ mid) →
       Reads script taking quiet mid left →
       Reads script taking done (call TakeJob (Job owner row name) ∷ calls) left
-
--- the statements of each section of the script of each row of the depot
-abbrev pub Sections : Type 0
-Sections = ℕ → Section → List Statement
 
 -- the calls are a whole run of the console's command: its plan, then the jobs up to none
 pub record Follows (script : Sections) (command : Command) (calls : List Call) : Type 0 where
