@@ -337,7 +337,7 @@ class Life(History):
 
     def brackets(self, caller):
         """The open brackets of a caller, the innermost last: the command, the bundle, and the state that it is in meanwhile; or the
-        command, the listener, and that it is handing."""
+        command, the listener, and that it is handing; or the command, and that a job is working."""
         opened = []
         for call in self.calls:
             if call[:2] == ("open", caller):
@@ -497,7 +497,7 @@ class LifeRows(Rows):
         bundle, (tag, caller, command) = self.bundle(), self.tag()
         state = self.random.one_of(["starting", "stopping"])
         opened = self.history.brackets(caller)
-        if opened and opened[-1][2] != "handing" and self.random.below(4) != 0:
+        if opened and opened[-1][2] in ("starting", "stopping") and self.random.below(4) != 0:
             command, bundle, state = opened[-1]
             tag = f"{caller}.{command}"
         failed = self.random.below(3) == 0
@@ -632,8 +632,8 @@ def bundle_filter_of(random):
 class ListeningRows(LifeRows):
     """Random rows of a machine with bundles and listeners, and their answers."""
 
-    def __init__(self, seed, limit, handings):
-        super().__init__(seed, limit, Listening(handings), handings)
+    def __init__(self, seed, limit, handings, history=None):
+        super().__init__(seed, limit, history or Listening(handings), handings)
 
     def prepare(self):
         for _ in range(4):
@@ -688,6 +688,80 @@ class ListeningRows(LifeRows):
         super().end_of_history()
         for listener in range(1, len(self.history.added()) + 2):
             self.rows.append((f"handed {listener}", "; ".join(self.history.handed(listener)) or "none"))
+
+
+# ---- rows of jobs
+
+class Working(Listening):
+    """Calls of jobs besides: one is queued or taken, and those of a bundle are cleared."""
+
+    def queued(self):
+        """The owners and names of those that are queued, the oldest first."""
+        queued = []
+        for call in self.calls:
+            if call[0] == "queue":
+                queued.append(call[1:])
+            elif call[0] == "take":
+                queued = queued[1:]
+            elif call[0] == "clear":
+                queued = [job for job in queued if job[0] != call[1]]
+        return queued
+
+    def release(self, bundle):
+        self.calls.append(("clear", bundle))
+        return super().release(bundle)
+
+    def queue(self, owner, name):
+        self.calls.append(("queue", owner, name))
+        return "queued"
+
+    def take(self, caller, command):
+        if not self.queued():
+            return "no job"
+        owner, name = self.queued()[0]
+        self.open(caller, command, "", "working")
+        self.calls.append(("take",))
+        return f"job {owner} {name}, row {max(owner - 1, 0)}"
+
+    def end_job(self, caller, command):
+        self.close(caller, command, "", "working")
+        return "done"
+
+
+class JobRows(ListeningRows):
+    """Random rows of a machine with bundles, listeners and jobs, and their answers."""
+
+    def __init__(self, seed, limit, handings):
+        super().__init__(seed, limit, handings, Working(handings))
+
+    def queue(self):
+        bundle, name = self.asker(), self.random.one_of("jkl")
+        answer = self.asked_by(bundle, lambda: self.history.queue(bundle, name))
+        self.record(self.tag()[0], bundle, f"direct QueueJob {name}", "queuejob", bundle, answer)
+
+    def take(self):
+        tag, caller, command = self.tag()
+        self.ask(self.bundle(), "direct TakeJob", "takejob", lambda: self.history.take(caller, command), tag)
+
+    def end_job(self, caller, command):
+        self.ask(0, "direct EndJob", "endjob", lambda: self.history.end_job(caller, command), f"{caller}.{command}")
+
+    def end(self):
+        """An end, mostly of the innermost bracket of its caller."""
+        _, caller, command = self.tag()
+        opened = self.history.brackets(caller)
+        if self.random.below(8) == 0:
+            self.end_job(caller, command)
+        elif opened and opened[-1][2] == "working":
+            self.end_job(caller, opened[-1][0])
+        else:
+            super().end()
+
+    def step(self):
+        if self.random.below(3) == 0:
+            return super().step()
+        kinds = [(10, self.queue), (6, self.take), (4, self.begin_start), (3, self.begin_stop), (8, self.end)]
+        return self.random.one_of([call for times, call in kinds for _ in range(times)])()
 
 
 # ---- rows of as many brackets as there may be
@@ -771,6 +845,39 @@ def deep_hand_rows(most):
     ]
 
 
+def deep_job_rows(most):
+    """Rows of a machine on which a caller takes as many jobs, one within another, as it may, and one more is queued."""
+    last = most + 1
+    rows = [("core_of 1000 0", "begun")]
+    rows += [(f"0.1 0 direct QueueJob j{n}", "queued") for n in range(1, last + 1)]
+    rows += [("0.2 0 direct TakeJob", f"job 0 j{n}, row 0") for n in range(1, most + 1)]
+    return rows + [
+        ("0.2 0 direct TakeJob", "refused 16 TooDeep"),
+        ("0.3 0 direct TakeJob", "refused 16 TooDeep"),
+        # Another caller has brackets of its own, and where no job is queued nothing is refused.
+        ("1.4 0 direct TakeJob", f"job 0 j{last}, row 0"),
+        ("0.5 0 direct TakeJob", "no job"),
+        ("0.6 0 direct QueueJob k", "queued"),
+        ("0.6 0 direct QueueJob l", "queued"),
+        ("0.6 0 direct TakeJob", "refused 16 TooDeep"),
+        ('0.6 0 direct AddListener l all', "listener 1"),
+        ('0.6 0 register a.A "x"', "service 1"),
+        ("0.6 0 direct Hand", "refused 16 TooDeep"),
+        # With one bracket less there is room for another, of whatever kind.
+        ("0.6 0 direct EndJob", "refused 2 InvalidOperation"),
+        ("0.2 0 direct EndJob", "done"),
+        ("0.7 0 direct TakeJob", "job 0 k, row 0"),
+        ("0.7 0 direct TakeJob", "refused 16 TooDeep"),
+        ("0.2 0 direct EndJob", "refused 2 InvalidOperation"),
+        ("0.7 0 direct EndJob", "done"),
+        ("0.8 0 direct Hand", "event 1 service 1 1, on l All of 0, row 0"),
+        ("0.8 0 direct TakeJob", "refused 16 TooDeep"),
+        ("0.8 0 direct EndHand 1", "done"),
+        ("0.9 0 direct TakeJob", "job 0 l, row 0"),
+        ("0.9 0 direct TakeJob", "no job"),
+    ]
+
+
 def refuse(text):
     raise Refused(text)
 
@@ -809,6 +916,14 @@ def life_rows(seed, calls, limit):
 
 def listening_rows(seed, calls, limit, handings):
     rows = ListeningRows(seed, limit, handings)
+    for _ in range(calls):
+        rows.step()
+    rows.end_of_history()
+    return rows.rows
+
+
+def job_rows(seed, calls, limit, handings):
+    rows = JobRows(seed, limit, handings)
     for _ in range(calls):
         rows.step()
     rows.end_of_history()

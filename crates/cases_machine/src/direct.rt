@@ -13,6 +13,7 @@ fn plain(name: &str, word: &str, bundle: BundleId) -> Option<Op> {
     let failed = word == "failed";
     match name {
         "TakeJob" => Some(Op::TakeJob),
+        "EndJob" => Some(Op::EndJob),
         "BeginStart" => Some(Op::BeginStart { bundle, transient }),
         "EndStart" => Some(Op::EndStart { bundle, failed }),
         "EndStop" => Some(Op::EndStop { bundle, failed }),
@@ -24,6 +25,10 @@ fn plain(name: &str, word: &str, bundle: BundleId) -> Option<Op> {
 fn wordy(name: &str, bundle: BundleId, text: Text) -> Option<Op> {
     let transient = false;
     match name {
+        "QueueJob" => Some(Op::QueueJob {
+            owner: bundle,
+            name: text,
+        }),
         "Load" => Some(Op::Load {
             bundle,
             class: text,

@@ -1,4 +1,4 @@
-//! Operations that no command of the console says: those that the framework does not have yet, and those on jobs.
+//! Operations that the framework does not have yet, which no command of the console says.
 
 use cases_text::text_of;
 use osgi_base::{BundleId, List, ServiceId, Text};
@@ -11,7 +11,6 @@ enum Plain {
     GetOwn,
     EndMake,
     UngetOwn,
-    EndJob,
     Await,
     Uninstall,
     DropWirings,
@@ -27,15 +26,13 @@ enum Plain {
 #[derive(Clone, Copy)]
 enum Wordy {
     Give,
-    QueueJob,
     Update,
 }
 
-const PLAIN: [(&str, Plain); 13] = [
+const PLAIN: [(&str, Plain); 12] = [
     ("GetOwn", Plain::GetOwn),
     ("EndMake", Plain::EndMake),
     ("UngetOwn", Plain::UngetOwn),
-    ("EndJob", Plain::EndJob),
     ("Await", Plain::Await),
     ("Uninstall", Plain::Uninstall),
     ("DropWirings", Plain::DropWirings),
@@ -47,11 +44,7 @@ const PLAIN: [(&str, Plain); 13] = [
     ("SetBundleLevel", Plain::SetBundleLevel),
 ];
 
-const WORDY: [(&str, Wordy); 3] = [
-    ("Give", Wordy::Give),
-    ("QueueJob", Wordy::QueueJob),
-    ("Update", Wordy::Update),
-];
+const WORDY: [(&str, Wordy); 2] = [("Give", Wordy::Give), ("Update", Wordy::Update)];
 
 fn plain_named(name: &str) -> Option<Plain> {
     for (word, plain) in &PLAIN {
@@ -83,7 +76,6 @@ fn plain_op(plain: Plain, bundle: BundleId) -> Op {
             service: ServiceId(1),
             object: ObjectId(1),
         },
-        Plain::EndJob => Op::EndJob,
         Plain::Await => Op::Await { bundle },
         Plain::Uninstall => Op::Uninstall { bundle },
         Plain::DropWirings => Op::DropWirings,
@@ -99,7 +91,6 @@ fn plain_op(plain: Plain, bundle: BundleId) -> Op {
 fn wordy_op(wordy: Wordy, owner: BundleId, text: Text) -> Op {
     match wordy {
         Wordy::Give => Op::Give { owner, text },
-        Wordy::QueueJob => Op::QueueJob { owner, name: text },
         Wordy::Update => Op::Update {
             bundle: owner,
             location: text,

@@ -1,7 +1,7 @@
 //! Operations on listeners, and hands of events.
 
 use cases_operations::number;
-use cases_text::{put_shown, split_word, text_of, value_if_any};
+use cases_text::{split_word, text_of, value_if_any};
 use osgi_base::{BundleId, ListenerId, Text};
 use osgi_filter::parse;
 use osgi_model::Filter;
@@ -85,17 +85,4 @@ pub fn listening(
     } else {
         Ok(None)
     }
-}
-
-/// The addition of a listener of the bundle that is told of the framework, whose name is a number.
-pub fn numbered(alloc: Global, owner: BundleId, number: u32) -> Result<Op, AllocError> {
-    let mut name = String::new(alloc);
-    put_shown(&mut name, &number)?;
-    let name = text_of(alloc, name.as_str())?;
-    Ok(Op::AddListener {
-        owner,
-        name,
-        kind: Kind::Framework,
-        filter: None,
-    })
 }

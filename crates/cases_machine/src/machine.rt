@@ -1,7 +1,7 @@
 //! What the machine answers, and its history.
 
+use crate::filling::{Filled, numbered};
 use crate::hands::{add_nothing, add_section};
-use crate::listening::numbered;
 use cases_operations::{add_checked, are_shown_alike, entry_of};
 use cases_text::{complain, put, put_shown};
 use osgi_base::{BundleId, Tag};
@@ -28,10 +28,10 @@ fn is_last(alloc: Global, entries: &[Entry], entry: &Entry) -> Result<bool, Allo
     }
 }
 
-/// Adds that a hand has ended.
+/// Adds that a hand or a job has ended.
 fn add_ended(out: &mut String, op: &Op) -> Result<(), AllocError> {
     match op {
-        Op::EndHand { .. } => put(out, "done"),
+        Op::EndHand { .. } | Op::EndJob => put(out, "done"),
         _ => Ok(()),
     }
 }
@@ -58,7 +58,7 @@ fn add_unwritten(out: &mut String, entry: &Entry) -> Result<(), AllocError> {
 /// Adds what is to run, which the console does not write: the depot's row that has the script, and of a listener the section.
 fn add_row(out: &mut String, reply: &Reply) -> Result<(), AllocError> {
     match reply {
-        Reply::Begun { row, .. } => {
+        Reply::Begun { row, .. } | Reply::Job { row, .. } => {
             put(out, ", row ")?;
             put_shown(out, row)
         }
@@ -107,20 +107,20 @@ pub fn add_recorded(
     add_compared(alloc, out, core, &entry)
 }
 
-/// Adds so many listeners of the bundle that are told of the framework, named by the numbers from 0 on, and adds what the machine
-/// answers to the last.
+/// Adds so many listeners or jobs of the bundle, named by the numbers from 0 on, and adds what the machine answers to the last.
 pub fn add_filled(
     alloc: Global,
     out: &mut String,
     core: &mut Core,
     tag: Tag,
     owner: BundleId,
+    filled: Filled,
     count: u32,
 ) -> Result<(), AllocError> {
     let mut answer = String::new(alloc);
     for number in 0..count {
         answer.clear();
-        let op = numbered(alloc, owner, number)?;
+        let op = numbered(alloc, filled, owner, number)?;
         add_recorded(alloc, &mut answer, core, tag, op)?;
     }
     put(out, answer.as_str())
@@ -149,7 +149,9 @@ fn kind(op: &Op) -> (&'static str, u32) {
         Op::EndStart { .. } => ("endstart", 0),
         Op::BeginStop { .. } => ("beginstop", 0),
         Op::EndStop { .. } => ("endstop", 0),
+        Op::QueueJob { owner, .. } => ("queuejob", owner.0),
         Op::TakeJob => ("takejob", 0),
+        Op::EndJob => ("endjob", 0),
         Op::Load { .. } => ("load", 0),
         Op::ListBundles => ("bundles", 0),
         Op::ListServices => ("services", 0),

@@ -7,9 +7,11 @@
 //! | `core ENTRIES [LOCATION [FILE]]` | a new machine whose history has room for so many entries, and whose depot has a bundle at the location, if one is given, of that name and version 1.0.0, with the file, if one is given; where `fragment` stands in its place, a fragment |
 //! | `core_of ENTRIES COUNT [HANDINGS]` | the same, where the depot has so many bundles, at the locations `0`, `1` and so on, each of the name of its location; it hands so many events at most, or a million |
 //! | `CALLER.NUMBER BUNDLE COMMAND` | what the machine answers to the first operation of a command of the console, asked by the bundle in that line |
-//! | `CALLER.NUMBER BUNDLE direct TakeJob`, `.. BeginStart [-t]`, `.. EndStart [failed]`, `.. EndStop [failed]`, `.. Load CLASS`, `.. Print TEXT`, `.. Fail TEXT` | the same of an operation that no command of the console is, about the bundle |
+//! | `CALLER.NUMBER BUNDLE direct BeginStart [-t]`, `.. EndStart [failed]`, `.. EndStop [failed]`, `.. Load CLASS`, `.. Print TEXT`, `.. Fail TEXT` | the same of an operation that no command of the console is, about the bundle |
 //! | `CALLER.NUMBER BUNDLE direct AddListener NAME KIND [FILTER]`, `.. RemoveListener NAME`, `.. Hand`, `.. EndHand LISTENER` | the same; KIND is `service`, `all`, `bundle` or `framework` |
+//! | `CALLER.NUMBER BUNDLE direct QueueJob NAME`, `.. TakeJob`, `.. EndJob` | the same |
 //! | `CALLER.NUMBER BUNDLE fill COUNT` | the same of so many listeners of the bundle that are added one after another, named by the numbers from 0 on and told of the framework; the last answer |
+//! | `CALLER.NUMBER BUNDLE fill_jobs COUNT` | the same of so many jobs of the bundle that are queued |
 //! | `CALLER.NUMBER BUNDLE direct WishStart NAME`, `.. BeginStop NAME` | the same about the bundle of that name |
 //! | `CALLER.NUMBER BUNDLE later NAME` | the same of an operation about the bundle, by its name, that the framework does not have yet |
 //! | `CALLER.NUMBER BUNDLE later_with_text NAME` | the same where the operation has a text or a list |
@@ -24,6 +26,7 @@
 
 mod depot;
 mod direct;
+mod filling;
 mod hands;
 mod later;
 mod listening;

@@ -2,6 +2,7 @@
 
 use crate::depot::{depot_of, numbered_depot};
 use crate::direct::direct;
+use crate::filling::filled_named;
 use crate::hands::{add_due, add_handed};
 use crate::later::{later, later_with_text};
 use crate::machine::{add_filled, add_history, add_recorded};
@@ -68,7 +69,7 @@ fn op_of(
     }
 }
 
-/// Asks for the operation that a row says after its tag, or for as many listeners as it says.
+/// Asks for the operation that a row says after its tag, or for as many listeners or jobs as it says.
 fn ask_tagged(
     alloc: Global,
     out: &mut String,
@@ -78,8 +79,8 @@ fn ask_tagged(
 ) -> Result<(), AllocError> {
     let (bundle, command) = split_bundle(text);
     let (word, count) = split_word(command);
-    if word == "fill" {
-        return add_filled(alloc, out, core, tag, bundle, number(count));
+    if let Some(filled) = filled_named(word) {
+        return add_filled(alloc, out, core, tag, bundle, filled, number(count));
     }
     match op_of(alloc, bundle, command)? {
         Ok(op) => add_recorded(alloc, out, core, tag, op),
