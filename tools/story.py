@@ -103,7 +103,7 @@ def changes(old, new):
 def heard(replies, listeners):
     """The listeners after a line, each with its bundle, and what was handed to each, as rows for people.
 
-    The bundle whose script runs is that of the start or stop, or of the event, under which a reply stands. Which
+    The bundle whose script runs is that of the start or stop, of the event, or of the job, under which a reply stands. Which
     listener an `unlisten` takes out is told only where its bundle has a single one: else all of them may be gone.
     """
     listeners, handed, inside, open_ones = dict(listeners), [], {}, {}
@@ -119,6 +119,8 @@ def heard(replies, listeners):
             bundle = open_ones.pop(depth, "")
             if first != "started":
                 listeners = {it: owner for it, owner in listeners.items() if owner.rstrip("?") != bundle.lstrip("-")}
+        elif depth == 0 and first == "job" and len(rest) == 2:
+            inside[depth] = rest[0]
         elif first == "listener" and len(rest) == 1:
             listeners[rest[0]] = runner
         elif reply.strip() == "unlisten true":
