@@ -15,8 +15,9 @@
 //! A case `runs COMMAND [ARG..]` is run by a runner, whose caller is answered by the replies behind it, `NoJob` and `Nothing` among
 //! them; the bundle of row 1 starts another in its start section, and that of row 2 fails in its stop section. An event is handed by
 //! `Handed LISTENER BUNDLE ROW SERVICE NAME`, service 0 standing for an event of the framework; row 3 has a section `n`, which gets
-//! the service of the event, `r`, which registers one, and `f`, which fails. `HistoryFull` and `HandingsSpent` cut the run. The answer
-//! has the operations that were recorded, how many sections began, and `done`, `cut` or `no more replies`.
+//! the service of the event, `r`, which registers one, and `f`, which fails. A job is taken by `Job BUNDLE ROW NAME`; row 3 has jobs
+//! `n`, which queues a job, `r` and `f`. `HistoryFull` and `HandingsSpent` cut the run. The answer has the operations that were
+//! recorded, how many sections began, and `done`, `cut` or `no more replies`.
 //!
 //! A case `drains REPLY | REPLY..` is one drain, answered alike.
 #![tactic(auto)]

@@ -25,6 +25,7 @@ enum Word {
     Moved,
     Leveled,
     Up,
+    Job,
     NoJob,
     Refused,
     SectionFailed,
@@ -33,7 +34,7 @@ enum Word {
     HandingsSpent,
 }
 
-const WORDS: [Word; 24] = [
+const WORDS: [Word; 25] = [
     Word::Service,
     Word::Done,
     Word::Best,
@@ -52,6 +53,7 @@ const WORDS: [Word; 24] = [
     Word::Moved,
     Word::Leveled,
     Word::Up,
+    Word::Job,
     Word::NoJob,
     Word::Refused,
     Word::SectionFailed,
@@ -81,6 +83,7 @@ impl Word {
             Word::Moved => "Moved",
             Word::Leveled => "Leveled",
             Word::Up => "Up",
+            Word::Job => "Job",
             Word::NoJob => "NoJob",
             Word::Refused => "Refused",
             Word::SectionFailed => "SectionFailed",
@@ -169,6 +172,15 @@ fn handed(alloc: Global, answer: &str) -> Result<Reply, AllocError> {
     })
 }
 
+/// A job that is taken: the bundle of the script, its row, and the section's name.
+fn job(alloc: Global, answer: &str) -> Result<Reply, AllocError> {
+    Ok(Reply::Job {
+        owner: BundleId(number_at(answer, 1)),
+        row: number_at(answer, 2),
+        name: last_text(alloc, answer)?,
+    })
+}
+
 /// A reply with a list of bundles.
 fn by_list(
     alloc: Global,
@@ -201,6 +213,9 @@ pub fn reply_of(alloc: Global, answer: &str) -> Result<Option<Reply>, AllocError
     }
     if let Word::Handed = word {
         return Ok(Some(handed(alloc, answer)?));
+    }
+    if let Word::Job = word {
+        return Ok(Some(job(alloc, answer)?));
     }
     match by_numbers(word, number_at(answer, 1), number_at(answer, 2)) {
         Some(reply) => Ok(Some(reply)),

@@ -43,6 +43,12 @@ fn on(alloc: Global, name: &[u8], statement: Statement) -> Result<Part, AllocErr
     part(alloc, Section::On(name), statement)
 }
 
+/// The section for jobs of this name, with this statement.
+fn job(alloc: Global, name: &[u8], statement: Statement) -> Result<Part, AllocError> {
+    let name = Text::of(alloc, name)?;
+    part(alloc, Section::Job(name), statement)
+}
+
 /// A service without classes and properties.
 fn register(alloc: Global) -> Result<Statement, AllocError> {
     Ok(Statement::Register {
@@ -53,9 +59,19 @@ fn register(alloc: Global) -> Result<Statement, AllocError> {
     })
 }
 
-/// One that gets the service of an event at `n`, registers a service at `r`, and fails at `f`.
+/// Adds the sections for jobs: `n` queues a job of its own name, `r` registers a service, and `f` fails.
+fn add_jobs(alloc: Global, sections: &mut List<Part>) -> Result<(), AllocError> {
+    let name = Text::of(alloc, b"n")?;
+    sections.push(job(alloc, b"n", Statement::Job { name })?)?;
+    sections.push(job(alloc, b"r", register(alloc)?)?)?;
+    let text = Text::of(alloc, b"no")?;
+    sections.push(job(alloc, b"f", Statement::Fail { text })?)
+}
+
+/// One that gets the service of an event at `n`, registers a service at `r`, and fails at `f`; and that has jobs.
 fn listening(alloc: Global) -> Result<Script, AllocError> {
     let mut sections = List::new(alloc)?;
+    add_jobs(alloc, &mut sections)?;
     let var = Text::of(alloc, b"event")?;
     sections.push(on(alloc, b"n", Statement::Get { var })?)?;
     sections.push(on(alloc, b"r", register(alloc)?)?)?;

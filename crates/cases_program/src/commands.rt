@@ -44,7 +44,7 @@ fn asker(op: &Op) -> Option<BundleId> {
         }
         Op::Find { asker, .. } | Op::FindAll { asker, .. } => Some(*asker),
         Op::Get { user, .. } | Op::Unget { user, .. } => Some(*user),
-        Op::AddListener { owner, .. } => Some(*owner),
+        Op::AddListener { owner, .. } | Op::QueueJob { owner, .. } => Some(*owner),
         _ => None,
     }
 }
@@ -80,7 +80,9 @@ pub fn put_op(alloc: Global, out: &mut String, op: &Op) -> Result<(), AllocError
         Op::AddListener { name, .. } => put_word(out, "listen", name),
         Op::Hand => out.push_str("hand"),
         Op::EndHand { listener } => write!(out, "endhand {}", listener.0),
+        Op::QueueJob { name, .. } => put_word(out, "job", name),
         Op::TakeJob => out.push_str("takejob"),
+        Op::EndJob => out.push_str("endjob"),
         _ => out.push_str("another"),
     }
 }

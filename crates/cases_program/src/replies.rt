@@ -38,6 +38,10 @@ pub fn put_reply(alloc: Global, out: &mut String, reply: &Reply) -> Result<(), A
         Reply::Listener { listener } => write!(out, "listener {}", listener.0),
         Reply::Handed { listener, .. } => write!(out, "handed {}", listener.0),
         Reply::Nothing { busy } => put_nothing(out, busy.items()),
+        Reply::Job { owner, name, .. } => {
+            write!(out, "job {} ", owner.0)?;
+            put_bytes(out, name.bytes())
+        }
         Reply::NoJob => out.push_str("nojob"),
         Reply::Refused { refusal } => write!(
             out,
