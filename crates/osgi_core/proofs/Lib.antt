@@ -1,4 +1,5 @@
 -- Lemmas on the machine.
+pub mod Applied
 pub mod Hands
 pub mod Keeping
 pub mod Replaying
