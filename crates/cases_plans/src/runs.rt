@@ -12,7 +12,7 @@ use crate::shown::add_op;
 use cases_text::{put, put_shown, split_at};
 use osgi_base::Tag;
 use osgi_ops::{Entry, Op, Refusal, Reply};
-use osgi_runner::{Caller, Ended, Runner};
+use osgi_runner::{Caller, Ended, drain_line, run_line};
 use osgi_session::{Content, Line};
 use std::alloc::{AllocError, Global};
 
@@ -161,7 +161,7 @@ pub fn add_run(alloc: Global, out: &mut String, case: &str) -> Result<(), AllocE
     };
     let scripts = scripts(alloc)?;
     let mut caller = caller_of(alloc, written)?;
-    let ended = Runner::alone(alloc, &mut caller, &scripts).command(&line);
+    let ended = run_line(alloc, &mut caller, &scripts, &line);
     add_ended(out, &caller, ended)
 }
 
@@ -174,6 +174,6 @@ pub fn add_drain(alloc: Global, out: &mut String, written: &str) -> Result<(), A
     };
     let scripts = scripts(alloc)?;
     let mut caller = caller_of(alloc, written)?;
-    let ended = Runner::alone(alloc, &mut caller, &scripts).drain(&line);
+    let ended = drain_line(alloc, &mut caller, &scripts, &line);
     add_ended(out, &caller, ended)
 }

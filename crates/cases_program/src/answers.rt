@@ -1,63 +1,68 @@
 //! What a run of the program on one case comes to.
 
 use crate::cases::Case;
+use crate::counting_gate::CountingGate;
 use crate::escapes::put_quoted;
 use crate::sessions::put_session;
-use cases_text::Cases;
-use osgi_outside::{MemoryShelf, MemorySink, MemorySource, OpenGate, Source};
+use osgi_outside::{MemoryShelf, MemorySink, MemorySource, Source};
 use osgi_program::framework_main;
 use std::alloc::{AllocError, Global};
 use std::fmt::Write;
+use std::sync::Wait;
+use std::thread::Threads;
 
 /// A text of more bytes is shown by their number and its last ones.
 const SHOWN: usize = 1_000;
 
 const LAST: usize = 60;
 
-/// Whole runs of the program.
-#[derive(Drop)]
-pub struct ProgramCases;
-
-impl Cases for ProgramCases {
-    fn add_answer(
-        &mut self,
-        alloc: Global,
-        out: &mut String,
-        case: &str,
-    ) -> Result<(), AllocError> {
-        match Case::read(alloc, case)? {
-            Some(case) => run(alloc, out, case),
-            None => out.push_str("not a case"),
-        }
+/// Appends what a run of the program on the case comes to.
+pub fn add_answer<R: Threads + Wait + Sync>(
+    rt: &R,
+    alloc: Global,
+    out: &mut String,
+    case: &str,
+) -> Result<(), AllocError> {
+    match Case::read(alloc, case)? {
+        Some(case) => run(rt, alloc, out, case),
+        None => out.push_str("not a case"),
     }
 }
 
 /// Runs the program on a case, and appends how it ended.
-fn run(alloc: Global, out: &mut String, case: Case) -> Result<(), AllocError> {
+fn run<R: Threads + Wait + Sync>(
+    rt: &R,
+    alloc: Global,
+    out: &mut String,
+    case: Case,
+) -> Result<(), AllocError> {
     let Case {
         words,
         input,
         reads,
         writes,
         folders,
+        counts,
         ..
     } = case;
     let mut source = MemorySource::new(input, reads);
     let mut sink = MemorySink::new(alloc, writes)?;
+    let gate = CountingGate::new();
     let finished = framework_main(
-        &(),
+        rt,
         alloc,
         words.as_slice(),
         &mut source,
         &mut sink,
         &mut MemoryShelf::new(folders, Vec::new(alloc)),
-        &OpenGate,
+        &gate,
     );
     put_ends(out, finished.status, &mut source, &sink)?;
     match &finished.session {
-        Some(session) => put_session(alloc, out, session),
-        None => out.push_str(" | no session"),
+        Some(session) => put_session(alloc, out, session)?,
+        None => out.push_str(" | no session")?,
     }
+    if counts { gate.put(out) } else { Ok(()) }
 }
 
 /// Appends the status, and what the ends tell.

@@ -16,6 +16,8 @@ pub struct Case {
     pub writes: Vec<u64>,
     /// The folders that the shelf has, with their locations.
     pub folders: Vec<(Text, Folder)>,
+    /// Whether the answer says how often the gate was come to.
+    pub counts: bool,
     times: u64,
 }
 
@@ -37,7 +39,7 @@ impl Case {
         Ok(Some(case))
     }
 
-    /// The word `run`, an empty shelf, and no call that fails.
+    /// The word `run`, an empty shelf, and no call that fails or is counted.
     fn plain(alloc: Global) -> Result<Case, AllocError> {
         Ok(Case {
             words: words_of(alloc, "run")?,
@@ -45,6 +47,7 @@ impl Case {
             reads: Vec::new(alloc),
             writes: Vec::new(alloc),
             folders: Vec::new(alloc),
+            counts: false,
             times: 1,
         })
     }
@@ -60,6 +63,8 @@ impl Case {
             self.writes = numbers_of(alloc, rest)?;
         } else if name == "bundle" {
             self.folders.push(bundle(alloc, rest)?)?;
+        } else if name == "gate" {
+            self.counts = true;
         } else if name == "times" {
             self.times = rest.parse::<u64>().unwrap_or(0);
         } else {

@@ -8,6 +8,7 @@
 //!     [reads N ..]          the numbers of the reads that fail, counted from 1
 //!     [writes N ..]         the numbers of the writes and flushes that fail, counted together from 1
 //!     [bundle NAME SCRIPT]  a bundle that the shelf has at the location NAME, with this script as its activator
+//!     [gate]                the answer ends with how often the gate was come to, at each of its points
 //!     [times N]             the input is so often what stands there
 //!
 //! An answer is `STATUS "WRITTEN" .. | LINE; LINE .. | ENTRY; ENTRY ..`, or ends in `no session`. The text that was written is
@@ -21,14 +22,33 @@ mod answers;
 mod bundles;
 mod cases;
 mod commands;
+mod counting_gate;
 mod escapes;
 mod replies;
 mod sessions;
 
-use crate::answers::ProgramCases;
-use cases_text::answer_lines;
+use crate::answers::add_answer;
 use std::io;
+use std::sync::Wait;
+use std::thread::Threads;
+
+/// Prints a line again: with its answer if it is a case. A trait's method is not told that threads may share its runtime, so this
+/// is not left to `answer_lines` of `cases_text`.
+fn answer_line<R: AllocGlobal + Print + Threads + Wait + Sync>(
+    rt: &R,
+    line: &str,
+) -> io::Result<()> {
+    if line.is_empty() || line.starts_with('#') {
+        return println!(rt; "{line}");
+    }
+    let mut answer = String::new(rt.alloc());
+    add_answer(rt, rt.alloc(), &mut answer, line)?;
+    println!(rt; "{line} => {answer}")
+}
 
 fn main(rt: HostRuntime) -> io::Result<()> {
-    answer_lines(&rt, &mut ProgramCases)
+    for line in rt.lines(rt.alloc()) {
+        answer_line(&rt, line?.as_str())?;
+    }
+    Ok(())
 }

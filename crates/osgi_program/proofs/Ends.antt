@@ -1,8 +1,8 @@
 -- How a run ends, by how its lines ran.
 use Rattle.std.proofs.Common.{◌≡◌, ◌≤◌, ◌+◌, ◌⊎◌, ℕ, inl, inr, List, [], ◌∷◌, ◌++◌, length, ap, sym, subst, ◌∙◌, refl, arith, append-nil}
-use Rattle.std.specs.Prelude.{Bool, true, false, All, Option, None, Some, IfSome, IsSomeAnd, cond, count_by}
+use Rattle.std.specs.Prelude.{◌==◌, Bool, true, false, All, Option, None, Some, IfSome, IsSomeAnd, cond, count_by}
 use Rattle.std.specs.Io.KnownBytes.{Consumes, IsAtEnd}
-use Rattle.std.proofs.lemmas.Bool.{cond-false, cond-true}
+use Rattle.std.proofs.lemmas.Bool.{cond-false, cond-true, eqb-true}
 use Rattle.std.proofs.lemmas.List.Elements.{All-cons, All-nil}
 use Rattle.std.specs.Str.Lines.{lines}
 use Rattle.osgi_console.specs.Console.{AreLinesFrom, in_lane, in_no_lane, LineReads}
@@ -39,9 +39,9 @@ all_taken (Some all) None bytes taken end = absurd taken
 all_taken (Some all) (Some left) bytes taken end = sym (taken ∙ ap (λ l. bytes ++ l) end ∙ append-nil bytes)
 
 -- a run may be cut where enough was handed, where the history is full, or where memory was wanting
-end_law : (limit status : ℕ) (history : List Entry) (spent : Bool) → IsSpentOrFull limit history spent → MayBeCut limit status history spent
+end_law : (limit status : ℕ) (history : List Entry) (spent : Bool) → IsSpentOrFull (length history == limit) spent → MayBeCut limit status history spent
 end_law limit status history spent (inl is) = inl is
-end_law limit status history spent (inr full) = inr (inl full)
+end_law limit status history spent (inr full) = inr (inl (eqb-true (length history) limit full))
 
 starved_law : (limit status : ℕ) (history : List Entry) → status ≡ 5 → (spent : Bool) → Unspent spent → MayBeCut limit status history spent
 starved_law limit status history starved spent unspent = inr (inr starved)
@@ -52,9 +52,9 @@ whole_by {was_cut} first script limit status lines history made flat is weaker l
     lane-whole lines history flat (lane-weaker first (MayBeCut limit status history) weaker (subst (λ (h : List Entry). Lane script first 0 was_cut (commands_in lines) h) (sym is) lane))
 
 runs_whole : (how : Ran) (script : Sections) (limit status : ℕ) (lines : List Line) (history : List Entry) → All IsPlain lines → (how ≡ ran.Starved → status ≡ 5) →
-    RunsLines how script limit lines [] history → IsWhole script limit status lines history
+    RunsLines how script (length history == limit) lines [] history → IsWhole script limit status lines history
 runs_whole ran.All script limit status lines history flat starved (made, is, lane) = whole_by Never script limit status lines history made flat is (λ spent never. absurd never) lane
-runs_whole ran.Cut script limit status lines history flat starved (made, is, lane) = whole_by (IsSpentOrFull limit history) script limit status lines history made flat is (end_law limit status history) lane
+runs_whole ran.Cut script limit status lines history flat starved (made, is, lane) = whole_by (IsSpentOrFull (length history == limit)) script limit status lines history made flat is (end_law limit status history) lane
 runs_whole ran.Starved script limit status lines history flat starved (made, is, lane) = whole_by Unspent script limit status lines history made flat is (starved_law limit status history (starved refl)) lane
 
 numbered_from : (number : ℕ) (texts : List (List ℕ)) (all : List Line) → AreLinesFrom 0 number texts all → AreNumberedFrom number all
@@ -88,7 +88,7 @@ not_done status other (inl e) = omega (arith, other, e)
 not_done status other (inr e) = omega (arith, other, e)
 
 all_handed : (how : Ran) (setting : Setting) (session : Session) (status : ℕ) (told : List Told) → AreAllowed setting told → entries_in told ≡ session.entries → (how ≡ ran.Starved → status ≡ 5) →
-    (IsWrittenStatus status → status ≡ status_by how session) → RunsLines how (sections_of session.scripts) setting.bounds.entries session.lines [] session.entries → IsDoneStatus status → AllHanded told
+    (IsWrittenStatus status → status ≡ status_by how session) → RunsLines how (sections_of session.scripts) (length session.entries == setting.bounds.entries) session.lines [] session.entries → IsDoneStatus status → AllHanded told
 all_handed ran.All setting session status told legal tells starved is (made, added, lane) done =
     let script = sections_of session.scripts in
     let here : made ≡ entries_in told = sym added ∙ sym tells in
@@ -141,14 +141,14 @@ whole_for before after flushed session bounds asked same whole = subst (λ (a : 
 
 -- the status by how the lines ran is the status by what they made
 status_by_runs : (how : Ran) (setting : Setting) (session : Session) → Legal setting session.entries → AreNumberedFrom 1 session.lines → (how ≡ ran.Starved → ⊥) →
-    RunsLines how (sections_of session.scripts) setting.bounds.entries session.lines [] session.entries → status_by how session ≡ status_of session
+    RunsLines how (sections_of session.scripts) (length session.entries == setting.bounds.entries) session.lines [] session.entries → status_by how session ≡ status_of session
 status_by_runs ran.All setting session legal numbered fed (made, is, lane) =
     let script = sections_of session.scripts in
     let here = subst (λ (h : List Entry). Lane script Never 0 false (commands_in session.lines) h) (sym is) lane in
     sym (cond-false _ _ _ (none-full setting script session.lines session.entries legal numbered here))
 status_by_runs ran.Cut setting session legal numbered fed (made, is, lane) =
     let script = sections_of session.scripts in
-    let lawful = IsSpentOrFull setting.bounds.entries session.entries in
+    let lawful = IsSpentOrFull (length session.entries == setting.bounds.entries) in
     let here = subst (λ (h : List Entry). Lane script lawful 0 true (commands_in session.lines) h) (sym is) lane in
     sym (cond-true _ _ _ (some-full script lawful session.lines session.entries numbered here))
 status_by_runs ran.Starved setting session legal numbered fed runs = absurd (fed refl)
@@ -174,12 +174,12 @@ pub not_cut_by : (session : Session) (status : ℕ) → IsUncut session → stat
 not_cut_by session status uncut is cut = not_cut (is_troubled session.lines session.entries) (sym (cond-false _ _ _ uncut) ∙ sym is ∙ cut)
 
 limit_by : (how : Ran) (setting : Setting) (session : Session) → Legal setting session.entries → session.handings ≡ count_by (λ (e : Entry). is_handing e.reply) session.entries → (how ≡ ran.Starved → ⊥) →
-    RunsLines how (sections_of session.scripts) setting.bounds.entries session.lines [] session.entries → CUT ≡ status_by how session → IsAtLimit setting.bounds session
+    RunsLines how (sections_of session.scripts) (length session.entries == setting.bounds.entries) session.lines [] session.entries → CUT ≡ status_by how session → IsAtLimit setting.bounds session
 limit_by ran.All setting session legal counted fed runs is = absurd (not_cut (is_troubled session.lines session.entries) (sym is))
 limit_by ran.Cut setting session legal counted fed (made, added, lane) is =
-    let lawful = IsSpentOrFull setting.bounds.entries session.entries in
+    let lawful = IsSpentOrFull (length session.entries == setting.bounds.entries) in
     let here = subst (λ (h : List Entry). Lane (sections_of session.scripts) lawful 0 true (commands_in session.lines) h) (sym added) lane in
-    elim (lane_end session.entries here refl) [ inl full ↦ inl full | inr ends ↦ inr (some_spent session.entries ends, counted ∙ handed_all setting session.entries legal ends) ]
+    elim (lane_end {limit = setting.bounds.entries} session.entries here refl) [ inl full ↦ inl full | inr ends ↦ inr (some_spent session.entries ends, counted ∙ handed_all setting session.entries legal ends) ]
 limit_by ran.Starved setting session legal counted fed runs is = absurd (fed refl)
 
 pub limit_from : (bounds : Bounds) (input : List ℕ) (shelf : Shelved) (how : Ran) (session : Session) (status : ℕ) → IsRun bounds input shelf how session → (how ≡ ran.Starved → status ≡ 5) →

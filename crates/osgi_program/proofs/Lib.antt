@@ -1,5 +1,5 @@
 -- Lemmas on runs of lines and on the top call.
-pub mod Calling
+pub mod Closing
 pub mod Ends
 pub mod Limits
 pub mod Runs

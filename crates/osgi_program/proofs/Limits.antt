@@ -1,8 +1,8 @@
 -- Where a line was cut, and memory was not wanting, the session is at one of its limits.
 use Rattle.std.proofs.Common.{◌≡◌, ◌≤◌, ◌⊎◌, ◌+◌, inl, inr, ℕ, List, [], ◌∷◌, ◌++◌, length, length-append, map, Bool, true, false, ap, sym, subst, ◌∙◌, refl, append_assoc, arith}
-use Rattle.std.specs.Prelude.{count_by, filter}
+use Rattle.std.specs.Prelude.{◌==◌, count_by, filter}
 use Rattle.std.specs.List.{list_any}
-use Rattle.std.proofs.lemmas.Bool.{or_left, or_right}
+use Rattle.std.proofs.lemmas.Bool.{eqb-true, or_left, or_right}
 use Rattle.std.proofs.lemmas.List.Elements.{filter-append}
 use Rattle.osgi_legal.proofs.Handings as legal
 use Rattle.osgi_stage.proofs.Handings as stage
@@ -57,12 +57,12 @@ spent_after earlier entries ends = record {
 }
 
 -- of lines whose last run was cut: the history is full, or they end so
-pub lane_end : {script : Sections} {limit : ℕ} (history : List Entry) {was_cut : Bool} {lines : List Line} {made : List Entry} → Lane script (IsSpentOrFull limit history) 0 was_cut lines made → was_cut ≡ true →
+pub lane_end : {script : Sections} {limit : ℕ} (history : List Entry) {was_cut : Bool} {lines : List Line} {made : List Entry} → Lane script (IsSpentOrFull (length history == limit)) 0 was_cut lines made → was_cut ≡ true →
     (length history ≡ limit) ⊎ EndsSpent made
 lane_end history over e = absurd (cc e)
 lane_end history (ran {entries = entries} {rest = rest} r x) e = elim (lane_end history x e) [ inl full ↦ inl full | inr ends ↦ inr (spent_after entries rest ends) ]
 lane_end {script} history (cut {spent = spent} {line = line} {entries = entries} k (inl is)) e = inr (spent_run entries (subst (λ b. IsCutRunOf script 0 line b entries) is k))
-lane_end history (cut k (inr full)) e = inl full
+lane_end {limit = limit} history (cut k (inr full)) e = inl (eqb-true (length history) limit full)
 
 -- ---- how many were handed
 

@@ -25,7 +25,8 @@ use osgi_ops::{Entry, Limits, Reply};
 use osgi_outside::{Gate, Input, Shelf, Sink, Source, read_all, write_all};
 use osgi_session::{Content, Line};
 use std::alloc::{AllocError, Global};
-use std::marker::Brand;
+use std::sync::Wait;
+use std::thread::Threads;
 
 #[tactic(auto, unfolding(crate::specs::computed::Ended::hands))]
 fn hands(entry: &Entry) -> bool
@@ -47,12 +48,14 @@ fn handings(entries: &[Entry]) -> u64
     count
 }
 
-/// Reads the folders that the lines of an input name, and runs the lines on a new machine.
-fn run_input<F: Shelf>(
+/// Reads the folders that the lines of an input name, and runs the lines on a new machine in a hall.
+fn run_input<R: Threads + Wait + Sync, F: Shelf, G: Gate>(
+    rt: &R,
     alloc: Global,
     limits: Limits,
     input: &[u8],
     shelf: &mut F,
+    gate: &G,
 ) -> Result<(Ran, Session), AllocError>
     requires few { length input.now < u32.MAX }
     ensures told { F.told shelf.new ≡ F.told shelf.old }
@@ -68,7 +71,7 @@ fn run_input<F: Shelf>(
     let (stored, scripts) = folders.into_parts();
     let peeks = List::new(alloc)?;
     let core = Core::new(alloc, limits, stored)?;
-    let (ran, core) = run_lines::<Brand>(alloc, core, &scripts, lines.items());
+    let (ran, core) = run_lines(rt, alloc, core, &scripts, lines.items(), gate)?;
     let (depot, entries) = core.into_parts();
     let session = Session {
         handings: handings(entries.items()),
@@ -146,8 +149,9 @@ fn write_session<K: Sink>(alloc: Global, ran: Ran, session: &Session, sink: &mut
 /// resolve, by `--budget B` or `--budget=B`, and one on how many events are handed to listeners, by `--handings E` or
 /// `--handings=E`, in any order and each at most once. The status and the session that are answered are explained at `Finished`.
 /// Before the first line runs, the folder of each location that an `install` or an `update` line names is read from the shelf,
-/// once. Runtime and gate are not used yet.
-pub fn framework_main<R, S: Source, K: Sink, F: Shelf, G: Gate>(
+/// once. Caller 0 runs the lines in a hall, and comes to the gate before and after each of its calls, and as each section begins. It
+/// may wait, at the gate and for its turns.
+pub fn framework_main<R: Threads + Wait + Sync, S: Source, K: Sink, F: Shelf, G: Gate + Sync>(
     rt: &R,
     alloc: Global,
     words: &[Text],
@@ -221,7 +225,7 @@ pub fn framework_main<R, S: Source, K: Sink, F: Shelf, G: Gate>(
         Ok(Input::Failed) => return Finished::bare(READ_FAILED),
         Err(_) => return Finished::bare(NO_MEMORY),
     };
-    match run_input(alloc, limits, input.bytes(), shelf) {
+    match run_input(rt, alloc, limits, input.bytes(), shelf, gate) {
         Ok((ran, session)) => {
             let status = write_session(alloc, ran, &session, sink);
             Finished {

@@ -1,7 +1,6 @@
 //! The top call: the words of the command line, a console script read, run and rendered, and the status.
 #![tactic(auto)]
 
-mod alone;
 mod framework;
 mod lines;
 mod session;

@@ -65,7 +65,7 @@ pub struct Finished {
     /// outside the grammar, or a reply is a refusal. 0: otherwise. And 5 in place of any but 2: memory ran
     /// out, and nothing was written.
     pub status: u8,
-    /// None on 2, 3 and 6, and where memory ran out before the framework was made.
+    /// None on 2, 3 and 6, and where memory ran out before the hall was made.
     pub session: Option<Session>,
 }
 

@@ -10,8 +10,8 @@ use Rattle.osgi_runner.specs.computed.States.{After, frames_of}
 use Rattle.osgi_runner.specs.declared.frames.Frame.{Frame}
 use Rattle.osgi_runner.specs.declared.frames.Step.TheVariants as step
 use Rattle.osgi_runner.specs.declared.frames.Wait.TheVariants as wait
-use Rattle.osgi_runner.specs.declared.runner.Ended.{Ended}
-use Rattle.osgi_runner.specs.declared.runner.Ended.TheVariants as ended
+use Rattle.osgi_runner.specs.declared.lines.Ended.{Ended}
+use Rattle.osgi_runner.specs.declared.lines.Ended.TheVariants as ended
 use Rattle.osgi_runs.proofs.Runs.{back}
 use Rattle.osgi_runs.specs.Courses.{Ahead}
 use Rattle.osgi_session.specs.Plans.{End, done}

@@ -12,8 +12,8 @@ use Rattle.osgi_ops.specs.declared.reply.Reply.{Reply}
 use Rattle.osgi_ops.specs.declared.reply.Reply.TheVariants.{Refused}
 use Rattle.osgi_runner.specs.Calls.{Adds, IsAnswered, IsCutShort, says_cut, says_full, says_spent}
 use Rattle.osgi_runner.specs.computed.Ends.{Ends, entry_by, Made}
-use Rattle.osgi_runner.specs.declared.runner.Ended.{Ended}
-use Rattle.osgi_runner.specs.declared.runner.Ended.TheVariants as ended
+use Rattle.osgi_runner.specs.declared.lines.Ended.{Ended}
+use Rattle.osgi_runner.specs.declared.lines.Ended.TheVariants as ended
 use Rattle.osgi_session.specs.Runs.{Call, call, Follows, IsCutOf, IsSpentOf, Sections}
 use Rattle.osgi_session.specs.Sessions.{call_of, IsCutRunOf, IsRunOf}
 use Rattle.osgi_session.specs.declared.command.Command.{Command}

@@ -3,11 +3,14 @@
 
 mod caller;
 mod frames;
+mod lines;
 mod replies;
 mod runner;
+mod seated;
 mod sections;
 mod statements;
 mod steps;
 
 pub use caller::Caller;
-pub use runner::{Ended, Runner};
+pub use lines::{Ended, drain_line, run_line};
+pub use runner::Runner;

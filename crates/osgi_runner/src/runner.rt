@@ -1,215 +1,125 @@
-//! The runner: it runs the command of a line, and then the jobs; or it makes a drain.
+//! The runner: callers of a hall run commands of lines and make drains by it.
 
-ghost use Rattle.std.specs.Prelude.{◌≡◌, [], List, false, true, reverse, IfOk, OnErr};
+ghost use Rattle.std.specs.Prelude.{◌≡◌, false, true, IfOk, OnErr};
+ghost use Rattle.osgi_hall.specs.Passes.{IsLegal, IsPassOf};
 ghost use Rattle.osgi_runner.specs.Calls.{Adds, IsCutDrainOf, IsCutShort, IsDrainCutShort, IsDrainOf};
-ghost use Rattle.osgi_runner.specs.computed.Ends.{Ends, Made};
-ghost use Rattle.osgi_runner.specs.computed.Stacks.{AllFit, CanStep};
-ghost use Rattle.osgi_runner.specs.computed.States.{After, frames_of};
-ghost use Rattle.osgi_runner.specs.declared.runner.Ended.TheVariants as ended;
+ghost use Rattle.osgi_runner.specs.Passes.{calls_of, Grown, has_seen};
+ghost use Rattle.osgi_runner.specs.declared.lines.Ended.TheVariants as ended;
 ghost use Rattle.osgi_session.specs.Lines.{has_command};
-ghost use Rattle.osgi_session.specs.Runs.{Call, Follows, IsCutOf, Sections};
 ghost use Rattle.osgi_session.specs.Scripts.{sections_of};
 ghost use Rattle.osgi_session.specs.Sessions.{IsCutRunOf, IsRunOf};
 
-use crate::caller::Caller;
-use crate::frames::{Frame, Step, Wait};
-use crate::replies::is_cut;
-use crate::steps::follow;
-use osgi_base::BundleId;
-use osgi_lifecycle::{Last, Plan};
-use osgi_ops::Op;
-use osgi_session::{Command, Content, Line, Scripts};
+use crate::lines::{Ended, drain_line, run_line};
+use crate::seated::Seated;
+use osgi_framework::Framework;
+use osgi_hall::{Hall, Pass};
+use osgi_outside::Gate;
+use osgi_session::{Line, Scripts};
 use std::alloc::{AllocError, Global};
+use std::sync::Wait;
+use std::thread::Threads;
 
-/// The system bundle, which runs the console's commands.
-const SYSTEM: BundleId = BundleId(0);
-
-/// How a command or a drain ended.
-#[derive(Clone, Copy, PartialEq, Eq)]
-pub enum Ended {
-    /// It ran whole; after a command no job is queued.
-    Done,
-    /// The history was full, or enough was handed.
-    Cut,
-}
-
-/// Goes on from this step to the end.
-fn finish<'s, C: Caller>(
-    alloc: Global,
-    caller: &mut C,
-    scripts: &'s Scripts,
-    number: u32,
-    stack: &mut Vec<Frame<'s>>,
-    step: Step<'s>,
-) -> Result<Ended, AllocError>
-    requires fit { AllFit (reverse stack.old.items) }
-    requires can { CanStep step (reverse stack.old.items) }
-    ensures number { C.number caller.new ≡ C.number caller.old }
-    ensures limit { C.limit caller.new ≡ C.limit caller.old }
-    ensures goes { C.goes_on caller.old caller.new }
-    ensures ended { IfOk result (λ how.
-        Ends (λ calls. After (sections_of scripts.now) step.entry (frames_of stack.old.items) calls)
-        how (record { caller = C.number caller.old; command = number }) (C.full caller.new)
-        (C.made caller.old) (C.made caller.new)) }
-    ensures wanting { OnErr result
-        (Made
-        (IsCutOf
-        (λ calls.
-        After (sections_of scripts.now) step.entry (frames_of stack.old.items) calls))
-        (record { caller = C.number caller.old; command = number }) (C.made caller.old)
-        (C.made caller.new)) }
-{
-    let mut step = step;
-    loop {
-        let Some((op, wait)) = step.advance(alloc, caller, scripts, stack)? else {
-            return Ok(Ended::Done);
-        };
-        stack.reserve(1)?;
-        let reply = caller.call(number, op)?;
-        if is_cut(&reply) {
-            return Ok(Ended::Cut);
-        }
-        step = wait.answered(stack, reply);
-    }
-}
-
-/// The stack and the first step of a command of the console: its plan, and then the jobs.
-fn first<'s>(
-    alloc: Global,
-    stack: &mut Vec<Frame<'s>>,
-    command: &Command,
-) -> Result<Step<'s>, AllocError>
-    requires empty { stack.old.items ≡ [] }
-    ensures fit { IfOk result (λ step. AllFit (reverse stack.new.items)) }
-    ensures can { IfOk result (λ step. CanStep step (reverse stack.new.items)) }
-    ensures follows { IfOk result (λ step.
-        (script : Sections) (calls : List Call)
-        → After script step (frames_of stack.new.items) calls
-        → Follows script command.now calls) }
-{
-    let command = command.copy(alloc)?;
-    let plan = Plan::of(alloc, command, SYSTEM)?;
-    stack.reserve(2)?;
-    stack.push_reserved(Frame::Jobs);
-    Ok(follow(stack, plan, Last::Begin))
-}
-
-/// Runs a command of the console, and then the jobs.
-fn run<C: Caller>(
-    alloc: Global,
-    caller: &mut C,
-    scripts: &Scripts,
-    number: u32,
-    command: &Command,
-) -> Result<Ended, AllocError>
-    ensures number { C.number caller.new ≡ C.number caller.old }
-    ensures limit { C.limit caller.new ≡ C.limit caller.old }
-    ensures goes { C.goes_on caller.old caller.new }
-    ensures ended { IfOk result (λ how.
-        Ends (Follows (sections_of scripts.now) command.now) how
-        (record { caller = C.number caller.old; command = number }) (C.full caller.new)
-        (C.made caller.old) (C.made caller.new)) }
-    ensures wanting { OnErr result
-        (Made (IsCutOf (Follows (sections_of scripts.now) command.now))
-        (record { caller = C.number caller.old; command = number }) (C.made caller.old)
-        (C.made caller.new)) }
-{
-    let mut stack = Vec::new(alloc);
-    let step = first(alloc, &mut stack, command)?;
-    finish(alloc, caller, scripts, number, &mut stack, step)
-}
-
-/// A caller of the framework as it runs lines, whose sections are those of these scripts.
+/// What all callers of a hall run lines by: the hall, the scripts that have their sections, and the gate that they come to.
 #[derive(Drop)]
-pub struct Runner<'a, C> {
-    alloc: Global,
-    pub caller: &'a mut C,
+pub struct Runner<'a, M: Framework, G> {
+    pub hall: &'a Hall<M>,
     pub scripts: &'a Scripts,
+    pub gate: &'a G,
 }
 
-impl<'a, C: Caller> Runner<'a, C> {
-    /// A runner for the one caller that there is. It takes no memory.
-    pub fn alone(alloc: Global, caller: &'a mut C, scripts: &'a Scripts) -> Runner<'a, C>
-        ensures same_caller { result.caller.ghost_name ≡ caller.entry.ghost_name }
-        ensures caller { result.caller.now ≡ caller.old }
+impl<'a, M: Framework, G: Gate> Runner<'a, M, G> {
+    /// A runner of lines. It takes no memory.
+    pub fn new(hall: &'a Hall<M>, scripts: &'a Scripts, gate: &'a G) -> Runner<'a, M, G>
+        ensures hall { result.hall.now ≡ hall.now }
         ensures scripts { result.scripts.now ≡ scripts.now }
     {
         Runner {
-            alloc,
-            caller,
+            hall,
             scripts,
+            gate,
         }
     }
 
-    /// Runs the command of a line, step by step, and then the jobs until none is queued. The line has a command.
+    /// The pass's caller runs the command of a line, step by step, and then the jobs until none is queued. The line has a
+    /// command, and the pass is one of the runner's hall. It may wait, for the turn and at the gate.
     ///
-    /// Where it answers Done, the entries that were added are a whole run of the command. Where it answers Cut, they are the
-    /// beginning of one, and the history was seen to be full; or one that ends with a Hand refused since enough was handed. Where
-    /// memory ran out, they are the beginning of one.
-    pub fn command(&mut self, line: &Line) -> Result<Ended, AllocError>
+    /// Where it answers Done, the calls that were added are a whole run of the command. Where it answers Cut, they are the
+    /// beginning of one, and the pass has seen a history that is full; or one that ends with a Hand refused since enough was
+    /// handed. Where memory ran out, they are the beginning of one.
+    pub fn command<R: Threads + Wait + Sync>(
+        &self,
+        rt: &R,
+        alloc: Global,
+        pass: &mut Pass<M>,
+        line: &Line,
+    ) -> Result<Ended, AllocError>
         requires command { has_command line.now.content ≡ true }
-        ensures same_caller { self.new.caller.ghost_name ≡ self.old.caller.ghost_name }
-        ensures scripts { self.new.scripts.now ≡ self.old.scripts.now }
-        ensures number { C.number self.new.caller.now ≡ C.number self.old.caller.now }
-        ensures limit { C.limit self.new.caller.now ≡ C.limit self.old.caller.now }
-        ensures goes { C.goes_on self.old.caller.now self.new.caller.now }
+        requires hall { IsPassOf self.now.hall.now pass.old }
+        ensures grown { Grown pass.old pass.new }
         ensures done { IfOk result (λ how.
             how ≡ ended.Done
-            → Adds
-            (IsRunOf (sections_of self.old.scripts.now) (C.number self.old.caller.now) line.now)
-            (C.made self.old.caller.now) (C.made self.new.caller.now)) }
+            → Adds (IsRunOf (sections_of self.now.scripts.now) pass.old.caller line.now)
+            (calls_of pass.old) (calls_of pass.new)) }
         ensures cut { IfOk result (λ how.
             how ≡ ended.Cut
-            → IsCutShort (sections_of self.old.scripts.now) (C.number self.old.caller.now) line.now
-            (C.full self.new.caller.now) (C.made self.old.caller.now)
-            (C.made self.new.caller.now)) }
+            → IsCutShort (sections_of self.now.scripts.now) pass.old.caller line.now
+            (has_seen (M.runs_under self.now.hall.now.setting).bounds.entries pass.new)
+            (calls_of pass.old) (calls_of pass.new)) }
         ensures wanting { OnErr result
-            (Adds
-            (IsCutRunOf (sections_of self.old.scripts.now) (C.number self.old.caller.now)
-            line.now false) (C.made self.old.caller.now) (C.made self.new.caller.now)) }
+            (Adds (IsCutRunOf (sections_of self.now.scripts.now) pass.old.caller line.now false)
+            (calls_of pass.old) (calls_of pass.new)) }
     {
-        let Content::Run(command) = &line.content else {
-            unreachable!()
+        // What a pass has seen is always legal, and so within the limit: this says so.
+        let _ = pass.caller();
+        let mut seated = Seated {
+            rt,
+            hall: self.hall,
+            pass,
+            gate: self.gate,
+            lane: line.lane,
         };
-        run(self.alloc, self.caller, self.scripts, line.number, command)
+        run_line(alloc, &mut seated, self.scripts, line)
     }
 
-    /// Makes one drain for a line, with or without a command: hands one event after another, and runs the section of each, until
-    /// no event can be handed now, or the Hand is refused.
+    /// The pass's caller makes one drain for a line, with or without a command: hands one event after another, and runs the
+    /// section of each, until no event can be handed now, or the Hand is refused. The pass is one of the runner's hall. It may
+    /// wait, for the turn and at the gate.
     ///
-    /// Where it answers Done, the entries that were added are a whole drain. Where it answers Cut, they are the beginning of
-    /// one, and the history was seen to be full; or one that ends with a Hand refused since enough was handed. Where memory ran
-    /// out, they are the beginning of one.
-    pub fn drain(&mut self, line: &Line) -> Result<Ended, AllocError>
-        ensures same_caller { self.new.caller.ghost_name ≡ self.old.caller.ghost_name }
-        ensures scripts { self.new.scripts.now ≡ self.old.scripts.now }
-        ensures number { C.number self.new.caller.now ≡ C.number self.old.caller.now }
-        ensures limit { C.limit self.new.caller.now ≡ C.limit self.old.caller.now }
-        ensures goes { C.goes_on self.old.caller.now self.new.caller.now }
+    /// Where it answers Done, the calls that were added are a whole drain. Where it answers Cut, they are the beginning of one,
+    /// and the pass has seen a history that is full; or one that ends with a Hand refused since enough was handed. Where memory
+    /// ran out, they are the beginning of one.
+    pub fn drain<R: Threads + Wait + Sync>(
+        &self,
+        rt: &R,
+        alloc: Global,
+        pass: &mut Pass<M>,
+        line: &Line,
+    ) -> Result<Ended, AllocError>
+        requires hall { IsPassOf self.now.hall.now pass.old }
+        ensures grown { Grown pass.old pass.new }
         ensures done { IfOk result (λ how.
             how ≡ ended.Done
-            → Adds
-            (IsDrainOf (sections_of self.old.scripts.now) (C.number self.old.caller.now)
-            line.now) (C.made self.old.caller.now) (C.made self.new.caller.now)) }
+            → Adds (IsDrainOf (sections_of self.now.scripts.now) pass.old.caller line.now)
+            (calls_of pass.old) (calls_of pass.new)) }
         ensures cut { IfOk result (λ how.
             how ≡ ended.Cut
-            → IsDrainCutShort (sections_of self.old.scripts.now) (C.number self.old.caller.now)
-            line.now (C.full self.new.caller.now) (C.made self.old.caller.now)
-            (C.made self.new.caller.now)) }
+            → IsDrainCutShort (sections_of self.now.scripts.now) pass.old.caller line.now
+            (has_seen (M.runs_under self.now.hall.now.setting).bounds.entries pass.new)
+            (calls_of pass.old) (calls_of pass.new)) }
         ensures wanting { OnErr result
             (Adds
-            (IsCutDrainOf (sections_of self.old.scripts.now) (C.number self.old.caller.now)
-            line.now false) (C.made self.old.caller.now) (C.made self.new.caller.now)) }
+            (IsCutDrainOf (sections_of self.now.scripts.now) pass.old.caller line.now false)
+            (calls_of pass.old) (calls_of pass.new)) }
     {
-        let mut stack = Vec::new(self.alloc);
-        let step = Step::Ask(Op::Hand, Wait::Drain);
-        finish(
-            self.alloc,
-            self.caller,
-            self.scripts,
-            line.number,
-            &mut stack,
-            step,
-        )
+        // What a pass has seen is always legal, and so within the limit: this says so.
+        let _ = pass.caller();
+        let mut seated = Seated {
+            rt,
+            hall: self.hall,
+            pass,
+            gate: self.gate,
+            lane: line.lane,
+        };
+        drain_line(alloc, &mut seated, self.scripts, line)
     }
 }

@@ -1,5 +1,5 @@
 -- A session as it ran, before its text is written. No public promise speaks of this.
-use Rattle.std.specs.Prelude.{ℕ, Bool, ◌≡◌, if◌then◌else◌, List, []}
+use Rattle.std.specs.Prelude.{ℕ, Bool, ◌≡◌, ◌==◌, if◌then◌else◌, List, [], length}
 use Rattle.std.specs.List.{count_by}
 use Rattle.osgi_legal.specs.Legal.{Legal}
 use Rattle.osgi_ops.specs.Settings.{Bounds}
@@ -25,7 +25,7 @@ pub record IsRun (bounds : Bounds) (input : List ℕ) (shelf : Shelved) (ran : R
   pub depot : IsDepotOf session.lines shelf.told shelf.before shelf.after session.depot.rows session.scripts.rows
   pub legal : Legal (record { bounds = bounds; depot = session.depot.rows }) session.entries
   pub sound : IsSoundTelling legal.1.told
-  pub runs : RunsLines ran (sections_of session.scripts) bounds.entries session.lines [] session.entries
+  pub runs : RunsLines ran (sections_of session.scripts) (length session.entries == bounds.entries) session.lines [] session.entries
   pub handings : session.handings ≡ count_by hands session.entries
   pub peeks : session.peeks ≡ []
 

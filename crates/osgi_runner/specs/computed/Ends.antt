@@ -2,8 +2,8 @@
 use Rattle.std.specs.Prelude.{◌≡◌, Bool, true, List, ◌++◌, ◌⊎◌, map}
 use Rattle.osgi_base.specs.declared.ids.Tag.{Tag}
 use Rattle.osgi_ops.specs.declared.entry.Entry.{Entry}
-use Rattle.osgi_runner.specs.declared.runner.Ended.{Ended}
-use Rattle.osgi_runner.specs.declared.runner.Ended.TheVariants as ended
+use Rattle.osgi_runner.specs.declared.lines.Ended.{Ended}
+use Rattle.osgi_runner.specs.declared.lines.Ended.TheVariants as ended
 use Rattle.osgi_session.specs.Runs.{Call, IsCutOf, IsSpentOf}
 
 abbrev pub entry_by : Tag → Call → Entry

@@ -9,7 +9,7 @@ use Rattle.osgi_runner.specs.computed.States.{After, frames_of, Reaches}
 use Rattle.osgi_runner.specs.declared.frames.Wait.{Wait}
 use Rattle.osgi_session.specs.Runs.{Call, call}
 use Rattle.osgi_session.specs.Scripts.{sections_of}
-use Rattle.osgi_runner.proofs.runner.finish.Goals as goal
+use Rattle.osgi_runner.proofs.lines.finish.Goals as goal
 
 pub returns-in_err-reserve-clause-wanting : goal.returns-in_err-reserve-clause-wanting
 returns-in_err-reserve-clause-wanting g c = on-err c.from_residual-in_err-reserve.result (starved (g.C.Caller.made c.advance.new.caller) c.in-Some.op c.loop-op.invariant.way c.advance.ensures.made

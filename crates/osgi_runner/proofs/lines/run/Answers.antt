@@ -5,10 +5,10 @@ use Rattle.osgi_runner.proofs.Loops.{at-first, cut, cut-so, ends-so, tag_of}
 use Rattle.osgi_runner.proofs.Unfinished.{if-ok, on-err, some-run}
 use Rattle.osgi_runner.specs.computed.Ends.{Ends}
 use Rattle.osgi_runner.specs.computed.States.{After, frames_of}
-use Rattle.osgi_runner.specs.declared.runner.Ended.{Ended}
+use Rattle.osgi_runner.specs.declared.lines.Ended.{Ended}
 use Rattle.osgi_session.specs.Runs.{Call, Follows}
 use Rattle.osgi_session.specs.Scripts.{sections_of}
-use Rattle.osgi_runner.proofs.runner.run.Goals as goal
+use Rattle.osgi_runner.proofs.lines.run.Goals as goal
 
 pub returns-in_err-step-clause-wanting : goal.returns-in_err-step-clause-wanting
 returns-in_err-step-clause-wanting g c = on-err c.from_residual.result

@@ -5,7 +5,7 @@ use Rattle.osgi_session.specs.Scripts.{sections_of}
 use Rattle.osgi_runner.proofs.Loops.{IsOnTheWay}
 use Rattle.osgi_runner.specs.computed.Stacks.{AllFit, CanStep}
 use Rattle.osgi_runner.specs.computed.States.{After, frames_of}
-use Rattle.osgi_runner.proofs.runner.finish.Given as goal
+use Rattle.osgi_runner.proofs.lines.finish.Given as goal
 
 abbrev pub invariant-loop-op : goal.invariant-loop-op
 invariant-loop-op g l = record {

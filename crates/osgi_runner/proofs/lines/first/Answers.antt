@@ -1,6 +1,6 @@
 -- What is left of a command that was not begun is a run of it.
 use Rattle.osgi_runner.proofs.Following.{first-follows}
-use Rattle.osgi_runner.proofs.runner.first.Goals as goal
+use Rattle.osgi_runner.proofs.lines.first.Goals as goal
 
 pub returns-clause-follows : goal.returns-clause-follows
 returns-clause-follows c = λ script calls h.
