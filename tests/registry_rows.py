@@ -688,6 +688,11 @@ class ListeningRows(LifeRows):
         super().end_of_history()
         for listener in range(1, len(self.history.added()) + 2):
             self.rows.append((f"handed {listener}", "; ".join(self.history.handed(listener)) or "none"))
+        # The machine is a new one after such a row, so it is the last, and asks for the listener that saw the most.
+        sees = {listener: [event for _, event in self.history.due(listener)] for listener in range(1, len(self.history.added()) + 1)}
+        if sees:
+            listener = max(sees, key=lambda it: len(sees[it]))
+            self.rows.append((f"due {listener}", "; ".join(sees[listener]) or "none"))
 
 
 # ---- rows of jobs
